@@ -1,0 +1,417 @@
+-- A line says what reading it from left to right gives.
+use Rattle.std.proofs.Common.{◌≡◌, ◌≢◌, ◌⊎◌, inl, inr, ℕ, ℤ, pos, negsuc, zero, suc, ◌<◌, ◌≤◌, Bool, true, false, List, [], ◌∷◌, length, get_or, refl, sym, ap, ◌∙◌, subst, arith, Result, Ok, Err}
+use Rattle.std.specs.Prelude.{nat_le, ◌==◌, ◌&&◌, if◌then◌else◌, slice_index, IsTrue}
+use Rattle.std.specs.Str.{bytes_eq}
+use Rattle.std.proofs.lemmas.Bool.{true≢false, leb-true}
+use Rattle.std.proofs.lemmas.Bool.Decides.{nat_tests}
+use Rattle.std.proofs.lemmas.Slice.Eq.{bytes_eq-Decides}
+use Rattle.hex.specs.declared.error.FromHexError.{FromHexError}
+use Rattle.hex.specs.Hex.{decode_of, IsBytes}
+use Rattle.hex.proofs.HexLemmas.{decode_of-ok}
+use Rattle.mon_ber.specs.declared.value.Value.{Value}
+use Rattle.mon_ber.specs.declared.value.Value.TheVariants.{Integer, Octets, Null, Name, IpAddress, Counter32, Gauge32, TimeTicks, Opaque, Counter64, NoSuchObject, NoSuchInstance, EndOfMibView}
+use Rattle.mon_pdu.specs.declared.fault.PduFault.{PduFault}
+use Rattle.mon_pdu.specs.declared.message.Binding.{Binding}
+use Rattle.mon_pdu.specs.declared.message.Body.{Body}
+use Rattle.mon_pdu.specs.declared.message.Body.TheVariants.{Pdu, Bulk}
+use Rattle.mon_pdu.specs.declared.message.Message.{Message}
+use Rattle.mon_pdu.specs.declared.message.Pdu.{Pdu as AnyPdu}
+use Rattle.mon_pdu.specs.declared.message.PduKind.{PduKind}
+use Rattle.mon_pdu.specs.declared.message.PduKind.TheVariants.{Get, GetNext, Response, Set, Inform, Trap, Report}
+use Rattle.mon_pdu.specs.Grammar.{AreOctets, BeginsWithMessage}
+use Rattle.mon_pdu.specs.Kinds.{octet_of}
+use Rattle.mon_pdu.specs.Reading.{message_at}
+use Rattle.mon_app.specs.declared.refusal.Refusal.{Refusal}
+use Rattle.mon_app.specs.declared.refusal.Refusal.TheVariants.{OutOfMemory, BadHex, BadMessage, NotAResponse, AgentError, BadStamp, TooManyInstances}
+use Rattle.mon_app.specs.Gives.{◌>>=◌, or_refuse}
+use Rattle.mon_app.specs.Line.{Holds, IsResponse, IsStamped, Brings, IsNoMessage, IsNoResponse, HasError, HasNoStamp, Says}
+use Rattle.mon_app.specs.Offer.{Offer, Stamp}
+use Rattle.mon_app.specs.Reading.{engine_id, engine_boots, engine_time, engine_in, number_in, engine_of, number_at, stamp_of, response_of, is_zero, body_reading, message_in, message_reading, hex_reading, offers_of}
+
+-- ---- octets that hex digits stand for
+octets_all : (xs : List ℕ) → IsBytes xs → (k d : ℕ) → k < length xs → get_or xs k d < 256
+octets_all [] h k d lt = absurd (omega arith)
+octets_all (x ∷ xs) h zero d lt = h 0
+octets_all (x ∷ xs) h (suc k) d lt = octets_all xs (λ i. h (suc i)) k d (omega arith)
+
+are_octets : (text bytes : List ℕ) → decode_of text ≡ Ok bytes → AreOctets bytes
+are_octets text bytes e = octets_all bytes (decode_of-ok text bytes e).3
+
+-- ---- steps of a reading
+ok_is : {A E : Type 0} (x y : A) → (let r : Result A E = Ok x in r) ≡ Ok y → x ≡ y
+ok_is x y h = cc
+
+bind_ok : {A B E : Type 0} (r : Result A E) (f : A → Result B E) (y : B) → (r >>= f) ≡ Ok y → (x : A) × (r ≡ Ok x) × (f x ≡ Ok y)
+bind_ok (Ok x) f y h = (x, refl, h)
+bind_ok (Err e) f y h = cc
+
+bind_err : {A B E : Type 0} (r : Result A E) (f : A → Result B E) (e : E) → (r >>= f) ≡ Err e → (r ≡ Err e) ⊎ ((x : A) × (r ≡ Ok x) × (f x ≡ Err e))
+bind_err (Ok x) f e h = inr (x, refl, h)
+bind_err (Err d) f e h = inl (let same : d ≡ e = cc in ap Err same)
+
+-- ---- the stamp
+engine_in_takes : (v : Value) (engine : List ℕ) → engine_in v ≡ Ok engine → (v ≡ Octets engine) × (5 ≤ length engine) × (length engine ≤ 32)
+engine_in_takes (Octets o) engine h =
+    elim (nat_le 5 (length o)) as (λ t. nat_le 5 (length o) ≡ t → (let r : Result (List ℕ) Refusal = (if t && nat_le (length o) 32 then Ok o else Err BadStamp) in r ≡ Ok engine)
+    → (Octets o ≡ Octets engine) × (5 ≤ length engine) × (length engine ≤ 32)) [
+      | true ↦ λ low g.
+          elim (nat_le (length o) 32) as (λ t. nat_le (length o) 32 ≡ t → (let r : Result (List ℕ) Refusal = (if t then Ok o else Err BadStamp) in r ≡ Ok engine)
+          → (Octets o ≡ Octets engine) × (5 ≤ length engine) × (length engine ≤ 32)) [
+            | true ↦ λ high k.
+                let same : o ≡ engine = cc in
+                (ap Octets same, subst (λ e. 5 ≤ length e) same (leb-true _ _ low), subst (λ e. length e ≤ 32) same (leb-true _ _ high))
+            | false ↦ λ high k. cc
+          ] refl g
+      | false ↦ λ low g. cc
+    ] refl h
+engine_in_takes (Integer z) engine h = cc
+engine_in_takes Null engine h = cc
+engine_in_takes (Name o) engine h = cc
+engine_in_takes (IpAddress a) engine h = cc
+engine_in_takes (Counter32 n) engine h = cc
+engine_in_takes (Gauge32 n) engine h = cc
+engine_in_takes (TimeTicks n) engine h = cc
+engine_in_takes (Opaque o) engine h = cc
+engine_in_takes (Counter64 n) engine h = cc
+engine_in_takes NoSuchObject engine h = cc
+engine_in_takes NoSuchInstance engine h = cc
+engine_in_takes EndOfMibView engine h = cc
+
+engine_in_again : (engine : List ℕ) → 5 ≤ length engine → length engine ≤ 32 → engine_in (Octets engine) ≡ Ok engine
+engine_in_again engine low high =
+    let a : nat_le 5 (length engine) ≡ true = grind (arith, nat_tests) in
+    let b : nat_le (length engine) 32 ≡ true = grind (arith, nat_tests) in
+    λ j. if a j && b j then Ok engine else Err BadStamp
+
+engine_in_fails : (v : Value) (e : Refusal) → engine_in v ≡ Err e → e ≡ BadStamp
+engine_in_fails (Octets o) e h =
+    elim (nat_le 5 (length o) && nat_le (length o) 32) as (λ t. (let r : Result (List ℕ) Refusal = (if t then Ok o else Err BadStamp) in r ≡ Err e) → e ≡ BadStamp) [
+      | true ↦ λ g. cc
+      | false ↦ λ g. cc
+    ] h
+engine_in_fails (Integer z) e h = cc
+engine_in_fails Null e h = cc
+engine_in_fails (Name o) e h = cc
+engine_in_fails (IpAddress a) e h = cc
+engine_in_fails (Counter32 n) e h = cc
+engine_in_fails (Gauge32 n) e h = cc
+engine_in_fails (TimeTicks n) e h = cc
+engine_in_fails (Opaque o) e h = cc
+engine_in_fails (Counter64 n) e h = cc
+engine_in_fails NoSuchObject e h = cc
+engine_in_fails NoSuchInstance e h = cc
+engine_in_fails EndOfMibView e h = cc
+
+number_in_takes : (v : Value) (n : ℕ) → number_in v ≡ Ok n → v ≡ Integer (pos n)
+number_in_takes (Integer (pos m)) n h = let same : m ≡ n = cc in ap (λ k. Integer (pos k)) same
+number_in_takes (Integer (negsuc m)) n h = cc
+number_in_takes (Octets o) n h = cc
+number_in_takes Null n h = cc
+number_in_takes (Name o) n h = cc
+number_in_takes (IpAddress a) n h = cc
+number_in_takes (Counter32 m) n h = cc
+number_in_takes (Gauge32 m) n h = cc
+number_in_takes (TimeTicks m) n h = cc
+number_in_takes (Opaque o) n h = cc
+number_in_takes (Counter64 m) n h = cc
+number_in_takes NoSuchObject n h = cc
+number_in_takes NoSuchInstance n h = cc
+number_in_takes EndOfMibView n h = cc
+
+number_in_fails : (v : Value) (e : Refusal) → number_in v ≡ Err e → e ≡ BadStamp
+number_in_fails (Integer (pos m)) e h = cc
+number_in_fails (Integer (negsuc m)) e h = cc
+number_in_fails (Octets o) e h = cc
+number_in_fails Null e h = cc
+number_in_fails (Name o) e h = cc
+number_in_fails (IpAddress a) e h = cc
+number_in_fails (Counter32 m) e h = cc
+number_in_fails (Gauge32 m) e h = cc
+number_in_fails (TimeTicks m) e h = cc
+number_in_fails (Opaque o) e h = cc
+number_in_fails (Counter64 m) e h = cc
+number_in_fails NoSuchObject e h = cc
+number_in_fails NoSuchInstance e h = cc
+number_in_fails EndOfMibView e h = cc
+
+-- ---- a binding of one name
+module _ {A : Type 0} (read : Value → Result A Refusal) (name : List ℕ) (b : Binding) where
+  abbrev named_read : Result A Refusal
+  named_read = if bytes_eq b.name name then read b.value else Err BadStamp
+
+  named_takes : (x : A) → named_read ≡ Ok x → (b.name ≡ name) × (read b.value ≡ Ok x)
+  named_takes x h =
+      elim (bytes_eq b.name name) as (λ t. bytes_eq b.name name ≡ t → (if t then read b.value else Err BadStamp) ≡ Ok x → (b.name ≡ name) × (read b.value ≡ Ok x)) [
+        | true ↦ λ same g. ((bytes_eq-Decides b.name name).0 same, g)
+        | false ↦ λ other g. cc
+      ] refl h
+
+  named_again : (x : A) → b.name ≡ name → read b.value ≡ Ok x → named_read ≡ Ok x
+  named_again x same g =
+      let e : bytes_eq b.name name ≡ true = (bytes_eq-Decides b.name name).1 same in
+      ap (λ t. if t then read b.value else Err BadStamp) e ∙ g
+
+  named_fails : ((d : Refusal) → read b.value ≡ Err d → d ≡ BadStamp) → (e : Refusal) → named_read ≡ Err e → e ≡ BadStamp
+  named_fails inner e h =
+      elim (bytes_eq b.name name) as (λ t. (if t then read b.value else Err BadStamp) ≡ Err e → e ≡ BadStamp) [
+        | true ↦ λ g. inner e g
+        | false ↦ λ g. cc
+      ] h
+
+engine_takes : (b : Binding) (engine : List ℕ) → engine_of b ≡ Ok engine → (b.name ≡ engine_id) × (engine_in b.value ≡ Ok engine)
+unfolding engine_of
+engine_takes b engine h = named_takes engine_in engine_id b engine h
+
+engine_again : (b : Binding) (engine : List ℕ) → b.name ≡ engine_id → engine_in b.value ≡ Ok engine → engine_of b ≡ Ok engine
+unfolding engine_of
+engine_again b engine same h = named_again engine_in engine_id b engine same h
+
+engine_fails : (b : Binding) (e : Refusal) → engine_of b ≡ Err e → e ≡ BadStamp
+unfolding engine_of
+engine_fails b e h = named_fails engine_in engine_id b (engine_in_fails b.value) e h
+
+number_takes : (name : List ℕ) (b : Binding) (n : ℕ) → number_at name b ≡ Ok n → (b.name ≡ name) × (b.value ≡ Integer (pos n))
+unfolding number_at
+number_takes name b n h = let t = named_takes number_in name b n h in (t.0, number_in_takes b.value n t.1)
+
+number_again : (name : List ℕ) (b : Binding) (n : ℕ) → b.name ≡ name → b.value ≡ Integer (pos n) → number_at name b ≡ Ok n
+unfolding number_at
+number_again name b n same is = named_again number_in name b n same (ap number_in is)
+
+number_fails : (name : List ℕ) (b : Binding) (e : Refusal) → number_at name b ≡ Err e → e ≡ BadStamp
+unfolding number_at
+number_fails name b e h = named_fails number_in name b (number_in_fails b.value) e h
+
+stamp_takes : (first second third : Binding) (stamp : Stamp) (others : List Binding) → stamp_of first second third ≡ Ok stamp → IsStamped (first ∷ second ∷ third ∷ others) stamp others
+unfolding stamp_of
+stamp_takes first second third stamp others h =
+    let engine = bind_ok (engine_of first) _ stamp h in
+    let boots = bind_ok (number_at engine_boots second) _ stamp engine.2 in
+    let time = bind_ok (number_at engine_time third) _ stamp boots.2 in
+    let is : record { engine = engine.0; boots = boots.0; time = time.0 } ≡ stamp = (let made : Stamp = record { engine = engine.0; boots = boots.0; time = time.0 } in ok_is made stamp time.2) in
+    let e = engine_takes first engine.0 engine.1 in
+    let v = engine_in_takes first.value engine.0 e.1 in
+    let b = number_takes engine_boots second boots.0 boots.1 in
+    let t = number_takes engine_time third time.0 time.1 in
+    record {
+      first = first;
+      second = second;
+      third = third;
+      whole = refl;
+      engine_named = e.0;
+      engine_is = v.0 ∙ ap (λ (s : Stamp). Octets s.engine) is;
+      engine_long = subst (λ (s : Stamp). 5 ≤ length s.engine) is v.1;
+      engine_short = subst (λ (s : Stamp). length s.engine ≤ 32) is v.2;
+      boots_named = b.0;
+      boots_is = b.1 ∙ ap (λ (s : Stamp). Integer (pos s.boots)) is;
+      time_named = t.0;
+      time_is = t.1 ∙ ap (λ (s : Stamp). Integer (pos s.time)) is;
+    }
+
+stamp_fails : (first second third : Binding) (e : Refusal) → stamp_of first second third ≡ Err e → e ≡ BadStamp
+unfolding stamp_of
+stamp_fails first second third e h =
+    elim (bind_err (engine_of first) _ e h) [
+      | inl bad ↦ engine_fails first e bad
+      | inr engine ↦
+          elim (bind_err (number_at engine_boots second) _ e engine.2) [
+            | inl bad ↦ number_fails engine_boots second e bad
+            | inr boots ↦
+                elim (bind_err (number_at engine_time third) _ e boots.2) [
+                  | inl bad ↦ number_fails engine_time third e bad
+                  | inr time ↦ cc time.2
+                ]
+          ]
+    ]
+
+response_takes : (bindings : List Binding) (stamp : Stamp) (others : List Binding) → response_of bindings ≡ Ok (stamp, others) → IsStamped bindings stamp others
+unfolding response_of
+response_takes [] stamp others h = cc
+response_takes (a ∷ []) stamp others h = cc
+response_takes (a ∷ b ∷ []) stamp others h = cc
+response_takes (a ∷ b ∷ c ∷ rest) stamp others h =
+    let made = bind_ok (stamp_of a b c) _ _ h in
+    let pair : Stamp × List Binding = (made.0, rest) in
+    let wanted : Stamp × List Binding = (stamp, others) in
+    let same : pair ≡ wanted = ok_is pair wanted made.2 in
+    let s : made.0 ≡ stamp = ap (λ (p : Stamp × List Binding). p.0) same in
+    let o : rest ≡ others = ap (λ (p : Stamp × List Binding). p.1) same in
+    let is : IsStamped (a ∷ b ∷ c ∷ rest) made.0 rest = stamp_takes a b c made.0 rest made.1 in
+    subst (λ st. IsStamped (a ∷ b ∷ c ∷ rest) st others) s (subst (λ os. IsStamped (a ∷ b ∷ c ∷ rest) made.0 os) o is)
+
+response_again : (bindings : List Binding) (stamp : Stamp) (others : List Binding) → IsStamped bindings stamp others → response_of bindings ≡ Ok (stamp, others)
+unfolding response_of stamp_of
+response_again bindings stamp others is =
+    let engine : engine_of is.first ≡ Ok stamp.engine = engine_again is.first stamp.engine is.engine_named (ap engine_in is.engine_is ∙ engine_in_again stamp.engine is.engine_long is.engine_short) in
+    let boots : number_at engine_boots is.second ≡ Ok stamp.boots = number_again engine_boots is.second stamp.boots is.boots_named is.boots_is in
+    let time : number_at engine_time is.third ≡ Ok stamp.time = number_again engine_time is.third stamp.time is.time_named is.time_is in
+    ap response_of is.whole ∙ (rw (engine, boots, time) refl)
+
+response_fails : (bindings : List Binding) (e : Refusal) → response_of bindings ≡ Err e → e ≡ BadStamp
+unfolding response_of
+response_fails [] e h = cc
+response_fails (a ∷ []) e h = cc
+response_fails (a ∷ b ∷ []) e h = cc
+response_fails (a ∷ b ∷ c ∷ rest) e h =
+    elim (bind_err (stamp_of a b c) _ e h) [
+      | inl bad ↦ stamp_fails a b c e bad
+      | inr made ↦ cc made.2
+    ]
+
+-- ---- the body
+-- what is read of a body of this kind and status
+abbrev by_kind : PduKind → ℤ → List Binding → Result (Stamp × List Binding) Refusal
+by_kind kind status bindings = if octet_of kind == octet_of Response then (if is_zero status then response_of bindings else Err AgentError) else Err NotAResponse
+
+not_none : (n : ℕ) → (suc n == 0) ≡ false
+not_none n = grind (arith, nat_tests)
+
+-- what is offered by what was read
+abbrev offering : Result (Stamp × List Binding) Refusal → Result (List Offer) Refusal
+offering read = read >>= λ response. Ok (offers_of response.0 response.1)
+
+module _ (text : List ℕ) (m : Message) (holds : Holds text m) where
+  no_response : (p : AnyPdu) → m.body ≡ Pdu p → (p.kind ≢ Response) → Says text (Err NotAResponse)
+  no_response p body other = record {
+    message = m;
+    holds = holds;
+    other = λ status bindings is. let here : IsResponse (Pdu p) status bindings = subst (λ b. IsResponse b status bindings) body is in other here.0;
+  }
+
+  module _ (status : ℤ) (bindings : List Binding) (response : IsResponse m.body status bindings) where
+    stamped_says : status ≡ pos 0 → Says text (offering (response_of bindings))
+    stamped_says ok =
+        let fine : IsResponse m.body (pos 0) bindings = subst (λ s. IsResponse m.body s bindings) ok response in
+        go fine (response_of bindings) refl
+      where
+        go : IsResponse m.body (pos 0) bindings → (r : Result (Stamp × List Binding) Refusal) → response_of bindings ≡ r → Says text (offering r)
+        go fine (Ok (stamp, others)) e = record {
+          message = m;
+          bindings = bindings;
+          stamp = stamp;
+          others = others;
+          holds = holds;
+          response = fine;
+          stamped = response_takes bindings stamp others e;
+          samples = refl;
+        }
+        go fine (Err f) e =
+            subst (λ (d : Refusal). Says text (Err d)) (sym (response_fails bindings f e)) (record {
+              message = m;
+              bindings = bindings;
+              holds = holds;
+              response = fine;
+              unstamped = λ stamp others is. let read = response_again bindings stamp others is in cc;
+            })
+
+    failed_says : status ≢ pos 0 → Says text (Err AgentError)
+    failed_says failed = record { message = m; status = status; bindings = bindings; holds = holds; response = response; failed = failed }
+
+    status_says : (z : ℤ) → status ≡ z → Says text (offering (if is_zero z then response_of bindings else Err AgentError))
+    status_says (pos zero) e = stamped_says e
+    status_says (pos (suc n)) e =
+        subst (λ t. Says text (offering (if t then response_of bindings else Err AgentError))) (sym (not_none n))
+        (failed_says (λ zero_is. let wrong : pos (suc n) ≡ pos 0 = sym e ∙ zero_is in cc))
+    status_says (negsuc n) e = failed_says (λ zero_is. let wrong : negsuc n ≡ pos 0 = sym e ∙ zero_is in cc)
+
+  kind_says : (p : AnyPdu) → m.body ≡ Pdu p → (kind : PduKind) → p.kind ≡ kind → Says text (offering (by_kind kind p.error_status p.bindings))
+  kind_says p body Response e = status_says p.error_status p.bindings (subst (λ b. IsResponse b p.error_status p.bindings) (sym body) (e, refl, refl)) p.error_status refl
+  kind_says p body Get e = no_response p body (λ r. let wrong : Get ≡ Response = sym e ∙ r in cc)
+  kind_says p body GetNext e = no_response p body (λ r. let wrong : GetNext ≡ Response = sym e ∙ r in cc)
+  kind_says p body Set e = no_response p body (λ r. let wrong : Set ≡ Response = sym e ∙ r in cc)
+  kind_says p body Inform e = no_response p body (λ r. let wrong : Inform ≡ Response = sym e ∙ r in cc)
+  kind_says p body Trap e = no_response p body (λ r. let wrong : Trap ≡ Response = sym e ∙ r in cc)
+  kind_says p body Report e = no_response p body (λ r. let wrong : Report ≡ Response = sym e ∙ r in cc)
+
+  body_says : (body : Body) → m.body ≡ body → Says text (offering (body_reading body))
+  unfolding body_reading
+  body_says (Bulk b) e = record { message = m; holds = holds; other = λ status bindings is. subst (λ x. IsResponse x status bindings) e is }
+  body_says (Pdu p) e = kind_says p e p.kind refl
+
+-- ---- the line
+module _ (takes : (bytes : List ℕ) (m : Message) → AreOctets bytes → message_at bytes ≡ Ok m → BeginsWithMessage bytes m)
+    (again : (bytes : List ℕ) (m : Message) → BeginsWithMessage bytes m → message_at bytes ≡ Ok m) where
+  octets_say : (text bytes : List ℕ) → decode_of text ≡ Ok bytes → (r : Result Message PduFault) → message_at bytes ≡ r → Says text (or_refuse BadMessage r >>= message_reading)
+  unfolding message_reading
+  octets_say text bytes hex (Ok m) e = body_says text m (record { bytes = bytes; hex = hex; message = takes bytes m (are_octets text bytes hex) e }) m.body refl
+  octets_say text bytes hex (Err f) e = record { bytes = bytes; hex = hex; none = λ m begins. let read = again bytes m begins in cc }
+
+  text_says : (text : List ℕ) (r : Result (List ℕ) FromHexError) → decode_of text ≡ r
+      → Says text ((or_refuse BadHex r >>= λ bytes. or_refuse BadMessage (message_at bytes)) >>= message_reading)
+  text_says text (Ok bytes) e = octets_say text bytes e (message_at bytes) refl
+  text_says text (Err f) e = λ bytes is. cc
+
+  -- a line says what reading it gives
+  pub says : (text : List ℕ) → Says text (hex_reading text)
+  unfolding hex_reading message_in
+  says text = text_says text (decode_of text) refl
+
+  -- ---- and nothing else
+  held : (text : List ℕ) (m : Message) → Holds text m → hex_reading text ≡ offering (body_reading m.body)
+  unfolding hex_reading message_in message_reading
+  held text m h =
+      ap (λ r. (or_refuse BadHex r >>= λ bytes. or_refuse BadMessage (message_at bytes)) >>= message_reading) h.hex
+      ∙ ap (λ r. or_refuse BadMessage r >>= message_reading) (again h.bytes m h.message)
+
+  responded : (body : Body) (status : ℤ) (bindings : List Binding) → IsResponse body status bindings → body_reading body ≡ by_kind Response status bindings
+  unfolding body_reading
+  responded (Pdu p) status bindings is = λ j. by_kind (is.0 j) (is.1 j) (is.2 j)
+  responded (Bulk b) status bindings is = absurd is
+
+  not_zero : (status : ℤ) (bindings : List Binding) → status ≢ pos 0 → by_kind Response status bindings ≡ Err AgentError
+  not_zero (pos zero) bindings failed = absurd (failed refl)
+  not_zero (pos (suc n)) bindings failed = ap (λ t. if t then response_of bindings else Err AgentError) (not_none n)
+  not_zero (negsuc n) bindings failed = refl
+
+  other_kind : (body : Body) → ((status : ℤ) (bindings : List Binding) → IsResponse body status bindings → ⊥) → body_reading body ≡ Err NotAResponse
+  unfolding body_reading
+  other_kind (Bulk b) other = refl
+  other_kind (Pdu p) other = go p.kind refl
+    where
+      go : (kind : PduKind) → p.kind ≡ kind → by_kind kind p.error_status p.bindings ≡ Err NotAResponse
+      go Response e = absurd (other p.error_status p.bindings (e, refl, refl))
+      go Get e = refl
+      go GetNext e = refl
+      go Set e = refl
+      go Inform e = refl
+      go Trap e = refl
+      go Report e = refl
+
+  unstamped : (bindings : List Binding) → ((stamp : Stamp) (others : List Binding) → IsStamped bindings stamp others → ⊥) → response_of bindings ≡ Err BadStamp
+  unstamped bindings none = go (response_of bindings) refl
+    where
+      go : (r : Result (Stamp × List Binding) Refusal) → response_of bindings ≡ r → response_of bindings ≡ Err BadStamp
+      go (Ok (stamp, others)) e = absurd (none stamp others (response_takes bindings stamp others e))
+      go (Err f) e = e ∙ ap Err (response_fails bindings f e)
+
+  no_hex : (text : List ℕ) → ((bytes : List ℕ) → decode_of text ≢ Ok bytes) → hex_reading text ≡ Err BadHex
+  unfolding hex_reading message_in
+  no_hex text none = go (decode_of text) refl
+    where
+      go : (r : Result (List ℕ) FromHexError) → decode_of text ≡ r → (let made : Result (List Offer) Refusal = ((or_refuse BadHex r >>= λ bytes. or_refuse BadMessage (message_at bytes)) >>= message_reading) in made) ≡ Err BadHex
+      go (Ok bytes) e = absurd (none bytes e)
+      go (Err f) e = refl
+
+  no_message : (text : List ℕ) → IsNoMessage text → hex_reading text ≡ Err BadMessage
+  unfolding hex_reading message_in
+  no_message text is =
+      ap (λ r. (or_refuse BadHex r >>= λ bytes. or_refuse BadMessage (message_at bytes)) >>= message_reading) is.hex ∙ go (message_at is.bytes) refl
+    where
+      go : (r : Result Message PduFault) → message_at is.bytes ≡ r → (let made : Result (List Offer) Refusal = (or_refuse BadMessage r >>= message_reading) in made) ≡ Err BadMessage
+      go (Ok m) e = absurd (is.none m (takes is.bytes m (are_octets text is.bytes is.hex) e))
+      go (Err f) e = refl
+
+  -- what a line says is what reading it gives
+  pub only : (text : List ℕ) (reading : Result (List Offer) Refusal) → Says text reading → hex_reading text ≡ reading
+  only text (Ok offers) b =
+      held text b.message b.holds ∙ ap offering (responded b.message.body (pos 0) b.bindings b.response)
+      ∙ ap offering (response_again b.bindings b.stamp b.others b.stamped) ∙ ap Ok (sym b.samples)
+  only text (Err OutOfMemory) b = absurd b
+  only text (Err BadHex) b = no_hex text b
+  only text (Err BadMessage) b = no_message text b
+  only text (Err NotAResponse) b = held text b.message b.holds ∙ ap offering (other_kind b.message.body b.other)
+  only text (Err AgentError) b =
+      held text b.message b.holds ∙ ap offering (responded b.message.body b.status b.bindings b.response) ∙ ap offering (not_zero b.status b.bindings b.failed)
+  only text (Err BadStamp) b =
+      held text b.message b.holds ∙ ap offering (responded b.message.body (pos 0) b.bindings b.response) ∙ ap offering (unstamped b.bindings b.unstamped)
+  only text (Err TooManyInstances) b = absurd b

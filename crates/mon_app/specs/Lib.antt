@@ -1,0 +1,14 @@
+pub mod AppFault
+pub mod Refusal
+pub mod Gives
+pub mod Instance
+pub mod Offer
+pub mod Reading
+pub mod Response
+pub mod Windows
+pub mod Text
+pub mod Find
+pub mod Taken
+pub mod Replay
+pub mod Line
+pub mod Outcome

@@ -1,0 +1,55 @@
+//! Why a command failed, as its one line on standard error says.
+
+ghost use Rattle.std.specs.Prelude.{◌≡◌};
+ghost use Rattle.mon_app.specs.AppFault.{number_of, name_of};
+ghost use Rattle.mon_app.specs.declared.fault.AppFault.TheVariants.{OutOfMemory};
+
+use std::alloc::AllocError;
+use std::io;
+use thiserror::Error;
+
+/// Why a command of the program failed, where no crate below names a fault of its own.
+#[derive(Clone, Copy, Debug, PartialEq, Eq, Error)]
+pub enum AppFault {
+    #[error("out of memory")]
+    OutOfMemory = 1,
+    #[error("a file or a standard stream could not be read or written")]
+    FileFault = 3,
+}
+
+impl AppFault {
+    /// The number that the line on standard error gives the fault.
+    pub fn number(self) -> u8
+        ensures { result ≡ number_of self }
+    {
+        self as u8
+    }
+
+    /// The name that the line on standard error gives the fault.
+    pub fn name(self) -> &'static str
+        ensures { result.now ≡ name_of self }
+    {
+        match self {
+            AppFault::OutOfMemory => "OutOfMemory",
+            AppFault::FileFault => "FileFault",
+        }
+    }
+}
+
+impl From<AllocError> for AppFault {
+    ghost from_gives = { λ _ e. e ≡ OutOfMemory };
+
+    fn from(_e: AllocError) -> AppFault {
+        AppFault::OutOfMemory
+    }
+}
+
+/// A failed read or write is a `FileFault`, unless memory ran out in it.
+impl From<io::Error> for AppFault {
+    fn from(error: io::Error) -> AppFault {
+        match error.kind() {
+            io::ErrorKind::OutOfMemory => AppFault::OutOfMemory,
+            _ => AppFault::FileFault,
+        }
+    }
+}

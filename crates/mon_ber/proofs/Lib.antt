@@ -1,0 +1,9 @@
+pub mod Numbers
+pub mod Names
+pub mod Steps
+pub mod Elements
+pub mod Values
+pub mod Many
+pub mod Written
+pub mod Shortest
+pub mod Spelled

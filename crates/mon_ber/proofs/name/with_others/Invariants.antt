@@ -1,0 +1,16 @@
+use Rattle.std.proofs.Common.{◌≡◌, ◌-◌, ◌≤◌, length}
+use Rattle.mon_oid.specs.Oid.{IsOid}
+use Rattle.mon_ber.specs.Reading.{subidentifiers_of}
+use Rattle.mon_ber.specs.Many.{behind}
+use Rattle.mon_ber.proofs.name.with_others.Given as goal
+
+abbrev pub invariant-loop-rest : goal.invariant-loop-rest
+invariant-loop-rest l = record {
+  so_far : behind l.parts.items (subidentifiers_of (128 - length l.parts.items) l.rest)
+      ≡ behind l.initial.parts.items (subidentifiers_of (128 - length l.initial.parts.items) l.bytes);
+  valid : IsOid l.parts.items;
+  room : l.initial.parts.capacity ≤ l.parts.capacity;
+}
+
+abbrev pub decreases-loop-rest : goal.decreases-loop-rest
+decreases-loop-rest l = length l.rest

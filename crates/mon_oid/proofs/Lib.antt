@@ -1,0 +1,4 @@
+pub mod Dotted
+pub mod Extended
+pub mod Order
+pub mod Split

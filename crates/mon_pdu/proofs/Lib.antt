@@ -1,0 +1,5 @@
+pub mod Messages
+pub mod Whole
+pub mod Lengths
+pub mod Spelled
+pub mod Shortest

@@ -1,0 +1,73 @@
+//! Laws over the spellings of messages. Each is a function that does nothing; its clause is the law.
+
+ghost use Rattle.std.specs.Prelude.{◌≡◌, ◌≢◌, ◌≤◌, ◌↔◌, ℕ, ℤ, pos, List, [], ◌++◌, length, Result, Ok, Err};
+ghost use Rattle.mon_pdu.specs.declared.fault.PduFault.{PduFault};
+ghost use Rattle.mon_pdu.specs.declared.fault.PduFault.TheVariants.{OutOfMemory, BadVersion, UnknownPdu};
+ghost use Rattle.mon_pdu.specs.declared.message.Message.{Message};
+ghost use Rattle.mon_pdu.specs.Grammar.{AreOctets, IsMessage, BeginsWithMessage, IsVersioned, HasUnknownPdu};
+ghost use Rattle.mon_pdu.specs.Reading.{Fails, message_at};
+ghost use Rattle.mon_pdu.specs.Writing.{HasLength, IsValid, written_message};
+
+/// No spelling of a message is a proper prefix of a spelling of any message, and each has one meaning.
+pub fn front()
+    ensures { (text more : List ℕ) (m n : Message) → IsMessage text m → IsMessage (text ++ more) n → (more ≡ []) × (m ≡ n) }
+{
+}
+
+/// The message that reading gives is spelled where the octets begin.
+pub fn takes()
+    ensures { (bytes : List ℕ) (m : Message) → AreOctets bytes → message_at bytes ≡ Ok m → BeginsWithMessage bytes m }
+{
+}
+
+/// Where the octets begin with a spelling of a message, reading gives the message.
+pub fn again()
+    ensures { (bytes : List ℕ) (m : Message) → BeginsWithMessage bytes m → message_at bytes ≡ Ok m }
+{
+}
+
+/// Reading gives the fault of a version exactly where the octets begin with a SEQUENCE that begins with that version, not 1.
+pub fn version()
+    ensures { (bytes : List ℕ) (v : ℤ) → AreOctets bytes
+        → message_at bytes ≡ Err (BadVersion v) ↔ (IsVersioned bytes v × (v ≢ pos 1)) }
+{
+}
+
+/// Reading gives the fault of a PDU exactly where the tag of no PDU stands behind version 1 and a community.
+pub fn unknown_pdu()
+    ensures { (bytes : List ℕ) (t : ℕ) → AreOctets bytes
+        → message_at bytes ≡ Err (UnknownPdu t) ↔ HasUnknownPdu bytes t }
+{
+}
+
+/// A fault of a call that is not want of memory is the fault that reading gives.
+pub fn told()
+    ensures { (bytes : List ℕ) (e : PduFault) → e ≢ OutOfMemory → Fails e (message_at bytes) → message_at bytes ≡ Err e }
+{
+}
+
+/// What is written for a message is one of its spellings.
+pub fn written()
+    ensures { (m : Message) → IsValid m → HasLength m → IsMessage (written_message m) m }
+{
+}
+
+/// No spelling of a message is shorter than what is written for it.
+pub fn shortest()
+    ensures { (text : List ℕ) (m : Message) → AreOctets text → IsMessage text m → length (written_message m) ≤ length text }
+{
+    mon_ber::laws::shortest();
+}
+
+/// A message that is spelled is valid and can be written.
+pub fn rewritable()
+    ensures { (text : List ℕ) (m : Message) → AreOctets text → IsMessage text m → IsValid m × HasLength m }
+{
+    mon_ber::laws::shortest();
+}
+
+/// What is written for a message is read as the same message, whatever follows it.
+pub fn round_trip()
+    ensures { (m : Message) (rest : List ℕ) → IsValid m → HasLength m → message_at (written_message m ++ rest) ≡ Ok m }
+{
+}

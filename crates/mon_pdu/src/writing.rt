@@ -1,0 +1,253 @@
+//! Writing messages.
+
+ghost use Rattle.std.specs.Prelude.{◌≡◌, FitsSigned, ℕ, ◌≤◌, ◌<◌, ◌+◌, ◌^◌, ◌++◌, ◌⊎◌, List, [], pos, length, OnOk, IfOk, IfErr, MatchResult};
+ghost use Rattle.std.specs.List.{flat_map, AllByRecursion};
+ghost use Rattle.std.specs.Int.{w32};
+ghost use Rattle.mon_ber.specs.declared.value.Value.TheVariants.{Integer};
+ghost use Rattle.mon_ber.specs.Writing.{written, element, counted, IsValid as IsValidValue};
+ghost use Rattle.mon_pdu.specs.declared.fault.PduFault.TheVariants.{OutOfMemory, BadLength};
+ghost use Rattle.mon_pdu.specs.Grammar.{tag_of, first_of, second_of, third_of, bindings_of, IsMessage};
+ghost use Rattle.mon_pdu.specs.Writing.{HasLength, binding_contents, written_binding, list_contents, written_list, numbers_of, body_contents, written_body, message_contents, written_message, IsValidBinding, IsValid};
+
+use crate::fault::PduFault;
+use crate::message::{Binding, Body, Message};
+use mon_ber::Value;
+use mon_ber::writing::{
+    LIMIT, element_len, element_size, integer_size, name_size, put_header, put_integer,
+    put_object_identifier, put_octets, put_value, value_size,
+};
+use std::alloc::{AllocError, Global};
+
+/// An address has four octets.
+fn look_at_address(address: [u8; 4])
+    ensures { length address ≡ 4 }
+{
+}
+
+/// Looks at a value, which then is known to be in the range of its type.
+fn look_at_value(value: &Value)
+    ensures { IsValidValue value.now }
+{
+    match value {
+        Value::Integer(number) => {
+            let _number = *number;
+        }
+        Value::Name(name) => {
+            let _parts = name.parts();
+        }
+        Value::IpAddress(address) => {
+            look_at_address(*address);
+        }
+        Value::Counter32(number) | Value::Gauge32(number) | Value::TimeTicks(number) => {
+            let _number = *number;
+        }
+        Value::Counter64(number) => {
+            let _number = *number;
+        }
+        _ => {}
+    }
+}
+
+/// How many octets the contents of a binding take, counted up to the limit.
+#[tactic(auto, using(crate::proofs::Lengths::binding_total))]
+fn binding_len(binding: &Binding) -> usize
+    ensures len { result ≡ counted (length (binding_contents binding.now)) }
+    ensures valid { IsValidBinding binding.now }
+{
+    let _parts = binding.name.parts();
+    look_at_value(&binding.value);
+    (name_size(&binding.name) + value_size(&binding.value)).min(LIMIT)
+}
+
+/// How many octets the bindings take, counted up to the limit.
+#[tactic(auto, using(crate::proofs::Lengths::binding_length, crate::proofs::Lengths::counted_twice))]
+fn list_len(bindings: &[Binding]) -> usize
+    ensures len { result ≡ counted (length (list_contents bindings.now)) }
+    ensures valid { AllByRecursion IsValidBinding bindings.now }
+{
+    let mut len = 0;
+    for binding in bindings {
+        len = (len + element_size(binding_len(binding))).min(LIMIT);
+    }
+    len
+}
+
+/// How many octets three numbers take.
+#[tactic(auto, using(crate::proofs::Lengths::passed))]
+fn three_len(first: i32, second: i32, third: i32) -> usize
+    ensures value { result ≡ length (written (Integer first)) + length (written (Integer second)) + length (written (Integer third)) }
+    ensures small { result ≤ 45 }
+    ensures fits { FitsSigned w32 first × FitsSigned w32 second × FitsSigned w32 third }
+{
+    integer_size(first) + integer_size(second) + integer_size(third)
+}
+
+#[tactic(auto, using(crate::proofs::Lengths::passed))]
+fn put_three(out: &mut Vec<u8>, first: i32, second: i32, third: i32) -> Result<(), AllocError>
+    ensures { OnOk result (out.new.items ≡ out.old.items ++ written (Integer first) ++ written (Integer second) ++ written (Integer third)) }
+{
+    put_integer(out, first)?;
+    put_integer(out, second)?;
+    put_integer(out, third)
+}
+
+/// How many octets the numbers before the bindings take.
+#[tactic(auto, using(crate::proofs::Lengths::passed, crate::proofs::Lengths::numbers_total))]
+fn numbers_len(body: &Body) -> usize
+    ensures value { result ≡ length (numbers_of body.now) }
+    ensures small { result ≤ 45 }
+    ensures fits { FitsSigned w32 (first_of body.now) × FitsSigned w32 (second_of body.now) × FitsSigned w32 (third_of body.now) }
+{
+    match body {
+        Body::Pdu(pdu) => three_len(pdu.request_id, pdu.error_status, pdu.error_index),
+        Body::Bulk(bulk) => three_len(bulk.request_id, bulk.non_repeaters, bulk.max_repetitions),
+    }
+}
+
+#[tactic(auto, using(crate::proofs::Lengths::passed))]
+fn put_numbers(out: &mut Vec<u8>, body: &Body) -> Result<(), AllocError>
+    ensures { OnOk result (out.new.items ≡ out.old.items ++ numbers_of body.now) }
+{
+    match body {
+        Body::Pdu(pdu) => put_three(out, pdu.request_id, pdu.error_status, pdu.error_index),
+        Body::Bulk(bulk) => put_three(
+            out,
+            bulk.request_id,
+            bulk.non_repeaters,
+            bulk.max_repetitions,
+        ),
+    }
+}
+
+#[tactic(auto, using(crate::proofs::Lengths::body_total, crate::proofs::Lengths::counted_twice))]
+fn body_len(body: &Body, list: usize) -> usize
+    requires { list ≡ counted (length (list_contents (bindings_of body.now))) }
+    ensures len { result ≡ counted (length (body_contents body.now)) }
+    ensures fits { FitsSigned w32 (first_of body.now) × FitsSigned w32 (second_of body.now) × FitsSigned w32 (third_of body.now) }
+{
+    (numbers_len(body) + element_size(list)).min(LIMIT)
+}
+
+#[tactic(auto, using(crate::proofs::Lengths::message_total, crate::proofs::Lengths::counted_twice))]
+fn message_len(message: &Message, body: usize) -> usize
+    requires { body ≡ counted (length (body_contents message.now.body)) }
+    ensures { result ≡ counted (length (message_contents message.now)) }
+{
+    let community = element_size(message.community.as_slice().len());
+    (integer_size(1) + community + element_size(body)).min(LIMIT)
+}
+
+/// How many octets of contents a message and its parts have, counted up to the limit.
+#[derive(Clone, Copy)]
+struct Lengths {
+    list: usize,
+    body: usize,
+    message: usize,
+}
+
+/// Measures the message from the inside out, each part once.
+fn lengths_of(message: &Message) -> Lengths
+    ensures list { result.list ≡ counted (length (list_contents (bindings_of message.now.body))) }
+    ensures body { result.body ≡ counted (length (body_contents message.now.body)) }
+    ensures message { result.message ≡ counted (length (message_contents message.now)) }
+    ensures valid { IsValid message.now }
+{
+    let list = list_len(message.body.bindings());
+    let body = body_len(&message.body, list);
+    let message = message_len(message, body);
+    Lengths {
+        list,
+        body,
+        message,
+    }
+}
+
+/// How many octets `write_message` writes. Takes no memory and time linear in the message.
+/// The one fault is `BadLength`: the length of the contents needs more than 4 octets.
+#[tactic(auto, using(crate::proofs::Lengths::message_length))]
+pub fn message_size(message: &Message) -> Result<usize, PduFault>
+    ensures valid { IsValid message.now }
+    ensures size { MatchResult result (λ n. HasLength message.now × (n ≡ length (written_message message.now)))
+        (λ e. (e ≡ BadLength) × (2 ^ 32 ≤ length (message_contents message.now))) }
+{
+    let len = lengths_of(message).message;
+    if len >= LIMIT {
+        return Err(PduFault::BadLength);
+    }
+    Ok(element_len(len))
+}
+
+#[tactic(auto, using(crate::proofs::Lengths::value_fits), unfolding(crate::specs::Writing::written_binding, mon_ber::specs::Writing::element))]
+fn put_binding(out: &mut Vec<u8>, binding: &Binding) -> Result<(), AllocError>
+    requires { length (binding_contents binding.now) < 2 ^ 32 }
+    ensures { OnOk result (out.new.items ≡ out.old.items ++ written_binding binding.now) }
+{
+    put_header(out, 0x30, binding_len(binding))?;
+    put_object_identifier(out, &binding.name)?;
+    put_value(out, &binding.value)
+}
+
+fn put_bindings(out: &mut Vec<u8>, bindings: &[Binding]) -> Result<(), AllocError>
+    requires { length (list_contents bindings.now) < 2 ^ 32 }
+    ensures { OnOk result (out.new.items ≡ out.old.items ++ list_contents bindings.now) }
+{
+    for binding in bindings {
+        put_binding(out, binding)?;
+    }
+    Ok(())
+}
+
+#[tactic(auto, unfolding(crate::specs::Writing::written_list, mon_ber::specs::Writing::element))]
+fn put_list(out: &mut Vec<u8>, bindings: &[Binding], len: usize) -> Result<(), AllocError>
+    requires fits { len < 2 ^ 32 }
+    requires len { len ≡ length (list_contents bindings.now) }
+    ensures { OnOk result (out.new.items ≡ out.old.items ++ written_list bindings.now) }
+{
+    put_header(out, 0x30, len)?;
+    put_bindings(out, bindings)
+}
+
+#[tactic(auto, using(crate::proofs::Lengths::list_fits), unfolding(crate::specs::Writing::written_body, mon_ber::specs::Writing::element))]
+fn put_body(out: &mut Vec<u8>, body: &Body, lengths: Lengths) -> Result<(), AllocError>
+    requires fits { length (body_contents body.now) < 2 ^ 32 }
+    requires body { lengths.body ≡ counted (length (body_contents body.now)) }
+    requires list { lengths.list ≡ counted (length (list_contents (bindings_of body.now))) }
+    ensures { OnOk result (out.new.items ≡ out.old.items ++ written_body body.now) }
+{
+    put_header(out, body.octet(), lengths.body)?;
+    put_numbers(out, body)?;
+    put_list(out, body.bindings(), lengths.list)
+}
+
+#[tactic(auto, using(crate::proofs::Lengths::body_fits), unfolding(crate::specs::Writing::written_message, mon_ber::specs::Writing::element))]
+fn put_message(out: &mut Vec<u8>, message: &Message, lengths: Lengths) -> Result<(), AllocError>
+    requires fits { HasLength message.now }
+    requires message { lengths.message ≡ counted (length (message_contents message.now)) }
+    requires body { lengths.body ≡ counted (length (body_contents message.now.body)) }
+    requires list { lengths.list ≡ counted (length (list_contents (bindings_of message.now.body))) }
+    ensures { OnOk result (out.new.items ≡ out.old.items ++ written_message message.now) }
+{
+    put_header(out, 0x30, lengths.message)?;
+    put_integer(out, 1)?;
+    put_octets(out, message.community.as_slice())?;
+    put_body(out, &message.body, lengths)
+}
+
+/// The shortest spelling of the message, in a vector of just its size, which is the one allocation.
+/// Each variable binding is measured twice, once for the message's size and once for its own length, so the
+/// time is linear in what is written. Besides `OutOfMemory` the one fault is `BadLength`, as of `message_size`.
+pub fn write_message(alloc: Global, message: &Message) -> Result<Vec<u8>, PduFault>
+    ensures valid { IsValid message.now }
+    ensures ok { IfOk result (λ v. HasLength message.now × (v.items ≡ written_message message.now)) }
+    // What is written is a spelling of the message.
+    ensures spelled { IfOk result (λ v. IsMessage v.items message.now) }
+    ensures err { IfErr result (λ e. (e ≡ OutOfMemory) ⊎ ((e ≡ BadLength) × (2 ^ 32 ≤ length (message_contents message.now)))) }
+{
+    let lengths = lengths_of(message);
+    if lengths.message >= LIMIT {
+        return Err(PduFault::BadLength);
+    }
+    let mut out = Vec::with_capacity(alloc, element_len(lengths.message))?;
+    put_message(&mut out, message, lengths)?;
+    Ok(out)
+}

@@ -1,0 +1,243 @@
+ghost use Rattle.std.specs.Prelude.{ℕ, ◌≡◌, ◌<◌, ◌^◌, ◌↔◌, IfOk, IsTrue};
+ghost use Rattle.std.specs.Ordering.{nat_cmp};
+ghost use Rattle.std.specs.Cmp.Lexicographic.{slice_cmp};
+ghost use Rattle.mon_sample.specs.Kind.{holds, kind_tag, number_of};
+ghost use Rattle.mon_sample.specs.Key.{key, boots_of, time_of, mark_of, tag_of, kind_of, value_of, IsSample, HasTag, HasStamp, HasValue};
+ghost use Rattle.mon_sample.specs.Record.{octets_of, spelled, layout, boots_at, time_at, mark_at, tag_at, value_at};
+
+use crate::fault::SampleFault;
+use crate::kind::Kind;
+use std::cmp::Ordering;
+use std::marker::Model;
+
+/// One more than the greatest boots and time.
+const STAMP_LIMIT: u32 = 1 << 31;
+
+/// A value that an agent gave for an object, and when. Contracts see the number that its record's octets spell,
+/// so the newer of two samples is the greater number.
+#[derive(Clone, Copy, Debug, PartialEq, Eq)]
+pub struct Sample {
+    boots: u32,
+    time: u32,
+    mark: u32,
+    kind: Kind,
+    value: u64,
+}
+
+impl Model for Sample {
+    ghost use Rattle.std.specs.Prelude.{ℕ};
+    ghost use Rattle.mon_sample.specs.Kind.{kind_tag};
+    ghost use Rattle.mon_sample.specs.Key.{key, boots_of, time_of, mark_of, kind_of, value_of, AreFields};
+    ghost use Rattle.mon_sample.specs.Digits.{fields_back};
+
+    ghost Value = { ℕ };
+
+    ghost view = { λ s. key s.boots s.time s.mark (kind_tag s.kind) s.value };
+
+    ghost invariant = { λ s. AreFields s.boots s.time s.mark s.kind s.value };
+
+    ghost inverse = { λ k. record { boots = boots_of k; time = time_of k; mark = mark_of k; kind = kind_of k; value = value_of k } };
+
+    ghost inverse_ok = { λ a h. λ i. let e = fields_back a.boots a.time a.mark a.kind a.value h in record { boots = e.boots_back i; time = e.time_back i; mark = e.mark_back i; kind = e.kind_is i; value = e.value_back i } };
+}
+
+impl Sample {
+    /// A sample of these fields. `boots` and `time` are the agent's snmpEngineBoots and snmpEngineTime, at most 2147483647
+    /// (RFC 3411 section 5); `mark` is the value of the object's discontinuity indicator, 0 where it has none; `value` is
+    /// the object's value modulo 2^64.
+    pub fn new(boots: u32, time: u32, mark: u32, kind: Kind, value: u64) -> Self
+        requires boots { boots < 2 ^ 31 }
+        requires time { time < 2 ^ 31 }
+        requires value { IsTrue (holds kind value) }
+        ensures { result ≡ key boots time mark (kind_tag kind) value }
+    {
+        Sample {
+            boots,
+            time,
+            mark,
+            kind,
+            value,
+        }
+    }
+
+    /// How often the agent had started, 0 to 2147483647.
+    pub fn boots(&self) -> u32
+        ensures boots { result ≡ boots_of self.now }
+        ensures small { boots_of self.now < 2 ^ 31 }
+    {
+        self.boots
+    }
+
+    /// Seconds since the agent's last start, 0 to 2147483647.
+    pub fn time(&self) -> u32
+        ensures time { result ≡ time_of self.now }
+        ensures small { time_of self.now < 2 ^ 31 }
+    {
+        self.time
+    }
+
+    /// The value of the object's discontinuity indicator (RFC 2578 section 7.1.6), 0 where it has none.
+    pub fn mark(&self) -> u32
+        ensures { result ≡ mark_of self.now }
+    {
+        self.mark
+    }
+
+    /// The type of the value.
+    pub fn kind(&self) -> Kind
+        ensures { result ≡ kind_of self.now }
+    {
+        self.kind
+    }
+
+    /// The value modulo 2^64.
+    pub fn value(&self) -> u64
+        ensures { result ≡ value_of self.now }
+    {
+        self.value
+    }
+
+    /// The number that the value means: of an INTEGER it is signed.
+    pub fn number(&self) -> i128
+        ensures { result ≡ number_of (kind_of self.now) (value_of self.now) }
+    {
+        self.kind.number(self.value)
+    }
+
+    /// The order of the two samples' records, octet by octet: the newer is the greater.
+    pub fn compare(&self, other: &Sample) -> Ordering
+        ensures number { result ≡ nat_cmp self.now other.now }
+        ensures octets { result ≡ slice_cmp nat_cmp (octets_of self.now) (octets_of other.now) }
+    {
+        let _ = &self.boots;
+        let _ = &other.boots;
+        let boots = self.boots.cmp(&other.boots);
+        boots
+            .then(self.time.cmp(&other.time))
+            .then(self.mark.cmp(&other.mark))
+            .then(self.kind.tag().cmp(&other.kind.tag()))
+            .then(self.value.cmp(&other.value))
+    }
+
+    /// The sample's record: boots 4 octets, time 4, mark 4, tag 1, value 8, each with the greatest octet first.
+    pub fn to_record(&self) -> [u8; 21]
+        ensures octets { result ≡ octets_of self.now }
+        ensures sample { IsSample self.now }
+    {
+        let _ = &self.boots;
+        let tag = self.kind.tag();
+        laid_out(self.boots, self.time, self.mark, tag, self.value)
+    }
+
+    /// The sample of a record, or the first fault of its tag, stamp and value.
+    pub fn from_record(octets: &[u8; 21]) -> Result<Sample, SampleFault>
+        ensures sample { (result ≡ Ok (spelled octets.now)) ↔ IsSample (spelled octets.now) }
+        ensures octets { IfOk result (λ s. octets.now ≡ octets_of s) }
+        ensures only { (s : ℕ) → IsSample s → octets.now ≡ octets_of s → result ≡ Ok s }
+
+        // The first fault that the octets have.
+        ensures tag { (result ≡ Err SampleFault.BadTag) ↔ ¬ (HasTag (spelled octets.now)) }
+        ensures stamp { (result ≡ Err SampleFault.BadStamp) ↔ (HasTag (spelled octets.now) × ¬ (HasStamp (spelled octets.now))) }
+        ensures value { (result ≡ Err SampleFault.BadValue)
+            ↔ (HasTag (spelled octets.now) × HasStamp (spelled octets.now) × ¬ (HasValue (spelled octets.now))) }
+    {
+        let parts = digits_of(octets);
+        let Some(kind) = Kind::from_tag(parts.tag) else {
+            return Err(SampleFault::BadTag);
+        };
+        if parts.boots >= STAMP_LIMIT || parts.time >= STAMP_LIMIT {
+            return Err(SampleFault::BadStamp);
+        }
+        if !kind.holds(parts.value) {
+            return Err(SampleFault::BadValue);
+        }
+        Ok(Sample {
+            boots: parts.boots,
+            time: parts.time,
+            mark: parts.mark,
+            kind,
+            value: parts.value,
+        })
+    }
+}
+
+/// The numbers in a record, whatever they are.
+#[derive(Clone, Copy)]
+struct Parts {
+    boots: u32,
+    time: u32,
+    mark: u32,
+    tag: u8,
+    value: u64,
+}
+
+/// The parts are the digits of the number that the octets spell.
+fn digits_of(octets: &[u8; 21]) -> Parts
+    ensures boots { result.boots ≡ boots_of (spelled octets.now) }
+    ensures time { result.time ≡ time_of (spelled octets.now) }
+    ensures mark { result.mark ≡ mark_of (spelled octets.now) }
+    ensures tag { result.tag ≡ tag_of (spelled octets.now) }
+    ensures value { result.value ≡ value_of (spelled octets.now) }
+    ensures whole { key result.boots result.time result.mark result.tag result.value ≡ spelled octets.now }
+    ensures octets { octets.now ≡ octets_of (spelled octets.now) }
+{
+    parts_of(octets)
+}
+
+#[tactic(auto, unfolding(crate::specs::Record::layout))]
+fn laid_out(boots: u32, time: u32, mark: u32, tag: u8, value: u64) -> [u8; 21]
+    ensures { result ≡ layout boots time mark tag value }
+{
+    let [b0, b1, b2, b3] = boots.to_be_bytes();
+    let [t0, t1, t2, t3] = time.to_be_bytes();
+    let [m0, m1, m2, m3] = mark.to_be_bytes();
+    let [v0, v1, v2, v3, v4, v5, v6, v7] = value.to_be_bytes();
+    [
+        b0, b1, b2, b3, t0, t1, t2, t3, m0, m1, m2, m3, tag, v0, v1, v2, v3, v4, v5, v6, v7,
+    ]
+}
+
+#[tactic(auto, unfolding(crate::specs::Record::boots_at, crate::specs::Record::time_at, crate::specs::Record::mark_at, crate::specs::Record::tag_at, crate::specs::Record::value_at))]
+fn parts_of(octets: &[u8; 21]) -> Parts
+    ensures boots { result.boots ≡ boots_at octets.now }
+    ensures time { result.time ≡ time_at octets.now }
+    ensures mark { result.mark ≡ mark_at octets.now }
+    ensures tag { result.tag ≡ tag_at octets.now }
+    ensures value { result.value ≡ value_at octets.now }
+    ensures boots_fit { result.boots < 2 ^ 32 }
+    ensures time_fits { result.time < 2 ^ 32 }
+    ensures mark_fits { result.mark < 2 ^ 32 }
+    ensures tag_fits { result.tag < 2 ^ 8 }
+    ensures value_fits { result.value < 2 ^ 64 }
+{
+    let [
+        b0,
+        b1,
+        b2,
+        b3,
+        t0,
+        t1,
+        t2,
+        t3,
+        m0,
+        m1,
+        m2,
+        m3,
+        tag,
+        v0,
+        v1,
+        v2,
+        v3,
+        v4,
+        v5,
+        v6,
+        v7,
+    ] = *octets;
+    Parts {
+        boots: u32::from_be_bytes([b0, b1, b2, b3]),
+        time: u32::from_be_bytes([t0, t1, t2, t3]),
+        mark: u32::from_be_bytes([m0, m1, m2, m3]),
+        tag,
+        value: u64::from_be_bytes([v0, v1, v2, v3, v4, v5, v6, v7]),
+    }
+}

@@ -1,0 +1,9 @@
+pub mod Choice
+pub mod Keep
+pub mod Kept
+pub mod Members
+pub mod Newest
+pub mod Parts
+pub mod Placing
+pub mod Promised
+pub mod Rising

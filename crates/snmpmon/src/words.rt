@@ -1,0 +1,55 @@
+//! The command line.
+
+use clap::{Arg, Command, value_parser};
+use std::alloc::{AllocError, Global};
+
+const ABOUT: &str =
+    "Proved SNMPv2c monitoring: reads what agents answered, and prints what was measured";
+
+const MORE: &str = "With no command it does `replay 8`.
+
+A fault ends a command with status 1 and one line on standard error, `snmpmon: CRATE NUMBER NAME`.
+Words that cannot be read end it with status 2 and the usage.";
+
+const REPLAY: &str = "Prints the newest samples of each instance in recorded responses";
+
+const REPLAY_MORE: &str =
+    "Reads SNMPv2c responses from standard input, one datagram a line, in hex digits, and prints for each
+instance (an agent's engine id and an object's name) its N newest samples.
+
+A line counts if it is a Response-PDU without an error whose first three variable bindings are
+snmpEngineID.0, snmpEngineBoots.0 and snmpEngineTime.0; each further binding with an INTEGER, Counter32,
+Gauge32, TimeTicks or Counter64 is a sample. Empty lines are passed over. Any other line is named with
+its number and the reason, and changes nothing:
+
+  2 BadHex            not pairs of hex digits
+  3 BadMessage        no SNMPv2c message
+  4 NotAResponse      a message, and no response
+  5 AgentError        a response with an error status
+  6 BadStamp          no engine id, boots and time in front
+  7 TooManyInstances  more than 256 instances in all
+
+A sample is printed as BOOTS TIME MARK KIND VALUE, the oldest first.
+
+Example: snmpmon replay 8 < examples/three-responses.hex";
+
+const SIZE: &str = "How many samples a window keeps, 1 to 64";
+
+fn replay<'a>(alloc: Global) -> Result<Command<'a>, AllocError> {
+    let size = Arg::new(alloc, "N")
+        .required(true)
+        .value_parser(value_parser!(u8).range(1..=64))
+        .help(SIZE);
+    Command::new(alloc, "replay")
+        .about(REPLAY)
+        .long_about(REPLAY_MORE)
+        .arg(size)
+}
+
+/// The whole command line. With no words it names no command, which the caller takes for `replay 8`.
+pub fn command<'a>(alloc: Global) -> Result<Command<'a>, AllocError> {
+    Command::new(alloc, "snmpmon")
+        .about(ABOUT)
+        .after_help(MORE)
+        .subcommand(replay(alloc)?)
+}
