@@ -14,8 +14,7 @@ use Rattle.std.proofs.lemmas.List.Elements.{filter_map-append}
 use Rattle.std.proofs.lemmas.List.Folds.{list_any_at}
 use Rattle.mon_pdu.specs.declared.message.Binding.{Binding}
 use Rattle.mon_window.specs.Top.{rising}
-use Rattle.mon_window.proofs.Kept.{insert-known}
-use Rattle.mon_window.proofs.Rising.{contains-rising, from_list-rising, len-rising, len_within}
+use Rattle.mon_window.proofs.Promised.{insert-known, contains-rising, from_list-rising, len-rising, len_within}
 use Rattle.mon_app.specs.declared.instance.Instance.{Instance}
 use Rattle.mon_app.specs.Offer.{Offer, Stamp}
 use Rattle.mon_app.specs.declared.table.Row.{Row}

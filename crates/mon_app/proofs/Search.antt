@@ -6,7 +6,7 @@ use Rattle.std.specs.Ordering.{ordering_index}
 use Rattle.std.specs.FinSet.{IsAntisymmetric}
 use Rattle.std.specs.List.Sorted.{IsStrictlySortedBy, IsBinarySearchResult, IsSearchInRange, IsNonDecreasingBy}
 use Rattle.std.proofs.lemmas.List.{get_or-map, length-map}
-use Rattle.mon_window.proofs.Placing.{search_places}
+use Rattle.mon_window.proofs.Promised.{search_places}
 use Rattle.mon_app.specs.declared.instance.Instance.{Instance}
 use Rattle.mon_app.specs.Instance.{instance_cmp}
 use Rattle.mon_app.specs.Find.{Finds}

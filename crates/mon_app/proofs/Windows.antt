@@ -19,9 +19,7 @@ use Rattle.std.specs.Ordering.{nat_cmp}
 use Rattle.mon_window.specs.Window.{Window}
 use Rattle.mon_window.specs.Place.{IsPlace}
 use Rattle.mon_window.specs.Top.{top, rising, put}
-use Rattle.mon_window.proofs.Kept.{insert-known, top-all}
-use Rattle.mon_window.proofs.Newest.{top-insert}
-use Rattle.mon_window.proofs.Rising.{sorted-rising, contains-rising, from_list-rising, rising-insert}
+use Rattle.mon_window.proofs.Promised.{insert-known, top-all, top-insert, sorted-rising, contains-rising, from_list-rising, rising-insert}
 use Rattle.mon_app.specs.declared.instance.Instance.{Instance}
 use Rattle.mon_app.specs.Offer.{Offer}
 use Rattle.mon_app.specs.declared.table.Row.{Row}

@@ -25,13 +25,15 @@ use Rattle.mon_app.specs.declared.refusal.Refusal.{Refusal}
 use Rattle.mon_app.specs.declared.refusal.Refusal.TheVariants.{BadHex, BadMessage, NotAResponse, AgentError, BadStamp}
 use Rattle.mon_app.specs.Gives.{◌>>=◌, or_refuse}
 
--- snmpEngineID.0, snmpEngineBoots.0 and snmpEngineTime.0
+-- snmpEngineID.0 (RFC 3411 section 5)
 abbrev pub engine_id : List ℕ
 engine_id = 1 ∷ 3 ∷ 6 ∷ 1 ∷ 6 ∷ 3 ∷ 10 ∷ 2 ∷ 1 ∷ 1 ∷ 0 ∷ []
 
+-- snmpEngineBoots.0 (RFC 3411 section 5)
 abbrev pub engine_boots : List ℕ
 engine_boots = 1 ∷ 3 ∷ 6 ∷ 1 ∷ 6 ∷ 3 ∷ 10 ∷ 2 ∷ 1 ∷ 2 ∷ 0 ∷ []
 
+-- snmpEngineTime.0 (RFC 3411 section 5)
 abbrev pub engine_time : List ℕ
 engine_time = 1 ∷ 3 ∷ 6 ∷ 1 ∷ 6 ∷ 3 ∷ 10 ∷ 2 ∷ 1 ∷ 3 ∷ 0 ∷ []
 
@@ -45,9 +47,11 @@ abbrev pub number_in : Value → Result ℕ Refusal
 number_in (Integer (pos n)) = Ok n
 number_in _ = Err BadStamp
 
+-- the engine that a binding names
 unfoldable pub engine_of : Binding → Result (List ℕ) Refusal
 engine_of b = if bytes_eq b.name engine_id then engine_in b.value else Err BadStamp
 
+-- the number that a binding has for the object of this name
 unfoldable pub number_at : List ℕ → Binding → Result ℕ Refusal
 number_at name b = if bytes_eq b.name name then number_in b.value else Err BadStamp
 

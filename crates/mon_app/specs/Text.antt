@@ -29,6 +29,7 @@ sample_line s =
     codes "  " ++ decimal (boots_of s) ++ codes " " ++ decimal (time_of s) ++ codes " " ++ decimal (mark_of s) ++ codes " "
     ++ kind_name (kind_of s) ++ codes " " ++ value_text (kind_of s) (value_of s) ++ codes "\n"
 
+-- the engine id in hex digits, and the name
 unfoldable pub instance_line : Instance → List ℕ
 instance_line i = encode_lower i.engine ++ codes " " ++ dotted i.name ++ codes "\n"
 
@@ -36,12 +37,15 @@ instance_line i = encode_lower i.engine ++ codes " " ++ dotted i.name ++ codes "
 unfoldable pub row_text : Row → List ℕ
 row_text r = instance_line r.instance ++ flat_map sample_line (rising r.window.items)
 
+-- a refused line: its number, and the refusal with its number
 unfoldable pub refused_line : ℕ → Refusal → List ℕ
 refused_line k e = codes "line " ++ decimal k ++ codes ": refused " ++ decimal (number_of e) ++ codes " " ++ name_of e ++ codes "\n"
 
+-- the counts of instances, samples and refused lines
 unfoldable pub end_line : ℕ → ℕ → ℕ → List ℕ
 end_line instances samples refused =
     codes "end " ++ decimal instances ++ codes " instances " ++ decimal samples ++ codes " samples " ++ decimal refused ++ codes " refused\n"
 
+-- how many samples the rows hold
 abbrev pub samples_in : List Row → ℕ
 samples_in rows = sum_by (λ r. length (rising r.window.items)) rows

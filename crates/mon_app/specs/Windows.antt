@@ -9,6 +9,7 @@ use Rattle.mon_app.specs.Offer.{Offer}
 use Rattle.mon_app.specs.declared.table.Row.{Row}
 use Rattle.mon_app.specs.Instance.{instance_cmp}
 
+-- a set of instances
 abbrev pub Instances : Type 0
 Instances = FinSet instance_cmp
 
@@ -24,6 +25,7 @@ samples_of i taken = map (λ o. o.sample) (filter (λ o. eq_by_cmp instance_cmp 
 unfoldable pub kept : ℕ → List Offer → Instance → Samples
 kept n taken i = top n (from_list (samples_of i taken))
 
+-- an instance with its window
 abbrev pub row : ℕ → List Offer → Instance → Row
 row n taken i = record { instance = i; window = record { size = n; items = kept n taken i } }
 

@@ -1,9 +1,10 @@
-pub mod Numbers
-pub mod Names
-pub mod Steps
 pub mod Elements
-pub mod Values
 pub mod Many
-pub mod Written
+pub mod Names
+pub mod Numbers
+pub mod Promised
 pub mod Shortest
 pub mod Spelled
+pub mod Steps
+pub mod Values
+pub mod Written

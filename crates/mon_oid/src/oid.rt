@@ -37,7 +37,7 @@ impl Oid {
     const MAX_LEN: usize = 128;
 
     /// The identifier of these sub-identifiers: `TooShort` below 2 of them, `TooLong` above 128,
-    /// `BadFirst` where the first two are out of range, and `OutOfMemory`, which up to 16 never meet.
+    /// `BadFirst` where the first two are out of range. Up to 16 never answer `OutOfMemory`.
     pub fn from_parts(alloc: Global, parts: &[u32]) -> Result<Self, OidFault>
         ensures found { IfOk result (λ oid. IsOid oid × (oid ≡ parts.now)) }
         ensures accepted { IsOid parts.now → IsOkUnless result OidFault.OutOfMemory }

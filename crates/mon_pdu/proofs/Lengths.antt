@@ -1,5 +1,5 @@
 -- How long what is written is.
-use Rattle.std.proofs.Common.{◌≡◌, ℕ, zero, suc, ◌+◌, ◌<◌, ◌^◌, ℤ, pos, List, [], ◌∷◌, ◌++◌, length, get_or, take, inl, inr, refl, sym, ap, subst, ◌∙◌, arith}
+use Rattle.std.proofs.Common.{◌≡◌, ℕ, zero, suc, ◌+◌, ◌<◌, ◌^◌, ℤ, pos, List, [], ◌∷◌, ◌++◌, length, get_or, take, inl, inr, sym, ap, subst, ◌∙◌, arith}
 use Rattle.std.specs.Prelude.{FitsSigned}
 use Rattle.std.specs.List.{AllByRecursion}
 use Rattle.std.specs.Int.{w32, cast_signed, cast_unsigned}
@@ -7,8 +7,8 @@ use Rattle.std.proofs.lemmas.Int.{to_z-of_z}
 use Rattle.std.proofs.lemmas.Bool.{cases_lt}
 use Rattle.std.proofs.lemmas.List.{length-append, take_more, flat_map_more}
 use Rattle.mon_ber.specs.declared.value.Value.TheVariants.{Integer, Octets, Name}
-use Rattle.mon_ber.specs.Writing.{length_octets, contents_of, element, written, size_for, counted}
-use Rattle.mon_ber.proofs.Written.{length-element, written_size, size_longer}
+use Rattle.mon_ber.specs.Writing.{contents_of, written, size_for, counted}
+use Rattle.mon_ber.proofs.Promised.{length-element, written_size, size_longer}
 use Rattle.mon_pdu.specs.declared.message.Binding.{Binding}
 use Rattle.mon_pdu.specs.declared.message.Body.{Body}
 use Rattle.mon_pdu.specs.declared.message.Message.{Message}
@@ -71,10 +71,6 @@ pub each_fits : (bs : List Binding) (i : ℕ) (d : Binding) → i < length bs �
 each_fits [] i d lt h = absurd (omega arith)
 each_fits (b ∷ bs) zero d lt h = omega (arith, h, flat_length b bs, binding_length b, size_longer (length (binding_contents b)))
 each_fits (b ∷ bs) (suc i) d lt h = each_fits bs i d (omega arith) (omega (arith, h, flat_length b bs))
-
-pub octets_written : (o : List ℕ) → written (Octets o) ≡ 4 ∷ length_octets (length o) ++ o
-unfolding written element
-octets_written o = refl
 
 -- a step of the loop that counts the bindings
 pub one_more : (bs : List Binding) (i len : ℕ) (b : Binding) (inside outside new : ℕ) → i < length bs → b ≡ get_or bs i b → len ≡ counted (length (list_contents (take i bs)))

@@ -8,11 +8,7 @@ use Rattle.mon_ber.specs.Grammar.{IsLength, IsElement, Spells}
 use Rattle.mon_ber.specs.Reading.{◌>>=◌, contents_at, element_at, integer_at, name_at, value_at}
 use Rattle.mon_ber.specs.Sequence.{AreSpelled}
 use Rattle.mon_ber.specs.Many.{many, behind}
-use Rattle.mon_ber.proofs.Steps.{bind_ok, wanted, chosen, ok_is, pair_is}
-use Rattle.mon_ber.proofs.Numbers.{IsBytes}
-use Rattle.mon_ber.proofs.Elements.{contents_takes, contents_again, element_takes, element_again}
-use Rattle.mon_ber.proofs.Values.{value_takes, value_again, integer_at_takes, integer_at_again, name_at_takes, name_at_again, IsBytes-after, IsBytes-inside, element_some}
-use Rattle.mon_ber.proofs.Many.{stops, many_take, many_again, no_more}
+use Rattle.mon_ber.proofs.Promised.{bind_ok, wanted, chosen, ok_is, pair_is, IsBytes, contents_takes, contents_again, element_takes, element_again, value_takes, value_again, integer_at_takes, integer_at_again, name_at_takes, name_at_again, IsBytes-after, IsBytes-inside, element_some, stops, many_take, many_again, no_more}
 use Rattle.mon_pdu.specs.declared.fault.PduFault.{PduFault}
 use Rattle.mon_pdu.specs.declared.fault.PduFault.TheVariants.{OutOfMemory, Truncated, BadTag, BadLength, OutOfRange, BadOid, BadVersion, UnknownPdu}
 use Rattle.mon_pdu.specs.declared.message.Binding.{Binding}

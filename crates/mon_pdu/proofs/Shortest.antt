@@ -1,26 +1,22 @@
 -- No spelling is shorter than what is written.
-use Rattle.std.proofs.Common.{◌≡◌, ℕ, zero, suc, ◌+◌, ◌<◌, ◌≤◌, ◌^◌, ltb, cond, ℤ, pos, List, [], ◌∷◌, ◌++◌, length, get_or, refl, sym, ap, subst, ◌∙◌, append_assoc, arith, inl, inr}
-use Rattle.std.specs.Prelude.{FitsSigned, All}
+use Rattle.std.proofs.Common.{◌≡◌, ℕ, zero, suc, ◌+◌, ◌<◌, ◌≤◌, ◌^◌, ltb, cond, pos, List, [], ◌∷◌, ◌++◌, length, refl, sym, ap, subst, arith, inl, inr}
+use Rattle.std.specs.Prelude.{All}
 use Rattle.std.proofs.lemmas.List.Elements.{All-from_get_or}
-use Rattle.std.specs.Int.{w32, bytes_high_first}
 use Rattle.std.specs.List.{AllByRecursion}
 use Rattle.std.proofs.lemmas.Bool.{cases_lt, lt-ltb, le-ltb}
-use Rattle.std.proofs.lemmas.List.{length-append, get_or-append-add, get_or_append_left, get_or_past, append-nil}
+use Rattle.std.proofs.lemmas.List.{length-append, get_or_append_left, get_or_past, append-nil}
 use Rattle.mon_ber.specs.declared.value.Value.{Value}
 use Rattle.mon_ber.specs.declared.value.Value.TheVariants.{Integer, Octets, Null, Name, IpAddress, Counter32, Gauge32, TimeTicks, Opaque, Counter64, NoSuchObject, NoSuchInstance, EndOfMibView}
-use Rattle.mon_ber.specs.Numbers.{big_endian}
 use Rattle.mon_ber.specs.Grammar.{IsLength, IsElement, Spells}
 use Rattle.mon_ber.specs.Sequence.{AreSpelled}
 use Rattle.mon_ber.specs.Writing.{length_width, length_octets, size_for, written, IsValid as IsValidValue}
-use Rattle.mon_ber.proofs.Numbers.{IsBytes, big_endian_below, power_of_four}
-use Rattle.mon_ber.proofs.Written.{length-high_first, written_size}
-use Rattle.mon_ber.proofs.Values.{IsBytes-after, IsBytes-inside}
+use Rattle.mon_ber.proofs.Promised.{IsBytes, big_endian_below, power_of_four, length-high_first, written_size, IsBytes-after, IsBytes-inside}
 use Rattle.mon_pdu.specs.declared.message.Binding.{Binding}
 use Rattle.mon_pdu.specs.declared.message.Body.{Body}
 use Rattle.mon_pdu.specs.declared.message.Message.{Message}
 use Rattle.mon_pdu.specs.Grammar.{tag_of, first_of, second_of, third_of, bindings_of, IsBinding, IsList, IsBody, IsMessage}
 use Rattle.mon_pdu.specs.Writing.{binding_contents, written_binding, list_contents, written_list, numbers_of, body_contents, written_body, message_contents, written_message, HasLength, IsValidBinding, IsValid}
-use Rattle.mon_pdu.proofs.Lengths.{binding_length, list_length, body_length, message_length, binding_total, body_total, numbers_total, message_total, flat_length}
+use Rattle.mon_pdu.proofs.Lengths.{binding_length, list_length, body_length, message_length, binding_total, numbers_total, flat_length}
 
 -- ---- octets in parts
 
@@ -185,6 +181,6 @@ module _ (value_shortest : (bytes : List ℕ) (v : Value) → IsBytes bytes → 
       each_valid : (bytes : List ℕ) (bs : List Binding) → AreSpelled IsBinding bytes bs → AllByRecursion IsValidBinding bs
       each_valid bytes [] is = tt
       each_valid bytes (b ∷ bs) is = (
-          (let one = is.3 in record { name = value_valid one.name (Name b.name) one.spelled_name; value = value_valid one.value b.value one.spelled_value }),
-          each_valid is.1 bs is.4,
-        )
+        (let one = is.3 in record { name = value_valid one.name (Name b.name) one.spelled_name; value = value_valid one.value b.value one.spelled_value }),
+        each_valid is.1 bs is.4,
+      )

@@ -1,23 +1,22 @@
 -- What is written for a message is one of its spellings.
-use Rattle.std.proofs.Common.{◌≡◌, ℕ, ◌+◌, ◌<◌, ◌≤◌, ◌^◌, ℤ, pos, List, [], ◌∷◌, ◌++◌, length, Ok, refl, ap, subst, ◌∙◌, append_assoc, arith}
+use Rattle.std.proofs.Common.{◌≡◌, ℕ, ◌+◌, ◌<◌, ◌≤◌, ◌^◌, pos, List, [], ◌∷◌, ◌++◌, length, Ok, refl, subst, ◌∙◌, append_assoc, arith}
 use Rattle.std.specs.Prelude.{FitsSigned}
 use Rattle.std.specs.Int.{w32}
 use Rattle.std.specs.List.{AllByRecursion}
 use Rattle.std.proofs.lemmas.List.{length-append}
 use Rattle.mon_ber.specs.declared.value.Value.{Value}
 use Rattle.mon_ber.specs.declared.value.Value.TheVariants.{Integer, Octets, Name}
-use Rattle.mon_ber.specs.Grammar.{IsElement, Spells}
+use Rattle.mon_ber.specs.Grammar.{IsElement}
 use Rattle.mon_ber.specs.Sequence.{AreSpelled}
-use Rattle.mon_ber.specs.Writing.{contents_of, element, written, IsValid as IsValidValue}
-use Rattle.mon_ber.proofs.Written.{written_size, size_longer}
-use Rattle.mon_ber.proofs.Spelled.{element_written, value_written}
+use Rattle.mon_ber.specs.Writing.{contents_of, element, written}
+use Rattle.mon_ber.proofs.Promised.{written_size, size_longer, element_written, value_written}
 use Rattle.mon_pdu.specs.declared.message.Binding.{Binding}
 use Rattle.mon_pdu.specs.declared.message.Body.{Body}
 use Rattle.mon_pdu.specs.declared.message.Message.{Message}
 use Rattle.mon_pdu.specs.Grammar.{tag_of, first_of, second_of, third_of, bindings_of, IsBinding, IsList, IsBody, IsMessage}
 use Rattle.mon_pdu.specs.Reading.{message_at}
 use Rattle.mon_pdu.specs.Writing.{binding_contents, written_binding, list_contents, written_list, numbers_of, body_contents, written_body, message_contents, written_message, HasLength, IsValidBinding, IsValid}
-use Rattle.mon_pdu.proofs.Lengths.{binding_length, list_length, binding_total, body_total, numbers_total, message_total, list_fits, body_fits, flat_length}
+use Rattle.mon_pdu.proofs.Lengths.{binding_length, binding_total, numbers_total, message_total, list_fits, body_fits, flat_length}
 use Rattle.mon_pdu.proofs.Whole.{message_again}
 
 -- a value within so many octets has a length

@@ -9,12 +9,9 @@ use Rattle.mon_ber.specs.declared.value.Value.TheVariants.{Integer, Octets}
 use Rattle.mon_ber.specs.Grammar.{IsElement, Spells}
 use Rattle.mon_ber.specs.Reading.{◌>>=◌, contents_at, element_at, integer_at, name_at, value_at}
 use Rattle.mon_ber.specs.Many.{many}
-use Rattle.mon_ber.proofs.Steps.{bind_ok, wanted, chosen, ok_is, pair_is}
-use Rattle.mon_ber.proofs.Numbers.{IsBytes}
-use Rattle.mon_ber.proofs.Elements.{element_takes, element_again}
-use Rattle.mon_ber.proofs.Values.{integer_at_takes, integer_at_again, octets_at_takes, octets_at_again, IsBytes-after, IsBytes-inside}
+use Rattle.mon_ber.proofs.Promised.{bind_ok, wanted, chosen, ok_is, pair_is, IsBytes, element_takes, element_again, integer_at_takes, integer_at_again, octets_at_takes, octets_at_again, IsBytes-after, IsBytes-inside}
 use Rattle.mon_pdu.specs.declared.fault.PduFault.{PduFault}
-use Rattle.mon_pdu.specs.declared.fault.PduFault.TheVariants.{Truncated, BadLength, BadVersion, UnknownPdu}
+use Rattle.mon_pdu.specs.declared.fault.PduFault.TheVariants.{OutOfMemory, Truncated, BadTag, BadLength, OutOfRange, BadOid, BadVersion, UnknownPdu}
 use Rattle.mon_pdu.specs.declared.message.PduKind.{PduKind}
 use Rattle.mon_pdu.specs.declared.message.Body.{Body}
 use Rattle.mon_pdu.specs.declared.message.Body.TheVariants.{Pdu, Bulk}
@@ -208,6 +205,11 @@ never_behind_version v bytes =
     never_bind e (body_at community.1) (λ body. ended body.1 (record { community = community.0; body = body.0 })) (never_body v community.1) (λ body.
     never_ended e (own_version v) body.1 (record { community = community.0; body = body.0 })))
 
+-- behind version 1 no version is refused
+pub version_known : (contents rest : List ℕ) (v : ℤ) → integer_at contents ≡ Ok (pos 1, rest) → message_of contents ≡ Err (BadVersion v) → ⊥
+unfolding message_of
+version_known contents rest v read h = never_behind_version v rest (rw read at h)
+
 -- the step behind one that cannot give this fault
 past : {A B : Type 0} (e : PduFault) (r : Result A PduFault) (f : A → Result B PduFault) → Never e r → (r >>= f) ≡ Err e → (x : A) × (r ≡ Ok x) × (f x ≡ Err e)
 past e r f never h = elim (bind_err r f e h) [ inl h ↦ absurd (never h) | inr h ↦ h ]
@@ -302,12 +304,18 @@ unknown_from bytes t fits h =
 
 -- ---- what the call promises
 
+pub begins_takes : (bytes : List ℕ) (m : Message) → IsBytes bytes → message_at bytes ≡ Ok m → BeginsWithMessage bytes m
+begins_takes bytes m fits e = (let t = message_takes bytes m fits e in record { text = t.0; rest = t.1; whole = t.2; spelled = t.3 })
+
+pub begins_again : (bytes : List ℕ) (m : Message) → BeginsWithMessage bytes m → message_at bytes ≡ Ok m
+begins_again bytes m is = ap message_at is.whole ∙ message_again is.text m is.rest is.spelled
+
 pub is_found : (bytes : List ℕ) (r : Result Message PduFault) → IsBytes bytes → Gives (λ m. m) r (message_at bytes) → IfOk r (λ m. BeginsWithMessage bytes m)
-is_found bytes (Ok m) fits given = (let t = message_takes bytes m fits given in record { text = t.0; rest = t.1; whole = t.2; spelled = t.3 })
+is_found bytes (Ok m) fits given = begins_takes bytes m fits given
 is_found bytes (Err e) fits given = tt
 
 pub is_only : (bytes : List ℕ) (r : Result Message PduFault) (m : Message) → Gives (λ m. m) r (message_at bytes) → BeginsWithMessage bytes m → Gives (λ m. m) r (Ok m)
-is_only bytes r m given is = subst (λ f. Gives (λ m. m) r f) (ap message_at is.whole ∙ message_again is.text m is.rest is.spelled) given
+is_only bytes r m given is = subst (λ f. Gives (λ m. m) r f) (begins_again bytes m is) given
 
 pub is_version : (bytes : List ℕ) (r : Result Message PduFault) (v : ℤ) → IsBytes bytes → Gives (λ m. m) r (message_at bytes) → r ≡ Err (BadVersion v) → IsVersioned bytes v × (v ≢ pos 1)
 is_version bytes r v fits given is = version_from bytes v fits (subst (λ s. Gives (λ m. m) s (message_at bytes)) is given)
@@ -328,10 +336,14 @@ one_meaning text more m n is whole =
     let again : message_at (text ++ more) ≡ Ok n = ap message_at (sym (append-nil (text ++ more))) ∙ message_again (text ++ more) n [] whole in
     (same.1, ok_is {E = PduFault} m n (sym read ∙ again))
 
--- ---- reading and the grammar
-
-pub begins_takes : (bytes : List ℕ) (m : Message) → IsBytes bytes → message_at bytes ≡ Ok m → BeginsWithMessage bytes m
-begins_takes bytes m fits e = (let t = message_takes bytes m fits e in record { text = t.0; rest = t.1; whole = t.2; spelled = t.3 })
-
-pub begins_again : (bytes : List ℕ) (m : Message) → BeginsWithMessage bytes m → message_at bytes ≡ Ok m
-begins_again bytes m is = ap message_at is.whole ∙ message_again is.text m is.rest is.spelled
+-- a fault that is not want of memory is the one that reading gives
+pub is_told : (r : Result Message PduFault) (e : PduFault) → r ≢ Err OutOfMemory → Gives (λ m. m) r (Err e) → r ≡ Err e
+is_told (Ok m) e enough given = absurd cc
+is_told (Err OutOfMemory) e enough given = absurd (enough refl)
+is_told (Err Truncated) e enough given = sym given
+is_told (Err BadTag) e enough given = sym given
+is_told (Err BadLength) e enough given = sym given
+is_told (Err OutOfRange) e enough given = sym given
+is_told (Err BadOid) e enough given = sym given
+is_told (Err (BadVersion v)) e enough given = sym given
+is_told (Err (UnknownPdu t)) e enough given = sym given

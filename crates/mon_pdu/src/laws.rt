@@ -11,46 +11,39 @@ ghost use Rattle.mon_pdu.specs.Writing.{HasLength, IsValid, written_message};
 /// No spelling of a message is a proper prefix of a spelling of any message, and each has one meaning.
 pub fn front()
     ensures { (text more : List ℕ) (m n : Message) → IsMessage text m → IsMessage (text ++ more) n → (more ≡ []) × (m ≡ n) }
-{
-}
+{}
 
 /// The message that reading gives is spelled where the octets begin.
 pub fn takes()
     ensures { (bytes : List ℕ) (m : Message) → AreOctets bytes → message_at bytes ≡ Ok m → BeginsWithMessage bytes m }
-{
-}
+{}
 
 /// Where the octets begin with a spelling of a message, reading gives the message.
 pub fn again()
     ensures { (bytes : List ℕ) (m : Message) → BeginsWithMessage bytes m → message_at bytes ≡ Ok m }
-{
-}
+{}
 
 /// Reading gives the fault of a version exactly where the octets begin with a SEQUENCE that begins with that version, not 1.
 pub fn version()
     ensures { (bytes : List ℕ) (v : ℤ) → AreOctets bytes
         → message_at bytes ≡ Err (BadVersion v) ↔ (IsVersioned bytes v × (v ≢ pos 1)) }
-{
-}
+{}
 
 /// Reading gives the fault of a PDU exactly where the tag of no PDU stands behind version 1 and a community.
 pub fn unknown_pdu()
     ensures { (bytes : List ℕ) (t : ℕ) → AreOctets bytes
         → message_at bytes ≡ Err (UnknownPdu t) ↔ HasUnknownPdu bytes t }
-{
-}
+{}
 
 /// A fault of a call that is not want of memory is the fault that reading gives.
 pub fn told()
     ensures { (bytes : List ℕ) (e : PduFault) → e ≢ OutOfMemory → Fails e (message_at bytes) → message_at bytes ≡ Err e }
-{
-}
+{}
 
 /// What is written for a message is one of its spellings.
 pub fn written()
     ensures { (m : Message) → IsValid m → HasLength m → IsMessage (written_message m) m }
-{
-}
+{}
 
 /// No spelling of a message is shorter than what is written for it.
 pub fn shortest()
@@ -69,5 +62,4 @@ pub fn rewritable()
 /// What is written for a message is read as the same message, whatever follows it.
 pub fn round_trip()
     ensures { (m : Message) (rest : List ℕ) → IsValid m → HasLength m → message_at (written_message m ++ rest) ≡ Ok m }
-{
-}
+{}

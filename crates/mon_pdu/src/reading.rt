@@ -1,6 +1,6 @@
 //! Reading messages.
 
-ghost use Rattle.std.specs.Prelude.{◌≡◌, ◌≢◌, ◌<◌, ℕ, ℤ, pos, length, None, Some, Ok, Err, IfOk};
+ghost use Rattle.std.specs.Prelude.{◌≡◌, ◌≢◌, ◌↔◌, ◌<◌, ℕ, ℤ, pos, length, None, Some, Ok, Err, IfOk};
 ghost use Rattle.mon_pdu.specs.declared.message.Message.{Message};
 ghost use Rattle.mon_pdu.specs.Grammar.{BeginsWithMessage, IsVersioned, HasUnknownPdu};
 ghost use Rattle.mon_pdu.specs.declared.fault.PduFault.TheVariants.{Truncated};
@@ -117,7 +117,9 @@ fn body_at(alloc: Global, bytes: &[u8]) -> Result<(Body, &[u8]), PduFault>
 /// The message that the contents of the outer SEQUENCE spell, all of the contents.
 #[tactic(auto, unfolding(crate::specs::Reading::message_of))]
 fn message_of(alloc: Global, contents: &[u8]) -> Result<Message, PduFault>
-    ensures { Gives (λ m. m) result (message_of contents.now) }
+    ensures gives { Gives (λ m. m) result (message_of contents.now) }
+    // The version is refused before memory is taken.
+    ensures version { (v : ℤ) → message_of contents.now ≡ Err (PduFault.BadVersion v) → result ≢ Err PduFault.OutOfMemory }
 {
     let (version, rest) = integer_at(contents)?;
     if version != 1 {
@@ -133,7 +135,8 @@ fn message_of(alloc: Global, contents: &[u8]) -> Result<Message, PduFault>
 /// The message; what follows it is passed over.
 #[tactic(auto, unfolding(crate::specs::Reading::message_at))]
 fn message_at(alloc: Global, bytes: &[u8]) -> Result<Message, PduFault>
-    ensures { Gives (λ m. m) result (message_at bytes.now) }
+    ensures gives { Gives (λ m. m) result (message_at bytes.now) }
+    ensures version { (v : ℤ) → message_at bytes.now ≡ Err (PduFault.BadVersion v) → result ≢ Err PduFault.OutOfMemory }
 {
     let (contents, _) = element_at(0x30, bytes)?;
     message_of(alloc, contents)
@@ -147,12 +150,10 @@ pub fn read_message(alloc: Global, bytes: &[u8]) -> Result<Message, PduFault>
     // A message that is spelled where the octets begin is read, unless memory runs out.
     ensures only { (m : Message) → BeginsWithMessage bytes.now m → Gives (λ m. m) result (Ok m) }
 
-    // Another version is refused as such, unless memory runs out, and nothing else is.
-    ensures version { (v : ℤ) → result ≡ Err (PduFault.BadVersion v) → IsVersioned bytes.now v × (v ≢ pos 1) }
-    ensures version_only { (v : ℤ) → IsVersioned bytes.now v → v ≢ pos 1
-        → Gives (λ m. m) result (Err (PduFault.BadVersion v)) }
+    // Another version is refused as such, also where no memory is left, and nothing else is.
+    ensures version { (v : ℤ) → result ≡ Err (PduFault.BadVersion v) ↔ (IsVersioned bytes.now v × (v ≢ pos 1)) }
 
-    // So is the tag of no PDU behind a community.
+    // So is the tag of no PDU behind a community, unless memory runs out.
     ensures unknown { (t : ℕ) → result ≡ Err (PduFault.UnknownPdu t) → HasUnknownPdu bytes.now t }
     ensures unknown_only { (t : ℕ) → HasUnknownPdu bytes.now t
         → Gives (λ m. m) result (Err (PduFault.UnknownPdu t)) }

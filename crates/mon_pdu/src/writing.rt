@@ -21,8 +21,7 @@ use std::alloc::{AllocError, Global};
 /// An address has four octets.
 fn look_at_address(address: [u8; 4])
     ensures { length address ≡ 4 }
-{
-}
+{}
 
 /// Looks at a value, which then is known to be in the range of its type.
 fn look_at_value(value: &Value)
@@ -234,8 +233,8 @@ fn put_message(out: &mut Vec<u8>, message: &Message, lengths: Lengths) -> Result
 }
 
 /// The shortest spelling of the message, in a vector of just its size, which is the one allocation.
-/// Each variable binding is measured twice, once for the message's size and once for its own length, so the
-/// time is linear in what is written. Besides `OutOfMemory` the one fault is `BadLength`, as of `message_size`.
+/// Names and values are measured three times, for the size of the message, of their binding and of their own, so
+/// the time is linear in what is written. Besides `OutOfMemory` the one fault is `BadLength`, as of `message_size`.
 pub fn write_message(alloc: Global, message: &Message) -> Result<Vec<u8>, PduFault>
     ensures valid { IsValid message.now }
     ensures ok { IfOk result (λ v. HasLength message.now × (v.items ≡ written_message message.now)) }

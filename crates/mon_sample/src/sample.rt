@@ -60,7 +60,7 @@ impl Sample {
         }
     }
 
-    /// How often the agent had started, 0 to 2147483647.
+    /// How often the agent had started (snmpEngineBoots, RFC 3411 section 5), 0 to 2147483647.
     pub fn boots(&self) -> u32
         ensures boots { result ≡ boots_of self.now }
         ensures small { boots_of self.now < 2 ^ 31 }
@@ -68,7 +68,7 @@ impl Sample {
         self.boots
     }
 
-    /// Seconds since the agent's last start, 0 to 2147483647.
+    /// Seconds since the agent's last start (snmpEngineTime, RFC 3411 section 5), 0 to 2147483647.
     pub fn time(&self) -> u32
         ensures time { result ≡ time_of self.now }
         ensures small { time_of self.now < 2 ^ 31 }
@@ -90,9 +90,10 @@ impl Sample {
         self.kind
     }
 
-    /// The value modulo 2^64.
+    /// The value modulo 2^64, in the range of its kind.
     pub fn value(&self) -> u64
-        ensures { result ≡ value_of self.now }
+        ensures value { result ≡ value_of self.now }
+        ensures in_range { IsTrue (holds (kind_of self.now) (value_of self.now)) }
     {
         self.value
     }

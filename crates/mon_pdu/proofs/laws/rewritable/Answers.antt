@@ -1,4 +1,4 @@
-use Rattle.mon_ber.proofs.Shortest.{all_bytes}
+use Rattle.mon_ber.proofs.Promised.{all_bytes}
 use Rattle.mon_pdu.proofs.Shortest.{message_rewritable, bytes_all}
 use Rattle.mon_pdu.proofs.laws.rewritable.Goals as goal
 

@@ -1,4 +1,4 @@
-use Rattle.mon_ber.proofs.Shortest.{all_bytes}
+use Rattle.mon_ber.proofs.Promised.{all_bytes}
 use Rattle.mon_pdu.proofs.Shortest.{message_shortest, bytes_all}
 use Rattle.mon_pdu.proofs.laws.shortest.Goals as goal
 

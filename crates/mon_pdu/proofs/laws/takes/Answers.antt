@@ -1,4 +1,4 @@
-use Rattle.mon_ber.proofs.Shortest.{all_bytes}
+use Rattle.mon_ber.proofs.Promised.{all_bytes}
 use Rattle.mon_pdu.proofs.Whole.{begins_takes}
 use Rattle.mon_pdu.proofs.laws.takes.Goals as goal
 

@@ -1,4 +1,4 @@
-use Rattle.mon_ber.proofs.Shortest.{all_bytes}
+use Rattle.mon_ber.proofs.Promised.{all_bytes}
 use Rattle.mon_pdu.proofs.Whole.{unknown_from, unknown_again}
 use Rattle.mon_pdu.proofs.laws.unknown_pdu.Goals as goal
 

@@ -1,4 +1,4 @@
-use Rattle.mon_ber.proofs.Shortest.{all_bytes}
+use Rattle.mon_ber.proofs.Promised.{all_bytes}
 use Rattle.mon_pdu.proofs.Whole.{version_from, version_again}
 use Rattle.mon_pdu.proofs.laws.version.Goals as goal
 

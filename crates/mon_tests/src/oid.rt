@@ -1,0 +1,90 @@
+use mon_oid::{Oid, OidFault};
+use smallvec::SmallVec;
+use std::alloc::{AllocError, Global};
+use std::cmp::Ordering;
+use std::test::Fail;
+
+/// These calls without their clauses, which a test's proof needn't carry.
+fn oid(alloc: Global, parts: &[u32]) -> Result<Oid, OidFault> {
+    Oid::from_parts(alloc, parts)
+}
+
+fn parsed(alloc: Global, text: &str) -> Result<Oid, OidFault> {
+    Oid::parse(alloc, text)
+}
+
+fn clone(alloc: Global, name: &Oid) -> Result<Oid, AllocError> {
+    name.try_clone(alloc)
+}
+
+fn compared(a: &Oid, b: &Oid) -> (Ordering, Ordering, bool) {
+    (a.compare(b), a.cmp(b), a == b)
+}
+
+fn is_prefix(a: &Oid, b: &Oid) -> bool {
+    a.is_prefix_of(b)
+}
+
+/// 1.3, from a vector that is known to be an identifier.
+fn made(alloc: Global) -> Result<Oid, AllocError> {
+    let parts = SmallVec::from_slice(alloc, &[1, 3])?;
+    Ok(Oid::from_valid(parts))
+}
+
+#[test]
+fn refuses_parts(rt: HostRuntime) {
+    let alloc = rt.alloc();
+    let long = [1u32; 129];
+    for (parts, fault) in [
+        ([1u32].as_slice(), OidFault::TooShort),
+        (long.as_slice(), OidFault::TooLong),
+        ([3, 1].as_slice(), OidFault::BadFirst),
+        ([1, 40].as_slice(), OidFault::BadFirst),
+    ] {
+        assert_eq!(rt; oid(alloc, parts).err(), Some(fault));
+    }
+    assert!(rt; oid(alloc, &long[..128]).is_ok());
+    assert_eq!(rt; OidFault::BadFirst.number(), 4);
+    assert_eq!(rt; OidFault::BadFirst.name(), "BadFirst");
+}
+
+#[test]
+fn reads_and_writes_text(rt: HostRuntime) -> Result<(), Fail> {
+    let alloc = rt.alloc();
+    for (text, fault) in [
+        ("1..3", OidFault::BadText),
+        ("01.3", OidFault::BadText),
+        ("", OidFault::BadText),
+        ("1.+3", OidFault::BadText),
+        ("1.4294967296", OidFault::BadText),
+        ("4294967295", OidFault::TooShort),
+        ("1.40", OidFault::BadFirst),
+    ] {
+        assert_eq!(rt; parsed(alloc, text).err(), Some(fault), "at {text}");
+    }
+    for text in ["2.100.3", "0.0", "2.4294967295", "1.3.6.1.2.1.2.2.1.10.1"] {
+        let name = parsed(alloc, text)?;
+        assert_eq!(rt; name.text(alloc)?.as_str(), text);
+        assert_eq!(rt; clone(alloc, &name)?, name);
+    }
+    assert_eq!(rt; parsed(alloc, "2.100.3")?.parts(), [2, 100, 3].as_slice());
+    Ok(())
+}
+
+#[test]
+fn compares(rt: HostRuntime) -> Result<(), Fail> {
+    let alloc = rt.alloc();
+    let short = made(alloc)?;
+    let longer = oid(alloc, &[1, 3, 6])?;
+    let later = oid(alloc, &[1, 4])?;
+    let less = (Ordering::Less, Ordering::Less, false);
+    assert_eq!(rt; compared(&short, &longer), less);
+    assert_eq!(rt; compared(&longer, &later), less);
+    assert_eq!(rt;
+        compared(&short, &oid(alloc, &[1, 3])?),
+        (Ordering::Equal, Ordering::Equal, true)
+    );
+    assert!(rt; is_prefix(&short, &longer));
+    assert!(rt; !is_prefix(&longer, &short));
+    Ok(())
+}

@@ -1,0 +1,4 @@
+pub mod Deciding
+pub mod Distinct
+pub mod Exclusive
+pub mod Subtrees

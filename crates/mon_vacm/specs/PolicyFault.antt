@@ -1,0 +1,16 @@
+-- The faults of tables.
+use Rattle.std.specs.Prelude.{ℕ, List, codes}
+use Rattle.mon_vacm.specs.declared.fault.PolicyFault.{PolicyFault}
+use Rattle.mon_vacm.specs.declared.fault.PolicyFault.TheVariants.{DuplicateCommunity, UnknownView, DuplicateFamily}
+
+-- the number that a printed line gives a fault
+abbrev pub number_of : PolicyFault → ℕ
+number_of DuplicateCommunity = 2
+number_of UnknownView = 3
+number_of DuplicateFamily = 4
+
+-- its name
+abbrev pub name_of : PolicyFault → List ℕ
+name_of DuplicateCommunity = codes "DuplicateCommunity"
+name_of UnknownView = codes "UnknownView"
+name_of DuplicateFamily = codes "DuplicateFamily"

@@ -1,0 +1,46 @@
+ghost use Rattle.std.specs.Prelude.{◌≡◌, ◌&&◌};
+ghost use Rattle.std.specs.Str.{bytes_eq};
+ghost use Rattle.mon_vacm.specs.Access.{is_model, view_for};
+ghost use Rattle.mon_vacm.specs.Borrowed.{granted};
+
+use crate::access::Access;
+use crate::denied::Denied;
+use crate::model::SecurityModel;
+use crate::need::Need;
+use crate::octets::Octets;
+
+/// The views that a group has under a security model (vacmAccessTable, RFC 3415 section 4).
+#[derive(Drop)]
+pub struct AccessEntry {
+    pub group_name: Octets,
+    pub security_model: SecurityModel,
+    /// The view for reading, if there is one.
+    pub read_view: Option<Octets>,
+    /// The view for writing, if there is one.
+    pub write_view: Option<Octets>,
+}
+
+impl AccessEntry {
+    /// Whether the entry is of this group and model.
+    pub(crate) fn is_of(&self, group: &[u8], model: SecurityModel) -> bool
+        ensures { result ≡ (bytes_eq self.now.group_name group.now && is_model self.now.security_model model) }
+    {
+        self.group_name.is(group) && self.security_model == model
+    }
+
+    /// The view that the entry names for a need, or `NoSuchView`.
+    pub(crate) fn view_for(&self, need: Need) -> Result<Access<'_>, Denied>
+        ensures { granted result ≡ view_for self.now need }
+    {
+        let view = match need {
+            Need::Read => &self.read_view,
+            Need::Write => &self.write_view,
+        };
+        match view {
+            Some(view) => Ok(Access {
+                view: view.as_slice(),
+            }),
+            None => Err(Denied::NoSuchView),
+        }
+    }
+}

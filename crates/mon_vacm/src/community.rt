@@ -1,0 +1,8 @@
+use crate::octets::Octets;
+
+/// A community, and the security name that it stands for (snmpCommunityTable, RFC 3584 section 5.3).
+#[derive(Drop)]
+pub struct Community {
+    pub name: Octets,
+    pub security_name: Octets,
+}

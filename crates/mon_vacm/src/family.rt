@@ -1,0 +1,71 @@
+ghost use Rattle.std.specs.Prelude.{◌≡◌, ◌↔◌, ◌<◌, length, IsTrue};
+ghost use Rattle.mon_vacm.specs.View.{MustAgree, IsMatch, Applies, subtree_cmp};
+
+use crate::octets::Octets;
+use mon_oid::Oid;
+use std::cmp::Ordering;
+
+/// Names that a view includes or excludes: those at or below a subtree, where a mask may let sub-identifiers differ
+/// (vacmViewTreeFamilyTable, RFC 3415 section 4).
+#[derive(Drop)]
+pub struct Family {
+    pub view_name: Octets,
+    pub subtree: Oid,
+    /// Bit i, counted from the highest of the first octet, is 0 where sub-identifier i may differ; behind the end all are 1.
+    pub mask: Octets,
+    /// Whether the names are in the view, where this family decides.
+    pub included: bool,
+}
+
+impl Family {
+    /// Whether the family is of the view and the name matches it.
+    pub(crate) fn applies(&self, view: &[u8], name: &Oid) -> bool
+        ensures { IsTrue result ↔ Applies view.now name.now self.now }
+    {
+        self.view_name.is(view) && self.matches(name)
+    }
+
+    /// Whether the name is as long as the subtree and agrees with it wherever it must.
+    pub(crate) fn matches(&self, name: &Oid) -> bool
+        ensures { IsTrue result ↔ IsMatch self.now name.now }
+    {
+        let subtree = self.subtree.parts();
+        let parts = name.parts();
+        if parts.len() < subtree.len() {
+            return false;
+        }
+        for (i, part) in subtree.iter().enumerate() {
+            if parts[i] != *part && must_agree(self.mask.as_slice(), i) {
+                return false;
+            }
+        }
+        true
+    }
+
+    /// Whether the family is of the view and has the subtree.
+    pub(crate) fn is_of(&self, view: &[u8], subtree: &Oid) -> bool
+        ensures { IsTrue result ↔ ((self.now.view_name ≡ view.now) × (self.now.subtree ≡ subtree.now)) }
+    {
+        self.view_name.is(view) && self.subtree == *subtree
+    }
+
+    /// Which of two families decides where both apply: the greater.
+    #[tactic(auto, unfolding(crate::specs::View::subtree_cmp))]
+    pub(crate) fn compare(&self, other: &Family) -> Ordering
+        ensures { result ≡ subtree_cmp self.now.subtree other.now.subtree }
+    {
+        let own = self.subtree.parts().len();
+        let others = other.subtree.parts().len();
+        own.cmp(&others).then(self.subtree.compare(&other.subtree))
+    }
+}
+
+/// Whether the mask has a one at a place. Behind its end it goes on with ones.
+fn must_agree(mask: &[u8], i: usize) -> bool
+    ensures { IsTrue result ↔ MustAgree mask.now i }
+{
+    match mask.get(i / 8) {
+        Some(octet) => octet & (1 << (7 - i % 8)) != 0,
+        None => true,
+    }
+}

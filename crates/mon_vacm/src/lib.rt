@@ -1,0 +1,33 @@
+//! View-based access control: which community may read or write which names, by tables of communities, groups, access
+//! entries and view families. It follows RFC 3415 sections 2 to 4, for model 2 (SNMPv2c) and the empty context alone.
+//! Contract: `judge` is the written policy, `access` and `sees` are its two halves; none of the three takes memory.
+#![tactic(auto)]
+
+mod access;
+mod access_entry;
+mod community;
+mod decision;
+mod denied;
+mod family;
+mod fault;
+mod group;
+pub mod laws;
+mod model;
+mod need;
+mod octets;
+mod policy;
+mod tables;
+
+pub use access::Access;
+pub use access_entry::AccessEntry;
+pub use community::Community;
+pub use decision::Decision;
+pub use denied::Denied;
+pub use family::Family;
+pub use fault::PolicyFault;
+pub use group::Group;
+pub use model::SecurityModel;
+pub use need::Need;
+pub use octets::Octets;
+pub use policy::Policy;
+pub use tables::Tables;

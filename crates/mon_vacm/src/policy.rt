@@ -1,0 +1,137 @@
+ghost use Rattle.std.specs.Prelude.{◌≡◌, ◌↔◌, ◌≢◌, ◌++◌, ◌∷◌, [], List, All, IsTrue, IsOk, IfOk};
+ghost use Rattle.mon_vacm.specs.declared.family.Family.{Family as AnyFamily};
+ghost use Rattle.mon_vacm.specs.Access.{access_of};
+ghost use Rattle.mon_vacm.specs.Borrowed.{granted};
+ghost use Rattle.mon_vacm.specs.Decision.{IsRight};
+ghost use Rattle.mon_vacm.specs.Tables.{lists_of, IsPolicy, AreCommunitiesDistinct, AreFamiliesDistinct, NamesViews};
+ghost use Rattle.mon_vacm.specs.View.{IsInView, IsBest};
+
+use crate::access::Access;
+use crate::decision::Decision;
+use crate::denied::Denied;
+use crate::family::Family;
+use crate::fault::PolicyFault;
+use crate::need::Need;
+use crate::tables::Tables;
+use mon_oid::Oid;
+use std::marker::Model;
+
+/// Tables that give no community and no subtree of a view twice, and name no view that has no family.
+/// Contracts see the tables as lists.
+#[derive(Drop)]
+pub struct Policy {
+    tables: Tables,
+}
+
+impl Model for Policy {
+    ghost use Rattle.mon_vacm.specs.Tables.{Lists, IsPolicy, lists_of};
+
+    ghost Value = { Lists };
+
+    ghost view = { λ p. lists_of p.tables };
+
+    ghost invariant = { λ p. IsPolicy (lists_of p.tables) };
+}
+
+impl Policy {
+    /// The policy of these tables, or the first of their faults: `DuplicateCommunity` where a community is given twice,
+    /// `UnknownView` where an access entry names a view without a family, `DuplicateFamily` where a view has a subtree twice.
+    pub fn new(tables: Tables) -> Result<Self, PolicyFault>
+        ensures kept { IfOk result (λ policy. (policy ≡ lists_of tables) × IsPolicy policy) }
+        ensures accepted { IsPolicy (lists_of tables) → IsOk result }
+
+        // The first fault of the tables.
+        ensures duplicate_community { (result ≡ Err PolicyFault.DuplicateCommunity)
+            ↔ ¬ (AreCommunitiesDistinct tables.communities.items) }
+        ensures unknown_view { (result ≡ Err PolicyFault.UnknownView)
+            ↔ (AreCommunitiesDistinct tables.communities.items
+            × ¬ (All (NamesViews tables.families.items) tables.accesses.items)) }
+        ensures duplicate_family { (result ≡ Err PolicyFault.DuplicateFamily)
+            ↔ (AreCommunitiesDistinct tables.communities.items
+            × All (NamesViews tables.families.items) tables.accesses.items
+            × ¬ (AreFamiliesDistinct tables.families.items)) }
+    {
+        if !tables.are_communities_distinct() {
+            return Err(PolicyFault::DuplicateCommunity);
+        }
+        if !tables.are_views_known() {
+            return Err(PolicyFault::UnknownView);
+        }
+        if !tables.are_families_distinct() {
+            return Err(PolicyFault::DuplicateFamily);
+        }
+        Ok(Policy { tables })
+    }
+
+    /// The view that a community is granted for a need: by its security name, that name's first group, and the group's first
+    /// access entry with model 2, else with any model (RFC 3415 section 3.2).
+    pub fn access(&self, community: &[u8], need: Need) -> Result<Access<'_>, Denied>
+        ensures { granted result ≡ access_of self.now community.now need }
+    {
+        let security = self.tables.security_of(community)?;
+        let group = self.tables.group_of(security)?;
+        self.tables.entry_of(group)?.view_for(need)
+    }
+
+    /// Whether a name is in the granted view: of the view's families that match the name, the one with the longest and then
+    /// greatest subtree is an included one (RFC 3415 section 4, vacmViewTreeFamilyTable).
+    pub fn sees(&self, access: Access<'_>, name: &Oid) -> bool
+        ensures { IsTrue result ↔ IsInView self.now.families access.entry.view.now name.now }
+    {
+        match deciding(self.tables.families.as_slice(), access.view, name) {
+            Some(family) => family.included,
+            None => false,
+        }
+    }
+
+    /// Whether a community may do what it needs with a name: `access`, and then `sees`.
+    pub fn judge(&self, community: &[u8], need: Need, name: &Oid) -> Decision
+        ensures { IsRight self.now community.now need name.now result }
+    {
+        match self.access(community, need) {
+            Ok(access) => self.judge_name(access, name),
+            Err(why) => Decision::Denied(why),
+        }
+    }
+
+    fn judge_name(&self, access: Access<'_>, name: &Oid) -> Decision
+        ensures allowed { (result ≡ Decision.Allowed) ↔ IsInView self.now.families access.entry.view.now name.now }
+        ensures others { result ≢ Decision.Allowed → result ≡ Decision.NotInView }
+    {
+        if self.sees(access, name) {
+            Decision::Allowed
+        } else {
+            Decision::NotInView
+        }
+    }
+}
+
+/// The family that decides on a name in a view.
+fn deciding<'a>(families: &'a [Family], view: &[u8], name: &Oid) -> Option<&'a Family>
+    ensures { IsBest families.now view.now name.now result }
+{
+    let mut best: Option<&Family> = None;
+    for family in families {
+        best = stronger(best, family, view, name);
+    }
+    best
+}
+
+/// The family that decides, when one more is looked at.
+fn stronger<'a>(
+    best: Option<&'a Family>,
+    family: &'a Family,
+    view: &[u8],
+    name: &Oid,
+) -> Option<&'a Family>
+    ensures { (families : List AnyFamily) → IsBest families view.now name.now best.entry
+        → IsBest (families ++ family.now ∷ []) view.now name.now result }
+{
+    if !family.applies(view, name) {
+        return best;
+    }
+    match best {
+        Some(other) if other.compare(family).is_ge() => best,
+        _ => Some(family),
+    }
+}
