@@ -1,7 +1,7 @@
 -- One line after the other.
 use Rattle.std.proofs.Common.{◌≡◌, ◌≢◌, map, ℕ, ◌+◌, ◌-◌, ◌<◌, ◌≤◌, Bool, true, false, not, cond, List, [], ◌∷◌, ◌++◌, length, take, drop, refl, sym, ap, ◌∙◌, subst, append_assoc, arith, length-drop, Option, Some, None, Result, Ok, Err}
 use Rattle.std.specs.Prelude.{nat_le, nat_lt, if◌then◌else◌, ◌==◌}
-use Rattle.std.specs.List.{flat_map, slice_split, onto_first, position, position_or_len}
+use Rattle.std.specs.List.{slice_split, onto_first, position, position_or_len}
 use Rattle.std.specs.List.Sorted.{IsStrictlySortedBy}
 use Rattle.std.specs.Str.Lines.{strip_carriage_return}
 use Rattle.std.specs.FinSet.{len}
@@ -16,9 +16,9 @@ use Rattle.mon_app.specs.declared.refusal.Refusal.TheVariants.{OutOfMemory, BadH
 use Rattle.mon_app.specs.declared.table.Row.{Row}
 use Rattle.mon_app.specs.Gives.{Fails}
 use Rattle.mon_app.specs.Reading.{hex_reading, line_reading}
-use Rattle.mon_app.specs.Replay.{verdict, judged, offered, refused, accepted, refusals, refused_text, lines_of, lines_left, replayed}
+use Rattle.mon_app.specs.Replay.{verdict, judged, offered, refused, accepted, refusals, refused_text, lines_of}
 use Rattle.mon_app.specs.Taken.{IsTaken}
-use Rattle.mon_app.specs.Text.{row_text, refused_line, end_line, samples_in}
+use Rattle.mon_app.specs.Text.{refused_line}
 use Rattle.mon_app.specs.Windows.{instances, row, rows_of}
 use Rattle.mon_app.proofs.Counting.{rows_counted}
 use Rattle.mon_app.proofs.Order.{instance_cmp_total, instance_cmp-IsAntisymmetric}

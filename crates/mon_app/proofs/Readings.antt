@@ -1,8 +1,8 @@
 -- A line says what reading it from left to right gives.
-use Rattle.std.proofs.Common.{◌≡◌, ◌≢◌, ◌⊎◌, inl, inr, ℕ, ℤ, pos, negsuc, zero, suc, ◌<◌, ◌≤◌, Bool, true, false, List, [], ◌∷◌, length, get_or, refl, sym, ap, ◌∙◌, subst, arith, Result, Ok, Err}
-use Rattle.std.specs.Prelude.{nat_le, ◌==◌, ◌&&◌, if◌then◌else◌, slice_index, IsTrue}
+use Rattle.std.proofs.Common.{◌≡◌, ◌≢◌, ◌⊎◌, inl, inr, ℕ, ℤ, pos, negsuc, zero, suc, ◌<◌, ◌≤◌, true, false, List, [], ◌∷◌, length, get_or, refl, sym, ap, ◌∙◌, subst, arith, Result, Ok, Err}
+use Rattle.std.specs.Prelude.{nat_le, ◌==◌, ◌&&◌, if◌then◌else◌}
 use Rattle.std.specs.Str.{bytes_eq}
-use Rattle.std.proofs.lemmas.Bool.{true≢false, leb-true}
+use Rattle.std.proofs.lemmas.Bool.{leb-true}
 use Rattle.std.proofs.lemmas.Bool.Decides.{nat_tests}
 use Rattle.std.proofs.lemmas.Slice.Eq.{bytes_eq-Decides}
 use Rattle.hex.specs.declared.error.FromHexError.{FromHexError}
@@ -24,7 +24,7 @@ use Rattle.mon_pdu.specs.Reading.{message_at}
 use Rattle.mon_app.specs.declared.refusal.Refusal.{Refusal}
 use Rattle.mon_app.specs.declared.refusal.Refusal.TheVariants.{OutOfMemory, BadHex, BadMessage, NotAResponse, AgentError, BadStamp, TooManyInstances}
 use Rattle.mon_app.specs.Gives.{◌>>=◌, or_refuse}
-use Rattle.mon_app.specs.Line.{Holds, IsResponse, IsStamped, Brings, IsNoMessage, IsNoResponse, HasError, HasNoStamp, Says}
+use Rattle.mon_app.specs.Line.{Holds, IsResponse, IsStamped, IsNoMessage, Says}
 use Rattle.mon_app.specs.Offer.{Offer, Stamp}
 use Rattle.mon_app.specs.Reading.{engine_id, engine_boots, engine_time, engine_in, number_in, engine_of, number_at, stamp_of, response_of, is_zero, body_reading, message_in, message_reading, hex_reading, offers_of}
 

@@ -1,13 +1,12 @@
 -- The rows after one more sample.
-use Rattle.std.proofs.Common.{◌≡◌, ℕ, zero, suc, ◌+◌, ◌<◌, ◌≤◌, Bool, true, false, cond, ◌||◌, List, [], ◌∷◌, ◌++◌, length, get_or, set, map, refl, sym, ap, ◌∙◌, subst, arith}
-use Rattle.std.specs.Cmp.{IsTotalOrder}
+use Rattle.std.proofs.Common.{◌≡◌, ℕ, zero, suc, ◌<◌, ◌≤◌, Bool, true, false, cond, ◌||◌, List, [], ◌∷◌, ◌++◌, length, get_or, set, map, refl, sym, ap, ◌∙◌, subst, arith}
 use Rattle.std.specs.declared.cmp.Ordering.{Ordering}
 use Rattle.std.specs.declared.cmp.Ordering.TheVariants.{Less, Equal, Greater}
 use Rattle.std.specs.Ordering.{is_eq, eq_by_cmp, ordering_reverse}
 use Rattle.std.specs.List.{AllByRecursion, HoldsAt, filter, insert, list_any}
 use Rattle.std.specs.List.Sorted.{IsStrictlySortedBy}
 use Rattle.std.specs.FinSet as finite
-use Rattle.std.specs.FinSet.{contains, from_list, len, contains-from_list, from_list_push}
+use Rattle.std.specs.FinSet.{contains, from_list, contains-from_list, from_list_push}
 use Rattle.std.proofs.lemmas.Bool.{true≢false}
 use Rattle.std.proofs.lemmas.Cmp.{tied_itself}
 use Rattle.std.proofs.lemmas.List.{map-append, append-nil, get_or-map, length-map}
@@ -18,7 +17,7 @@ use Rattle.std.specs.FinSet.{nat_cmp-IsAntisymmetric}
 use Rattle.std.specs.Ordering.{nat_cmp}
 use Rattle.mon_window.specs.Window.{Window}
 use Rattle.mon_window.specs.Place.{IsPlace}
-use Rattle.mon_window.specs.Top.{top, rising, put}
+use Rattle.mon_window.specs.Top.{top, rising}
 use Rattle.mon_window.proofs.Promised.{insert-known, top-all, top-insert, sorted-rising, contains-rising, from_list-rising, rising-insert}
 use Rattle.mon_app.specs.declared.instance.Instance.{Instance}
 use Rattle.mon_app.specs.Offer.{Offer}

@@ -1,5 +1,5 @@
 -- What a line of hex digits says, by the grammar of messages and apart from any reader: what it offers, or why it is refused.
-use Rattle.std.specs.Prelude.{◌≡◌, ◌≢◌, ℕ, ℤ, pos, ◌<◌, ◌≤◌, ◌^◌, List, ◌∷◌, length, Result, Ok, Err}
+use Rattle.std.specs.Prelude.{◌≡◌, ◌≢◌, ℕ, ℤ, pos, ◌≤◌, List, ◌∷◌, length, Result, Ok, Err}
 use Rattle.hex.specs.Hex.{decode_of}
 use Rattle.mon_ber.specs.declared.value.Value.TheVariants as values
 use Rattle.mon_pdu.specs.declared.message.Binding.{Binding}

@@ -22,6 +22,7 @@ const RESPONSE: &str = "306002010104067075626C6963A2530201010201000201003048\
 300F060A2B060102010202010A01410107";
 
 /// Gives an octet a read, is interrupted before each, and fails after so many.
+#[derive(Drop)]
 struct Slow {
     left: u8,
     interrupted: bool,
@@ -44,7 +45,8 @@ impl Read for Slow {
 
 #[test]
 fn replays(rt: HostRuntime) -> Result<(), Fail> {
-    let wanted = "8000000001 1.3.6.1.2.1.2.2.1.10.1\n  3 100 0 Counter32 7\nend 1 instances 1 samples 0 refused\n";
+    let wanted =
+        "8000000001 1.3.6.1.2.1.2.2.1.10.1\n  3 100 0 Counter32 7\nend 1 instances 1 samples 0 refused\n";
     assert_eq!(rt; replayed(rt.alloc(), 8, RESPONSE)?.as_str(), wanted);
     let none = "line 1: refused 2 BadHex\nend 0 instances 0 samples 1 refused\n";
     assert_eq!(rt; replayed(rt.alloc(), 1, "3Z")?.as_str(), none);
@@ -54,12 +56,18 @@ fn replays(rt: HostRuntime) -> Result<(), Fail> {
 #[test]
 fn reads_all(rt: HostRuntime) -> Result<(), Fail> {
     let mut given = b"abc".as_slice();
-    assert_eq!(rt; whole(rt.alloc(), &mut given)?.as_slice(), b"abc".as_slice());
+    assert_eq!(rt;
+        whole(rt.alloc(), &mut given)?.as_slice(),
+        b"abc".as_slice()
+    );
     let mut slow = Slow {
         left: 3,
         interrupted: false,
     };
-    assert_eq!(rt; whole(rt.alloc(), &mut slow).err(), Some(AppFault::FileFault));
+    assert_eq!(rt;
+        whole(rt.alloc(), &mut slow).err(),
+        Some(AppFault::FileFault)
+    );
     assert_eq!(rt; slow.left, 0);
     Ok(())
 }

@@ -1,4 +1,4 @@
-use Rattle.std.proofs.Common.{◌≡◌, ◌+◌, ◌∷◌, [], take, drop, sym, ap, ◌∙◌}
+use Rattle.std.proofs.Common.{◌+◌, ◌∷◌, [], sym, ap, ◌∙◌}
 use Rattle.mon_app.specs.Replay.{lines_of}
 use Rattle.mon_app.proofs.Lines.{one_line, cut_line, all_behind}
 use Rattle.mon_app.proofs.replaying.first_line.Goals as goal

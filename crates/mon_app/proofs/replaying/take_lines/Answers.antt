@@ -3,7 +3,7 @@ use Rattle.std.specs.Option.{option_map}
 use Rattle.std.specs.Prelude.{IfSome}
 use Rattle.mon_app.specs.declared.table.Row.{Row}
 use Rattle.mon_app.specs.Replay.{lines_of, lines_left}
-use Rattle.mon_app.proofs.Lines.{SoFar, started, skipped, taken_in, turned_away, all_taken, all_written, all_counted}
+use Rattle.mon_app.proofs.Lines.{SoFar, started, skipped, taken_in, turned_away}
 use Rattle.mon_app.proofs.replaying.take_lines.Invariants.{left}
 use Rattle.mon_app.proofs.replaying.take_lines.Goals as goal
 

@@ -1,5 +1,5 @@
-use Rattle.std.proofs.Common.{◌≡◌, ◌+◌, ◌<◌, ◌≤◌, ◌++◌, ◌∷◌, [], List, Bor, ℕ, Bool, length, true, false, not, ◌||◌, take, refl, sym, ap, ◌∙◌, subst, arith, rules, Some, None}
-use Rattle.std.specs.FinSet.{contains, len}
+use Rattle.std.proofs.Common.{◌≡◌, ◌+◌, ◌++◌, ◌∷◌, [], length, not, ◌||◌, take, refl, sym, ap, ◌∙◌, subst, arith, rules, Some, None}
+use Rattle.std.specs.FinSet.{contains}
 use Rattle.std.specs.Option.{option_map}
 use Rattle.mon_app.specs.Instance.{named}
 use Rattle.mon_app.specs.Offer.{Offer}

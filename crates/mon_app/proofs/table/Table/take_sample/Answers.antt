@@ -1,4 +1,4 @@
-use Rattle.std.proofs.Common.{◌≡◌, ◌<◌, length, map, subst, sym, ◌∙◌, ap, arith, Ok, Err}
+use Rattle.std.proofs.Common.{◌≡◌, ◌<◌, length, subst, ◌∙◌, ap, arith, Ok, Err}
 use Rattle.mon_app.specs.Find.{Finds, instances_of}
 use Rattle.mon_app.specs.Instance.{named}
 use Rattle.mon_app.specs.Offer.{Offer}
