@@ -1,6 +1,10 @@
 //! The job of `snmpmon replay N` in plain Rust, with std alone: a baseline for times, and a second opinion on the text.
 //! rustc -O -C target-cpu=x86-64-v2 replay.rs
 
+#[allow(dead_code)]
+mod message;
+
+use message::{Binding, Value, read};
 use std::cmp::Ordering;
 use std::fmt::Write as _;
 use std::io::{self, Read, Write};
@@ -17,147 +21,6 @@ const TOO_MANY_INSTANCES: Refusal = (7, "TooManyInstances");
 const ENGINE_ID: [u32; 11] = [1, 3, 6, 1, 6, 3, 10, 2, 1, 1, 0];
 const ENGINE_BOOTS: [u32; 11] = [1, 3, 6, 1, 6, 3, 10, 2, 1, 2, 0];
 const ENGINE_TIME: [u32; 11] = [1, 3, 6, 1, 6, 3, 10, 2, 1, 3, 0];
-
-enum Value {
-    Integer(i32),
-    Octets(Vec<u8>),
-    Counter(u8, u64),
-    Other,
-}
-
-struct Binding {
-    name: Vec<u32>,
-    value: Value,
-}
-
-struct Message {
-    tag: u8,
-    status: i32,
-    bindings: Vec<Binding>,
-}
-
-/// A reader over octets: each method takes what it reads from the front.
-struct Reader<'a>(&'a [u8]);
-
-impl<'a> Reader<'a> {
-    fn octet(&mut self) -> Option<u8> {
-        let (first, rest) = self.0.split_first()?;
-        self.0 = rest;
-        Some(*first)
-    }
-
-    fn contents(&mut self) -> Option<&'a [u8]> {
-        let first = self.octet()?;
-        let len = match first {
-            0..=0x7f => first as usize,
-            0x81..=0x84 => {
-                let mut len = 0usize;
-                for _ in 0..first - 0x80 {
-                    len = len << 8 | self.octet()? as usize;
-                }
-                len
-            }
-            _ => return None,
-        };
-        if len > self.0.len() {
-            return None;
-        }
-        let (contents, rest) = self.0.split_at(len);
-        self.0 = rest;
-        Some(contents)
-    }
-
-    fn element(&mut self, tag: u8) -> Option<&'a [u8]> {
-        (self.octet()? == tag).then_some(())?;
-        self.contents()
-    }
-}
-
-fn number(contents: &[u8]) -> Option<i128> {
-    if contents.is_empty() || contents.len() > 9 {
-        return None;
-    }
-    let mut number = if contents[0] < 0x80 { 0i128 } else { -1 };
-    for octet in contents {
-        number = number << 8 | *octet as i128;
-    }
-    Some(number)
-}
-
-fn integer(reader: &mut Reader<'_>) -> Option<i32> {
-    i32::try_from(number(reader.element(0x02)?)?).ok()
-}
-
-fn name(contents: &[u8]) -> Option<Vec<u32>> {
-    let mut parts = Vec::with_capacity(16);
-    let mut number = 0u64;
-    let mut begins = true;
-    for octet in contents {
-        if begins && *octet == 0x80 {
-            return None;
-        }
-        number = number << 7 | (*octet & 0x7f) as u64;
-        if number >= (1 << 32) + 80 {
-            return None;
-        }
-        begins = *octet < 0x80;
-        if begins {
-            if parts.is_empty() {
-                let first = (number / 40).min(2);
-                parts.push(first as u32);
-                parts.push(u32::try_from(number - 40 * first).ok()?);
-            } else {
-                parts.push(u32::try_from(number).ok()?);
-            }
-            number = 0;
-        }
-    }
-    (begins && !parts.is_empty() && parts.len() <= 128).then_some(parts)
-}
-
-fn value(reader: &mut Reader<'_>) -> Option<Value> {
-    let tag = reader.octet()?;
-    if !matches!(tag, 0x02 | 0x04 | 0x05 | 0x06 | 0x40..=0x44 | 0x46 | 0x80..=0x82) {
-        return None;
-    }
-    let contents = reader.contents()?;
-    match tag {
-        0x02 => Some(Value::Integer(i32::try_from(number(contents)?).ok()?)),
-        0x04 => Some(Value::Octets(contents.to_vec())),
-        0x06 => name(contents).map(|_| Value::Other),
-        0x40 => (contents.len() == 4).then_some(Value::Other),
-        0x41..=0x43 => Some(Value::Counter(tag, u32::try_from(number(contents)?).ok()? as u64)),
-        0x44 => Some(Value::Other),
-        0x46 => Some(Value::Counter(tag, u64::try_from(number(contents)?).ok()?)),
-        _ => contents.is_empty().then_some(Value::Other),
-    }
-}
-
-fn message(octets: &[u8]) -> Option<Message> {
-    let mut outer = Reader(Reader(octets).element(0x30)?);
-    if integer(&mut outer)? != 1 {
-        return None;
-    }
-    outer.element(0x04)?;
-    let tag = outer.octet()?;
-    if !(0xa0..=0xa8).contains(&tag) || tag == 0xa4 {
-        return None;
-    }
-    let mut pdu = Reader(outer.contents()?);
-    integer(&mut pdu)?;
-    let status = integer(&mut pdu)?;
-    integer(&mut pdu)?;
-    let mut list = Reader(pdu.element(0x30)?);
-    let mut bindings = Vec::new();
-    while !list.0.is_empty() {
-        let mut binding = Reader(list.element(0x30)?);
-        let name = name(binding.element(0x06)?)?;
-        let value = value(&mut binding)?;
-        binding.0.is_empty().then_some(())?;
-        bindings.push(Binding { name, value });
-    }
-    (pdu.0.is_empty() && outer.0.is_empty()).then_some(Message { tag, status, bindings })
-}
 
 fn hex_digit(octet: u8) -> Option<u8> {
     match octet {
@@ -192,7 +55,10 @@ struct Row {
 fn sampled(value: &Value) -> Option<(u8, u64)> {
     match value {
         Value::Integer(number) => Some((0x02, *number as i64 as u64)),
-        Value::Counter(tag, number) => Some((*tag, *number)),
+        Value::Counter32(number) => Some((0x41, *number as u64)),
+        Value::Gauge32(number) => Some((0x42, *number as u64)),
+        Value::TimeTicks(number) => Some((0x43, *number as u64)),
+        Value::Counter64(number) => Some((0x46, *number)),
         _ => None,
     }
 }
@@ -215,11 +81,11 @@ fn stamp(bindings: &[Binding]) -> Option<(&[u8], u32, u32)> {
 
 fn take(rows: &mut Vec<Row>, n: usize, line: &[u8]) -> Result<(), Refusal> {
     let octets = hex(line).ok_or(BAD_HEX)?;
-    let message = message(&octets).ok_or(BAD_MESSAGE)?;
+    let message = read(&octets).ok_or(BAD_MESSAGE)?;
     if message.tag != 0xa2 {
         return Err(NOT_A_RESPONSE);
     }
-    if message.status != 0 {
+    if message.numbers[1] != 0 {
         return Err(AGENT_ERROR);
     }
     let (engine, boots, time) = stamp(&message.bindings).ok_or(BAD_STAMP)?;
