@@ -1,14 +1,22 @@
 -- The faults of the commands.
 use Rattle.std.specs.Prelude.{ℕ, List, codes}
 use Rattle.mon_app.specs.declared.fault.AppFault.{AppFault}
-use Rattle.mon_app.specs.declared.fault.AppFault.TheVariants.{OutOfMemory, FileFault}
+use Rattle.mon_app.specs.declared.fault.AppFault.TheVariants.{OutOfMemory, Timeout, FileFault, SocketFault, AgentStatus, BadText}
 
 -- the number that a printed line gives a fault
 abbrev pub number_of : AppFault → ℕ
 number_of OutOfMemory = 1
+number_of Timeout = 2
 number_of FileFault = 3
+number_of SocketFault = 4
+number_of AgentStatus = 6
+number_of BadText = 8
 
 -- its name
 abbrev pub name_of : AppFault → List ℕ
 name_of OutOfMemory = codes "OutOfMemory"
+name_of Timeout = codes "Timeout"
 name_of FileFault = codes "FileFault"
+name_of SocketFault = codes "SocketFault"
+name_of AgentStatus = codes "AgentStatus"
+name_of BadText = codes "BadText"

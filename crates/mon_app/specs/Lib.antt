@@ -12,3 +12,6 @@ pub mod Taken
 pub mod Replay
 pub mod Line
 pub mod Outcome
+pub mod Counts
+pub mod Question
+pub mod Printed

@@ -4,6 +4,7 @@ ghost use Rattle.std.specs.Prelude.{◌≡◌};
 ghost use Rattle.mon_app.specs.AppFault.{number_of, name_of};
 ghost use Rattle.mon_app.specs.declared.fault.AppFault.TheVariants.{OutOfMemory};
 
+use mon_pdu::PduFault;
 use std::alloc::AllocError;
 use std::io;
 use thiserror::Error;
@@ -13,8 +14,16 @@ use thiserror::Error;
 pub enum AppFault {
     #[error("out of memory")]
     OutOfMemory = 1,
+    #[error("no reply came")]
+    Timeout = 2,
     #[error("a file or a standard stream could not be read or written")]
     FileFault = 3,
+    #[error("a socket could not be opened or used")]
+    SocketFault = 4,
+    #[error("the agent answered with an error status")]
+    AgentStatus = 6,
+    #[error("a word of the command line or a text is of no form that is read")]
+    BadText = 8,
 }
 
 impl AppFault {
@@ -31,7 +40,11 @@ impl AppFault {
     {
         match self {
             AppFault::OutOfMemory => "OutOfMemory",
+            AppFault::Timeout => "Timeout",
             AppFault::FileFault => "FileFault",
+            AppFault::SocketFault => "SocketFault",
+            AppFault::AgentStatus => "AgentStatus",
+            AppFault::BadText => "BadText",
         }
     }
 }
@@ -50,6 +63,16 @@ impl From<io::Error> for AppFault {
         match error.kind() {
             io::ErrorKind::OutOfMemory => AppFault::OutOfMemory,
             _ => AppFault::FileFault,
+        }
+    }
+}
+
+/// A message that finds no room is want of memory; one that is too long for a datagram cannot be sent.
+impl From<PduFault> for AppFault {
+    fn from(fault: PduFault) -> AppFault {
+        match fault {
+            PduFault::OutOfMemory => AppFault::OutOfMemory,
+            _ => AppFault::BadText,
         }
     }
 }

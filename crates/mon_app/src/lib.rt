@@ -1,20 +1,32 @@
-//! What the program's commands compute: the text of a replay of recorded SNMPv2c responses, and reading an input whole.
+//! What the program's commands compute: the text of a replay of recorded SNMPv2c responses, and an agent's answer to a question.
 //! Messages are those of RFC 1901 and RFC 3416; a sample is stamped by the objects of RFC 3411 section 5.
-//! Contract: what `replay` prints is given by the lines of its input and the grammar of messages, and by nothing else.
+//! Contract: what `replay` prints is given by its input and the grammar of messages; an answer is printed of a reply alone.
 #![tactic(auto)]
 
+mod asking;
+mod client;
 mod fault;
 mod input;
 mod instance;
 pub mod laws;
 mod line;
+mod printed;
+mod question;
 mod refusal;
 mod replaying;
 mod response;
+mod socket;
 mod table;
 mod text;
+mod wire;
 
+pub use asking::{send_request, take_reply};
+pub use client::answer_text;
 pub use fault::AppFault;
 pub use input::read_all;
+pub use printed::bindings_text;
+pub use question::{Asking, Question, is_reply, request};
 pub use refusal::Refusal;
 pub use replaying::replay;
+pub use socket::SocketWire;
+pub use wire::{Heard, Wire};

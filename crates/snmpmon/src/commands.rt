@@ -2,28 +2,35 @@
 
 ghost use Rattle.std.specs.Prelude.{◌≤◌};
 
+use crate::fault::Fault;
 use crate::words::command;
 use clap::ArgMatches;
 use clap::error::ErrorKind;
-use mon_app::{AppFault, read_all};
+use mon_app::{AppFault, Asking, Question, SocketWire, answer_text, read_all};
+use mon_oid::Oid;
+use std::alloc::Global;
 use std::io::Write;
-use std::rt::Env;
+use std::net::{Net, SocketAddrV4};
+use std::rt::{Clock, Env};
 use std::{env, io};
 
 /// How many samples a window keeps where no command is named.
 const USUAL_SIZE: u8 = 8;
 
+/// The longest community, in octets.
+const LONGEST_COMMUNITY: usize = 512;
+
 /// Runs the command that the words name, and answers the status.
-pub fn start<R: Env + Input + Print + Eprint + AllocGlobal>(rt: &R) -> u8 {
+pub fn start<R: Env + Clock + Net + Input + Print + Eprint + AllocGlobal>(rt: &R) -> u8 {
     let words: Result<Vec<String>, _> = match env::args(rt) {
         Ok(args) => args.collect(rt.alloc()),
         Err(error) if error.kind() == io::ErrorKind::OutOfMemory => {
-            return failed(rt, AppFault::OutOfMemory);
+            return failed(rt, Fault::App(AppFault::OutOfMemory));
         }
         Err(_) => return unreadable(rt),
     };
     let (Ok(words), Ok(command)) = (words, command(rt.alloc())) else {
-        return failed(rt, AppFault::OutOfMemory);
+        return failed(rt, Fault::App(AppFault::OutOfMemory));
     };
     match command.try_get_matches_from(words.as_slice()) {
         Ok(matches) => match run(rt, &matches) {
@@ -37,7 +44,7 @@ pub fn start<R: Env + Input + Print + Eprint + AllocGlobal>(rt: &R) -> u8 {
 /// Prints why the words were refused, or the help that they asked for, and answers the status.
 fn refused<R: Print + Eprint>(rt: &R, error: &clap::Error) -> u8 {
     if error.kind() == ErrorKind::OutOfMemory {
-        return failed(rt, AppFault::OutOfMemory);
+        return failed(rt, Fault::App(AppFault::OutOfMemory));
     }
     let printed = error.print(rt);
     if error.exit_code() != 0 {
@@ -45,7 +52,7 @@ fn refused<R: Print + Eprint>(rt: &R, error: &clap::Error) -> u8 {
     }
     match printed {
         Ok(()) => 0,
-        Err(error) => failed(rt, AppFault::from(error)),
+        Err(error) => failed(rt, Fault::from(error)),
     }
 }
 
@@ -56,16 +63,21 @@ fn unreadable(rt: &impl Eprint) -> u8 {
 }
 
 /// Prints the fault's line. Where that fails too, the status alone tells.
-fn failed(rt: &impl Eprint, fault: AppFault) -> u8 {
-    let (number, name) = (fault.number(), fault.name());
-    let _ = eprintln!(rt; "snmpmon: mon_app {number} {name}");
+fn failed(rt: &impl Eprint, fault: Fault) -> u8 {
+    let (number, name, of) = (fault.number(), fault.name(), fault.of());
+    let _ = eprintln!(rt; "snmpmon: {of} {number} {name}");
     1
 }
 
-fn run<R: Input + Print + AllocGlobal>(rt: &R, matches: &ArgMatches<'_>) -> Result<(), AppFault> {
+fn run<R: Clock + Net + Input + Print + AllocGlobal>(
+    rt: &R,
+    matches: &ArgMatches<'_>,
+) -> Result<(), Fault> {
     match matches.subcommand() {
-        None => replay(rt, USUAL_SIZE),
+        Some(("get", words)) => ask(rt, words, Asking::Get),
+        Some(("next", words)) => ask(rt, words, Asking::GetNext),
         Some((_, words)) => replay(rt, size_of(words)),
+        None => replay(rt, USUAL_SIZE),
     }
 }
 
@@ -77,11 +89,48 @@ fn size_of(words: &ArgMatches<'_>) -> u8
 }
 
 /// Prints the windows of the responses on standard input.
-fn replay<R: Input + Print + AllocGlobal>(rt: &R, size: u8) -> Result<(), AppFault>
+fn replay<R: Input + Print + AllocGlobal>(rt: &R, size: u8) -> Result<(), Fault>
     requires { (1 ≤ size) × (size ≤ 64) }
 {
     let input = read_all(rt.alloc(), &mut rt.reader())?;
     let text = mon_app::replay(rt.alloc(), usize::from(size), &input)?;
     io::writer(rt).write_all(&text)?;
     Ok(())
+}
+
+/// Asks the agent that the words name, and prints its answer.
+fn ask<R: Clock + Net + Print + AllocGlobal>(
+    rt: &R,
+    words: &ArgMatches<'_>,
+    asking: Asking,
+) -> Result<(), Fault> {
+    let agent: SocketAddrV4 = match words.get_str("ADDRESS").map(|text| text.parse()) {
+        Some(Ok(agent)) => agent,
+        _ => return Err(Fault::App(AppFault::BadText)),
+    };
+    let community = words.get_str("COMMUNITY").unwrap_or("").as_bytes();
+    if community.is_empty() || community.len() > LONGEST_COMMUNITY {
+        return Err(Fault::App(AppFault::BadText));
+    }
+    let names = names(rt.alloc(), words)?;
+    let question = Question {
+        asking,
+        request_id: 1,
+        community,
+        names: names.as_slice(),
+    };
+    let mut wire = SocketWire::open(rt, agent)?;
+    let text = answer_text(rt.alloc(), &mut wire, &question)?;
+    io::writer(rt).write_all(text.as_bytes())?;
+    Ok(())
+}
+
+/// The names that the words give.
+fn names(alloc: Global, words: &ArgMatches<'_>) -> Result<Vec<Oid>, Fault> {
+    let mut names = Vec::new(alloc);
+    for text in words.get_raw("NAME").unwrap_or(&[]) {
+        let name = Oid::parse(alloc, text)?;
+        names.push(name)?;
+    }
+    Ok(names)
 }

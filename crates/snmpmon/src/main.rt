@@ -4,6 +4,7 @@
 #![tactic(auto)]
 
 mod commands;
+mod fault;
 mod words;
 
 use std::process::ExitCode;

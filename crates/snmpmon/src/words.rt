@@ -1,5 +1,6 @@
 //! The command line.
 
+use clap::builder::ValueRange;
 use clap::{Arg, Command, value_parser};
 use std::alloc::{AllocError, Global};
 
@@ -46,10 +47,56 @@ fn replay<'a>(alloc: Global) -> Result<Command<'a>, AllocError> {
         .arg(size)
 }
 
+const GET: &str = "Asks an agent for variables by their names (GetRequest)";
+
+const GET_MORE: &str =
+    "Sends a GetRequest for the NAMEs to the agent at ADDRESS, and prints a line for each: NAME = KIND: VALUE.
+
+A name that the agent does not serve is printed as noSuchObject or noSuchInstance. The request is sent at most
+three times, two seconds apart; no reply ends the command with 2 Timeout, an error status with 6 AgentStatus.
+
+Example: snmpmon get 127.0.0.1:161 public 1.3.6.1.2.1.1.5.0";
+
+const NEXT: &str = "Asks an agent for the variables after names (GetNextRequest)";
+
+const NEXT_MORE: &str =
+    "Sends a GetNextRequest for the NAMEs to the agent at ADDRESS, and prints for each the first variable after it, as
+`get` does. Behind the agent's last variable that is endOfMibView.
+
+Example: snmpmon next 127.0.0.1:161 public 1.3";
+
+const ADDRESS: &str = "The agent's address, a.b.c.d:port";
+
+const COMMUNITY: &str = "The community, 1 to 512 octets";
+
+const NAME: &str = "A name in decimal numbers with dots between them, as 1.3.6.1.2.1.1.5.0";
+
+fn needed<'a>(alloc: Global, id: &'a str, help: &'a str) -> Arg<'a> {
+    Arg::new(alloc, id).required(true).help(help)
+}
+
+/// A command that asks an agent about names.
+fn client<'a>(
+    alloc: Global,
+    name: &'a str,
+    about: &'a str,
+    more: &'a str,
+) -> Result<Command<'a>, AllocError> {
+    let names = needed(alloc, "NAME", NAME).num_args(ValueRange::new(1..));
+    Command::new(alloc, name)
+        .about(about)
+        .long_about(more)
+        .arg(needed(alloc, "ADDRESS", ADDRESS))?
+        .arg(needed(alloc, "COMMUNITY", COMMUNITY))?
+        .arg(names)
+}
+
 /// The whole command line. With no words it names no command, which the caller takes for `replay 8`.
 pub fn command<'a>(alloc: Global) -> Result<Command<'a>, AllocError> {
     Command::new(alloc, "snmpmon")
         .about(ABOUT)
         .after_help(MORE)
-        .subcommand(replay(alloc)?)
+        .subcommand(replay(alloc)?)?
+        .subcommand(client(alloc, "get", GET, GET_MORE)?)?
+        .subcommand(client(alloc, "next", NEXT, NEXT_MORE)?)
 }

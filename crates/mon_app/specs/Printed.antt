@@ -1,0 +1,79 @@
+-- How variable bindings are printed: `NAME = KIND: VALUE`.
+use Rattle.std.specs.Prelude.{◌≡◌, ℕ, pos, IsTrue, Bool, List, [], ◌∷◌, ◌++◌, codes, decimal, map, nat_le, ◌==◌, ◌||◌, ◌&&◌, if◌then◌else◌}
+use Rattle.std.specs.Fmt.{signed_decimal}
+use Rattle.std.specs.List.{flat_map, list_all, join_with_byte}
+use Rattle.hex.specs.Hex.{encode_lower}
+use Rattle.mon_ber.specs.declared.value.Value.{Value}
+use Rattle.mon_ber.specs.declared.value.Value.TheVariants.{Integer, Octets, Null, Name, IpAddress, Counter32, Gauge32, TimeTicks, Opaque, Counter64, NoSuchObject, NoSuchInstance, EndOfMibView}
+use Rattle.mon_oid.specs.Oid.{dotted}
+use Rattle.mon_pdu.specs.declared.message.Binding.{Binding}
+use Rattle.mon_pdu.specs.declared.message.Body.{Body}
+use Rattle.mon_pdu.specs.declared.message.Body.TheVariants.{Pdu, Bulk}
+use Rattle.mon_pdu.specs.declared.message.Message.{Message}
+use Rattle.mon_app.specs.Question.{Asked, is_reply}
+
+-- the octet is a character of ASCII that is seen
+abbrev pub is_seen : ℕ → Bool
+is_seen octet = nat_le 32 octet && nat_le octet 126
+
+-- a character between quotes: a quote and a backslash have a backslash before them
+abbrev pub escaped : ℕ → List ℕ
+escaped octet = if octet == 34 || octet == 92 then 92 ∷ octet ∷ [] else octet ∷ []
+
+-- octets in hex digits
+unfoldable pub hex_text : List ℕ → List ℕ
+hex_text octets = codes "hex " ++ encode_lower octets
+
+-- seen characters in quotes, other octets in hex digits
+unfoldable pub string_text : List ℕ → List ℕ
+string_text octets = if list_all is_seen octets then codes "\"" ++ flat_map escaped octets ++ codes "\"" else hex_text octets
+
+-- a number behind its kind
+unfoldable pub number_text : List ℕ → ℕ → List ℕ
+number_text kind n = kind ++ codes ": " ++ decimal n
+
+-- a text behind its kind
+unfoldable pub kind_text : List ℕ → List ℕ → List ℕ
+kind_text kind text = kind ++ codes ": " ++ text
+
+-- four numbers with dots between them
+unfoldable pub quad_text : ℕ → ℕ → ℕ → ℕ → List ℕ
+quad_text a b c d = decimal a ++ codes "." ++ decimal b ++ codes "." ++ decimal c ++ codes "." ++ decimal d
+
+-- the four octets of an address
+unfoldable pub address_text : List ℕ → List ℕ
+address_text (a ∷ b ∷ c ∷ d ∷ []) = quad_text a b c d
+address_text _ = []
+
+-- a value with its kind
+abbrev pub value_shown : Value → List ℕ
+value_shown (Integer z) = kind_text (codes "Integer") (signed_decimal z)
+value_shown (Octets o) = kind_text (codes "String") (string_text o)
+value_shown Null = codes "null"
+value_shown (Name o) = kind_text (codes "Oid") (dotted o)
+value_shown (IpAddress a) = kind_text (codes "IpAddress") (address_text a)
+value_shown (Counter32 n) = number_text (codes "Counter32") n
+value_shown (Gauge32 n) = number_text (codes "Gauge32") n
+value_shown (TimeTicks n) = number_text (codes "TimeTicks") n
+value_shown (Opaque o) = kind_text (codes "Opaque") (hex_text o)
+value_shown (Counter64 n) = number_text (codes "Counter64") n
+value_shown NoSuchObject = codes "noSuchObject"
+value_shown NoSuchInstance = codes "noSuchInstance"
+value_shown EndOfMibView = codes "endOfMibView"
+
+-- a binding's line
+unfoldable pub binding_line : Binding → List ℕ
+binding_line b = dotted b.name ++ codes " = " ++ value_shown b.value ++ codes "\n"
+
+-- a Response without an error has these bindings
+abbrev pub HasBindings : Body → List Binding → Type 0
+HasBindings (Pdu p) bindings = (p.error_status ≡ pos 0) × (p.bindings ≡ bindings)
+HasBindings (Bulk b) bindings = ⊥
+
+-- The text is the bindings of a reply to the question that has no error, a line each.
+pub record IsAnswer (q : Asked) (text : List ℕ) : Type 0 where
+  pub message : Message
+  pub bindings : List Binding
+  pub reply : IsTrue (is_reply q message)
+  pub fine : HasBindings message.body bindings
+  pub printed : text ≡ flat_map binding_line bindings

@@ -1,0 +1,65 @@
+-- What a client asks, and which messages reply.
+use Rattle.std.specs.Prelude.{ℕ, ℤ, pos, Bool, true, false, not, List, [], ◌∷◌, length, map, ◌==◌, ◌&&◌, ◌||◌}
+use Rattle.std.specs.Ordering.{int_eq}
+use Rattle.std.specs.Str.{bytes_eq}
+use Rattle.mon_ber.specs.declared.value.Value.TheVariants as values
+use Rattle.mon_pdu.specs.declared.message.Binding.{Binding}
+use Rattle.mon_pdu.specs.declared.message.Body.{Body}
+use Rattle.mon_pdu.specs.declared.message.Body.TheVariants.{Pdu, Bulk}
+use Rattle.mon_pdu.specs.declared.message.Message.{Message}
+use Rattle.mon_pdu.specs.declared.message.PduKind.{PduKind}
+use Rattle.mon_pdu.specs.declared.message.PduKind.TheVariants as pdu
+use Rattle.mon_pdu.specs.Kinds.{octet_of}
+use Rattle.mon_app.specs.declared.question.Asking.{Asking}
+use Rattle.mon_app.specs.declared.question.Asking.TheVariants.{Get, GetNext}
+use Rattle.mon_app.specs.declared.question.Question.{Question}
+use Rattle.mon_app.specs.Reading.{is_zero}
+
+-- the kind of the request's PDU (RFC 3416 section 3)
+abbrev pub kind_of : Asking → PduKind
+kind_of Get = pdu.Get
+kind_of GetNext = pdu.GetNext
+
+-- a question as its parts
+pub record Asked : Type 0 where
+  pub asking : Asking
+  pub request_id : ℤ
+  pub community : List ℕ
+  pub names : List (List ℕ)
+
+-- the parts of a question that is lent
+abbrev pub asked_in : Question → Asked
+asked_in q = record { asking = q.asking; request_id = q.request_id; community = q.community.now; names = q.names.now }
+
+-- a name with no value yet (unSpecified, RFC 3416 section 3)
+abbrev pub unset : List ℕ → Binding
+unset name = record { name = name; value = values.Null }
+
+-- the request that asks (RFC 3416 sections 4.2.1 and 4.2.2)
+abbrev pub request_of : Asked → Message
+request_of q = record {
+  community = q.community;
+  body = Pdu (record { kind = kind_of q.asking; request_id = q.request_id; error_status = pos 0; error_index = pos 0; bindings = map unset q.names });
+}
+
+-- the bindings have these names, in order
+abbrev pub same_names : List (List ℕ) → List Binding → Bool
+same_names [] [] = true
+same_names [] (b ∷ bs) = false
+same_names (n ∷ ns) [] = false
+same_names (n ∷ ns) (b ∷ bs) = bytes_eq n b.name && same_names ns bs
+
+-- each name is answered: by itself, or by some name after it
+abbrev pub are_answers : Asking → List (List ℕ) → List Binding → Bool
+are_answers Get names bindings = same_names names bindings
+are_answers GetNext names bindings = length names == length bindings
+
+-- a Response in the question's community, with its request-id, that has an error status or answers each name
+abbrev pub is_reply : Asked → Message → Bool
+is_reply q m = replies m.body
+  where
+    replies : Body → Bool
+    replies (Bulk b) = false
+    replies (Pdu p) =
+        (octet_of p.kind == octet_of pdu.Response) && int_eq p.request_id q.request_id && bytes_eq m.community q.community
+        && (not (is_zero p.error_status) || are_answers q.asking q.names p.bindings)

@@ -1,0 +1,35 @@
+//! The client commands: a question, its reply, and the text that is printed.
+
+ghost use Rattle.std.specs.Prelude.{IfOk, string_bytes};
+ghost use Rattle.mon_app.specs.Counts.{GrowsByAtMost};
+ghost use Rattle.mon_app.specs.Printed.{IsAnswer};
+ghost use Rattle.mon_app.specs.Question.{asked_in};
+
+use crate::asking::send_request;
+use crate::fault::AppFault;
+use crate::printed::bindings_text;
+use crate::question::Question;
+use crate::wire::Wire;
+use mon_pdu::Body;
+use std::alloc::Global;
+
+/// Asks an agent, and gives its answer as text: a line for each variable binding of the reply.
+///
+/// # Errors
+/// `Timeout` where no reply came, `AgentStatus` where the reply has an error status, `SocketFault`, `OutOfMemory`.
+pub fn answer_text<W: Wire>(
+    alloc: Global,
+    wire: &mut W,
+    question: &Question<'_>,
+) -> Result<String, AppFault>
+    ensures sends { GrowsByAtMost 3 (W.sends wire.old) (W.sends wire.new) }
+    ensures answer { IfOk result (λ text. IsAnswer (asked_in question.now) (string_bytes text)) }
+{
+    let reply = send_request(alloc, wire, question)?;
+    match &reply.body {
+        Body::Pdu(pdu) if pdu.error_status == 0 => {
+            Ok(bindings_text(alloc, pdu.bindings.as_slice())?)
+        }
+        _ => Err(AppFault::AgentStatus),
+    }
+}

@@ -1,0 +1,103 @@
+//! A question to an agent: a Get or GetNext request, and which messages reply to it.
+
+ghost use Rattle.std.specs.Prelude.{◌≡◌, IfOk, map};
+ghost use Rattle.mon_app.specs.Question.{kind_of, request_of, asked_in, unset, same_names, are_answers, is_reply};
+
+use mon_ber::{Octets, Value};
+use mon_oid::Oid;
+use mon_pdu::{Binding, Bindings, Body, Message, Pdu, PduKind};
+use std::alloc::{AllocError, Global};
+
+/// Which request asks: for the variables of the names themselves, or for those after them (RFC 3416 sections 4.2.1 and 4.2.2).
+#[derive(Clone, Copy, Debug, PartialEq, Eq)]
+pub enum Asking {
+    Get,
+    GetNext,
+}
+
+impl Asking {
+    /// The kind of the request's PDU.
+    pub fn kind(self) -> PduKind
+        ensures { result ≡ kind_of self }
+    {
+        match self {
+            Asking::Get => PduKind::Get,
+            Asking::GetNext => PduKind::GetNext,
+        }
+    }
+}
+
+/// What a client asks an agent, in a community, under a request-id.
+#[derive(Clone, Copy)]
+pub struct Question<'a> {
+    pub asking: Asking,
+    pub request_id: i32,
+    pub community: &'a [u8],
+    pub names: &'a [Oid],
+}
+
+/// The request that asks: each name with the value `unSpecified` (RFC 3416 section 3).
+pub fn request(alloc: Global, question: &Question<'_>) -> Result<Message, AllocError>
+    ensures { IfOk result (λ m. m ≡ request_of (asked_in question.now)) }
+{
+    let bindings = unset(alloc, question.names)?;
+    Ok(Message {
+        community: Octets::from_slice(alloc, question.community)?,
+        body: Body::Pdu(Pdu {
+            kind: question.asking.kind(),
+            request_id: question.request_id,
+            error_status: 0,
+            error_index: 0,
+            bindings: Bindings::new(bindings),
+        }),
+    })
+}
+
+fn unset(alloc: Global, names: &[Oid]) -> Result<Vec<Binding>, AllocError>
+    ensures { IfOk result (λ v. v.items ≡ map unset names.now) }
+{
+    let mut bindings = Vec::new(alloc);
+    for name in names {
+        let name = name.try_clone(alloc)?;
+        bindings.push(Binding {
+            name,
+            value: Value::Null,
+        })?;
+    }
+    Ok(bindings)
+}
+
+/// Whether a message replies to the question: a Response in its community with its request-id that has an error status or
+/// answers each name. To a Get the names are those asked for; to a GetNext there are as many.
+pub fn is_reply(question: &Question<'_>, message: &Message) -> bool
+    ensures { result ≡ is_reply (asked_in question.now) message.now }
+{
+    let Body::Pdu(pdu) = &message.body else {
+        return false;
+    };
+    pdu.kind == PduKind::Response
+        && pdu.request_id == question.request_id
+        && message.community.as_slice() == question.community
+        && (pdu.error_status != 0 || are_answers(question, pdu.bindings.as_slice()))
+}
+
+fn are_answers(question: &Question<'_>, bindings: &[Binding]) -> bool
+    ensures { result ≡ are_answers question.now.asking question.now.names.now bindings.now }
+{
+    match question.asking {
+        Asking::Get => same_names(question.names, bindings),
+        Asking::GetNext => question.names.len() == bindings.len(),
+    }
+}
+
+fn same_names(names: &[Oid], bindings: &[Binding]) -> bool
+    ensures { result ≡ same_names names.now bindings.now }
+{
+    let [name, names @ ..] = names else {
+        return bindings.is_empty();
+    };
+    let [binding, bindings @ ..] = bindings else {
+        return false;
+    };
+    name.parts() == binding.name.parts() && same_names(names, bindings)
+}
