@@ -1,5 +1,9 @@
 -- The faults of the commands.
 use Rattle.std.specs.Prelude.{ℕ, List, codes}
+use Rattle.std.specs.declared.io.ErrorKind.{ErrorKind}
+use Rattle.std.specs.declared.io.ErrorKind.TheVariants as kinds
+use Rattle.mon_pdu.specs.declared.fault.PduFault.{PduFault}
+use Rattle.mon_pdu.specs.declared.fault.PduFault.TheVariants as pdu
 use Rattle.mon_app.specs.declared.fault.AppFault.{AppFault}
 use Rattle.mon_app.specs.declared.fault.AppFault.TheVariants.{OutOfMemory, Timeout, FileFault, SocketFault, AgentStatus, BadText}
 
@@ -20,3 +24,13 @@ name_of FileFault = codes "FileFault"
 name_of SocketFault = codes "SocketFault"
 name_of AgentStatus = codes "AgentStatus"
 name_of BadText = codes "BadText"
+
+-- the fault of a file or a stream that failed so
+abbrev pub of_stream : ErrorKind → AppFault
+of_stream kinds.OutOfMemory = OutOfMemory
+of_stream _ = FileFault
+
+-- the fault of a message that cannot be written
+abbrev pub of_message : PduFault → AppFault
+of_message pdu.OutOfMemory = OutOfMemory
+of_message _ = BadText

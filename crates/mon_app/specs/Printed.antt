@@ -1,7 +1,7 @@
 -- How variable bindings are printed: `NAME = KIND: VALUE`.
-use Rattle.std.specs.Prelude.{◌≡◌, ℕ, pos, IsTrue, Bool, List, [], ◌∷◌, ◌++◌, codes, decimal, map, nat_le, ◌==◌, ◌||◌, ◌&&◌, if◌then◌else◌}
+use Rattle.std.specs.Prelude.{◌≡◌, ℕ, pos, IsTrue, Bool, List, [], ◌∷◌, ◌++◌, codes, decimal, nat_le, ◌==◌, ◌||◌, ◌&&◌, if◌then◌else◌}
 use Rattle.std.specs.Fmt.{signed_decimal}
-use Rattle.std.specs.List.{flat_map, list_all, join_with_byte}
+use Rattle.std.specs.List.{flat_map, list_all}
 use Rattle.hex.specs.Hex.{encode_lower}
 use Rattle.mon_ber.specs.declared.value.Value.{Value}
 use Rattle.mon_ber.specs.declared.value.Value.TheVariants.{Integer, Octets, Null, Name, IpAddress, Counter32, Gauge32, TimeTicks, Opaque, Counter64, NoSuchObject, NoSuchInstance, EndOfMibView}

@@ -1,7 +1,8 @@
 //! Why a command failed, as its one line on standard error says.
 
 ghost use Rattle.std.specs.Prelude.{◌≡◌};
-ghost use Rattle.mon_app.specs.AppFault.{number_of, name_of};
+ghost use Rattle.mon_app.specs.AppFault.{number_of, name_of, of_stream, of_message};
+ghost use Rattle.std.specs.IoError.{error_kind};
 ghost use Rattle.mon_app.specs.declared.fault.AppFault.TheVariants.{OutOfMemory};
 
 use mon_pdu::PduFault;
@@ -59,6 +60,8 @@ impl From<AllocError> for AppFault {
 
 /// A failed read or write is a `FileFault`, unless memory ran out in it.
 impl From<io::Error> for AppFault {
+    ghost from_gives = { λ error fault. fault ≡ of_stream (error_kind error) };
+
     fn from(error: io::Error) -> AppFault {
         match error.kind() {
             io::ErrorKind::OutOfMemory => AppFault::OutOfMemory,
@@ -69,6 +72,8 @@ impl From<io::Error> for AppFault {
 
 /// A message that finds no room is want of memory; one that is too long for a datagram cannot be sent.
 impl From<PduFault> for AppFault {
+    ghost from_gives = { λ pdu fault. fault ≡ of_message pdu };
+
     fn from(fault: PduFault) -> AppFault {
         match fault {
             PduFault::OutOfMemory => AppFault::OutOfMemory,

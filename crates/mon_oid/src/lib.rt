@@ -8,4 +8,4 @@ pub mod laws;
 mod oid;
 
 pub use fault::OidFault;
-pub use oid::Oid;
+pub use oid::{Oid, dotted_numbers};

@@ -75,7 +75,7 @@ impl Oid {
         ensures accepted { (parts : List ℕ) → IsOid parts → Spells text.now parts → IsOkUnless result OidFault.OutOfMemory }
         ensures fault { IfErr result (λ e. IsFaultOfText e text.now) }
     {
-        let numbers = numbers(alloc, text)?;
+        let numbers = dotted_numbers(alloc, text)?;
         Oid::from_parts(alloc, numbers.as_slice())
     }
 
@@ -126,8 +126,9 @@ impl Oid {
     }
 }
 
-/// The numbers that a text spells, with dots between them.
-fn numbers(alloc: Global, text: &str) -> Result<Vec<u32>, OidFault>
+/// The numbers that a text spells in decimal with dots between them: at least one, each up to
+/// 4294967295, none with a spare 0 before it. `BadText` where it spells none, or `OutOfMemory`.
+pub fn dotted_numbers(alloc: Global, text: &str) -> Result<Vec<u32>, OidFault>
     ensures found { IfOk result (λ v. Spells text.now v.items) }
     ensures fault { IfErr result (λ e. IsFaultOfNumbers e text.now) }
 {

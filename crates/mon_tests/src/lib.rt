@@ -10,11 +10,15 @@ mod ber;
 #[cfg(test)]
 mod client;
 #[cfg(test)]
+mod mib;
+#[cfg(test)]
 mod oid;
 #[cfg(test)]
 mod pdu;
 #[cfg(test)]
 mod sample;
+#[cfg(test)]
+mod smi;
 #[cfg(test)]
 mod vacm;
 #[cfg(test)]

@@ -1,0 +1,11 @@
+pub mod Both
+pub mod Counting
+pub mod Finding
+pub mod Identifiers
+pub mod Rising
+pub mod Search
+pub mod Simulated
+pub mod Starts
+pub mod Typed
+pub mod Unique
+pub mod Variables

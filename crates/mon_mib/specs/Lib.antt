@@ -1,0 +1,11 @@
+pub mod Counters
+pub mod DeviceFault
+pub mod Held
+pub mod Instances
+pub mod Known
+pub mod Moment
+pub mod Next
+pub mod Objects
+pub mod Order
+pub mod Sim
+pub mod Status

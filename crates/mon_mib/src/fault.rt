@@ -1,0 +1,30 @@
+ghost use Rattle.std.specs.Prelude.{◌≡◌};
+ghost use Rattle.mon_mib.specs.DeviceFault.{number_of, name_of};
+
+use thiserror::Error;
+
+/// Why there is no simulated device. `SimDevice::new` takes no memory, so none is want of it.
+#[derive(Clone, Copy, Debug, PartialEq, Eq, Error)]
+pub enum DeviceFault {
+    /// The indexes do not rise strictly, or are not 1 to 2147483647.
+    #[error("the indexes do not rise strictly from 1 to 2147483647")]
+    BadIndex = 2,
+}
+
+impl DeviceFault {
+    /// The number that a printed line gives the fault.
+    pub fn number(self) -> u8
+        ensures { result ≡ number_of self }
+    {
+        self as u8
+    }
+
+    /// The name that a printed line gives the fault.
+    pub fn name(self) -> &'static str
+        ensures { result.now ≡ name_of self }
+    {
+        match self {
+            DeviceFault::BadIndex => "BadIndex",
+        }
+    }
+}

@@ -1,0 +1,12 @@
+use mon_ber::Value;
+
+/// What stands at a name (RFC 3416 section 4.2.1).
+#[derive(Debug, Drop, PartialEq, Eq)]
+pub enum Got {
+    /// A variable with this value.
+    Found(Value),
+    /// The name is under no served object.
+    NoObject,
+    /// The name is under a served object, and no variable's.
+    NoInstance,
+}

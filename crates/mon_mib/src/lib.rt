@@ -1,0 +1,42 @@
+//! The management information of an agent: 43 served objects, and the map of their variables over a device.
+//! It follows RFC 3416 section 4.2, RFC 3418, RFC 2863 and RFC 3411 section 5.
+//! To the layer above: Get and the successor of a name are exact by the map, for every device that meets its trait.
+#![tactic(auto)]
+
+mod admin_status;
+mod column;
+mod counters;
+mod device;
+mod facts;
+mod fault;
+mod got;
+mod interface;
+pub mod laws;
+mod max_access;
+mod mib;
+mod moment;
+mod object;
+mod oper_status;
+mod scalar;
+mod settings;
+mod sim_device;
+mod start;
+mod sys_texts;
+
+pub use admin_status::AdminStatus;
+pub use column::Column;
+pub use counters::{Counter, Counters};
+pub use device::Device;
+pub use facts::{Facts, IfText, SysText};
+pub use fault::DeviceFault;
+pub use got::Got;
+pub use interface::{Growth, Interface};
+pub use max_access::MaxAccess;
+pub use mib::Mib;
+pub use moment::Moment;
+pub use object::{Object, all_objects};
+pub use oper_status::OperStatus;
+pub use scalar::Scalar;
+pub use settings::Settings;
+pub use sim_device::SimDevice;
+pub use sys_texts::SysTexts;

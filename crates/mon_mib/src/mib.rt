@@ -1,0 +1,294 @@
+ghost use Rattle.std.specs.Prelude.{Some, ◌≡◌, ◌^◌, ◌<◌, ◌+◌, ◌/◌, ◌%◌, min, length, IfOk, IfSome, IfNone, [], ◌∷◌, ◌++◌, Contains};
+ghost use Rattle.mon_mib.specs.Counters.{no_counts};
+ghost use Rattle.mon_mib.specs.Held.{AreIndexes, IsAbove, IsLeastOf};
+ghost use Rattle.mon_mib.specs.Known.{known_of, instances, value_of, scalar_value, column_value};
+ghost use Rattle.mon_mib.specs.Next.{IsGot, IsNext, IsServed};
+ghost use Rattle.mon_mib.specs.Objects.{objects, prefix_of};
+ghost use Rattle.mon_mib.specs.Order.{IsFrom};
+ghost use Rattle.mon_vacm.specs.View.{IsInView};
+
+use crate::column::Column;
+use crate::counters::Counters;
+use crate::device::Device;
+use crate::facts::{Facts, IfText, SysText};
+use crate::got::Got;
+use crate::moment::Moment;
+use crate::object::{Object, all_objects};
+use crate::scalar::Scalar;
+use crate::settings::Settings;
+use crate::start::{Start, find_start};
+use mon_ber::{Octets, Value};
+use mon_oid::Oid;
+use mon_pdu::Binding;
+use mon_vacm::{Access, Policy};
+use std::alloc::{AllocError, Global};
+
+/// The agent's map of variables: settings, counters, and a device.
+#[derive(Drop)]
+pub struct Mib<D: Drop> {
+    /// What is served as it was told at the start.
+    pub settings: Settings,
+    /// What the agent has counted.
+    pub counters: Counters,
+    /// What serves the texts that can be set, and the interfaces.
+    pub device: D,
+}
+
+impl<D: Device + Drop> Mib<D> {
+    /// The map over a device, with all counters at 0.
+    pub fn new(settings: Settings, device: D) -> Self
+        ensures settings { result.settings ≡ settings }
+        ensures counters { result.counters ≡ no_counts }
+        ensures device { result.device ≡ device }
+    {
+        Mib {
+            settings,
+            counters: Counters::new(),
+            device,
+        }
+    }
+
+    /// What stands at a name at a moment: the value of the variable of that name, `NoObject` where the name is under no
+    /// served object, else `NoInstance` (RFC 3416 section 4.2.1). It takes memory for octets and long identifiers alone.
+    pub fn get(&self, alloc: Global, name: &Oid, moment: Moment) -> Result<Got, AllocError>
+        ensures { let known = known_of self.now.settings self.now.counters (D.held self.now.device) moment in
+            IfOk result (IsGot known name.now) }
+    {
+        let Some((object, rest)) = find_object(name.parts()) else {
+            return Ok(Got::NoObject);
+        };
+        if rest.len() != 1 {
+            return Ok(Got::NoInstance);
+        }
+        Ok(match self.value(alloc, object, rest[0], moment)? {
+            Some(value) => Got::Found(value),
+            None => Got::NoInstance,
+        })
+    }
+
+    /// The least variable in view that exceeds a name at a moment, or None where there is none (RFC 3416 section 4.2.2).
+    /// It asks the device for the least index of each object on, and makes no list.
+    pub fn next(
+        &self,
+        alloc: Global,
+        policy: &Policy,
+        access: Access<'_>,
+        name: &Oid,
+        moment: Moment,
+    ) -> Result<Option<Binding>, AllocError>
+        ensures { let known = known_of self.now.settings self.now.counters (D.held self.now.device) moment in
+            IfOk result (IsNext objects known (IsInView policy.now.families access.entry.view.now) name.now) }
+    {
+        for object in all_objects() {
+            if let Some(binding) = self.next_of(alloc, *object, policy, access, name, moment)? {
+                return Ok(Some(binding));
+            }
+        }
+        Ok(None)
+    }
+
+    /// The least variable of an object in view that exceeds a name.
+    fn next_of(
+        &self,
+        alloc: Global,
+        object: Object,
+        policy: &Policy,
+        access: Access<'_>,
+        name: &Oid,
+        moment: Moment,
+    ) -> Result<Option<Binding>, AllocError>
+        ensures { let known = known_of self.now.settings self.now.counters (D.held self.now.device) moment in
+            IfOk result (IsNext (object ∷ []) known (IsInView policy.now.families access.entry.view.now) name.now) }
+    {
+        let mut start = find_start(object.prefix(), name.parts());
+        while let Some(instance) = self.next_instance(object, start) {
+            let own = object.name(alloc, instance)?;
+            if policy.sees(access, &own) {
+                let value = self.value(alloc, object, instance, moment)?.unwrap();
+                return Ok(Some(Binding { name: own, value }));
+            }
+            start = Start::Above(instance);
+        }
+        Ok(None)
+    }
+
+    /// The least instance of an object from a start on.
+    fn next_instance(&self, object: Object, start: Start) -> Option<u32>
+        ensures { IsLeastOf (instances (D.held self.now.device) object) (IsFrom start) result }
+    {
+        match start {
+            Start::First => self.instance_above(object, None),
+            Start::Above(instance) => self.instance_above(object, Some(instance)),
+            Start::Nowhere => None,
+        }
+    }
+
+    /// The least instance of an object above another, or of all.
+    fn instance_above(&self, object: Object, after: Option<u32>) -> Option<u32>
+        ensures { IsLeastOf (instances (D.held self.now.device) object) (IsAbove after) result }
+    {
+        match object {
+            Object::Column(_) => self.device.next_index(after),
+            Object::Scalar(_) => match after {
+                None => Some(0),
+                Some(_) => None,
+            },
+        }
+    }
+
+    /// The value of the variable of an object and an instance, or None where there is no such variable.
+    #[tactic(auto, unfolding(crate::specs::Known::value_of))]
+    fn value(
+        &self,
+        alloc: Global,
+        object: Object,
+        instance: u32,
+        moment: Moment,
+    ) -> Result<Option<Value>, AllocError>
+        ensures there { Contains (instances (D.held self.now.device) object) instance
+            → IfOk result (λ value. value ≡ Some (value_of (known_of self.now.settings self.now.counters (D.held self.now.device) moment) object instance)) }
+        ensures found { IfOk result (λ value. IfSome value (λ _. Contains (instances (D.held self.now.device) object) instance)) }
+    {
+        match object {
+            Object::Scalar(scalar) => {
+                if instance != 0 {
+                    return Ok(None);
+                }
+                Ok(Some(self.scalar(alloc, scalar, moment)?))
+            }
+            Object::Column(column) => {
+                let Some(facts) = self.device.facts(instance, moment) else {
+                    return Ok(None);
+                };
+                Ok(Some(self.column(alloc, column, instance, facts)?))
+            }
+        }
+    }
+
+    /// The value of a scalar.
+    fn scalar(&self, alloc: Global, scalar: Scalar, moment: Moment) -> Result<Value, AllocError>
+        ensures { let known = known_of self.now.settings self.now.counters (D.held self.now.device) moment in
+            IfOk result (λ value. value ≡ scalar_value known scalar) }
+    {
+        let settings = &self.settings;
+        let counters = &self.counters;
+        Ok(match scalar {
+            Scalar::SysDescr => Value::Octets(settings.descr.try_clone(alloc)?),
+            Scalar::SysObjectId => Value::Name(settings.object_id.try_clone(alloc)?),
+            Scalar::SysUpTime => Value::TimeTicks(moment.sys_up_time()),
+            Scalar::SysContact => self.sys_text(alloc, SysText::Contact)?,
+            Scalar::SysName => self.sys_text(alloc, SysText::SystemName)?,
+            Scalar::SysLocation => self.sys_text(alloc, SysText::Location)?,
+            Scalar::SysServices => Value::Integer(settings.services),
+            Scalar::IfNumber => Value::Integer(count_interfaces(&self.device) as i32),
+            Scalar::SnmpInPkts => Value::Counter32(counters.in_packets),
+            Scalar::SnmpInBadVersions => Value::Counter32(counters.bad_versions),
+            Scalar::SnmpInBadCommunityNames => Value::Counter32(counters.bad_communities),
+            Scalar::SnmpInAsnParseErrs => Value::Counter32(counters.parse_errors),
+            Scalar::SnmpSilentDrops => Value::Counter32(counters.silent_drops),
+            Scalar::SnmpEngineId => Value::Octets(settings.engine.try_clone(alloc)?),
+            Scalar::SnmpEngineBoots => Value::Integer(settings.boots),
+            Scalar::SnmpEngineTime => Value::Integer(moment.engine_time() as i32),
+            Scalar::SnmpEngineMaxMessageSize => Value::Integer(settings.limit),
+        })
+    }
+
+    /// A text of the device, as a value.
+    fn sys_text(&self, alloc: Global, which: SysText) -> Result<Value, AllocError>
+        ensures { IfOk result (λ value. value ≡ Value.Octets ((D.held self.now.device).sys_text which)) }
+    {
+        Ok(Value::Octets(Octets::from_slice(alloc, self.device.sys_text(which))?))
+    }
+
+    /// A text of an interface, as a value.
+    fn text(&self, alloc: Global, index: u32, which: IfText) -> Result<Value, AllocError>
+        requires { Contains (D.held self.now.device).indexes index }
+        ensures { IfOk result (λ value. value ≡ Value.Octets ((D.held self.now.device).text index which)) }
+    {
+        Ok(Value::Octets(Octets::from_slice(alloc, self.device.text(index, which))?))
+    }
+
+    /// The value of a column in the row of an interface with these facts.
+    fn column(
+        &self,
+        alloc: Global,
+        column: Column,
+        index: u32,
+        facts: Facts,
+    ) -> Result<Value, AllocError>
+        requires there { Contains (D.held self.now.device).indexes index }
+        requires range { index < 2 ^ 31 }
+        ensures { let known = known_of self.now.settings self.now.counters (D.held self.now.device) 0 in
+            IfOk result (λ value. value ≡ column_value known facts index column) }
+    {
+        Ok(match column {
+            Column::IfIndex => Value::Integer(index as i32),
+            Column::IfDescr => self.text(alloc, index, IfText::Descr)?,
+            Column::IfType => Value::Integer(facts.kind),
+            Column::IfMtu => Value::Integer(facts.mtu),
+            Column::IfSpeed => Value::Gauge32(facts.speed.min(0xffff_ffff) as u32),
+            Column::IfPhysAddress => self.text(alloc, index, IfText::Phys)?,
+            Column::IfAdminStatus => Value::Integer(facts.admin.number()),
+            Column::IfOperStatus => Value::Integer(facts.oper.number()),
+            Column::IfLastChange => Value::TimeTicks(facts.last_change),
+            Column::IfInOctets => Value::Counter32(low(facts.in_octets)),
+            Column::IfInUcastPkts => Value::Counter32(low(facts.in_packets)),
+            Column::IfInDiscards => Value::Counter32(facts.in_discards),
+            Column::IfInErrors => Value::Counter32(facts.in_errors),
+            Column::IfInUnknownProtos => Value::Counter32(facts.in_unknown),
+            Column::IfOutOctets => Value::Counter32(low(facts.out_octets)),
+            Column::IfOutUcastPkts => Value::Counter32(low(facts.out_packets)),
+            Column::IfOutDiscards => Value::Counter32(facts.out_discards),
+            Column::IfOutErrors => Value::Counter32(facts.out_errors),
+            Column::IfName => self.text(alloc, index, IfText::ShortName)?,
+            Column::IfHcInOctets => Value::Counter64(facts.in_octets),
+            Column::IfHcInUcastPkts => Value::Counter64(facts.in_packets),
+            Column::IfHcOutOctets => Value::Counter64(facts.out_octets),
+            Column::IfHcOutUcastPkts => Value::Counter64(facts.out_packets),
+            Column::IfHighSpeed => Value::Gauge32(high_speed(facts.speed)),
+            Column::IfAlias => self.text(alloc, index, IfText::Alias)?,
+            Column::IfCounterDiscontinuityTime => Value::TimeTicks(facts.discontinuity),
+        })
+    }
+}
+
+/// The served object that a name is under, and what of the name stands behind the object's own.
+fn find_object(name: &[u32]) -> Option<(Object, &[u32])>
+    ensures some { IfSome result (λ found. Contains objects found.0 × (name.now ≡ prefix_of found.0 ++ found.1.now)) }
+    ensures none { IfNone result (¬ (IsServed name.now)) }
+{
+    for object in all_objects() {
+        if let Some(rest) = name.strip_prefix(object.prefix()) {
+            return Some((*object, rest));
+        }
+    }
+    None
+}
+
+/// How many interfaces a device has, which is below 2^31.
+fn count_interfaces<D: Device>(device: &D) -> u32
+    ensures value { result ≡ length (D.held device.now).indexes }
+    ensures range { result < 2 ^ 31 }
+{
+    let mut count = 0;
+    let mut after = None;
+    while let Some(index) = device.next_index(after) {
+        count += 1;
+        after = Some(index);
+    }
+    count
+}
+
+/// A count in 32 bits.
+fn low(count: u64) -> u32
+    ensures { result ≡ count % 2 ^ 32 }
+{
+    (count % (1 << 32)) as u32
+}
+
+/// Millions of bits a second, rounded, at most 4294967295.
+fn high_speed(speed: u64) -> u32
+    ensures { result ≡ min ((speed + 500000) / 1000000) 4294967295 }
+{
+    ((u128::from(speed) + 500_000) / 1_000_000).min(0xffff_ffff) as u32
+}

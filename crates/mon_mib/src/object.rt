@@ -1,0 +1,115 @@
+ghost use Rattle.std.specs.Prelude.{◌≡◌, ◌++◌, ◌∷◌, [], IfOk};
+ghost use Rattle.mon_mib.specs.Objects.{prefix_of, access_of, syntax_of, objects};
+
+use crate::column::Column;
+use crate::max_access::MaxAccess;
+use crate::scalar::Scalar;
+use mon_ber::Tag;
+use mon_oid::{Oid, laws};
+use smallvec::SmallVec;
+use std::alloc::{AllocError, Global};
+
+/// A served object.
+#[derive(Clone, Copy, Debug, PartialEq, Eq)]
+pub enum Object {
+    /// One with a single variable.
+    Scalar(Scalar),
+    /// One with a variable for each interface.
+    Column(Column),
+}
+
+const OBJECTS: [Object; 43] = [
+    Object::Scalar(Scalar::SysDescr),
+    Object::Scalar(Scalar::SysObjectId),
+    Object::Scalar(Scalar::SysUpTime),
+    Object::Scalar(Scalar::SysContact),
+    Object::Scalar(Scalar::SysName),
+    Object::Scalar(Scalar::SysLocation),
+    Object::Scalar(Scalar::SysServices),
+    Object::Scalar(Scalar::IfNumber),
+    Object::Column(Column::IfIndex),
+    Object::Column(Column::IfDescr),
+    Object::Column(Column::IfType),
+    Object::Column(Column::IfMtu),
+    Object::Column(Column::IfSpeed),
+    Object::Column(Column::IfPhysAddress),
+    Object::Column(Column::IfAdminStatus),
+    Object::Column(Column::IfOperStatus),
+    Object::Column(Column::IfLastChange),
+    Object::Column(Column::IfInOctets),
+    Object::Column(Column::IfInUcastPkts),
+    Object::Column(Column::IfInDiscards),
+    Object::Column(Column::IfInErrors),
+    Object::Column(Column::IfInUnknownProtos),
+    Object::Column(Column::IfOutOctets),
+    Object::Column(Column::IfOutUcastPkts),
+    Object::Column(Column::IfOutDiscards),
+    Object::Column(Column::IfOutErrors),
+    Object::Scalar(Scalar::SnmpInPkts),
+    Object::Scalar(Scalar::SnmpInBadVersions),
+    Object::Scalar(Scalar::SnmpInBadCommunityNames),
+    Object::Scalar(Scalar::SnmpInAsnParseErrs),
+    Object::Scalar(Scalar::SnmpSilentDrops),
+    Object::Column(Column::IfName),
+    Object::Column(Column::IfHcInOctets),
+    Object::Column(Column::IfHcInUcastPkts),
+    Object::Column(Column::IfHcOutOctets),
+    Object::Column(Column::IfHcOutUcastPkts),
+    Object::Column(Column::IfHighSpeed),
+    Object::Column(Column::IfAlias),
+    Object::Column(Column::IfCounterDiscontinuityTime),
+    Object::Scalar(Scalar::SnmpEngineId),
+    Object::Scalar(Scalar::SnmpEngineBoots),
+    Object::Scalar(Scalar::SnmpEngineTime),
+    Object::Scalar(Scalar::SnmpEngineMaxMessageSize),
+];
+
+/// The served objects in the order of their names.
+#[tactic(auto, unfolding(crate::specs::Objects::objects))]
+pub fn all_objects() -> &'static [Object]
+    ensures { result.now ≡ objects }
+{
+    &OBJECTS
+}
+
+impl Object {
+    /// The object's own name, with which the names of its variables begin.
+    pub fn prefix(self) -> &'static [u32]
+        ensures { result.now ≡ prefix_of self }
+    {
+        match self {
+            Object::Scalar(scalar) => scalar.prefix(),
+            Object::Column(column) => column.prefix(),
+        }
+    }
+
+    /// Whether a Set may change its variables (MAX-ACCESS, RFC 2578 section 7.3).
+    pub fn access(self) -> MaxAccess
+        ensures { result ≡ access_of self }
+    {
+        match self {
+            Object::Scalar(scalar) => scalar.access(),
+            Object::Column(column) => column.access(),
+        }
+    }
+
+    /// The tag of its values (SYNTAX, RFC 2578 section 7.1).
+    pub fn syntax(self) -> Tag
+        ensures { result ≡ syntax_of self }
+    {
+        match self {
+            Object::Scalar(scalar) => scalar.syntax(),
+            Object::Column(column) => column.syntax(),
+        }
+    }
+
+    /// The name of the object's variable of an instance. It takes no heap memory.
+    pub fn name(self, alloc: Global, instance: u32) -> Result<Oid, AllocError>
+        ensures { IfOk result (λ name. name ≡ prefix_of self ++ instance ∷ []) }
+    {
+        laws::pushed();
+        let mut parts = SmallVec::from_slice(alloc, self.prefix())?;
+        parts.push(instance)?;
+        Ok(Oid::from_valid(parts))
+    }
+}

@@ -1,0 +1,19 @@
+use mon_ber::Octets;
+use mon_oid::Oid;
+
+/// What the agent is told at its start, and serves as it is.
+#[derive(Debug, Drop)]
+pub struct Settings {
+    /// sysDescr (RFC 3418 section 2).
+    pub descr: Octets,
+    /// sysObjectID (RFC 3418 section 2).
+    pub object_id: Oid,
+    /// sysServices, 0 to 127 (RFC 3418 section 2).
+    pub services: i32,
+    /// snmpEngineID, 5 to 32 octets (RFC 3411 section 5).
+    pub engine: Octets,
+    /// snmpEngineBoots, 1 to 2147483647 (RFC 3411 section 5).
+    pub boots: i32,
+    /// snmpEngineMaxMessageSize, in octets, 484 to 8192 (RFC 3411 section 5).
+    pub limit: i32,
+}

@@ -1,0 +1,111 @@
+ghost use Rattle.std.specs.Prelude.{◌≡◌, ◌↔◌, IsTrue, IsOk, IfOk, find};
+ghost use Rattle.std.specs.Option.{option_copied};
+ghost use Rattle.mon_mib.specs.Held.{AreIndexes};
+ghost use Rattle.mon_mib.specs.Sim.{held_of, indexes_of, interface_at, is_over};
+
+use crate::device::Device;
+use crate::facts::{Facts, IfText, SysText};
+use crate::fault::DeviceFault;
+use crate::interface::Interface;
+use crate::moment::Moment;
+use crate::sys_texts::SysTexts;
+use std::marker::Model;
+
+/// A simulated device: interfaces that are up and count evenly, and the texts that can be set.
+/// Contracts see the list of the interfaces, and the texts.
+#[derive(Drop)]
+pub struct SimDevice {
+    interfaces: Vec<Interface>,
+    texts: SysTexts,
+}
+
+impl Model for SimDevice {
+    ghost use Rattle.mon_mib.specs.Held.{AreIndexes};
+    ghost use Rattle.mon_mib.specs.Sim.{Sim, indexes_of};
+
+    ghost Value = { Sim };
+
+    ghost view = { λ d. record { interfaces = d.interfaces.items; texts = d.texts } };
+
+    ghost invariant = { λ d. AreIndexes (indexes_of d.interfaces.items) };
+}
+
+impl SimDevice {
+    /// The device of these interfaces and texts, or `BadIndex` where the indexes do not rise strictly from 1 to 2147483647.
+    pub fn new(interfaces: Vec<Interface>, texts: SysTexts) -> Result<Self, DeviceFault>
+        ensures made { IfOk result (λ device. device ≡ record { interfaces = interfaces.items; texts = texts }) }
+        ensures exact { IsOk result ↔ AreIndexes (indexes_of interfaces.items) }
+    {
+        if are_indexes(&interfaces) {
+            Ok(SimDevice { interfaces, texts })
+        } else {
+            Err(DeviceFault::BadIndex)
+        }
+    }
+}
+
+impl Device for SimDevice {
+    ghost held = { held_of };
+
+    fn sys_text(&self, which: SysText) -> &[u8] {
+        self.texts.get(which)
+    }
+
+    fn next_index(&self, after: Option<u32>) -> Option<u32> {
+        let Some(next) = above(&self.interfaces, after) else {
+            return None;
+        };
+        Some(next.index)
+    }
+
+    fn facts(&self, index: u32, moment: Moment) -> Option<Facts> {
+        let Some(interface) = find(&self.interfaces, index) else {
+            return None;
+        };
+        Some(interface.facts(moment))
+    }
+
+    fn text(&self, index: u32, which: IfText) -> &[u8] {
+        match find(&self.interfaces, index) {
+            Some(interface) => interface.text(which),
+            None => &[],
+        }
+    }
+}
+
+/// The interface of an index.
+fn find(interfaces: &[Interface], index: u32) -> Option<&Interface>
+    ensures { option_copied result ≡ interface_at interfaces.now index }
+{
+    interfaces.iter().find(|p| p.index == index)
+}
+
+/// The first interface whose index is above another, or of all.
+fn above(interfaces: &[Interface], after: Option<u32>) -> Option<&Interface>
+    ensures { option_copied result ≡ find (λ p. is_over after p.index) interfaces.now }
+{
+    interfaces.iter().find(|p| is_above(after, p.index))
+}
+
+fn is_above(after: Option<u32>, index: u32) -> bool
+    ensures { result ≡ is_over after index }
+{
+    match after {
+        Some(after) => after < index,
+        None => true,
+    }
+}
+
+/// Whether the indexes rise strictly from 1 to 2147483647.
+fn are_indexes(interfaces: &[Interface]) -> bool
+    ensures { IsTrue result ↔ AreIndexes (indexes_of interfaces.now) }
+{
+    let mut last = 0;
+    for interface in interfaces {
+        if interface.index <= last || interface.index >= 1 << 31 {
+            return false;
+        }
+        last = interface.index;
+    }
+    true
+}

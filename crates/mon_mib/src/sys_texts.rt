@@ -1,0 +1,29 @@
+ghost use Rattle.std.specs.Prelude.{◌≡◌};
+ghost use Rattle.mon_mib.specs.Sim.{sys_text_of};
+
+use crate::facts::SysText;
+use mon_ber::Octets;
+
+/// The texts of a device that can be set (RFC 3418 section 2).
+#[derive(Debug, Drop)]
+pub struct SysTexts {
+    /// sysContact.
+    pub contact: Octets,
+    /// sysName.
+    pub name: Octets,
+    /// sysLocation.
+    pub location: Octets,
+}
+
+impl SysTexts {
+    /// One of them.
+    pub(crate) fn get(&self, which: SysText) -> &[u8]
+        ensures { result.now ≡ sys_text_of self.now which }
+    {
+        match which {
+            SysText::Contact => self.contact.as_slice(),
+            SysText::SystemName => self.name.as_slice(),
+            SysText::Location => self.location.as_slice(),
+        }
+    }
+}

@@ -1,0 +1,105 @@
+-- What names stand for (RFC 2578 sections 3.1 and 3.5).
+use Rattle.std.specs.Prelude.{◌⊎◌, ◌≡◌, ◌≢◌, ℕ, ◌<◌, ◌≤◌, List, [], ◌∷◌, ◌++◌, length, slice_index_or, Option, Some, None}
+use Rattle.mon_oid.specs.Oid.{IsOid, Spells}
+use Rattle.mon_smi.specs.Words.{IsWord}
+use Rattle.mon_smi.specs.declared.definition.Definition.{Definition}
+use Rattle.mon_smi.specs.declared.fault.NamesFault.{NamesFault}
+use Rattle.mon_smi.specs.declared.fault.NamesFault.TheVariants.{OutOfMemory, Duplicate, Unknown, Cycle, TooDeep, BadIdentifier}
+
+-- the definition stands at this place
+abbrev pub IsAt : List Definition → ℕ → Definition → Type 0
+IsAt defs i d = (i < length defs) × (d ≡ slice_index_or defs i d)
+
+-- no two of them have one name
+abbrev pub AreDistinct : List Definition → Type 0
+AreDistinct defs = (i j : ℕ) (d e : Definition) → IsAt defs i d → IsAt defs j e → d.name ≡ e.name → i ≡ j
+
+-- it is one of them
+abbrev pub IsOneOf : List Definition → Definition → Type 0
+IsOneOf defs d = (i : ℕ) × IsAt defs i d
+
+-- none of them has this name
+abbrev pub IsUndefined : List Definition → List ℕ → Type 0
+IsUndefined defs w = (d : Definition) → IsOneOf defs d → d.name ≢ w
+
+-- the chain of parents: the first definition is that of the word, each further one is of the parent of
+-- the one before it, and the last one's parent is end
+abbrev pub Leads : List Definition → Option (List ℕ) → List Definition → Option (List ℕ) → Type 0
+Leads defs w [] end = w ≡ end
+Leads defs None (d ∷ ds) end = ⊥
+Leads defs (Some w) (d ∷ ds) end = IsOneOf defs d × (d.name ≡ w) × Leads defs d.parent ds end
+
+-- the numbers of a chain: the parent's come first
+abbrev pub numbers_of : List Definition → List ℕ
+numbers_of [] = []
+numbers_of (d ∷ ds) = numbers_of ds ++ d.numbers
+
+-- the word stands for these numbers
+abbrev pub Stands : List Definition → List ℕ → List ℕ → Type 0
+Stands defs w q = (chain : List Definition) × Leads defs (Some w) chain None × (q ≡ numbers_of chain)
+
+-- the chain of the word's parents comes to a name that no definition has
+abbrev pub IsLost : List Definition → List ℕ → Type 0
+IsLost defs w = (chain : List Definition) × (p : List ℕ) × Leads defs (Some w) chain (Some p) × IsUndefined defs p
+
+-- the chain of the word's parents comes to a name that it has passed
+abbrev pub IsCircular : List Definition → List ℕ → Type 0
+IsCircular defs w = (chain : List Definition) × (d : Definition) × Leads defs (Some w) chain (Some d.name) × IsOneOf chain d
+
+-- a word alone, or a word and numbers behind dots
+abbrev pub IsNamed : List ℕ → List ℕ → List ℕ → Type 0
+IsNamed text w rest = IsWord w × (((text ≡ w) × (rest ≡ [])) ⊎ ((dotted : List ℕ) × (text ≡ w ++ 46 ∷ dotted) × Spells dotted rest))
+
+-- a text means numbers: those that it spells with dots, or those of a name with the rest behind them
+abbrev pub Means : List Definition → List ℕ → List ℕ → Type 0
+Means defs text q = Spells text q
+    ⊎ ((w rest known : List ℕ) × IsNamed text w rest × Stands defs w known × (q ≡ known ++ rest))
+
+-- a text that neither spells numbers nor is a name, with numbers behind it or without
+abbrev pub IsFormless : List ℕ → Type 0
+IsFormless text = ((q : List ℕ) → Spells text q → ⊥) × ((w rest : List ℕ) → IsNamed text w rest → ⊥)
+
+-- why the chain of a word has no numbers
+abbrev pub IsFaultOfWord : NamesFault → List Definition → List ℕ → Type 0
+IsFaultOfWord OutOfMemory defs w = Unit {0}
+IsFaultOfWord Duplicate defs w = ⊥
+IsFaultOfWord Unknown defs w = IsLost defs w
+IsFaultOfWord Cycle defs w = IsCircular defs w
+IsFaultOfWord TooDeep defs w = ⊥
+IsFaultOfWord BadIdentifier defs w = ⊥
+
+-- why a word with these numbers behind it means no identifier
+abbrev pub IsFaultOfName : NamesFault → List Definition → List ℕ → List ℕ → Type 0
+IsFaultOfName OutOfMemory defs w rest = Unit {0}
+IsFaultOfName Duplicate defs w rest = ⊥
+IsFaultOfName Unknown defs w rest = IsLost defs w
+IsFaultOfName Cycle defs w rest = IsCircular defs w
+IsFaultOfName TooDeep defs w rest = (known : List ℕ) × Stands defs w known × (128 < length (known ++ rest))
+IsFaultOfName BadIdentifier defs w rest = (known : List ℕ) × Stands defs w known × (length (known ++ rest) ≤ 128) × ¬ (IsOid (known ++ rest))
+
+-- why a text means no identifier
+abbrev pub IsFaultOfText : NamesFault → List Definition → List ℕ → Type 0
+IsFaultOfText OutOfMemory defs text = Unit {0}
+IsFaultOfText Duplicate defs text = ⊥
+IsFaultOfText Unknown defs text = IsFormless text ⊎ ((w rest : List ℕ) × IsNamed text w rest × IsLost defs w)
+IsFaultOfText Cycle defs text = (w rest : List ℕ) × IsNamed text w rest × IsCircular defs w
+IsFaultOfText TooDeep defs text = (q : List ℕ) × Means defs text q × (128 < length q)
+IsFaultOfText BadIdentifier defs text = (q : List ℕ) × Means defs text q × (length q ≤ 128) × ¬ (IsOid q)
+
+-- why definitions can't join those that are known
+abbrev pub IsFaultOfAdding : NamesFault → List Definition → List Definition → Type 0
+IsFaultOfAdding OutOfMemory known defs = Unit {0}
+IsFaultOfAdding Duplicate known defs = ¬ (AreDistinct (known ++ defs))
+IsFaultOfAdding Unknown known defs = ⊥
+IsFaultOfAdding Cycle known defs = ⊥
+IsFaultOfAdding TooDeep known defs = ⊥
+IsFaultOfAdding BadIdentifier known defs = ⊥
+
+-- a limit on the numbers of an identifier is the only fault of joining them
+abbrev pub IsFaultOfJoining : NamesFault → List ℕ → Type 0
+IsFaultOfJoining OutOfMemory q = Unit {0}
+IsFaultOfJoining Duplicate q = ⊥
+IsFaultOfJoining Unknown q = ⊥
+IsFaultOfJoining Cycle q = ⊥
+IsFaultOfJoining TooDeep q = 128 < length q
+IsFaultOfJoining BadIdentifier q = ⊥

@@ -1,0 +1,27 @@
+//! Laws of names. Each is a function that does nothing.
+
+ghost use Rattle.std.specs.Prelude.{◌≡◌, ℕ, List};
+ghost use Rattle.mon_smi.specs.declared.definition.Definition.{Definition as AnyDefinition};
+ghost use Rattle.mon_smi.specs.Names.{AreDistinct, Stands, Means, IsLost, IsCircular};
+
+/// A name stands for one identifier at most.
+pub fn one_meaning()
+    ensures { (defs : List AnyDefinition) (w p q : List ℕ) → AreDistinct defs → Stands defs w p → Stands defs w q → p ≡ q }
+{}
+
+/// A name whose chain of parents ends at no definition stands for nothing.
+pub fn lost()
+    ensures { (defs : List AnyDefinition) (w q : List ℕ) → AreDistinct defs → Stands defs w q → ¬ (IsLost defs w) }
+{}
+
+/// A name whose chain of parents comes to a name again stands for nothing.
+pub fn circular()
+    ensures { (defs : List AnyDefinition) (w q : List ℕ) → AreDistinct defs → Stands defs w q → ¬ (IsCircular defs w) }
+{}
+
+/// A text means one list of numbers at most.
+pub fn one_reading()
+    ensures { (defs : List AnyDefinition) (text p q : List ℕ) → AreDistinct defs → Means defs text p → Means defs text q → p ≡ q }
+{
+    mon_oid::laws::one_reading();
+}

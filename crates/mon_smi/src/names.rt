@@ -1,0 +1,136 @@
+ghost use Rattle.std.specs.Prelude.{◌≡◌, ◌++◌, ℕ, List, string_bytes, IfOk, IfErr, OnOk, OnErr, IsOkUnless};
+ghost use Rattle.mon_oid.specs.Oid.{IsOid, Spells};
+ghost use Rattle.mon_smi.specs.BuiltIn.{built_in};
+ghost use Rattle.mon_smi.specs.Names.{AreDistinct, Means, IsFaultOfAdding, IsFaultOfText};
+ghost use Rattle.mon_smi.specs.Nearest.{IsNameOf};
+
+use crate::built_in::built_in;
+use crate::chain::{identifier_of, is_defined};
+use crate::definition::{Definition, Module};
+use crate::fault::NamesFault;
+use crate::nearest::name_of;
+use crate::text::is_word;
+use mon_oid::{Oid, OidFault, dotted_numbers};
+use std::alloc::{AllocError, Global};
+use std::marker::Model;
+
+/// The names that are defined, which contracts see as the list of their definitions.
+#[derive(Drop)]
+pub struct Names {
+    defs: Vec<Definition>,
+}
+
+impl Model for Names {
+    ghost use Rattle.std.specs.Prelude.{List};
+    ghost use Rattle.mon_smi.specs.declared.definition.Definition.{Definition};
+    ghost use Rattle.mon_smi.specs.Names.{AreDistinct};
+
+    ghost Value = { List Definition };
+
+    ghost view = { λ n. n.defs.items };
+
+    ghost invariant = { λ n. AreDistinct n.defs.items };
+}
+
+impl Names {
+    /// The names that stand without any module, as `enterprises` (RFC 2578 section 2).
+    pub fn new(alloc: Global) -> Result<Self, AllocError>
+        ensures { IfOk result (λ n. n ≡ built_in) }
+    {
+        Ok(Names {
+            defs: built_in(alloc)?,
+        })
+    }
+
+    /// Adds a module's definitions: `Duplicate` where one of its value names is defined already,
+    /// or twice in the module. An `Err` changes nothing.
+    pub fn add(&mut self, alloc: Global, added: &Module) -> Result<(), NamesFault>
+        ensures ok { OnOk result (self.new ≡ self.old ++ added.now.defs) }
+        ensures distinct { OnOk result (AreDistinct (self.old ++ added.now.defs)) }
+        ensures err { OnErr result (self.new ≡ self.old) }
+        ensures fault { IfErr result (λ e. IsFaultOfAdding e self.old added.now.defs) }
+    {
+        let mut copies = copies(alloc, self.defs.as_slice(), added.defs.as_slice())?;
+        self.defs.append(&mut copies)?;
+        Ok(())
+    }
+
+    /// The identifier that a text means: numbers with dots between them, a name, or a name with
+    /// numbers behind it, as `ifInOctets.1`. `Unknown` where the text has another form or the chain
+    /// of parents ends at a name that is not defined, `Cycle` where the chain comes to a name that it
+    /// has passed, `TooDeep` above 128 sub-identifiers, `BadIdentifier` where they are no identifier.
+    pub fn resolve(&self, alloc: Global, text: &str) -> Result<Oid, NamesFault>
+        ensures found { IfOk result (λ oid. IsOid oid × Means self.now text.now oid) }
+        ensures accepted { (q : List ℕ) → Means self.now text.now q → IsOid q → IsOkUnless result NamesFault.OutOfMemory }
+        ensures fault { IfErr result (λ e. IsFaultOfText e self.now text.now) }
+    {
+        mon_oid::laws::one_reading();
+        resolved(alloc, self.defs.as_slice(), text)
+    }
+
+    /// The name with the longest identifier that the other one begins with (of equal ones the least
+    /// by bytes) and the rest with dots, as `ifInOctets.1`. Without such a name all of it with dots.
+    pub fn name_of(&self, alloc: Global, oid: &Oid) -> Result<String, AllocError>
+        ensures { IfOk result (λ text. IsNameOf self.now oid.now (string_bytes text)) }
+    {
+        name_of(alloc, self.defs.as_slice(), oid)
+    }
+}
+
+/// The identifier that a text means.
+fn resolved(alloc: Global, defs: &[Definition], text: &str) -> Result<Oid, NamesFault>
+    ensures found { IfOk result (λ oid. IsOid oid × Means defs.now text.now oid) }
+    ensures fault { IfErr result (λ e. IsFaultOfText e defs.now text.now) }
+{
+    match Oid::parse(alloc, text) {
+        Ok(oid) => Ok(oid),
+        Err(OidFault::OutOfMemory) => Err(NamesFault::OutOfMemory),
+        Err(OidFault::TooLong) => Err(NamesFault::TooDeep),
+        Err(OidFault::BadText) => named(alloc, defs, text),
+        Err(OidFault::TooShort | OidFault::BadFirst) => Err(NamesFault::BadIdentifier),
+    }
+}
+
+/// The identifier that a text means which does not spell numbers.
+fn named(alloc: Global, defs: &[Definition], text: &str) -> Result<Oid, NamesFault>
+    requires { (q : List ℕ) → ¬ (Spells text.now q) }
+    ensures found { IfOk result (λ oid. IsOid oid × Means defs.now text.now oid) }
+    ensures fault { IfErr result (λ e. IsFaultOfText e defs.now text.now) }
+{
+    let Some((word, rest)) = text.split_once('.') else {
+        if !is_word(text) {
+            return Err(NamesFault::Unknown);
+        }
+        return identifier_of(alloc, defs, text, &[]);
+    };
+    if !is_word(word) {
+        return Err(NamesFault::Unknown);
+    }
+    match dotted_numbers(alloc, rest) {
+        Ok(rest) => identifier_of(alloc, defs, word, rest.as_slice()),
+        Err(OidFault::BadText) => Err(NamesFault::Unknown),
+        Err(_) => Err(NamesFault::OutOfMemory),
+    }
+}
+
+/// Copies of the definitions, unless a name is defined twice.
+fn copies(
+    alloc: Global,
+    known: &[Definition],
+    defs: &[Definition],
+) -> Result<Vec<Definition>, NamesFault>
+    requires { AreDistinct known.now }
+    ensures ok { IfOk result (λ v. v.items ≡ defs.now) }
+    ensures distinct { OnOk result (AreDistinct (known.now ++ defs.now)) }
+    ensures fault { IfErr result (λ e. IsFaultOfAdding e known.now defs.now) }
+{
+    let mut added = Vec::new(alloc);
+    for definition in defs {
+        let name = definition.name.as_str();
+        if is_defined(known, name) || is_defined(added.as_slice(), name) {
+            return Err(NamesFault::Duplicate);
+        }
+        added.push(definition.try_clone(alloc)?)?;
+    }
+    Ok(added)
+}

@@ -1,0 +1,112 @@
+use mon_oid::{Oid, OidFault};
+use mon_smi::{Definition, Definitions, Module, Names, NamesFault, Numbers, Word};
+use std::alloc::{AllocError, Global};
+use std::test::Fail;
+
+/// The calls without their clauses, which a test's proof needn't carry.
+fn built_in(alloc: Global) -> Result<Names, AllocError> {
+    Names::new(alloc)
+}
+
+fn add(names: &mut Names, alloc: Global, added: &Module) -> Result<(), NamesFault> {
+    names.add(alloc, added)
+}
+
+fn resolved(names: &Names, alloc: Global, text: &str) -> Result<Oid, NamesFault> {
+    names.resolve(alloc, text)
+}
+
+fn name_of(names: &Names, alloc: Global, oid: &Oid) -> Result<String, AllocError> {
+    names.name_of(alloc, oid)
+}
+
+fn oid(alloc: Global, parts: &[u32]) -> Result<Oid, OidFault> {
+    Oid::from_parts(alloc, parts)
+}
+
+fn definition(
+    alloc: Global,
+    name: &str,
+    parent: &str,
+    numbers: &[u32],
+) -> Result<Definition, AllocError> {
+    Ok(Definition {
+        name: Word::from_str(alloc, name)?,
+        parent: Some(Word::from_str(alloc, parent)?),
+        numbers: Numbers::from_slice(alloc, numbers)?,
+    })
+}
+
+fn sample(alloc: Global) -> Result<Module, AllocError> {
+    let rows: [(&str, &str, &[u32]); 4] = [
+        ("ex", "enterprises", &[32473, 1]),
+        ("exCount", "ex", &[2]),
+        ("exLoop", "exPool", &[1]),
+        ("exPool", "exLoop", &[1]),
+    ];
+    let mut defs = Vec::new(alloc);
+    for row in rows {
+        defs.push(definition(alloc, row.0, row.1, row.2)?)?;
+    }
+    Ok(Module {
+        name: Word::from_str(alloc, "EX-MIB")?,
+        defs: Definitions::new(defs),
+    })
+}
+
+#[test]
+fn resolves(rt: HostRuntime) -> Result<(), Fail> {
+    let alloc = rt.alloc();
+    let mut names = built_in(alloc)?;
+    add(&mut names, alloc, &sample(alloc)?)?;
+    let rows: [(&str, &[u32]); 4] = [
+        ("exCount.0", &[1, 3, 6, 1, 4, 1, 32473, 1, 2, 0]),
+        ("mib-2", &[1, 3, 6, 1, 2, 1]),
+        ("iso.3", &[1, 3]),
+        ("1.3.6", &[1, 3, 6]),
+    ];
+    for row in rows {
+        assert_eq!(rt; resolved(&names, alloc, row.0)?.parts(), row.1);
+    }
+    Ok(())
+}
+
+#[test]
+fn refuses(rt: HostRuntime) -> Result<(), Fail> {
+    let alloc = rt.alloc();
+    let mut names = built_in(alloc)?;
+    add(&mut names, alloc, &sample(alloc)?)?;
+    let again = add(&mut names, alloc, &sample(alloc)?);
+    assert_eq!(rt; again.err(), Some(NamesFault::Duplicate));
+    let rows = [
+        ("exLoop", NamesFault::Cycle),
+        ("nope", NamesFault::Unknown),
+        ("ex.007", NamesFault::Unknown),
+        ("iso", NamesFault::BadIdentifier),
+        ("7.1", NamesFault::BadIdentifier),
+    ];
+    for row in rows {
+        assert_eq!(rt; resolved(&names, alloc, row.0).err(), Some(row.1));
+    }
+    assert_eq!(rt; NamesFault::Cycle.number(), 6);
+    assert_eq!(rt; NamesFault::Cycle.name(), "Cycle");
+    Ok(())
+}
+
+#[test]
+fn names_identifiers(rt: HostRuntime) -> Result<(), Fail> {
+    let alloc = rt.alloc();
+    let mut names = built_in(alloc)?;
+    add(&mut names, alloc, &sample(alloc)?)?;
+    let rows: [(&[u32], &str); 4] = [
+        (&[1, 3, 6, 1, 4, 1, 32473, 1, 2, 0], "exCount.0"),
+        (&[1, 3, 6, 1, 2, 1, 1], "mib-2.1"),
+        (&[1, 3, 6, 1, 4, 1], "enterprises"),
+        (&[1, 2, 840], "1.2.840"),
+    ];
+    for row in rows {
+        let text = name_of(&names, alloc, &oid(alloc, row.0)?)?;
+        assert_eq!(rt; text.as_str(), row.1);
+    }
+    Ok(())
+}
