@@ -239,16 +239,15 @@ fn walks_the_interfaces(rt: HostRuntime) -> Result<(), Fail> {
     let start = Moment::new(0).expect(&rt, "early");
     let interfaces = oid(rt.alloc(), "1.3.6.1.2.1.2")?;
     let mut name = oid(rt.alloc(), "1.3.6.1.2.1.2")?;
-    let mut met = 0;
-    for _ in 0..100 {
+    for met in 0..100 {
         let found = next(rt.alloc(), &mib, &policy, access, &name, start)?.expect(&rt, "one more");
         if !interfaces.is_prefix_of(&found.name) {
-            break;
+            assert_eq!(rt; met, 35);
+            return Ok(());
         }
-        met += 1;
         name = found.name;
     }
-    assert_eq!(rt; met, 35);
+    assert!(rt; false, "the walk does not end");
     Ok(())
 }
 
