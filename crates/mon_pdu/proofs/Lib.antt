@@ -3,3 +3,4 @@ pub mod Whole
 pub mod Lengths
 pub mod Spelled
 pub mod Shortest
+pub mod Sizes

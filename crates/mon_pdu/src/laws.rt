@@ -3,9 +3,11 @@
 ghost use Rattle.std.specs.Prelude.{◌≡◌, ◌≢◌, ◌≤◌, ◌↔◌, ℕ, ℤ, pos, List, [], ◌++◌, length, Result, Ok, Err};
 ghost use Rattle.mon_pdu.specs.declared.fault.PduFault.{PduFault};
 ghost use Rattle.mon_pdu.specs.declared.fault.PduFault.TheVariants.{OutOfMemory, BadVersion, UnknownPdu};
+ghost use Rattle.mon_pdu.specs.declared.message.Binding.{Binding};
 ghost use Rattle.mon_pdu.specs.declared.message.Message.{Message};
 ghost use Rattle.mon_pdu.specs.Grammar.{AreOctets, IsMessage, BeginsWithMessage, IsVersioned, HasUnknownPdu};
 ghost use Rattle.mon_pdu.specs.Reading.{Fails, message_at};
+ghost use Rattle.mon_pdu.specs.Sizes.{with_bindings};
 ghost use Rattle.mon_pdu.specs.Writing.{HasLength, IsValid, written_message};
 
 /// No spelling of a message is a proper prefix of a spelling of any message, and each has one meaning.
@@ -62,4 +64,10 @@ pub fn rewritable()
 /// What is written for a message is read as the same message, whatever follows it.
 pub fn round_trip()
     ensures { (m : Message) (rest : List ℕ) → IsValid m → HasLength m → message_at (written_message m ++ rest) ≡ Ok m }
+{}
+
+/// A message with more variable bindings is written no shorter.
+pub fn grows()
+    ensures { (m : Message) (bindings more : List Binding)
+        → length (written_message (with_bindings m bindings)) ≤ length (written_message (with_bindings m (bindings ++ more))) }
 {}

@@ -6,7 +6,9 @@ ghost use Rattle.std.specs.Int.{w32};
 ghost use Rattle.mon_ber.specs.declared.value.Value.TheVariants.{Integer};
 ghost use Rattle.mon_ber.specs.Writing.{written, element, counted, IsValid as IsValidValue};
 ghost use Rattle.mon_pdu.specs.declared.fault.PduFault.TheVariants.{OutOfMemory, BadLength};
+ghost use Rattle.mon_pdu.specs.declared.message.Binding.{Binding as AnyBinding};
 ghost use Rattle.mon_pdu.specs.Grammar.{tag_of, first_of, second_of, third_of, bindings_of, IsMessage};
+ghost use Rattle.mon_pdu.specs.Sizes.{with_bindings};
 ghost use Rattle.mon_pdu.specs.Writing.{HasLength, binding_contents, written_binding, list_contents, written_list, numbers_of, body_contents, written_body, message_contents, written_message, IsValidBinding, IsValid};
 
 use crate::fault::PduFault;
@@ -174,6 +176,26 @@ pub fn message_size(message: &Message) -> Result<usize, PduFault>
         return Err(PduFault::BadLength);
     }
     Ok(element_len(len))
+}
+
+/// How many octets a variable binding takes where it stands in a message, counted up to `LIMIT` of `mon_ber::writing`.
+#[tactic(auto, using(crate::proofs::Lengths::binding_length, crate::proofs::Lengths::counted_twice))]
+pub fn binding_size(binding: &Binding) -> usize
+    ensures { result ≡ counted (length (written_binding binding.now)) }
+{
+    element_size(binding_len(binding))
+}
+
+/// How many octets `write_message` would write for this message with other variable bindings, which take `list` octets
+/// in all, counted up to `LIMIT` of `mon_ber::writing`. Takes the same time however many they are.
+pub fn size_with(message: &Message, list: usize) -> usize
+    ensures { (bindings : List AnyBinding) → list ≡ counted (length (list_contents bindings))
+        → result ≡ counted (length (written_message (with_bindings message.now bindings))) }
+{
+    let body = (numbers_len(&message.body) + element_size(list)).min(LIMIT);
+    let community = element_size(message.community.as_slice().len());
+    let contents = (integer_size(1) + community + element_size(body)).min(LIMIT);
+    element_size(contents)
 }
 
 #[tactic(auto, using(crate::proofs::Lengths::value_fits), unfolding(crate::specs::Writing::written_binding, mon_ber::specs::Writing::element))]

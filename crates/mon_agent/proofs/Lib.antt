@@ -1,0 +1,4 @@
+pub mod Each
+pub mod Longest
+pub mod Rounds
+pub mod Sent

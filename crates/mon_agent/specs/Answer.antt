@@ -1,0 +1,112 @@
+-- What an agent answers to a datagram (RFC 3416 section 4.2, RFC 3413 section 3.2, RFC 3418 section 2).
+use Rattle.std.specs.Prelude.{◌≡◌, ◌≢◌, ℕ, ℤ, pos, Bool, true, false, List, Option, Some, None, Ok, Err, ◌⊎◌}
+use Rattle.mon_pdu.specs.declared.message.Binding.{Binding}
+use Rattle.mon_pdu.specs.declared.message.Body.{Body}
+use Rattle.mon_pdu.specs.declared.message.Body.TheVariants as bodies
+use Rattle.mon_pdu.specs.declared.message.Message.{Message}
+use Rattle.mon_pdu.specs.declared.message.PduKind.{PduKind}
+use Rattle.mon_pdu.specs.declared.message.PduKind.TheVariants as kinds
+use Rattle.mon_pdu.specs.declared.fault.PduFault.{PduFault}
+use Rattle.mon_pdu.specs.declared.fault.PduFault.TheVariants as faults
+use Rattle.mon_pdu.specs.Grammar.{BeginsWithMessage, IsVersioned, bindings_of}
+use Rattle.mon_vacm.specs.declared.denied.Denied.{Denied}
+use Rattle.mon_vacm.specs.declared.denied.Denied.TheVariants.{NoCommunity}
+use Rattle.mon_vacm.specs.declared.need.Need.{Need}
+use Rattle.mon_vacm.specs.declared.need.Need.TheVariants.{Read, Write}
+use Rattle.mon_vacm.specs.Access.{access_of}
+use Rattle.mon_vacm.specs.Tables.{Lists}
+use Rattle.mon_vacm.specs.View.{IsInView}
+use Rattle.mon_mib.specs.declared.counters.Counters.{Counters}
+use Rattle.mon_mib.specs.declared.counters.Counter.TheVariants.{BadVersions, BadCommunities, ParseErrors, SilentDrops}
+use Rattle.mon_mib.specs.Counters.{counted}
+use Rattle.mon_mib.specs.Known.{Known}
+use Rattle.mon_agent.specs.declared.reply.Reply.{Reply}
+use Rattle.mon_agent.specs.declared.reply.Reply.TheVariants.{Send, Silent}
+use Rattle.mon_agent.specs.declared.reply.Silence.{Silence}
+use Rattle.mon_agent.specs.declared.reply.Silence.TheVariants.{BadMessage, BadVersion, BadCommunity, NotARequest, TooBigTwice}
+use Rattle.mon_agent.specs.Bulk.{IsBulk}
+use Rattle.mon_agent.specs.Reply.{response, answered, Fits, IsSent, IsDropped}
+use Rattle.mon_agent.specs.Step.{AreFor, IsRead, IsStep}
+
+-- the PDUs that are answered
+abbrev pub is_answered : PduKind → Bool
+is_answered kinds.Get = true
+is_answered kinds.GetNext = true
+is_answered other = false
+
+abbrev pub is_request : Body → Bool
+is_request (bodies.Pdu p) = is_answered p.kind
+is_request (bodies.Bulk p) = true
+
+-- what a request needs: a Set to write, the others to read
+abbrev pub need_of_kind : PduKind → Need
+need_of_kind kinds.Set = Write
+need_of_kind other = Read
+
+abbrev pub need_of : Body → Need
+need_of (bodies.Pdu p) = need_of_kind p.kind
+need_of (bodies.Bulk p) = Read
+
+-- the variable bindings that answer a request in a view
+abbrev pub IsOfKind : Known → (List ℕ → Type 0) → PduKind → List Binding → List Binding → Type 0
+IsOfKind k sees kinds.Get asked answers = AreFor (IsRead k sees) asked answers
+IsOfKind k sees kinds.GetNext asked answers = AreFor (IsStep k sees) asked answers
+IsOfKind k sees other asked answers = ⊥
+
+abbrev pub AreAnswers : Known → (List ℕ → Type 0) → Message → Body → List Binding → Type 0
+AreAnswers k sees m (bodies.Pdu p) answers = IsOfKind k sees p.kind p.bindings answers
+AreAnswers k sees m (bodies.Bulk p) answers = IsBulk k sees (λ bindings. Fits k.settings.limit (answered m bindings)) p answers
+
+-- the response without an error, with the variable bindings that answer it
+abbrev pub IsGranted : Known → (List ℕ → Type 0) → Message → Message → Type 0
+IsGranted k sees m reply = (answers : List Binding) × AreAnswers k sees m m.body answers × (reply ≡ answered m answers)
+
+-- The response to a request of a known community. One that is denied gets its own variable bindings back with
+-- authorizationError; else the view that the community is granted is asked.
+abbrev pub IsResponse : Lists → Known → Message → Message → Type 0
+IsResponse policy k m reply =
+    ((why : Denied) × (why ≢ NoCommunity) × (access_of policy m.community (need_of m.body) ≡ Err why)
+        × (reply ≡ response m (pos 16) (pos 0) (bindings_of m.body)))
+    ⊎ ((view : List ℕ) × (access_of policy m.community (need_of m.body) ≡ Ok view)
+        × IsGranted k (IsInView policy.families view) m reply)
+
+-- the request's community is known
+abbrev pub IsKnown : Lists → Message → Type 0
+IsKnown policy m = access_of policy m.community (need_of m.body) ≢ Err NoCommunity
+
+-- What becomes of a response: it is sent, or it is dropped.
+abbrev pub IsOut : ℤ → Message → Message → Reply → Type 0
+IsOut limit m reply (Send octets) = IsSent limit m reply octets.items
+IsOut limit m reply (Silent TooBigTwice) = IsDropped limit m reply
+IsOut limit m reply (Silent other) = ⊥
+
+-- What a message is answered. The community is tested first, then whether it is a request; a request gets its response.
+abbrev pub IsAnswered : Lists → Known → Message → Reply → Type 0
+IsAnswered policy k m (Silent BadMessage) = ⊥
+IsAnswered policy k m (Silent BadVersion) = ⊥
+IsAnswered policy k m (Silent BadCommunity) = access_of policy m.community (need_of m.body) ≡ Err NoCommunity
+IsAnswered policy k m (Silent NotARequest) = IsKnown policy m × (is_request m.body ≡ false)
+IsAnswered policy k m other = IsKnown policy m × (is_request m.body ≡ true)
+    × ((reply : Message) × IsResponse policy k m reply × IsOut k.settings.limit m reply other)
+
+-- What a datagram is answered, by the message that it begins with. Where it begins with none, its version may be another than 1.
+abbrev pub IsAnswer : Lists → Known → List ℕ → Reply → Type 0
+IsAnswer policy k datagram (Silent BadMessage) =
+    ((m : Message) → BeginsWithMessage datagram m → ⊥) × ((v : ℤ) → IsVersioned datagram v → v ≡ pos 1)
+IsAnswer policy k datagram (Silent BadVersion) = (v : ℤ) × IsVersioned datagram v × (v ≢ pos 1)
+IsAnswer policy k datagram other = (m : Message) × BeginsWithMessage datagram m × IsAnswered policy k m other
+
+-- the cause of silence about octets that could not be read; none where memory ran out
+abbrev pub cause_of : PduFault → Option Silence
+cause_of faults.OutOfMemory = None
+cause_of (faults.BadVersion v) = Some BadVersion
+cause_of other = Some BadMessage
+
+-- the counters that a reply raises, beside that of all messages (RFC 3418 section 2)
+abbrev pub raised_by : Reply → Counters → Counters
+raised_by (Send octets) counters = counters
+raised_by (Silent BadMessage) counters = counted counters ParseErrors
+raised_by (Silent BadVersion) counters = counted counters BadVersions
+raised_by (Silent BadCommunity) counters = counted counters BadCommunities
+raised_by (Silent NotARequest) counters = counters
+raised_by (Silent TooBigTwice) counters = counted counters SilentDrops

@@ -1,0 +1,48 @@
+-- The variable bindings of a response as they grow.
+use Rattle.std.specs.Prelude.{◌≡◌, ℕ, ◌-◌, ℤ, Bool, true, false, if◌then◌else◌, List, [], ◌∷◌, ◌++◌, length, drop, ◌⊎◌}
+use Rattle.mon_ber.specs.Writing.{counted}
+use Rattle.mon_pdu.specs.declared.message.Binding.{Binding}
+use Rattle.mon_pdu.specs.declared.message.Message.{Message}
+use Rattle.mon_pdu.specs.Sizes.{with_bindings}
+use Rattle.mon_pdu.specs.Writing.{list_contents}
+use Rattle.mon_agent.specs.Bulk.{names_of, is_last, rounds}
+use Rattle.mon_agent.specs.Reply.{Fits}
+
+-- a response without variable bindings, the limit, and the variable bindings so far
+pub record Grown : Type 0 where
+  pub head : Message
+  pub limit : ℤ
+  pub bindings : List Binding
+
+-- with these variable bindings it is within the limit
+abbrev pub FitsWith : Grown → List Binding → Type 0
+FitsWith grown bindings = Fits grown.limit (with_bindings grown.head bindings)
+
+-- the list goes on behind this beginning, and the beginning has no room for what comes next
+pub record IsCut (fits : List Binding → Type 0) (all part : List Binding) : Type 0 where
+  pub next : Binding
+  pub rest : List Binding
+  pub whole : all ≡ part ++ next ∷ rest
+  pub full : ¬ (fits (part ++ next ∷ []))
+
+-- all of the list, or a beginning that has no room for what comes next
+abbrev pub IsPut : (List Binding → Type 0) → List Binding → Bool → List Binding → Type 0
+IsPut fits all true part = part ≡ all
+IsPut fits all false part = IsCut fits all part
+
+-- the last so many
+abbrev pub last : ℕ → List Binding → List Binding
+last width bindings = drop (length bindings - width) bindings
+
+-- what follows a round: nothing where all of it is at the end, else further rounds
+unfoldable pub more_rounds : (List ℕ → Binding) → ℕ → List Binding → List Binding
+more_rounds next m round = if is_last round then [] else rounds next m (names_of round)
+
+-- the octets that the variable bindings take are known, and the response is within the limit or has none
+pub record IsSized (head : Message) (limit : ℤ) (bindings : List Binding) (list : ℕ) : Type 0 where
+  pub size : list ≡ counted (length (list_contents bindings))
+  pub within : (bindings ≡ []) ⊎ Fits limit (with_bindings head bindings)
+
+-- all of the list, or a beginning that has no room for what comes next
+abbrev pub IsEnded : (List Binding → Type 0) → List Binding → List Binding → Type 0
+IsEnded fits all part = (part ≡ all) ⊎ IsCut fits all part

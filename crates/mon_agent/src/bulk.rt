@@ -1,0 +1,138 @@
+//! The response to a GetBulk (RFC 3416 section 4.2.3).
+
+ghost use Rattle.std.specs.Prelude.{◌≡◌, ◌≤◌, ◌+◌, ◌++◌, [], ℕ, List, Ok, IfOk, OnOk, true, map, length, drop};
+ghost use Rattle.mon_pdu.specs.declared.message.Binding.{Binding as AnyBinding};
+ghost use Rattle.mon_vacm.specs.View.{IsInView};
+ghost use Rattle.mon_mib.specs.Known.{known_of};
+ghost use Rattle.mon_agent.specs.Bulk.{IsStepper, names_of, full_list};
+ghost use Rattle.mon_agent.specs.Growing.{FitsWith, IsPut, IsEnded, last, more_rounds};
+ghost use Rattle.mon_agent.specs.Reply.{count_of};
+
+use crate::agent::Agent;
+use crate::growing::Growing;
+use mon_mib::{Device, Moment};
+use mon_pdu::{Binding, Bulk};
+use mon_vacm::Access;
+use std::alloc::{AllocError, Global};
+
+impl<D: Device + Drop> Agent<D> {
+    /// Puts the answers to a GetBulk into its response, as many as are within the limit.
+    pub(crate) fn bulk(
+        &self,
+        alloc: Global,
+        reply: &mut Growing,
+        access: Access<'_>,
+        request: &Bulk,
+        moment: Moment,
+    ) -> Result<(), AllocError>
+        requires { reply.old.bindings ≡ [] }
+        ensures head { reply.new.head ≡ reply.old.head }
+        ensures limit { reply.new.limit ≡ reply.old.limit }
+        ensures put { let known = known_of self.now.mib.settings self.now.mib.counters (D.held self.now.mib.device) moment in
+            (next : List ℕ → AnyBinding) → IsStepper known (IsInView self.now.policy.families access.entry.view.now) next
+            → OnOk result (IsEnded (FitsWith reply.old)
+            (full_list next request.now.non_repeaters request.now.max_repetitions request.now.bindings) reply.new.bindings) }
+    {
+        let asked = request.bindings.as_slice();
+        let (once, repeated) = asked.split_at(count(request.non_repeaters).min(asked.len()));
+        let rounds = count(request.max_repetitions);
+        if !self.extend(alloc, reply, access, once, moment)? {
+            return Ok(());
+        }
+        if rounds == 0 {
+            return Ok(());
+        }
+        if !self.extend(alloc, reply, access, repeated, moment)? {
+            return Ok(());
+        }
+        self.repeat_all(alloc, reply, access, repeated.len(), rounds - 1, moment)
+    }
+
+    /// Adds an answer for each of these, and tells whether all of them are within the limit.
+    fn extend(
+        &self,
+        alloc: Global,
+        reply: &mut Growing,
+        access: Access<'_>,
+        asked: &[Binding],
+        moment: Moment,
+    ) -> Result<bool, AllocError>
+        ensures head { reply.new.head ≡ reply.old.head }
+        ensures limit { reply.new.limit ≡ reply.old.limit }
+        ensures put { let known = known_of self.now.mib.settings self.now.mib.counters (D.held self.now.mib.device) moment in
+            (next : List ℕ → AnyBinding) → IsStepper known (IsInView self.now.policy.families access.entry.view.now) next
+            → IfOk result (λ all. IsPut (FitsWith reply.old) (reply.old.bindings ++ map next (names_of asked.now)) all reply.new.bindings) }
+        ensures long { result ≡ Ok true → length reply.new.bindings ≡ length reply.old.bindings + length asked.now }
+    {
+        for binding in asked {
+            let found = self.step(alloc, access, &binding.name, moment)?;
+            if !reply.push(found)? {
+                return Ok(false);
+            }
+        }
+        Ok(true)
+    }
+
+    /// Adds so many rounds of answers to the names of the last `width`, each to the names before; none after one that is at the end.
+    fn repeat_all(
+        &self,
+        alloc: Global,
+        reply: &mut Growing,
+        access: Access<'_>,
+        width: usize,
+        rounds: usize,
+        moment: Moment,
+    ) -> Result<(), AllocError>
+        requires { width ≤ length reply.old.bindings }
+        ensures head { reply.new.head ≡ reply.old.head }
+        ensures limit { reply.new.limit ≡ reply.old.limit }
+        ensures put { let known = known_of self.now.mib.settings self.now.mib.counters (D.held self.now.mib.device) moment in
+            (next : List ℕ → AnyBinding) → IsStepper known (IsInView self.now.policy.families access.entry.view.now) next
+            → OnOk result (IsEnded (FitsWith reply.old)
+            (reply.old.bindings ++ more_rounds next rounds (last width reply.old.bindings)) reply.new.bindings) }
+    {
+        for _ in 0..rounds {
+            if reply.is_last(width) {
+                return Ok(());
+            }
+            if !self.repeat(alloc, reply, access, width, moment)? {
+                return Ok(());
+            }
+        }
+        Ok(())
+    }
+
+    /// Adds a round of answers to the names of the last `width`, and tells whether all of them are within the limit.
+    fn repeat(
+        &self,
+        alloc: Global,
+        reply: &mut Growing,
+        access: Access<'_>,
+        width: usize,
+        moment: Moment,
+    ) -> Result<bool, AllocError>
+        requires { width ≤ length reply.old.bindings }
+        ensures head { reply.new.head ≡ reply.old.head }
+        ensures limit { reply.new.limit ≡ reply.old.limit }
+        ensures put { let known = known_of self.now.mib.settings self.now.mib.counters (D.held self.now.mib.device) moment in
+            (next : List ℕ → AnyBinding) → IsStepper known (IsInView self.now.policy.families access.entry.view.now) next
+            → IfOk result (λ all. IsPut (FitsWith reply.old)
+            (reply.old.bindings ++ map next (names_of (last width reply.old.bindings))) all reply.new.bindings) }
+        ensures wide { result ≡ Ok true → width ≤ length reply.new.bindings }
+    {
+        for _ in 0..width {
+            let found = self.step(alloc, access, reply.name_before(width), moment)?;
+            if !reply.push(found)? {
+                return Ok(false);
+            }
+        }
+        Ok(true)
+    }
+}
+
+/// A number of a request that counts; one below 0 is 0.
+fn count(number: i32) -> usize
+    ensures { result ≡ count_of number }
+{
+    number.max(0) as usize
+}

@@ -1,0 +1,142 @@
+//! The variable bindings of a response as they grow, within a limit on its size.
+
+ghost use Rattle.std.specs.Prelude.{◌≡◌, ◌≤◌, ◌-◌, ◌↔◌, ◌⊎◌, ◌++◌, ◌∷◌, [], length, get_or, Ok, true, false, IsTrue};
+ghost use Rattle.mon_pdu.specs.declared.message.Binding.{Binding as AnyBinding};
+ghost use Rattle.mon_pdu.specs.Sizes.{body_with, with_bindings};
+ghost use Rattle.mon_agent.specs.Bulk.{is_end, is_last};
+ghost use Rattle.mon_agent.specs.Growing.{FitsWith, last};
+ghost use Rattle.mon_agent.specs.Reply.{count_of};
+
+use mon_ber::Value;
+use mon_ber::writing::LIMIT;
+use mon_oid::Oid;
+use mon_pdu::{Binding, Bindings, Body, Bulk, Message, Pdu, binding_size, size_with};
+use std::alloc::{AllocError, Global};
+use std::marker::Model;
+
+/// A response that takes variable bindings as long as it is within a limit, in octets. Its size is kept as it grows.
+#[derive(Drop)]
+pub(crate) struct Growing {
+    head: Message,
+    limit: i32,
+    bindings: Vec<Binding>,
+    list: usize,
+}
+
+impl Model for Growing {
+    ghost use Rattle.std.specs.Prelude.{◌≡◌, ◌⊎◌, [], length};
+    ghost use Rattle.mon_ber.specs.Writing.{counted};
+    ghost use Rattle.mon_pdu.specs.Writing.{list_contents};
+    ghost use Rattle.mon_pdu.specs.Sizes.{with_bindings};
+    ghost use Rattle.mon_agent.specs.Growing.{Grown, IsSized};
+
+    ghost Value = { Grown };
+
+    ghost view = { λ g. record { head = g.head; limit = g.limit; bindings = g.bindings.items } };
+
+    ghost invariant = { λ g. IsSized g.head g.limit g.bindings.items g.list };
+}
+
+impl Growing {
+    /// The response with no variable bindings yet. Of `head` all but its variable bindings counts.
+    pub(crate) fn new(alloc: Global, head: Message, limit: i32) -> Self
+        ensures head { result.head ≡ head }
+        ensures limit { result.limit ≡ limit }
+        ensures empty { result.bindings ≡ [] }
+    {
+        Growing {
+            head,
+            limit,
+            bindings: Vec::new(alloc),
+            list: 0,
+        }
+    }
+
+    /// Adds a variable binding where the response is within its limit with it, and tells whether it is.
+    pub(crate) fn push(&mut self, binding: Binding) -> Result<bool, AllocError>
+        ensures head { self.new.head ≡ self.old.head }
+        ensures limit { self.new.limit ≡ self.old.limit }
+        ensures more { result ≡ Ok true → self.new.bindings ≡ self.old.bindings ++ binding ∷ [] }
+        ensures full { result ≡ Ok false
+            → (self.new.bindings ≡ self.old.bindings) × ¬ (FitsWith self.old (self.old.bindings ++ binding ∷ [])) }
+    {
+        let list = (self.list + binding_size(&binding)).min(LIMIT);
+        if !is_within(size_with(&self.head, list), self.limit) {
+            return Ok(false);
+        }
+        self.bindings.push(binding)?;
+        self.list = list;
+        Ok(true)
+    }
+
+    /// The name of the variable binding so many places before the end.
+    pub(crate) fn name_before(&self, places: usize) -> &Oid
+        requires some { 1 ≤ places }
+        requires within { places ≤ length self.now.bindings }
+        ensures { (other : AnyBinding) → result.now ≡ (get_or self.now.bindings (length self.now.bindings - places) other).name }
+    {
+        &self.bindings[self.bindings.len() - places].name
+    }
+
+    /// Whether each of the last so many variable bindings has the value endOfMibView.
+    pub(crate) fn is_last(&self, width: usize) -> bool
+        requires { width ≤ length self.now.bindings }
+        ensures { result ≡ is_last (last width self.now.bindings) }
+    {
+        are_at_end(&self.bindings[self.bindings.len() - width..])
+    }
+
+    /// The response with its variable bindings. It is within its limit, or has none.
+    pub(crate) fn into_message(self) -> Message
+        ensures message { result ≡ with_bindings self.head self.bindings }
+        ensures within { (self.bindings ≡ []) ⊎ FitsWith self self.bindings }
+    {
+        with_bindings(self.head, self.bindings)
+    }
+}
+
+/// The same message with other variable bindings.
+fn with_bindings(message: Message, bindings: Vec<Binding>) -> Message
+    ensures { result ≡ with_bindings message bindings.items }
+{
+    Message {
+        community: message.community,
+        body: body_with(message.body, Bindings::new(bindings)),
+    }
+}
+
+/// The same PDU with other variable bindings.
+fn body_with(body: Body, bindings: Bindings) -> Body
+    ensures { result ≡ body_with body bindings }
+{
+    match body {
+        Body::Pdu(pdu) => Body::Pdu(Pdu { bindings, ..pdu }),
+        Body::Bulk(bulk) => Body::Bulk(Bulk { bindings, ..bulk }),
+    }
+}
+
+/// Whether each of these has the value endOfMibView.
+fn are_at_end(bindings: &[Binding]) -> bool
+    ensures { result ≡ is_last bindings.now }
+{
+    for binding in bindings {
+        if !is_end(&binding.value) {
+            return false;
+        }
+    }
+    true
+}
+
+/// Whether a value is endOfMibView.
+fn is_end(value: &Value) -> bool
+    ensures { result ≡ is_end value.now }
+{
+    matches!(value, Value::EndOfMibView)
+}
+
+/// Whether a size is within a limit; no size but 0 is within a limit below 1.
+pub(crate) fn is_within(size: usize, limit: i32) -> bool
+    ensures { IsTrue result ↔ (size ≤ count_of limit) }
+{
+    size <= limit.max(0) as usize
+}

@@ -1,0 +1,16 @@
+//! Laws of what is answered. Each is a function that does nothing; its clause is the law.
+
+ghost use Rattle.std.specs.Prelude.{◌≡◌, ℕ, List};
+ghost use Rattle.mon_pdu.specs.declared.message.Binding.{Binding};
+ghost use Rattle.mon_vacm.specs.declared.family.Family.{Family};
+ghost use Rattle.mon_vacm.specs.View.{IsInView};
+ghost use Rattle.mon_mib.specs.Known.{Known};
+ghost use Rattle.mon_agent.specs.Step.{IsStep};
+
+/// One answer alone is right for a name in a GetNext.
+pub fn one_step()
+    ensures { (k : Known) (families : List Family) (view name : List ℕ) (a b : Binding)
+        → IsStep k (IsInView families view) name a → IsStep k (IsInView families view) name b → a ≡ b }
+{
+    mon_mib::laws::one_next();
+}

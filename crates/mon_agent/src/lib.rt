@@ -1,0 +1,15 @@
+//! An SNMPv2c agent: what it answers to a datagram, and what it counts. It follows RFC 3416 section 4.2, RFC 3413 section 3.2
+//! and RFC 3418 section 2. To the layer above: for any octets, the reply is the one that the written rules give over the map
+//! of variables and the policy, or silence with its cause, and a fault changes nothing.
+#![tactic(auto)]
+
+mod agent;
+mod bulk;
+mod fault;
+mod growing;
+pub mod laws;
+mod reply;
+
+pub use agent::Agent;
+pub use fault::AgentFault;
+pub use reply::{Reply, Silence};

@@ -1,0 +1,25 @@
+//! What an agent does about a datagram.
+
+/// Why a datagram is not answered, in the order of the causes' numbers.
+#[derive(Clone, Copy, Debug, PartialEq, Eq)]
+pub enum Silence {
+    /// The octets begin with no message; snmpInASNParseErrs counts it.
+    BadMessage = 1,
+    /// The message is of another version than SNMPv2c; snmpInBadVersions counts it.
+    BadVersion = 2,
+    /// The community is unknown; snmpInBadCommunityNames counts it.
+    BadCommunity = 3,
+    /// The message is no request.
+    NotARequest = 4,
+    /// Neither the response nor tooBig is within the limit; snmpSilentDrops counts it.
+    TooBigTwice = 5,
+}
+
+/// What an agent does about a datagram.
+#[derive(Debug, Drop)]
+pub enum Reply {
+    /// It sends these octets to where the datagram came from.
+    Send(Vec<u8>),
+    /// It sends nothing.
+    Silent(Silence),
+}
