@@ -5,3 +5,4 @@ pub mod Outcomes
 pub mod Readings
 pub mod Search
 pub mod Windows
+pub mod Walks

@@ -5,7 +5,7 @@ use Rattle.std.specs.declared.io.ErrorKind.TheVariants as kinds
 use Rattle.mon_pdu.specs.declared.fault.PduFault.{PduFault}
 use Rattle.mon_pdu.specs.declared.fault.PduFault.TheVariants as pdu
 use Rattle.mon_app.specs.declared.fault.AppFault.{AppFault}
-use Rattle.mon_app.specs.declared.fault.AppFault.TheVariants.{OutOfMemory, Timeout, FileFault, SocketFault, AgentStatus, BadText}
+use Rattle.mon_app.specs.declared.fault.AppFault.TheVariants.{OutOfMemory, Timeout, FileFault, SocketFault, NotIncreasing, AgentStatus, BadText}
 
 -- the number that a printed line gives a fault
 abbrev pub number_of : AppFault → ℕ
@@ -13,6 +13,7 @@ number_of OutOfMemory = 1
 number_of Timeout = 2
 number_of FileFault = 3
 number_of SocketFault = 4
+number_of NotIncreasing = 5
 number_of AgentStatus = 6
 number_of BadText = 8
 
@@ -22,6 +23,7 @@ name_of OutOfMemory = codes "OutOfMemory"
 name_of Timeout = codes "Timeout"
 name_of FileFault = codes "FileFault"
 name_of SocketFault = codes "SocketFault"
+name_of NotIncreasing = codes "NotIncreasing"
 name_of AgentStatus = codes "AgentStatus"
 name_of BadText = codes "BadText"
 

@@ -5,6 +5,7 @@ pub mod Instance
 pub mod Offer
 pub mod Reading
 pub mod Response
+pub mod Walk
 pub mod Windows
 pub mod Text
 pub mod Find

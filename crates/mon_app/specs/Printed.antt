@@ -70,10 +70,14 @@ abbrev pub HasBindings : Body → List Binding → Type 0
 HasBindings (Pdu p) bindings = (p.error_status ≡ pos 0) × (p.bindings ≡ bindings)
 HasBindings (Bulk b) bindings = ⊥
 
--- The text is the bindings of a reply to the question that has no error, a line each.
-pub record IsAnswer (q : Asked) (text : List ℕ) : Type 0 where
+-- These are the bindings of a reply to the question that has no error.
+pub record AreOfReply (q : Asked) (bindings : List Binding) : Type 0 where
   pub message : Message
-  pub bindings : List Binding
   pub reply : IsTrue (is_reply q message)
   pub fine : HasBindings message.body bindings
+
+-- The text is the bindings of such a reply, a line each.
+pub record IsAnswer (q : Asked) (text : List ℕ) : Type 0 where
+  pub bindings : List Binding
+  pub of_reply : AreOfReply q bindings
   pub printed : text ≡ flat_map binding_line bindings

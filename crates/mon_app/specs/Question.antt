@@ -11,14 +11,20 @@ use Rattle.mon_pdu.specs.declared.message.PduKind.{PduKind}
 use Rattle.mon_pdu.specs.declared.message.PduKind.TheVariants as pdu
 use Rattle.mon_pdu.specs.Kinds.{octet_of}
 use Rattle.mon_app.specs.declared.question.Asking.{Asking}
-use Rattle.mon_app.specs.declared.question.Asking.TheVariants.{Get, GetNext}
+use Rattle.mon_app.specs.declared.question.Asking.TheVariants.{Get, GetNext, GetBulk}
 use Rattle.mon_app.specs.declared.question.Question.{Question}
 use Rattle.mon_app.specs.Reading.{is_zero}
 
--- the kind of the request's PDU (RFC 3416 section 3)
-abbrev pub kind_of : Asking → PduKind
-kind_of Get = pdu.Get
-kind_of GetNext = pdu.GetNext
+-- a request of a kind that has no numbers of its own (RFC 3416 sections 4.2.1 and 4.2.2)
+abbrev pub plain : PduKind → ℤ → List Binding → Body
+plain kind id bindings = Pdu (record { kind = kind; request_id = id; error_status = pos 0; error_index = pos 0; bindings = bindings })
+
+-- the PDU that asks (RFC 3416 section 3)
+abbrev pub body_of : Asking → ℤ → List Binding → Body
+body_of Get id bindings = plain pdu.Get id bindings
+body_of GetNext id bindings = plain pdu.GetNext id bindings
+body_of (GetBulk r) id bindings =
+    Bulk (record { request_id = id; non_repeaters = r.non_repeaters; max_repetitions = r.max_repetitions; bindings = bindings })
 
 -- a question as its parts
 pub record Asked : Type 0 where
@@ -35,12 +41,9 @@ asked_in q = record { asking = q.asking; request_id = q.request_id; community = 
 abbrev pub unset : List ℕ → Binding
 unset name = record { name = name; value = values.Null }
 
--- the request that asks (RFC 3416 sections 4.2.1 and 4.2.2)
+-- the request that asks (RFC 3416 sections 4.2.1 to 4.2.3)
 abbrev pub request_of : Asked → Message
-request_of q = record {
-  community = q.community;
-  body = Pdu (record { kind = kind_of q.asking; request_id = q.request_id; error_status = pos 0; error_index = pos 0; bindings = map unset q.names });
-}
+request_of q = record { community = q.community; body = body_of q.asking q.request_id (map unset q.names) }
 
 -- the bindings have these names, in order
 abbrev pub same_names : List (List ℕ) → List Binding → Bool
@@ -49,10 +52,11 @@ same_names [] (b ∷ bs) = false
 same_names (n ∷ ns) [] = false
 same_names (n ∷ ns) (b ∷ bs) = bytes_eq n b.name && same_names ns bs
 
--- each name is answered: by itself, or by some name after it
+-- each name is answered: by itself, or by some name after it; a GetBulk may be answered by any
 abbrev pub are_answers : Asking → List (List ℕ) → List Binding → Bool
 are_answers Get names bindings = same_names names bindings
 are_answers GetNext names bindings = length names == length bindings
+are_answers (GetBulk r) names bindings = true
 
 -- a Response in the question's community, with its request-id, that has an error status or answers each name
 abbrev pub is_reply : Asked → Message → Bool

@@ -1,8 +1,9 @@
 //! The client commands: a question, its reply, and the text that is printed.
 
 ghost use Rattle.std.specs.Prelude.{IfOk, string_bytes};
+ghost use Rattle.mon_pdu.specs.declared.message.Body.TheVariants as bodies;
 ghost use Rattle.mon_app.specs.Counts.{GrowsByAtMost};
-ghost use Rattle.mon_app.specs.Printed.{IsAnswer};
+ghost use Rattle.mon_app.specs.Printed.{AreOfReply, HasBindings, IsAnswer};
 ghost use Rattle.mon_app.specs.Question.{asked_in};
 
 use crate::asking::send_request;
@@ -10,7 +11,7 @@ use crate::fault::AppFault;
 use crate::printed::bindings_text;
 use crate::question::Question;
 use crate::wire::Wire;
-use mon_pdu::Body;
+use mon_pdu::{Bindings, Body, Message, Pdu};
 use std::alloc::Global;
 
 /// Asks an agent, and gives its answer as text: a line for each variable binding of the reply.
@@ -25,11 +26,32 @@ pub fn answer_text<W: Wire>(
     ensures sends { GrowsByAtMost 3 (W.sends wire.old) (W.sends wire.new) }
     ensures answer { IfOk result (λ text. IsAnswer (asked_in question.now) (string_bytes text)) }
 {
-    let reply = send_request(alloc, wire, question)?;
-    match &reply.body {
-        Body::Pdu(pdu) if pdu.error_status == 0 => {
-            Ok(bindings_text(alloc, pdu.bindings.as_slice())?)
-        }
-        _ => Err(AppFault::AgentStatus),
+    let bindings = answers(alloc, wire, question)?;
+    Ok(bindings_text(alloc, bindings.as_slice())?)
+}
+
+/// Asks an agent, and gives the variable bindings of its reply.
+pub(crate) fn answers<W: Wire>(
+    alloc: Global,
+    wire: &mut W,
+    question: &Question<'_>,
+) -> Result<Bindings, AppFault>
+    ensures sends { GrowsByAtMost 3 (W.sends wire.old) (W.sends wire.new) }
+    ensures answers { IfOk result (AreOfReply (asked_in question.now)) }
+{
+    let Message { body, .. } = send_request(alloc, wire, question)?;
+    match body {
+        Body::Pdu(pdu) => fine(pdu),
+        Body::Bulk(_) => Err(AppFault::AgentStatus),
     }
+}
+
+/// The variable bindings of a response without an error.
+fn fine(pdu: Pdu) -> Result<Bindings, AppFault>
+    ensures { IfOk result (HasBindings (bodies.Pdu pdu)) }
+{
+    if pdu.error_status != 0 {
+        return Err(AppFault::AgentStatus);
+    }
+    Ok(pdu.bindings)
 }

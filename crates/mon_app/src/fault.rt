@@ -5,6 +5,7 @@ ghost use Rattle.mon_app.specs.AppFault.{number_of, name_of, of_stream, of_messa
 ghost use Rattle.std.specs.IoError.{error_kind};
 ghost use Rattle.mon_app.specs.declared.fault.AppFault.TheVariants.{OutOfMemory};
 
+use mon_agent::AgentFault;
 use mon_pdu::PduFault;
 use std::alloc::AllocError;
 use std::io;
@@ -21,6 +22,8 @@ pub enum AppFault {
     FileFault = 3,
     #[error("a socket could not be opened or used")]
     SocketFault = 4,
+    #[error("the agent answered with a name that does not increase")]
+    NotIncreasing = 5,
     #[error("the agent answered with an error status")]
     AgentStatus = 6,
     #[error("a word of the command line or a text is of no form that is read")]
@@ -44,6 +47,7 @@ impl AppFault {
             AppFault::Timeout => "Timeout",
             AppFault::FileFault => "FileFault",
             AppFault::SocketFault => "SocketFault",
+            AppFault::NotIncreasing => "NotIncreasing",
             AppFault::AgentStatus => "AgentStatus",
             AppFault::BadText => "BadText",
         }
@@ -54,6 +58,15 @@ impl From<AllocError> for AppFault {
     ghost from_gives = { λ _ e. e ≡ OutOfMemory };
 
     fn from(_e: AllocError) -> AppFault {
+        AppFault::OutOfMemory
+    }
+}
+
+/// The one fault of an agent is want of memory.
+impl From<AgentFault> for AppFault {
+    ghost from_gives = { λ _ e. e ≡ OutOfMemory };
+
+    fn from(_e: AgentFault) -> AppFault {
         AppFault::OutOfMemory
     }
 }

@@ -1,30 +1,62 @@
-//! A question to an agent: a Get or GetNext request, and which messages reply to it.
+//! A question to an agent: a Get, GetNext or GetBulk request, and which messages reply to it.
 
 ghost use Rattle.std.specs.Prelude.{◌≡◌, IfOk, map};
-ghost use Rattle.mon_app.specs.Question.{kind_of, request_of, asked_in, unset, same_names, are_answers, is_reply};
+ghost use Rattle.mon_app.specs.Question.{body_of, plain, request_of, asked_in, unset, same_names, are_answers, is_reply};
 
 use mon_ber::{Octets, Value};
 use mon_oid::Oid;
-use mon_pdu::{Binding, Bindings, Body, Message, Pdu, PduKind};
+use mon_pdu::{Binding, Bindings, Body, Bulk, Message, Pdu, PduKind};
 use std::alloc::{AllocError, Global};
 
-/// Which request asks: for the variables of the names themselves, or for those after them (RFC 3416 sections 4.2.1 and 4.2.2).
+/// Which request asks (RFC 3416 sections 4.2.1 to 4.2.3).
 #[derive(Clone, Copy, Debug, PartialEq, Eq)]
 pub enum Asking {
+    /// For the variables of the names.
     Get,
+    /// For those after the names.
     GetNext,
+    /// For those after the names, again and again.
+    GetBulk(Repeats),
+}
+
+/// How often a GetBulk asks for what comes next (RFC 3416 section 4.2.3).
+#[derive(Clone, Copy, Debug, PartialEq, Eq)]
+pub struct Repeats {
+    /// How many of the names are asked for once.
+    pub non_repeaters: i32,
+    /// How often each of the others is asked for at most.
+    pub max_repetitions: i32,
 }
 
 impl Asking {
-    /// The kind of the request's PDU.
-    pub fn kind(self) -> PduKind
-        ensures { result ≡ kind_of self }
+    /// The PDU that asks.
+    fn body(self, request_id: i32, bindings: Bindings) -> Body
+        ensures { result ≡ body_of self request_id bindings }
     {
         match self {
-            Asking::Get => PduKind::Get,
-            Asking::GetNext => PduKind::GetNext,
+            Asking::Get => plain(PduKind::Get, request_id, bindings),
+            Asking::GetNext => plain(PduKind::GetNext, request_id, bindings),
+            Asking::GetBulk(repeats) => Body::Bulk(Bulk {
+                request_id,
+                non_repeaters: repeats.non_repeaters,
+                max_repetitions: repeats.max_repetitions,
+                bindings,
+            }),
         }
     }
+}
+
+/// A request of a kind that has no numbers of its own.
+fn plain(kind: PduKind, request_id: i32, bindings: Bindings) -> Body
+    ensures { result ≡ plain kind request_id bindings }
+{
+    Body::Pdu(Pdu {
+        kind,
+        request_id,
+        error_status: 0,
+        error_index: 0,
+        bindings,
+    })
 }
 
 /// What a client asks an agent, in a community, under a request-id.
@@ -40,16 +72,10 @@ pub struct Question<'a> {
 pub fn request(alloc: Global, question: &Question<'_>) -> Result<Message, AllocError>
     ensures { IfOk result (λ m. m ≡ request_of (asked_in question.now)) }
 {
-    let bindings = unset(alloc, question.names)?;
+    let bindings = Bindings::new(unset(alloc, question.names)?);
     Ok(Message {
         community: Octets::from_slice(alloc, question.community)?,
-        body: Body::Pdu(Pdu {
-            kind: question.asking.kind(),
-            request_id: question.request_id,
-            error_status: 0,
-            error_index: 0,
-            bindings: Bindings::new(bindings),
-        }),
+        body: question.asking.body(question.request_id, bindings),
     })
 }
 
@@ -68,7 +94,7 @@ fn unset(alloc: Global, names: &[Oid]) -> Result<Vec<Binding>, AllocError>
 }
 
 /// Whether a message replies to the question: a Response in its community with its request-id that has an error status or
-/// answers each name. To a Get the names are those asked for; to a GetNext there are as many.
+/// answers each name. To a Get the names are those asked for; to a GetNext there are as many; to a GetBulk there are any.
 pub fn is_reply(question: &Question<'_>, message: &Message) -> bool
     ensures { result ≡ is_reply (asked_in question.now) message.now }
 {
@@ -87,6 +113,7 @@ fn are_answers(question: &Question<'_>, bindings: &[Binding]) -> bool
     match question.asking {
         Asking::Get => same_names(question.names, bindings),
         Asking::GetNext => question.names.len() == bindings.len(),
+        Asking::GetBulk(_) => true,
     }
 }
 

@@ -76,7 +76,7 @@ impl<R: Clock> Wire for SocketWire<'_, R> {
 }
 
 /// A failed call of a socket, unless memory ran out in it.
-fn socket_fault(error: io::Error) -> AppFault {
+pub(crate) fn socket_fault(error: io::Error) -> AppFault {
     match error.kind() {
         io::ErrorKind::OutOfMemory => AppFault::OutOfMemory,
         _ => AppFault::SocketFault,
