@@ -1,3 +1,4 @@
+pub mod Applying
 pub mod Both
 pub mod Counting
 pub mod Finding

@@ -1,5 +1,7 @@
+pub mod Change
 pub mod Counters
 pub mod DeviceFault
+pub mod Fuse
 pub mod Held
 pub mod Instances
 pub mod Known

@@ -4,11 +4,13 @@
 #![tactic(auto)]
 
 mod admin_status;
+mod change;
 mod column;
 mod counters;
 mod device;
 mod facts;
 mod fault;
+mod fuse_device;
 mod got;
 mod interface;
 pub mod laws;
@@ -21,14 +23,17 @@ mod scalar;
 mod settings;
 mod sim_device;
 mod start;
+mod status;
 mod sys_texts;
 
 pub use admin_status::AdminStatus;
+pub use change::Change;
 pub use column::Column;
 pub use counters::{Counter, Counters};
 pub use device::Device;
 pub use facts::{Facts, IfText, SysText};
 pub use fault::DeviceFault;
+pub use fuse_device::FuseDevice;
 pub use got::Got;
 pub use interface::{Growth, Interface};
 pub use max_access::MaxAccess;
@@ -39,4 +44,5 @@ pub use oper_status::OperStatus;
 pub use scalar::Scalar;
 pub use settings::Settings;
 pub use sim_device::SimDevice;
+pub use status::Status;
 pub use sys_texts::SysTexts;

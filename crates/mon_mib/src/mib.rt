@@ -1,6 +1,6 @@
 ghost use Rattle.std.specs.Prelude.{Some, ◌≡◌, ◌^◌, ◌<◌, ◌+◌, ◌/◌, ◌%◌, min, length, IfOk, IfSome, IfNone, [], ◌∷◌, ◌++◌, Contains};
 ghost use Rattle.mon_mib.specs.Counters.{no_counts};
-ghost use Rattle.mon_mib.specs.Held.{AreIndexes, IsAbove, IsLeastOf};
+ghost use Rattle.mon_mib.specs.Held.{AreIndexes, IsAbove, IsLeastOf, text_at};
 ghost use Rattle.mon_mib.specs.Known.{known_of, instances, value_of, scalar_value, column_value};
 ghost use Rattle.mon_mib.specs.Next.{IsGot, IsNext, IsServed};
 ghost use Rattle.mon_mib.specs.Objects.{objects, prefix_of};
@@ -203,7 +203,7 @@ impl<D: Device + Drop> Mib<D> {
     /// A text of an interface, as a value.
     fn text(&self, alloc: Global, index: u32, which: IfText) -> Result<Value, AllocError>
         requires { Contains (D.held self.now.device).indexes index }
-        ensures { IfOk result (λ value. value ≡ Value.Octets ((D.held self.now.device).text index which)) }
+        ensures { IfOk result (λ value. value ≡ Value.Octets (text_at (D.held self.now.device) index which)) }
     {
         Ok(Value::Octets(Octets::from_slice(alloc, self.device.text(index, which))?))
     }
