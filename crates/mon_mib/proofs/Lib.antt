@@ -3,6 +3,8 @@ pub mod Both
 pub mod Counting
 pub mod Finding
 pub mod Identifiers
+pub mod Judging
+pub mod Planning
 pub mod Rising
 pub mod Search
 pub mod Simulated
@@ -10,3 +12,4 @@ pub mod Starts
 pub mod Typed
 pub mod Unique
 pub mod Variables
+pub mod Writables

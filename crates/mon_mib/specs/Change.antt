@@ -33,6 +33,18 @@ undoing (set.SysText which text) h = set.SysText which (h.sys_text which)
 undoing (set.Admin index status since) h = set.Admin index (h.status index).admin (h.status index).since
 undoing (set.Alias index text) h = set.Alias index (h.alias index)
 
+-- whether both change the same thing
+abbrev pub same_target : Change → Change → Bool
+same_target (set.SysText a text) (set.SysText b other) = same_text a b
+same_target (set.SysText a text) (set.Admin j t m) = false
+same_target (set.SysText a text) (set.Alias j other) = false
+same_target (set.Admin i s n) (set.SysText b other) = false
+same_target (set.Admin i s n) (set.Admin j t m) = nat_eq i j
+same_target (set.Admin i s n) (set.Alias j other) = false
+same_target (set.Alias i text) (set.SysText b other) = false
+same_target (set.Alias i text) (set.Admin j t m) = false
+same_target (set.Alias i text) (set.Alias j other) = nat_eq i j
+
 -- the interface whose status or alias is changed is one of these
 abbrev pub IsOf : List ℕ → Change → Type 0
 IsOf indexes (set.SysText which text) = Unit {0}

@@ -1,3 +1,4 @@
+pub mod Assignment
 pub mod Change
 pub mod Counters
 pub mod DeviceFault
@@ -9,5 +10,9 @@ pub mod Moment
 pub mod Next
 pub mod Objects
 pub mod Order
+pub mod Plan
+pub mod Refusal
+pub mod SetStatus
 pub mod Sim
 pub mod Status
+pub mod Tried

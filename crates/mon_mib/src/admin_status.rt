@@ -1,4 +1,5 @@
-ghost use Rattle.std.specs.Prelude.{◌≡◌};
+ghost use Rattle.std.specs.Prelude.{◌≡◌, ◌≢◌, IfSome, IfNone};
+ghost use Rattle.mon_mib.specs.declared.admin_status.AdminStatus.{AdminStatus as AnyStatus};
 ghost use Rattle.mon_mib.specs.Held.{oper_of};
 ghost use Rattle.mon_mib.specs.Status.{admin_number};
 
@@ -31,6 +32,19 @@ impl AdminStatus {
             AdminStatus::Up => OperStatus::Up,
             AdminStatus::Down => OperStatus::Down,
             AdminStatus::Testing => OperStatus::Testing,
+        }
+    }
+
+    /// The status that a number stands for.
+    pub(crate) fn from_number(number: i32) -> Option<Self>
+        ensures some { IfSome result (λ status. number ≡ admin_number status) }
+        ensures none { IfNone result ((status : AnyStatus) → number ≢ admin_number status) }
+    {
+        match number {
+            1 => Some(AdminStatus::Up),
+            2 => Some(AdminStatus::Down),
+            3 => Some(AdminStatus::Testing),
+            _ => None,
         }
     }
 }

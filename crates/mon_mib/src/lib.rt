@@ -4,6 +4,7 @@
 #![tactic(auto)]
 
 mod admin_status;
+mod binding_fault;
 mod change;
 mod column;
 mod counters;
@@ -20,11 +21,17 @@ mod moment;
 mod object;
 mod oper_status;
 mod scalar;
+mod set_fault;
+mod set_plan;
+mod set_status;
+mod setting;
 mod settings;
 mod sim_device;
 mod start;
 mod status;
+mod step;
 mod sys_texts;
+mod writable;
 
 pub use admin_status::AdminStatus;
 pub use change::Change;
@@ -42,7 +49,11 @@ pub use moment::Moment;
 pub use object::{Object, all_objects};
 pub use oper_status::OperStatus;
 pub use scalar::Scalar;
+pub use set_fault::SetFault;
+pub use set_plan::SetPlan;
+pub use set_status::SetStatus;
 pub use settings::Settings;
 pub use sim_device::SimDevice;
 pub use status::Status;
+pub use step::Step;
 pub use sys_texts::SysTexts;

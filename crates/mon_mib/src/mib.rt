@@ -253,7 +253,7 @@ impl<D: Device + Drop> Mib<D> {
 }
 
 /// The served object that a name is under, and what of the name stands behind the object's own.
-fn find_object(name: &[u32]) -> Option<(Object, &[u32])>
+pub(crate) fn find_object(name: &[u32]) -> Option<(Object, &[u32])>
     ensures some { IfSome result (λ found. Contains objects found.0 × (name.now ≡ prefix_of found.0 ++ found.1.now)) }
     ensures none { IfNone result (¬ (IsServed name.now)) }
 {
