@@ -1,4 +1,5 @@
 pub mod Applying
+pub mod Assigning
 pub mod Both
 pub mod Counting
 pub mod Finding
@@ -9,7 +10,9 @@ pub mod Rising
 pub mod Search
 pub mod Simulated
 pub mod Starts
+pub mod Swapping
 pub mod Typed
+pub mod Undoing
 pub mod Unique
 pub mod Variables
 pub mod Writables

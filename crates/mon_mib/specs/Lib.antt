@@ -1,5 +1,6 @@
 pub mod Assignment
 pub mod Change
+pub mod Commit
 pub mod Counters
 pub mod DeviceFault
 pub mod Fuse
@@ -16,3 +17,4 @@ pub mod SetStatus
 pub mod Sim
 pub mod Status
 pub mod Tried
+pub mod Undone

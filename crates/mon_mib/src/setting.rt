@@ -1,4 +1,4 @@
-//! The first phase of a Set: which bindings are refused, and what the others change.
+//! A Set in two phases: which bindings are refused and what the others change, and then the changes (RFC 3416 section 4.2.5).
 
 ghost use Rattle.std.specs.Prelude.{◌≡◌, ℕ, ◌↔◌, ◌++◌, ◌∷◌, [], ◌^◌, ◌<◌, ◌≤◌, length, IfOk, IfErr, IfSome, IfNone, IsTrue, Any, All, Contains};
 ghost use Rattle.mon_mib.specs.declared.binding_fault.BindingFault.{BindingFault as AnyFault};
@@ -6,6 +6,7 @@ ghost use Rattle.mon_mib.specs.declared.object.Object.{Object as AnyObject};
 ghost use Rattle.mon_mib.specs.declared.object.Object.TheVariants as served;
 ghost use Rattle.mon_mib.specs.declared.column.Column.TheVariants.{IfAdminStatus, IfAlias};
 ghost use Rattle.mon_mib.specs.Assignment.{scalar_of, IsPlan};
+ghost use Rattle.mon_mib.specs.Commit.{IsCommitted, failures_of};
 ghost use Rattle.mon_mib.specs.Held.{facts_at};
 ghost use Rattle.mon_mib.specs.Known.{known_of};
 ghost use Rattle.mon_mib.specs.Objects.{prefix_of};
@@ -15,6 +16,7 @@ ghost use Rattle.mon_vacm.specs.View.{IsInView};
 
 use crate::binding_fault::BindingFault;
 use crate::change::Change;
+use crate::commit::{Commit, assign_all};
 use crate::device::Device;
 use crate::facts::{Facts, SysText};
 use crate::mib::{Mib, find_object};
@@ -66,6 +68,17 @@ impl<D: Device + Drop> Mib<D> {
             }
         }
         SetPlan::new(alloc, steps)
+    }
+
+    /// Makes the assignments of a plan in their order. Where one fails, all earlier ones are undone, the last first. Where an
+    /// undoing fails too, the others are still undone. It takes no memory: the plan has the room.
+    pub fn commit(&mut self, plan: SetPlan) -> Commit
+        ensures outcome { IsCommitted D.held D.refuses plan (D.held self.old.device) (D.held self.new.device) result }
+        ensures failures { D.failed self.new.device ≡ failures_of result (D.failed self.old.device) }
+        ensures settings { self.new.settings ≡ self.old.settings }
+        ensures counters { self.new.counters ≡ self.old.counters }
+    {
+        assign_all(&mut self.device, plan)
     }
 
     /// The change that the binding of a number asks for, or why it is refused.
