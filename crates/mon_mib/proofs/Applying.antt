@@ -250,11 +250,6 @@ text_made ps old new failures sim c which text view is change =
     ap (λ f. held (indexes_of ps) f (each status_of ps) (each (λ r. text_of r Alias) ps) (each fixed_of ps) (each numbers_of ps)) is
     ∙ (ap (λ z. changed (set_to.SysText which text) (held_of z)) view ∙ ap (λ d. changed d (held_of sim)) (sym change))
 
-pub text_undo : (old : SysTexts) (ps : List Interface) (failures : ℕ) (sim : Sim) (c : Change) (which : SysText) (text was : List ℕ)
-    → sim_of ps old failures ≡ sim → was ≡ sys_text_of old which → c ≡ set_to.SysText which text → set_to.SysText which was ≡ undoing c (held_of sim)
-text_undo old ps failures sim c which text was view is change =
-    ap (λ z. set_to.SysText which z) is ∙ (ap (λ z. undoing (set_to.SysText which text) (held_of z)) view ∙ ap (λ d. undoing d (held_of sim)) (sym change))
-
 pub on_err : {A E : Type 0} {P : Type 0} (r : Result A E) → P → OnErr r P
 on_err (Ok a) p = tt
 on_err (Err e) p = p

@@ -1,5 +1,5 @@
 -- Assigning one after another, up to the first that fails.
-use Rattle.std.proofs.Common.{◌≡◌, ℕ, List, [], ◌∷◌, ◌++◌, refl, sym, ◌∙◌, ap, subst, append_assoc, append-nil}
+use Rattle.std.proofs.Common.{◌≡◌, ℕ, List, [], ◌∷◌, ◌++◌, refl, sym, ◌∙◌, ap, subst, append_assoc}
 use Rattle.mon_mib.specs.declared.change.Change.{Change}
 use Rattle.mon_mib.specs.declared.commit.Commit.{Commit}
 use Rattle.mon_mib.specs.declared.commit.Commit.TheVariants.{Done, CommitFailed, UndoFailed}
@@ -30,10 +30,6 @@ assigned plan all rest undos more s before now new split at made listed = record
       ∙ (ap (λ h. undoings at.done before ++ record { index = s.index; change = undoing s.change h } ∷ []) at.holds ∙ sym (undoings_push at.done s before)));
   holds = made ∙ (ap (changed s.change) at.holds ∙ sym (changes_push at.done s before));
 }
-
-pub ended : (plan rest undos : List Step) (before now : Held) → rest ≡ [] → IsAtAssign plan before rest undos now → now ≡ changes plan before
-ended plan rest undos before now none at =
-    at.holds ∙ ap (λ l. changes l before) (sym (append-nil at.done) ∙ (ap (λ l. at.done ++ l) (sym none) ∙ sym at.order))
 
 pub done_apart : (plan rest undos : List Step) (before now : Held) → AreApart plan → (at : IsAtAssign plan before rest undos now) → AreApart at.done
 done_apart plan rest undos before now apart at = front_apart at.done rest (subst AreApart at.order apart)

@@ -1,5 +1,5 @@
 -- From what is found of a value for an object, to whether a binding is refused and what it changes.
-use Rattle.std.proofs.Common.{◌≡◌, ℕ, ◌<◌, List, ◌++◌, refl, sym, ◌∙◌, ap, subst, arith}
+use Rattle.std.proofs.Common.{◌≡◌, ℕ, ◌<◌, List, ◌++◌, refl, sym, ◌∙◌, ap, subst}
 use Rattle.std.specs.Prelude.{Result, Ok, Err}
 use Rattle.mon_ber.specs.Grammar.{tag_of}
 use Rattle.mon_pdu.specs.declared.message.Binding.{Binding}
@@ -11,30 +11,12 @@ use Rattle.mon_mib.specs.declared.set_status.SetStatus.{SetStatus}
 use Rattle.mon_mib.specs.declared.set_status.SetStatus.TheVariants.{NoAccess, WrongType, WrongLength, WrongValue, NoCreation, NotWritable}
 use Rattle.mon_mib.specs.Objects.{prefix_of, syntax_of}
 use Rattle.mon_mib.specs.Known.{Known, variable}
-use Rattle.mon_mib.specs.Refusal.{IsWritable, IsGround, IsRefused, IsNoStatus, longest, octet_count, order}
+use Rattle.mon_mib.specs.Refusal.{IsWritable, IsGround, IsNoStatus, longest, octet_count}
 use Rattle.mon_mib.specs.Tried.{IsGroundAt, IsTried, IsJudged}
 use Rattle.mon_mib.proofs.Unique.{one_object, at_rest, IsAtRest}
 
 same_object : (x : List ℕ) (o q : Object) → IsWritable x o → IsWritable x q → q ≡ o
 same_object x o q w v = one_object q o v.listed w.listed v.under.0 w.under.0 (sym v.under.1 ∙ w.under.1)
-
-module _ (k : Known) (sees : List ℕ → Type 0) (b : Binding) where
-  pub no_access : ¬ (sees b.name) → IsRefused k sees b NoAccess
-  no_access unseen = record { ground = unseen; first = λ q lt g. none (order q) lt }
-    where
-      none : (n : ℕ) → n < 0 → ⊥
-      none n lt = omega arith
-
-  pub not_writable : sees b.name → ((o : Object) → IsWritable b.name o → ⊥) → IsRefused k sees b NotWritable
-  not_writable seen none = record { ground = none; first = before }
-    where
-      before : (q : SetStatus) → order q < 1 → ¬ (IsGround k sees b q)
-      before NoAccess lt g = g seen
-      before NotWritable lt g = omega arith
-      before WrongType lt g = omega arith
-      before WrongLength lt g = omega arith
-      before WrongValue lt g = omega arith
-      before NoCreation lt g = omega arith
 
 module _ (k : Known) (sees : List ℕ → Type 0) (b : Binding) (o : Object) (rest : List ℕ) (seen : sees b.name) (w : IsWritable b.name o)
     (named : b.name ≡ prefix_of o ++ rest) where

@@ -22,9 +22,6 @@ index_push : (ss : List Step) (s : Step) → index_of (ss ++ s ∷ []) ≡ index
 index_push [] s = refl
 index_push (t ∷ ss) s = ap (λ ns. t.index ∷ ns) (index_push ss s)
 
-undo_of : Step → Held → Step
-undo_of s h = record { index = s.index; change = undoing s.change h }
-
 pub undoings_push : (ss : List Step) (s : Step) (h : Held) → undoings (ss ++ s ∷ []) h ≡ undoings ss h ++ record { index = s.index; change = undoing s.change (changes ss h) } ∷ []
 undoings_push [] s h = refl
 undoings_push (t ∷ ss) s h = ap (λ us. record { index = t.index; change = undoing t.change h } ∷ us) (undoings_push ss s (changed t.change h))
