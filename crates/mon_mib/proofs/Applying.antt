@@ -2,12 +2,10 @@
 use Rattle.std.proofs.Common.{zero, suc, ◌≡◌, ℕ, ◌<◌, Bool, true, false, cond, List, [], ◌∷◌, length, get_or, refl, sym, ◌∙◌, ap, subst, arith}
 use Rattle.std.proofs.Math.ListN.{set}
 use Rattle.std.proofs.Math.Path.{fun_ext}
-use Rattle.std.specs.Prelude.{Option, Some, None, Result, Ok, Err, OnErr, Contains, AllPairs, nat_eq, nat_lt, not}
-use Rattle.std.specs.List.{position, position_or_len}
-use Rattle.std.proofs.lemmas.Bool.{eqb-true, ltb-true}
+use Rattle.std.specs.Prelude.{Option, Some, Result, Ok, Err, OnErr, Contains, AllPairs, nat_eq}
+use Rattle.std.proofs.lemmas.Bool.{eqb-true}
 use Rattle.std.proofs.lemmas.Bool.Decides.{nat_tests}
 use Rattle.std.proofs.lemmas.List.{get_or-map, length-map}
-use Rattle.std.proofs.lemmas.List.Sums.{prefix_len_passes, prefix_len_stops}
 use Rattle.mon_mib.specs.declared.interface.Interface.{Interface}
 use Rattle.mon_mib.specs.declared.status.Status.{Status}
 use Rattle.mon_mib.specs.declared.facts.Facts.{Facts}
@@ -20,59 +18,7 @@ use Rattle.mon_mib.specs.declared.change.Change.{Change}
 use Rattle.mon_mib.specs.declared.change.Change.TheVariants as set_to
 use Rattle.mon_mib.specs.Change.{changed, undoing, put, same_text}
 use Rattle.mon_mib.specs.Held.{Held, AreIndexes}
-use Rattle.mon_mib.specs.Sim.{Sim, indexes_of, interface_at, status_of, text_of, fixed_of, numbers_of, held_of, sys_text_of}
-
--- ---- its place
-
-pub record IsPlace (ps : List Interface) (i k : ℕ) : Type 0 where
-  pub within : k < length ps
-  pub is : (d : Interface) → (get_or ps k d).index ≡ i
-
-passes : {b : Bool} → not b ≡ false → b ≡ true
-passes {b = true} e = refl
-passes {b = false} e = cc
-
-fails : {b : Bool} → not b ≡ true → b ≡ false
-fails {b = true} e = cc
-fails {b = false} e = refl
-
-pub at_place : (ps : List Interface) (i k : ℕ) → position (λ (p : Interface). nat_eq p.index i) ps ≡ Some k → IsPlace ps i k
-at_place ps i k e = by_test (nat_lt (position_or_len (λ (p : Interface). nat_eq p.index i) ps) (length ps)) refl e
-  where
-    place : IsPlace ps i (position_or_len (λ (p : Interface). nat_eq p.index i) ps) → position_or_len (λ (p : Interface). nat_eq p.index i) ps ≡ k → IsPlace ps i k
-    place h e = subst (IsPlace ps i) e h
-
-    by_test : (b : Bool) → nat_lt (position_or_len (λ (p : Interface). nat_eq p.index i) ps) (length ps) ≡ b
-        → cond b (Some (position_or_len (λ (p : Interface). nat_eq p.index i) ps)) None ≡ Some k → IsPlace ps i k
-    by_test true t e =
-        let within : position_or_len (λ (p : Interface). nat_eq p.index i) ps < length ps = ltb-true _ _ t in
-        place (record { within = within; is = λ d. eqb-true _ _ (passes (prefix_len_stops (λ (p : Interface). not (nat_eq p.index i)) ps d within)) }) cc
-    by_test false t e = absurd (never e)
-      where
-        never : {n : ℕ} → None ≡ Some n → ⊥
-        never e = cc
-
-pub no_place : (ps : List Interface) (i : ℕ) → position (λ (p : Interface). nat_eq p.index i) ps ≡ None → Contains (indexes_of ps) i → ⊥
-no_place [] i e (k, lt, is) = omega arith
-no_place (q ∷ qs) i e (k, lt, is) = by_test (nat_lt (position_or_len (λ (p : Interface). nat_eq p.index i) (q ∷ qs)) (length (q ∷ qs))) refl e
-  where
-    by_test : (b : Bool) → nat_lt (position_or_len (λ (p : Interface). nat_eq p.index i) (q ∷ qs)) (length (q ∷ qs)) ≡ b
-        → cond b (Some (position_or_len (λ (p : Interface). nat_eq p.index i) (q ∷ qs))) None ≡ None → ⊥
-    by_test true t e = never e
-      where
-        never : {n : ℕ} → Some n ≡ None → ⊥
-        never e = cc
-    by_test false t e =
-        let within : k < length (q ∷ qs) = subst (λ n. k < n) (length-map (q ∷ qs) (λ (p : Interface). p.index)) lt in
-        let other : nat_eq (get_or (q ∷ qs) k q).index i ≡ false = fails (prefix_len_passes (λ (p : Interface). not (nat_eq p.index i)) (q ∷ qs) k q (under within t)) in
-        let same : (get_or (q ∷ qs) k q).index ≡ i = sym (get_or-map (λ (p : Interface). p.index) (q ∷ qs) k q i within) ∙ is in
-        differs same other
-      where
-        under : {n m : ℕ} → k < n → nat_lt m n ≡ false → k < m
-        under lt t = grind (arith, nat_tests)
-
-        differs : {n m : ℕ} → n ≡ m → nat_eq n m ≡ false → ⊥
-        differs same other = grind (arith, nat_tests)
+use Rattle.mon_mib.specs.Sim.{IsPlace, Sim, indexes_of, interface_at, status_of, text_of, fixed_of, numbers_of, held_of, sys_text_of}
 
 -- ---- the list with the other
 
@@ -213,9 +159,9 @@ sim_of ps texts failures = record { interfaces = ps; texts = texts; failures = f
 
 module _ (ps : List Interface) (texts : SysTexts) (failures : ℕ) (middle sim : Sim) (i k : ℕ) (p q : Interface) (c : Change)
     (view : sim_of ps texts failures ≡ middle) (same : middle ≡ sim) (are : AreIndexes (indexes_of ps))
-    (place : position (λ (r : Interface). nat_eq r.index i) sim.interfaces ≡ Some k) (was : p ≡ get_or ps k p) where
+    (place : IsPlace sim.interfaces i k) (was : p ≡ get_or ps k p) where
   at : IsPlace ps i k
-  at = at_place ps i k (ap (λ (s : Sim). position (λ (r : Interface). nat_eq r.index i) s.interfaces) (view ∙ same) ∙ place)
+  at = subst (λ (s : Sim). IsPlace s.interfaces i k) (sym (view ∙ same)) place
 
   pub still_indexes : q.index ≡ p.index → AreIndexes (indexes_of (set ps k q))
   still_indexes e = set_indexes (sim_of ps texts failures) i k p q are at was e

@@ -8,6 +8,7 @@ pub mod Judging
 pub mod Planning
 pub mod Rising
 pub mod Search
+pub mod Searching
 pub mod Simulated
 pub mod Starts
 pub mod Swapping

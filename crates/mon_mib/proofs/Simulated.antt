@@ -24,7 +24,7 @@ in_tail x y xs at = Contains-append_right (x ∷ []) xs y at
 
 -- ---- by its index
 
-found : (ps : List Interface) (i : ℕ) → IfSome (interface_at ps i) (λ _. Contains (indexes_of ps) i)
+pub found : (ps : List Interface) (i : ℕ) → IfSome (interface_at ps i) (λ _. Contains (indexes_of ps) i)
 found [] i = tt
 found (p ∷ ps) i = by_test (nat_eq p.index i) refl (found ps i)
   where

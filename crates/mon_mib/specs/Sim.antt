@@ -1,5 +1,5 @@
 -- The simulated device.
-use Rattle.std.specs.Prelude.{ℕ, Bool, true, ◌+◌, ◌*◌, ◌%◌, ◌^◌, List, [], map, find, Option, Some, None, nat_eq, nat_lt, pos}
+use Rattle.std.specs.Prelude.{◌≡◌, ℕ, ◌<◌, length, slice_index_or, Bool, true, ◌+◌, ◌*◌, ◌%◌, ◌^◌, List, [], map, find, Option, Some, None, nat_eq, nat_lt, pos}
 use Rattle.mon_mib.specs.declared.facts.Facts.{Facts}
 use Rattle.mon_mib.specs.declared.facts.SysText.{SysText}
 use Rattle.mon_mib.specs.declared.facts.SysText.TheVariants.{Contact, SystemName, Location}
@@ -27,6 +27,11 @@ indexes_of interfaces = map (λ p. p.index) interfaces
 -- the first interface of an index
 abbrev pub interface_at : List Interface → ℕ → Option Interface
 interface_at interfaces index = find (λ p. nat_eq p.index index) interfaces
+
+-- an index is that of the interface at a place
+pub record IsPlace (interfaces : List Interface) (index place : ℕ) : Type 0 where
+  pub within : place < length interfaces
+  pub is : (d : Interface) → (slice_index_or interfaces place d).index ≡ index
 
 -- start + rate * seconds, modulo 2^64
 abbrev pub grown : Growth → ℕ → ℕ

@@ -1,8 +1,8 @@
-ghost use Rattle.std.specs.Prelude.{◌≡◌, ◌<◌, ◌↔◌, IsTrue, IsOk, IfOk, OnOk, OnErr, Contains, find, position, nat_eq};
+ghost use Rattle.std.specs.Prelude.{◌≡◌, ◌<◌, ◌↔◌, IsTrue, IsOk, IfOk, OnOk, OnErr, IfSome, IfNone, Contains, find};
 ghost use Rattle.std.specs.Option.{option_copied};
 ghost use Rattle.mon_mib.specs.Change.{one_failure};
 ghost use Rattle.mon_mib.specs.Held.{AreIndexes};
-ghost use Rattle.mon_mib.specs.Sim.{held_of, indexes_of, interface_at, is_over};
+ghost use Rattle.mon_mib.specs.Sim.{held_of, indexes_of, interface_at, is_over, IsPlace};
 
 use crate::change::Change;
 use crate::device::Device;
@@ -125,7 +125,7 @@ impl Device for SimDevice {
 impl SimDevice {
     /// The place of the interface of an index. Where the device lacks it, that is a failure.
     fn place(&mut self, index: u32) -> Result<usize, DeviceFault>
-        ensures found { IfOk result (λ place. position (λ p. nat_eq p.index index) self.old.interfaces ≡ Some place) }
+        ensures found { IfOk result (IsPlace self.old.interfaces index) }
         ensures same { OnOk result (self.new ≡ self.old) }
         ensures lacking { OnErr result (¬ (Contains (indexes_of self.old.interfaces) index)) }
         ensures counted { OnErr result (self.new ≡ record self.old { failures = one_failure self.old.failures }) }
@@ -138,25 +138,39 @@ impl SimDevice {
     }
 }
 
-/// The place of the interface of an index.
+/// The place of the interface of an index, where indexes rise.
 fn place_of(interfaces: &[Interface], index: u32) -> Option<usize>
-    ensures { result ≡ position (λ p. nat_eq p.index index) interfaces.now }
+    requires { AreIndexes (indexes_of interfaces.now) }
+    ensures found { IfSome result (IsPlace interfaces.now index) }
+    ensures missing { IfNone result (¬ (Contains (indexes_of interfaces.now) index)) }
 {
-    interfaces.iter().position(|p| p.index == index)
+    match interfaces.binary_search_by_key(&index, |p| p.index) {
+        Ok(place) => Some(place),
+        Err(_) => None,
+    }
 }
 
-/// The interface of an index.
+/// The interface of an index, where indexes rise.
 fn find(interfaces: &[Interface], index: u32) -> Option<&Interface>
+    requires { AreIndexes (indexes_of interfaces.now) }
     ensures { option_copied result ≡ interface_at interfaces.now index }
 {
-    interfaces.iter().find(|p| p.index == index)
+    let Some(place) = place_of(interfaces, index) else {
+        return None;
+    };
+    Some(&interfaces[place])
 }
 
-/// The first interface whose index is above another, or of all.
+/// The first interface whose index is above another, or of all, where indexes rise.
 fn above(interfaces: &[Interface], after: Option<u32>) -> Option<&Interface>
+    requires { AreIndexes (indexes_of interfaces.now) }
     ensures { option_copied result ≡ find (λ p. is_over after p.index) interfaces.now }
 {
-    interfaces.iter().find(|p| is_above(after, p.index))
+    let place = interfaces.partition_point(|p| !is_above(after, p.index));
+    if place >= interfaces.len() {
+        return None;
+    }
+    Some(&interfaces[place])
 }
 
 fn is_above(after: Option<u32>, index: u32) -> bool
