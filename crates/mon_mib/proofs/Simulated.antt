@@ -24,7 +24,7 @@ in_tail x y xs at = Contains-append_right (x ∷ []) xs y at
 
 -- ---- by its index
 
-found : (ps : List Interface) (i : ℕ) → IfSome (interface_at ps i) (λ _. Contains (indexes_of ps) i)
+pub found : (ps : List Interface) (i : ℕ) → IfSome (interface_at ps i) (λ _. Contains (indexes_of ps) i)
 found [] i = tt
 found (p ∷ ps) i = by_test (nat_eq p.index i) refl (found ps i)
   where
@@ -159,12 +159,6 @@ more_good ps j d last lt is over small good = below_more (IsGood (indexes_of ps)
 
 pub next_last : (ps : List Interface) (j : ℕ) (d : Interface) → j < length ps → (get_or ps j d).index ≡ before (indexes_of ps) (j + 1)
 next_last ps j d lt = rw add-one (sym (read ps j d lt))
-
-pub not_good : (ps : List Interface) (j : ℕ) (d : Interface) (last : ℕ) → j < length ps → last ≡ before (indexes_of ps) j
-    → (last < (get_or ps j d).index → (get_or ps j d).index < 2 ^ 31 → ⊥) → AreIndexes (indexes_of ps) → ⊥
-not_good ps j d last lt is no_ are =
-    let good : IsGood (indexes_of ps) j = good_at (indexes_of ps) are j (rw (length-map ps (λ p. p.index)) lt) in
-    no_ (rw is (subst (λ n. before (indexes_of ps) j < n) (read ps j d lt) good.over)) (subst (λ n. n < 2 ^ 31) (read ps j d lt) good.small)
 
 pub whole : (ps : List Interface) (j : ℕ) → length ps ≤ j → ((i : ℕ) → i < j → IsGood (indexes_of ps) i) → AreIndexes (indexes_of ps)
 whole ps j le good = all_good (indexes_of ps) (λ i lt. good i (omega (arith, length-map ps (λ (p : Interface). p.index))))

@@ -21,9 +21,6 @@ at_less a b lt = rw (lt-ltb a b lt) refl
 at_equal : (a b : ℕ) → a ≡ b → nat_cmp a b ≡ Equal
 at_equal a b e = grind (arith, nat_tests)
 
-at_greater : (a b : ℕ) → b < a → nat_cmp a b ≡ Greater
-at_greater a b lt = grind (arith, nat_tests)
-
 -- one number more at the front
 less : (x p : ℕ) (o : Ordering) (s : Start) (i : ℕ) → x < p
     → (ordering_then (nat_cmp x p) o ≡ Less) ↔ IsFrom (cond (nat_lt p x) Nowhere (cond (nat_lt x p) First s)) i

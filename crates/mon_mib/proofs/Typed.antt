@@ -8,6 +8,7 @@ use Rattle.mon_mib.specs.declared.column.Column.{Column}
 use Rattle.mon_mib.specs.declared.column.Column.TheVariants.{IfIndex, IfDescr, IfType, IfMtu, IfSpeed, IfPhysAddress, IfAdminStatus, IfOperStatus, IfLastChange, IfInOctets, IfInUcastPkts, IfInDiscards, IfInErrors, IfInUnknownProtos, IfOutOctets, IfOutUcastPkts, IfOutDiscards, IfOutErrors, IfName, IfHcInOctets, IfHcInUcastPkts, IfHcOutOctets, IfHcOutUcastPkts, IfHighSpeed, IfAlias, IfCounterDiscontinuityTime}
 use Rattle.mon_mib.specs.declared.object.Object.{Object}
 use Rattle.mon_mib.specs.declared.object.Object.TheVariants as served
+use Rattle.mon_mib.specs.Held.{facts_at}
 use Rattle.mon_mib.specs.Known.{Known, scalar_value, column_value, value_of}
 use Rattle.mon_mib.specs.Objects.{scalar_syntax, column_syntax, syntax_of}
 
@@ -61,4 +62,4 @@ column k f i IfCounterDiscontinuityTime = refl
 pub typed : (k : Known) (o : Object) (i : ℕ) → tag_of (value_of k o i) ≡ syntax_of o
 unfolding value_of
 typed k (served.Scalar s) i = scalar k s
-typed k (served.Column c) i = column k (k.held.facts i k.moment) i c
+typed k (served.Column c) i = column k (facts_at k.held i k.moment) i c

@@ -16,7 +16,7 @@ use Rattle.mon_mib.specs.declared.column.Column.TheVariants.{IfIndex, IfDescr, I
 use Rattle.mon_mib.specs.declared.object.Object.{Object}
 use Rattle.mon_mib.specs.declared.object.Object.TheVariants as served
 use Rattle.mon_mib.specs.Objects.{prefix_of, objects}
-use Rattle.mon_mib.specs.Held.{Held}
+use Rattle.mon_mib.specs.Held.{Held, facts_at, text_at}
 use Rattle.mon_mib.specs.Moment.{up_time, engine_time}
 use Rattle.mon_mib.specs.Status.{admin_number, oper_number}
 
@@ -55,11 +55,11 @@ scalar_value k SnmpEngineMaxMessageSize = Integer k.settings.limit
 -- and a 32-bit counter is the 64-bit one modulo 2^32 (RFC 2863 sections 3.1.6 and 3.1.7)
 abbrev pub column_value : Known → Facts → ℕ → Column → Value
 column_value k f i IfIndex = Integer (pos i)
-column_value k f i IfDescr = Octets (k.held.text i Descr)
+column_value k f i IfDescr = Octets (text_at k.held i Descr)
 column_value k f i IfType = Integer f.kind
 column_value k f i IfMtu = Integer f.mtu
 column_value k f i IfSpeed = Gauge32 (min f.speed 4294967295)
-column_value k f i IfPhysAddress = Octets (k.held.text i Phys)
+column_value k f i IfPhysAddress = Octets (text_at k.held i Phys)
 column_value k f i IfAdminStatus = Integer (admin_number f.admin)
 column_value k f i IfOperStatus = Integer (oper_number f.oper)
 column_value k f i IfLastChange = TimeTicks f.last_change
@@ -72,19 +72,19 @@ column_value k f i IfOutOctets = Counter32 (f.out_octets % 2 ^ 32)
 column_value k f i IfOutUcastPkts = Counter32 (f.out_packets % 2 ^ 32)
 column_value k f i IfOutDiscards = Counter32 f.out_discards
 column_value k f i IfOutErrors = Counter32 f.out_errors
-column_value k f i IfName = Octets (k.held.text i ShortName)
+column_value k f i IfName = Octets (text_at k.held i ShortName)
 column_value k f i IfHcInOctets = Counter64 f.in_octets
 column_value k f i IfHcInUcastPkts = Counter64 f.in_packets
 column_value k f i IfHcOutOctets = Counter64 f.out_octets
 column_value k f i IfHcOutUcastPkts = Counter64 f.out_packets
 column_value k f i IfHighSpeed = Gauge32 (min ((f.speed + 500000) / 1000000) 4294967295)
-column_value k f i IfAlias = Octets (k.held.text i Alias)
+column_value k f i IfAlias = Octets (text_at k.held i Alias)
 column_value k f i IfCounterDiscontinuityTime = TimeTicks f.discontinuity
 
 -- the value of the object's variable of an instance
 unfoldable pub value_of : Known → Object → ℕ → Value
 value_of k (served.Scalar s) i = scalar_value k s
-value_of k (served.Column c) i = column_value k (k.held.facts i k.moment) i c
+value_of k (served.Column c) i = column_value k (facts_at k.held i k.moment) i c
 
 -- the instances of an object's variables
 abbrev pub instances : Held → Object → List ℕ

@@ -1,5 +1,9 @@
+pub mod Assignment
+pub mod Change
+pub mod Commit
 pub mod Counters
 pub mod DeviceFault
+pub mod Fuse
 pub mod Held
 pub mod Instances
 pub mod Known
@@ -7,5 +11,10 @@ pub mod Moment
 pub mod Next
 pub mod Objects
 pub mod Order
+pub mod Plan
+pub mod Refusal
+pub mod SetStatus
 pub mod Sim
 pub mod Status
+pub mod Tried
+pub mod Undone

@@ -1,22 +1,24 @@
 -- The simulated device.
-use Rattle.std.specs.Prelude.{ℕ, Bool, true, ◌+◌, ◌*◌, ◌%◌, ◌^◌, List, [], map, find, Option, Some, None, nat_eq, nat_lt, pos}
+use Rattle.std.specs.Prelude.{◌≡◌, ℕ, ◌<◌, length, slice_index_or, Bool, true, ◌+◌, ◌*◌, ◌%◌, ◌^◌, List, [], map, find, Option, Some, None, nat_eq, nat_lt, pos}
 use Rattle.mon_mib.specs.declared.facts.Facts.{Facts}
 use Rattle.mon_mib.specs.declared.facts.SysText.{SysText}
 use Rattle.mon_mib.specs.declared.facts.SysText.TheVariants.{Contact, SystemName, Location}
 use Rattle.mon_mib.specs.declared.facts.IfText.{IfText}
 use Rattle.mon_mib.specs.declared.facts.IfText.TheVariants.{Descr, Phys, ShortName, Alias}
+use Rattle.mon_mib.specs.declared.status.Status.{Status}
 use Rattle.mon_mib.specs.declared.admin_status.AdminStatus.TheVariants as admin
 use Rattle.mon_mib.specs.declared.oper_status.OperStatus.TheVariants as oper
 use Rattle.mon_mib.specs.declared.interface.Growth.{Growth}
 use Rattle.mon_mib.specs.declared.interface.Interface.{Interface}
 use Rattle.mon_mib.specs.declared.sys_texts.SysTexts.{SysTexts}
-use Rattle.mon_mib.specs.Held.{Held}
+use Rattle.mon_mib.specs.Held.{Held, at_start, oper_of}
 use Rattle.mon_mib.specs.Moment.{engine_time}
 
--- its interfaces, and the texts that can be set
+-- its interfaces, the texts that can be set, and how many changes it has failed to make
 pub record Sim : Type 0 where
   pub interfaces : List Interface
   pub texts : SysTexts
+  pub failures : ℕ
 
 -- the indexes of interfaces
 abbrev pub indexes_of : List Interface → List ℕ
@@ -26,20 +28,25 @@ indexes_of interfaces = map (λ p. p.index) interfaces
 abbrev pub interface_at : List Interface → ℕ → Option Interface
 interface_at interfaces index = find (λ p. nat_eq p.index index) interfaces
 
+-- an index is that of the interface at a place
+pub record IsPlace (interfaces : List Interface) (index place : ℕ) : Type 0 where
+  pub within : place < length interfaces
+  pub is : (d : Interface) → (slice_index_or interfaces place d).index ≡ index
+
 -- start + rate * seconds, modulo 2^64
 abbrev pub grown : Growth → ℕ → ℕ
 grown growth moment = (growth.start + growth.rate * engine_time moment) % 2 ^ 64
 
--- The facts of an interface at a moment: both statuses are up and never changed, octets and packets grow, and nothing is
--- discarded, wrong, unknown or discontinuous.
+-- The facts of an interface at a moment: the operational status is the administrative one, octets and packets grow, and
+-- nothing is discarded, wrong, unknown or discontinuous.
 abbrev pub interface_facts : Interface → ℕ → Facts
 interface_facts p moment = record {
   kind = p.kind;
   mtu = p.mtu;
   speed = p.speed;
-  admin = admin.Up;
-  oper = oper.Up;
-  last_change = 0;
+  admin = p.status.admin;
+  oper = oper_of p.status.admin;
+  last_change = p.status.since;
   in_octets = grown p.in_octets moment;
   in_packets = grown p.in_packets moment;
   in_discards = 0;
@@ -52,15 +59,15 @@ interface_facts p moment = record {
   discontinuity = 0;
 }
 
--- the same where there is an interface; what stands where there is none is asked by nobody
-abbrev pub facts_of : Option Interface → ℕ → Facts
-facts_of (Some p) moment = interface_facts p moment
-facts_of None moment = record {
+-- Its numbers, those of its status aside; what stands where there is no interface is asked by nobody.
+abbrev pub numbers_of : Option Interface → ℕ → Facts
+numbers_of (Some p) moment = record (interface_facts p moment) { admin = admin.Up; oper = oper.Up; last_change = 0 }
+numbers_of None moment = record {
   kind = pos 0;
   mtu = pos 0;
   speed = 0;
-  admin = admin.Down;
-  oper = oper.NotPresent;
+  admin = admin.Up;
+  oper = oper.Up;
   last_change = 0;
   in_octets = 0;
   in_packets = 0;
@@ -88,13 +95,28 @@ text_of (Some p) ShortName = p.name
 text_of (Some p) Alias = p.alias
 text_of None which = []
 
+-- its status
+abbrev pub status_of : Option Interface → Status
+status_of (Some p) = p.status
+status_of None = at_start
+
+-- its texts that no Set changes
+abbrev pub fixed_of : Option Interface → IfText → List ℕ
+fixed_of (Some p) Descr = p.descr
+fixed_of (Some p) Phys = p.phys
+fixed_of (Some p) ShortName = p.name
+fixed_of (Some p) Alias = []
+fixed_of None which = []
+
 -- what the device holds
 abbrev pub held_of : Sim → Held
 held_of sim = record {
-  sys_text = sys_text_of sim.texts;
   indexes = indexes_of sim.interfaces;
-  facts = λ index moment. facts_of (interface_at sim.interfaces index) moment;
-  text = λ index which. text_of (interface_at sim.interfaces index) which;
+  sys_text = sys_text_of sim.texts;
+  status = λ index. status_of (interface_at sim.interfaces index);
+  alias = λ index. text_of (interface_at sim.interfaces index) Alias;
+  fixed_text = λ index which. fixed_of (interface_at sim.interfaces index) which;
+  numbers = λ index moment. numbers_of (interface_at sim.interfaces index) moment;
 }
 
 -- whether an index is above a number, or any where there is none

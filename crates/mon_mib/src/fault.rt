@@ -3,12 +3,15 @@ ghost use Rattle.mon_mib.specs.DeviceFault.{number_of, name_of};
 
 use thiserror::Error;
 
-/// Why there is no simulated device. `SimDevice::new` takes no memory, so none is want of it.
+/// Why there is no simulated device, or why a device did not make a change. What answers it takes no memory, so none is want of it.
 #[derive(Clone, Copy, Debug, PartialEq, Eq, Error)]
 pub enum DeviceFault {
-    /// The indexes do not rise strictly, or are not 1 to 2147483647.
-    #[error("the indexes do not rise strictly from 1 to 2147483647")]
+    /// The indexes do not rise strictly, or are not 1 to 2147483647, or the device lacks the index.
+    #[error("the indexes do not rise strictly from 1 to 2147483647, or lack this one")]
     BadIndex = 2,
+    /// The device failed to make the change.
+    #[error("the device failed to make the change")]
+    Failed = 3,
 }
 
 impl DeviceFault {
@@ -25,6 +28,7 @@ impl DeviceFault {
     {
         match self {
             DeviceFault::BadIndex => "BadIndex",
+            DeviceFault::Failed => "Failed",
         }
     }
 }

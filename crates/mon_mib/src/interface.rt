@@ -1,11 +1,11 @@
 ghost use Rattle.std.specs.Prelude.{◌≡◌, Some};
 ghost use Rattle.mon_mib.specs.Sim.{grown, interface_facts, text_of};
 
-use crate::admin_status::AdminStatus;
 use crate::facts::{Facts, IfText};
 use crate::moment::Moment;
-use crate::oper_status::OperStatus;
+use crate::status::Status;
 use mon_ber::Octets;
+use std::mem;
 
 /// A count that grows by the same number each second, from 2^64 - 1 to 0 (Counter64, RFC 2578 section 7.1.10).
 #[derive(Clone, Copy, Debug, PartialEq, Eq)]
@@ -45,6 +45,8 @@ pub struct Interface {
     pub name: Octets,
     /// ifAlias.
     pub alias: Octets,
+    /// ifAdminStatus and ifOperStatus, which are the same, and ifLastChange.
+    pub status: Status,
     /// ifHCInOctets.
     pub in_octets: Growth,
     /// ifHCInUcastPkts.
@@ -56,7 +58,7 @@ pub struct Interface {
 }
 
 impl Interface {
-    /// Its numbers at a moment. It is up all the time, and discards nothing.
+    /// Its numbers at a moment. It discards nothing.
     pub(crate) fn facts(&self, moment: Moment) -> Facts
         ensures { result ≡ interface_facts self.now moment }
     {
@@ -64,9 +66,9 @@ impl Interface {
             kind: self.kind,
             mtu: self.mtu,
             speed: self.speed,
-            admin: AdminStatus::Up,
-            oper: OperStatus::Up,
-            last_change: 0,
+            admin: self.status.admin,
+            oper: self.status.admin.oper(),
+            last_change: self.status.since,
             in_octets: self.in_octets.at(moment),
             in_packets: self.in_packets.at(moment),
             in_discards: 0,
@@ -90,5 +92,22 @@ impl Interface {
             IfText::ShortName => self.name.as_slice(),
             IfText::Alias => self.alias.as_slice(),
         }
+    }
+    /// Gives it another status, and hands back the one that it had.
+    pub(crate) fn replace_status(&mut self, status: Status) -> Status
+        ensures was { result ≡ self.old.status }
+        ensures is { self.new ≡ record self.old { status = status } }
+    {
+        let was = self.status;
+        self.status = status;
+        was
+    }
+
+    /// Gives it another alias, and hands back the one that it had.
+    pub(crate) fn replace_alias(&mut self, alias: Octets) -> Octets
+        ensures was { result ≡ self.old.alias }
+        ensures is { self.new ≡ record self.old { alias = alias } }
+    {
+        mem::replace(&mut self.alias, alias)
     }
 }

@@ -1,6 +1,6 @@
-//! Laws of the served objects and of the map of variables. Each is a function that does nothing.
+//! Laws of the served objects, of the map of variables, and of changes. Each is a function that does nothing.
 
-ghost use Rattle.std.specs.Prelude.{◌≡◌, ◌↔◌, ◌++◌, ◌∷◌, [], ℕ, List, Option, Contains, AllPairs, IsTrue};
+ghost use Rattle.std.specs.Prelude.{◌≡◌, ◌↔◌, ◌++◌, ◌∷◌, [], ℕ, List, Option, Contains, AllPairs, IsTrue, false};
 ghost use Rattle.std.specs.declared.cmp.Ordering.TheVariants.{Less};
 ghost use Rattle.mon_pdu.specs.declared.message.Binding.{Binding};
 ghost use Rattle.mon_ber.specs.Grammar.{tag_of};
@@ -8,7 +8,9 @@ ghost use Rattle.mon_vacm.specs.declared.family.Family.{Family};
 ghost use Rattle.mon_vacm.specs.View.{IsInView};
 ghost use Rattle.mon_mib.specs.declared.got.Got.{Got as AnyGot};
 ghost use Rattle.mon_mib.specs.declared.object.Object.{Object as AnyObject};
-ghost use Rattle.mon_mib.specs.Held.{AreIndexes};
+ghost use Rattle.mon_mib.specs.declared.change.Change.{Change as AnyChange};
+ghost use Rattle.mon_mib.specs.Change.{changed, undoing, same_target};
+ghost use Rattle.mon_mib.specs.Held.{Held, AreIndexes};
 ghost use Rattle.mon_mib.specs.Known.{Known, value_of, vars};
 ghost use Rattle.mon_mib.specs.Next.{IsVariable, IsNext, IsGot};
 ghost use Rattle.mon_mib.specs.Objects.{objects, prefix_of, syntax_of};
@@ -60,4 +62,14 @@ pub fn one_next()
 /// The list of all variables is in the order of their names, where the indexes rise.
 pub fn variables_rise()
     ensures { (k : Known) → AreIndexes k.held.indexes → AllPairs (λ a b. name_cmp a.name b.name ≡ Less) (vars k) }
+{}
+
+/// The undoing of a change puts back what was there.
+pub fn undone()
+    ensures { (c : AnyChange) (h : Held) → changed (undoing c h) (changed c h) ≡ h }
+{}
+
+/// Changes of different things can be made in either order.
+pub fn swapped()
+    ensures { (c d : AnyChange) (h : Held) → same_target c d ≡ false → changed c (changed d h) ≡ changed d (changed c h) }
 {}

@@ -1,14 +1,19 @@
 //! The management information of an agent: 43 served objects, and the map of their variables over a device.
 //! It follows RFC 3416 section 4.2, RFC 3418, RFC 2863 and RFC 3411 section 5.
-//! To the layer above: Get and the successor of a name are exact by the map, for every device that meets its trait.
+//! To the layer above: Get and the successor of a name are exact by the map, and a Set assigns all or nothing or tells what
+//! stands, for every device that meets its trait.
 #![tactic(auto)]
 
 mod admin_status;
+mod binding_fault;
+mod change;
 mod column;
+mod commit;
 mod counters;
 mod device;
 mod facts;
 mod fault;
+mod fuse_device;
 mod got;
 mod interface;
 pub mod laws;
@@ -18,17 +23,27 @@ mod moment;
 mod object;
 mod oper_status;
 mod scalar;
+mod set_fault;
+mod set_plan;
+mod set_status;
+mod setting;
 mod settings;
 mod sim_device;
 mod start;
+mod status;
+mod step;
 mod sys_texts;
+mod writable;
 
 pub use admin_status::AdminStatus;
+pub use change::Change;
 pub use column::Column;
+pub use commit::Commit;
 pub use counters::{Counter, Counters};
 pub use device::Device;
 pub use facts::{Facts, IfText, SysText};
 pub use fault::DeviceFault;
+pub use fuse_device::FuseDevice;
 pub use got::Got;
 pub use interface::{Growth, Interface};
 pub use max_access::MaxAccess;
@@ -37,6 +52,11 @@ pub use moment::Moment;
 pub use object::{Object, all_objects};
 pub use oper_status::OperStatus;
 pub use scalar::Scalar;
+pub use set_fault::SetFault;
+pub use set_plan::SetPlan;
+pub use set_status::SetStatus;
 pub use settings::Settings;
 pub use sim_device::SimDevice;
+pub use status::Status;
+pub use step::Step;
 pub use sys_texts::SysTexts;

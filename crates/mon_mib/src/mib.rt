@@ -1,6 +1,6 @@
 ghost use Rattle.std.specs.Prelude.{Some, ◌≡◌, ◌^◌, ◌<◌, ◌+◌, ◌/◌, ◌%◌, min, length, IfOk, IfSome, IfNone, [], ◌∷◌, ◌++◌, Contains};
 ghost use Rattle.mon_mib.specs.Counters.{no_counts};
-ghost use Rattle.mon_mib.specs.Held.{AreIndexes, IsAbove, IsLeastOf};
+ghost use Rattle.mon_mib.specs.Held.{AreIndexes, IsAbove, IsLeastOf, text_at};
 ghost use Rattle.mon_mib.specs.Known.{known_of, instances, value_of, scalar_value, column_value};
 ghost use Rattle.mon_mib.specs.Next.{IsGot, IsNext, IsServed};
 ghost use Rattle.mon_mib.specs.Objects.{objects, prefix_of};
@@ -203,7 +203,7 @@ impl<D: Device + Drop> Mib<D> {
     /// A text of an interface, as a value.
     fn text(&self, alloc: Global, index: u32, which: IfText) -> Result<Value, AllocError>
         requires { Contains (D.held self.now.device).indexes index }
-        ensures { IfOk result (λ value. value ≡ Value.Octets ((D.held self.now.device).text index which)) }
+        ensures { IfOk result (λ value. value ≡ Value.Octets (text_at (D.held self.now.device) index which)) }
     {
         Ok(Value::Octets(Octets::from_slice(alloc, self.device.text(index, which))?))
     }
@@ -253,7 +253,7 @@ impl<D: Device + Drop> Mib<D> {
 }
 
 /// The served object that a name is under, and what of the name stands behind the object's own.
-fn find_object(name: &[u32]) -> Option<(Object, &[u32])>
+pub(crate) fn find_object(name: &[u32]) -> Option<(Object, &[u32])>
     ensures some { IfSome result (λ found. Contains objects found.0 × (name.now ≡ prefix_of found.0 ++ found.1.now)) }
     ensures none { IfNone result (¬ (IsServed name.now)) }
 {

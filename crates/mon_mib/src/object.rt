@@ -1,9 +1,12 @@
 ghost use Rattle.std.specs.Prelude.{◌≡◌, ◌++◌, ◌∷◌, [], IfOk};
 ghost use Rattle.mon_mib.specs.Objects.{prefix_of, access_of, syntax_of, objects};
+ghost use Rattle.mon_mib.specs.Tried.{writable_of};
 
 use crate::column::Column;
+use crate::facts::SysText;
 use crate::max_access::MaxAccess;
 use crate::scalar::Scalar;
+use crate::writable::Writable;
 use mon_ber::Tag;
 use mon_oid::{Oid, laws};
 use smallvec::SmallVec;
@@ -100,6 +103,20 @@ impl Object {
         match self {
             Object::Scalar(scalar) => scalar.syntax(),
             Object::Column(column) => column.syntax(),
+        }
+    }
+
+    /// Which of the objects that a Set may change it is, if it is one.
+    pub(crate) fn writable(self) -> Option<Writable>
+        ensures { result ≡ writable_of self }
+    {
+        match self {
+            Object::Scalar(Scalar::SysContact) => Some(Writable::SysText(SysText::Contact)),
+            Object::Scalar(Scalar::SysName) => Some(Writable::SysText(SysText::SystemName)),
+            Object::Scalar(Scalar::SysLocation) => Some(Writable::SysText(SysText::Location)),
+            Object::Column(Column::IfAdminStatus) => Some(Writable::AdminStatus),
+            Object::Column(Column::IfAlias) => Some(Writable::Alias),
+            _ => None,
         }
     }
 

@@ -1,22 +1,26 @@
-ghost use Rattle.std.specs.Prelude.{◌≡◌, ◌↔◌, IsTrue, IsOk, IfOk, find};
+ghost use Rattle.std.specs.Prelude.{◌≡◌, ◌<◌, ◌↔◌, IsTrue, IsOk, IfOk, OnOk, OnErr, IfSome, IfNone, Contains, find};
 ghost use Rattle.std.specs.Option.{option_copied};
+ghost use Rattle.mon_mib.specs.Change.{one_failure};
 ghost use Rattle.mon_mib.specs.Held.{AreIndexes};
-ghost use Rattle.mon_mib.specs.Sim.{held_of, indexes_of, interface_at, is_over};
+ghost use Rattle.mon_mib.specs.Sim.{held_of, indexes_of, interface_at, is_over, IsPlace};
 
+use crate::change::Change;
 use crate::device::Device;
 use crate::facts::{Facts, IfText, SysText};
 use crate::fault::DeviceFault;
 use crate::interface::Interface;
 use crate::moment::Moment;
+use crate::status::Status;
 use crate::sys_texts::SysTexts;
 use std::marker::Model;
 
-/// A simulated device: interfaces that are up and count evenly, and the texts that can be set.
-/// Contracts see the list of the interfaces, and the texts.
+/// A simulated device: interfaces that count evenly, and the texts that can be set. It fails only changes of interfaces
+/// that it lacks. Contracts see the list of the interfaces, the texts, and how many changes have failed.
 #[derive(Drop)]
 pub struct SimDevice {
     interfaces: Vec<Interface>,
     texts: SysTexts,
+    failures: u64,
 }
 
 impl Model for SimDevice {
@@ -25,7 +29,7 @@ impl Model for SimDevice {
 
     ghost Value = { Sim };
 
-    ghost view = { λ d. record { interfaces = d.interfaces.items; texts = d.texts } };
+    ghost view = { λ d. record { interfaces = d.interfaces.items; texts = d.texts; failures = d.failures } };
 
     ghost invariant = { λ d. AreIndexes (indexes_of d.interfaces.items) };
 }
@@ -33,11 +37,15 @@ impl Model for SimDevice {
 impl SimDevice {
     /// The device of these interfaces and texts, or `BadIndex` where the indexes do not rise strictly from 1 to 2147483647.
     pub fn new(interfaces: Vec<Interface>, texts: SysTexts) -> Result<Self, DeviceFault>
-        ensures made { IfOk result (λ device. device ≡ record { interfaces = interfaces.items; texts = texts }) }
+        ensures made { IfOk result (λ device. device ≡ record { interfaces = interfaces.items; texts = texts; failures = 0 }) }
         ensures exact { IsOk result ↔ AreIndexes (indexes_of interfaces.items) }
     {
         if are_indexes(&interfaces) {
-            Ok(SimDevice { interfaces, texts })
+            Ok(SimDevice {
+                interfaces,
+                texts,
+                failures: 0,
+            })
         } else {
             Err(DeviceFault::BadIndex)
         }
@@ -45,7 +53,14 @@ impl SimDevice {
 }
 
 impl Device for SimDevice {
+    ghost use Rattle.mon_mib.specs.Change.{IsOf};
+    ghost use Rattle.mon_mib.specs.Sim.{held_of, indexes_of};
+
     ghost held = { held_of };
+
+    ghost failed = { λ d. d.failures };
+
+    ghost refuses = { λ d change. ¬ (IsOf (indexes_of d.interfaces) change) };
 
     fn sys_text(&self, which: SysText) -> &[u8] {
         self.texts.get(which)
@@ -71,20 +86,91 @@ impl Device for SimDevice {
             None => &[],
         }
     }
+
+    fn apply(&mut self, change: Change) -> Result<Change, DeviceFault> {
+        match change {
+            Change::SysText(which, text) => {
+                Ok(Change::SysText(which, self.texts.replace(which, text)))
+            }
+            Change::Admin {
+                index,
+                status,
+                since,
+            } => {
+                let place = self.place(index)?;
+                let next = Status {
+                    admin: status,
+                    since,
+                };
+                let was = self.interfaces[place].replace_status(next);
+                Ok(Change::Admin {
+                    index,
+                    status: was.admin,
+                    since: was.since,
+                })
+            }
+            Change::Alias(index, alias) => {
+                let place = self.place(index)?;
+                let was = self.interfaces[place].replace_alias(alias);
+                Ok(Change::Alias(index, was))
+            }
+        }
+    }
+
+    fn failures(&self) -> u64 {
+        self.failures
+    }
 }
 
-/// The interface of an index.
+impl SimDevice {
+    /// The place of the interface of an index. Where the device lacks it, that is a failure.
+    fn place(&mut self, index: u32) -> Result<usize, DeviceFault>
+        ensures found { IfOk result (IsPlace self.old.interfaces index) }
+        ensures same { OnOk result (self.new ≡ self.old) }
+        ensures lacking { OnErr result (¬ (Contains (indexes_of self.old.interfaces) index)) }
+        ensures counted { OnErr result (self.new ≡ record self.old { failures = one_failure self.old.failures }) }
+    {
+        let Some(place) = place_of(&self.interfaces, index) else {
+            self.failures = self.failures.saturating_add(1);
+            return Err(DeviceFault::BadIndex);
+        };
+        Ok(place)
+    }
+}
+
+/// The place of the interface of an index, where indexes rise.
+fn place_of(interfaces: &[Interface], index: u32) -> Option<usize>
+    requires { AreIndexes (indexes_of interfaces.now) }
+    ensures found { IfSome result (IsPlace interfaces.now index) }
+    ensures missing { IfNone result (¬ (Contains (indexes_of interfaces.now) index)) }
+{
+    match interfaces.binary_search_by_key(&index, |p| p.index) {
+        Ok(place) => Some(place),
+        Err(_) => None,
+    }
+}
+
+/// The interface of an index, where indexes rise.
 fn find(interfaces: &[Interface], index: u32) -> Option<&Interface>
+    requires { AreIndexes (indexes_of interfaces.now) }
     ensures { option_copied result ≡ interface_at interfaces.now index }
 {
-    interfaces.iter().find(|p| p.index == index)
+    let Some(place) = place_of(interfaces, index) else {
+        return None;
+    };
+    Some(&interfaces[place])
 }
 
-/// The first interface whose index is above another, or of all.
+/// The first interface whose index is above another, or of all, where indexes rise.
 fn above(interfaces: &[Interface], after: Option<u32>) -> Option<&Interface>
+    requires { AreIndexes (indexes_of interfaces.now) }
     ensures { option_copied result ≡ find (λ p. is_over after p.index) interfaces.now }
 {
-    interfaces.iter().find(|p| is_above(after, p.index))
+    let place = interfaces.partition_point(|p| !is_above(after, p.index));
+    if place >= interfaces.len() {
+        return None;
+    }
+    Some(&interfaces[place])
 }
 
 fn is_above(after: Option<u32>, index: u32) -> bool

@@ -1,8 +1,10 @@
 ghost use Rattle.std.specs.Prelude.{◌≡◌};
+ghost use Rattle.mon_mib.specs.Change.{put, same_text};
 ghost use Rattle.mon_mib.specs.Sim.{sys_text_of};
 
 use crate::facts::SysText;
 use mon_ber::Octets;
+use std::mem;
 
 /// The texts of a device that can be set (RFC 3418 section 2).
 #[derive(Debug, Drop)]
@@ -24,6 +26,18 @@ impl SysTexts {
             SysText::Contact => self.contact.as_slice(),
             SysText::SystemName => self.name.as_slice(),
             SysText::Location => self.location.as_slice(),
+        }
+    }
+
+    /// Replaces one of them, and hands back what it was.
+    pub(crate) fn replace(&mut self, which: SysText, text: Octets) -> Octets
+        ensures was { result ≡ sys_text_of self.old which }
+        ensures is { sys_text_of self.new ≡ put same_text which text (sys_text_of self.old) }
+    {
+        match which {
+            SysText::Contact => mem::replace(&mut self.contact, text),
+            SysText::SystemName => mem::replace(&mut self.name, text),
+            SysText::Location => mem::replace(&mut self.location, text),
         }
     }
 }

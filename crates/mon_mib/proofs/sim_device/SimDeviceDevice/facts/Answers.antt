@@ -1,4 +1,4 @@
-use Rattle.std.proofs.Common.{◌≡◌, ◌<◌, ◌^◌, List, ◌∙◌, ap, subst}
+use Rattle.std.proofs.Common.{◌≡◌, ◌<◌, ◌^◌, List, ◌∙◌, ap, sym, subst}
 use Rattle.std.specs.Prelude.{Contains}
 use Rattle.std.specs.Option.{option_copied}
 use Rattle.mon_mib.specs.declared.interface.Interface.{Interface}
@@ -25,3 +25,6 @@ returns-clause-range c =
     found_some c.args.self.now.interfaces c.args.index c.find.result c.in-Some.interface (subst (λ (ps : List Interface). option_copied c.find.result ≡ interface_at ps c.args.index) same c.find.ensures) c.in-Some.is in
     let are : AreIndexes (indexes_of c.args.self.now.interfaces) = subst (λ (s : Sim). AreIndexes (indexes_of s.interfaces)) c.self.view_is c.self.invariant in
     All-contains (λ i. i < 2 ^ 31) (indexes_of c.args.self.now.interfaces) c.args.index are.small at
+
+pub find-requires : goal.find-requires
+find-requires c = subst (λ (ps : List Interface). AreIndexes (indexes_of ps)) (sym c.deref.ensures.value) c.self.invariant

@@ -1,0 +1,12 @@
+-- The room of a plan.
+use Rattle.std.specs.Prelude.{◌≡◌, ℕ, ◌≤◌, List, [], length}
+use Rattle.mon_mib.specs.declared.step.Step.{Step}
+use Rattle.mon_mib.specs.Assignment.{AreApart}
+
+-- each step has room to be undone, and to stand, and no two change the same thing
+pub record HasRoom (steps undos : List Step) (standing : List ℕ) (undo_room standing_room : ℕ) : Type 0 where
+  pub apart : AreApart steps
+  pub no_undos : undos ≡ []
+  pub none_standing : standing ≡ []
+  pub can_undo : length steps ≤ undo_room
+  pub can_stand : length steps ≤ standing_room

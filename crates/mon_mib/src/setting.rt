@@ -1,0 +1,220 @@
+//! A Set in two phases: which bindings are refused and what the others change, and then the changes (RFC 3416 section 4.2.5).
+
+ghost use Rattle.std.specs.Prelude.{◌≡◌, ℕ, ◌↔◌, ◌++◌, ◌∷◌, [], ◌^◌, ◌<◌, ◌≤◌, length, IfOk, IfErr, IfSome, IfNone, IsTrue, Any, All, Contains};
+ghost use Rattle.mon_mib.specs.declared.binding_fault.BindingFault.{BindingFault as AnyFault};
+ghost use Rattle.mon_mib.specs.declared.object.Object.{Object as AnyObject};
+ghost use Rattle.mon_mib.specs.declared.object.Object.TheVariants as served;
+ghost use Rattle.mon_mib.specs.declared.column.Column.TheVariants.{IfAdminStatus, IfAlias};
+ghost use Rattle.mon_mib.specs.Assignment.{scalar_of, IsPlan};
+ghost use Rattle.mon_mib.specs.Commit.{IsCommitted, failures_of};
+ghost use Rattle.mon_mib.specs.Held.{facts_at};
+ghost use Rattle.mon_mib.specs.Known.{known_of};
+ghost use Rattle.mon_mib.specs.Objects.{prefix_of};
+ghost use Rattle.mon_mib.specs.Refusal.{IsWritable, IsAccepted, IsSetFault};
+ghost use Rattle.mon_mib.specs.Tried.{object_of, IsTried, IsJudged, fault_at};
+ghost use Rattle.mon_vacm.specs.View.{IsInView};
+
+use crate::binding_fault::BindingFault;
+use crate::change::Change;
+use crate::commit::{Commit, assign_all};
+use crate::device::Device;
+use crate::facts::{Facts, SysText};
+use crate::mib::{Mib, find_object};
+use crate::moment::Moment;
+use crate::set_fault::SetFault;
+use crate::set_plan::SetPlan;
+use crate::set_status::SetStatus;
+use crate::step::Step;
+use crate::writable::{Writable, read_status, read_text};
+use mon_ber::{Octets, Value};
+use mon_oid::Oid;
+use mon_pdu::Binding;
+use mon_vacm::{Access, Policy};
+use std::alloc::Global;
+use std::collections::VecDeque;
+
+/// The most octets of a text of the system group (RFC 3418 section 2).
+const SYS_TEXT_MAX: usize = 255;
+
+/// The most octets of an ifAlias (RFC 2863 section 6).
+const ALIAS_MAX: usize = 64;
+
+impl<D: Device + Drop> Mib<D> {
+    /// What a Set of these bindings is to assign, or the first of its bindings that is refused (RFC 3416 section 4.2.5).
+    /// For each binding in order: `NoAccess` for a name outside the view, `NotWritable` for one under no object that a Set may
+    /// change, `WrongType`, `WrongLength` and `WrongValue` for the value, `NoCreation` for a name with no such instance.
+    /// Of several bindings of one name the last alone is assigned. The plan owns the new texts and the room for undoing.
+    pub fn test_set(
+        &self,
+        alloc: Global,
+        policy: &Policy,
+        access: Access<'_>,
+        bindings: &[Binding],
+        moment: Moment,
+    ) -> Result<SetPlan, SetFault>
+        ensures plan { let known = known_of self.now.settings self.now.counters (D.held self.now.device) moment in
+            IfOk result (λ plan. IsPlan known bindings.now plan) }
+        ensures accepted { let known = known_of self.now.settings self.now.counters (D.held self.now.device) moment in
+            IfOk result (λ _. All (IsAccepted known (IsInView policy.now.families access.entry.view.now)) bindings.now) }
+        ensures refused { let known = known_of self.now.settings self.now.counters (D.held self.now.device) moment in
+            IfErr result (IsSetFault known (IsInView policy.now.families access.entry.view.now) bindings.now) }
+    {
+        let mut steps = VecDeque::new(alloc);
+        for (i, binding) in bindings.iter().enumerate() {
+            let index = i + 1;
+            let change = self.assign_at(alloc, policy, access, index, binding, moment)?;
+            if !is_named(&bindings[index..], &binding.name) {
+                steps.push_back(Step { index, change })?;
+            }
+        }
+        SetPlan::new(alloc, steps)
+    }
+
+    /// Makes the assignments of a plan in their order. Where one fails, all earlier ones are undone, the last first. Where an
+    /// undoing fails too, the others are still undone. It takes no memory: the plan has the room.
+    pub fn commit(&mut self, plan: SetPlan) -> Commit
+        ensures outcome { IsCommitted D.held D.refuses plan (D.held self.old.device) (D.held self.new.device) result }
+        ensures failures { D.failed self.new.device ≡ failures_of result (D.failed self.old.device) }
+        ensures settings { self.new.settings ≡ self.old.settings }
+        ensures counters { self.new.counters ≡ self.old.counters }
+    {
+        assign_all(&mut self.device, plan)
+    }
+
+    /// The change that the binding of a number asks for, or why it is refused.
+    fn assign_at(
+        &self,
+        alloc: Global,
+        policy: &Policy,
+        access: Access<'_>,
+        index: usize,
+        binding: &Binding,
+        moment: Moment,
+    ) -> Result<Change, SetFault>
+        ensures made { let known = known_of self.now.settings self.now.counters (D.held self.now.device) moment in
+            IfOk result (λ change. IsJudged known (IsInView policy.now.families access.entry.view.now) binding.now (Ok change)) }
+        ensures refused { let known = known_of self.now.settings self.now.counters (D.held self.now.device) moment in
+            IfErr result (λ fault. (why : AnyFault) × (fault ≡ fault_at why index)
+            × IsJudged known (IsInView policy.now.families access.entry.view.now) binding.now (Err why)) }
+    {
+        match self.assign(alloc, policy, access, binding, moment) {
+            Ok(change) => Ok(change),
+            Err(fault) => Err(fault.at(index)),
+        }
+    }
+
+    /// The change that a binding asks for, or why it is refused.
+    fn assign(
+        &self,
+        alloc: Global,
+        policy: &Policy,
+        access: Access<'_>,
+        binding: &Binding,
+        moment: Moment,
+    ) -> Result<Change, BindingFault>
+        ensures { let known = known_of self.now.settings self.now.counters (D.held self.now.device) moment in
+            IsJudged known (IsInView policy.now.families access.entry.view.now) binding.now result }
+    {
+        if !policy.sees(access, &binding.name) {
+            return Err(BindingFault::Refused(SetStatus::NoAccess));
+        }
+        let Some((object, rest)) = find_writable(binding.name.parts()) else {
+            return Err(BindingFault::Refused(SetStatus::NotWritable));
+        };
+        match object {
+            Writable::SysText(which) => self.assign_sys_text(alloc, which, rest, &binding.value),
+            Writable::AdminStatus => self.assign_status(rest, &binding.value, moment),
+            Writable::Alias => self.assign_alias(alloc, rest, &binding.value, moment),
+        }
+    }
+
+    /// The change that a value of a text of the device asks for, for the name with these numbers behind the object's own.
+    fn assign_sys_text(
+        &self,
+        alloc: Global,
+        which: SysText,
+        rest: &[u32],
+        value: &Value,
+    ) -> Result<Change, BindingFault>
+        ensures { (moment : ℕ) → let known = known_of self.now.settings self.now.counters (D.held self.now.device) moment in
+            IsTried known (served.Scalar (scalar_of which)) rest.now value.now result }
+    {
+        let text = read_text(value, SYS_TEXT_MAX)?;
+        if rest != [0].as_slice() {
+            return Err(BindingFault::Refused(SetStatus::NoCreation));
+        }
+        Ok(Change::SysText(which, Octets::from_slice(alloc, text)?))
+    }
+
+    /// The same of an ifAdminStatus. Where the status stays, so does its moment.
+    fn assign_status(
+        &self,
+        rest: &[u32],
+        value: &Value,
+        moment: Moment,
+    ) -> Result<Change, BindingFault>
+        ensures { let known = known_of self.now.settings self.now.counters (D.held self.now.device) moment in
+            IsTried known (served.Column IfAdminStatus) rest.now value.now result }
+    {
+        let status = read_status(value)?;
+        let (index, facts) = self.row(rest, moment)?;
+        let since = if facts.admin == status {
+            facts.last_change
+        } else {
+            moment.sys_up_time()
+        };
+        Ok(Change::Admin {
+            index,
+            status,
+            since,
+        })
+    }
+
+    /// The same of an ifAlias.
+    fn assign_alias(
+        &self,
+        alloc: Global,
+        rest: &[u32],
+        value: &Value,
+        moment: Moment,
+    ) -> Result<Change, BindingFault>
+        ensures { let known = known_of self.now.settings self.now.counters (D.held self.now.device) moment in
+            IsTried known (served.Column IfAlias) rest.now value.now result }
+    {
+        let text = read_text(value, ALIAS_MAX)?;
+        let (index, _) = self.row(rest, moment)?;
+        Ok(Change::Alias(index, Octets::from_slice(alloc, text)?))
+    }
+
+    /// The interface whose index alone these numbers are, and its facts.
+    fn row(&self, rest: &[u32], moment: Moment) -> Result<(u32, Facts), SetStatus>
+        ensures found { IfOk result (λ row. (rest.now ≡ row.0 ∷ []) × Contains (D.held self.now.device).indexes row.0) }
+        ensures facts { IfOk result (λ row. row.1 ≡ facts_at (D.held self.now.device) row.0 moment) }
+        ensures missing { IfErr result (λ status. status ≡ SetStatus.NoCreation) }
+        ensures lacking { IfErr result (λ _. (i : ℕ) → rest.now ≡ i ∷ [] → Contains (D.held self.now.device).indexes i → ⊥) }
+    {
+        let [index] = rest else {
+            return Err(SetStatus::NoCreation);
+        };
+        match self.device.facts(*index, moment) {
+            Some(facts) => Ok((*index, facts)),
+            None => Err(SetStatus::NoCreation),
+        }
+    }
+}
+
+/// The object that a Set may change and that a name is under, and what of the name stands behind the object's own.
+fn find_writable(name: &[u32]) -> Option<(Writable, &[u32])>
+    ensures some { IfSome result (λ found. (name.now ≡ prefix_of (object_of found.0) ++ found.1.now) × IsWritable name.now (object_of found.0)) }
+    ensures none { IfNone result ((o : AnyObject) → IsWritable name.now o → ⊥) }
+{
+    let (object, rest) = find_object(name)?;
+    Some((object.writable()?, rest))
+}
+
+/// Whether one of the bindings has a name.
+fn is_named(bindings: &[Binding], name: &Oid) -> bool
+    ensures { IsTrue result ↔ Any (λ b. b.name ≡ name.now) bindings.now }
+{
+    bindings.iter().any(|b| b.name == *name)
+}
