@@ -1,0 +1,3 @@
+pub mod Addrs
+pub mod KeyNames
+pub mod Oids

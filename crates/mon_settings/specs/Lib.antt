@@ -1,0 +1,5 @@
+pub mod Addr
+pub mod Key
+pub mod Keys
+pub mod Leaf
+pub mod SettingsFault

@@ -1,0 +1,20 @@
+-- The faults of settings.
+use Rattle.std.specs.Prelude.{ℕ, List, codes}
+use Rattle.mon_settings.specs.declared.fault.SettingsFault.{SettingsFault}
+use Rattle.mon_settings.specs.declared.fault.SettingsFault.TheVariants.{OutOfMemory, NotToml, Missing, BadValue, UnknownKey}
+
+-- the number of a fault
+abbrev pub number_of : SettingsFault → ℕ
+number_of OutOfMemory = 1
+number_of NotToml = 2
+number_of (Missing k) = 3
+number_of (BadValue k) = 4
+number_of UnknownKey = 5
+
+-- its name, as a printed line gives it
+abbrev pub name_of : SettingsFault → List ℕ
+name_of OutOfMemory = codes "OutOfMemory"
+name_of NotToml = codes "NotToml"
+name_of (Missing k) = codes "Missing"
+name_of (BadValue k) = codes "BadValue"
+name_of UnknownKey = codes "UnknownKey"

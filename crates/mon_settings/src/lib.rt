@@ -1,0 +1,13 @@
+//! Settings, read from TOML 1.0 texts: what an agent serves, at which address, and to whom.
+//! To the layer above: where the text is TOML, the result is what one definition gives for its tree, want of memory aside.
+#![tactic(auto)]
+
+mod addr;
+mod fault;
+mod key;
+mod keys;
+mod leaf;
+
+pub use addr::Addr;
+pub use fault::SettingsFault;
+pub use key::Key;
