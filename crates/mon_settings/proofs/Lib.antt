@@ -1,3 +1,4 @@
 pub mod Addrs
 pub mod KeyNames
 pub mod Oids
+pub mod Rows

@@ -2,4 +2,5 @@ pub mod Addr
 pub mod Key
 pub mod Keys
 pub mod Leaf
+pub mod Lists
 pub mod SettingsFault

@@ -7,6 +7,7 @@ mod fault;
 mod key;
 mod keys;
 mod leaf;
+mod list;
 
 pub use addr::Addr;
 pub use fault::SettingsFault;
