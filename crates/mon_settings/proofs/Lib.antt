@@ -1,4 +1,5 @@
 pub mod Addrs
 pub mod KeyNames
 pub mod Oids
+pub mod Policies
 pub mod Rows

@@ -103,7 +103,8 @@ pub(crate) fn bool_at(table: &Table, key: Key) -> Result<bool, SettingsFault>
     }
 }
 
-fn text_in(value: &Value, least: usize, most: usize) -> Option<&str>
+/// The text that a value is, of least to most octets.
+pub(crate) fn text_in(value: &Value, least: usize, most: usize) -> Option<&str>
     ensures { option_map (λ s. s.now) result ≡ text_in least most (view value.now) }
 {
     match value.as_str() {
@@ -276,4 +277,12 @@ pub(crate) fn model_at(table: &Table, key: Key) -> Result<SecurityModel, Setting
         Some(value) => model_in(value).ok_or(SettingsFault::BadValue(key)),
         None => Err(SettingsFault::Missing(key)),
     }
+}
+
+/// The index at a key, 1 to 2147483647.
+pub(crate) fn index_at(table: &Table, key: Key) -> Result<u32, SettingsFault>
+    ensures { result ≡ needed_at key (number_in 1 2147483647) (table_view table.now) }
+{
+    let index = number_at(table, key, 1, 2147483647)?;
+    u32::try_from(index).map_err(|_| SettingsFault::BadValue(key))
 }

@@ -3,12 +3,17 @@
 #![tactic(auto)]
 
 mod addr;
+mod agent;
 mod fault;
+mod interfaces;
 mod key;
 mod keys;
 mod leaf;
 mod list;
+mod octets;
+mod tables;
 
 pub use addr::Addr;
+pub use agent::{AgentSettings, read_agent};
 pub use fault::SettingsFault;
 pub use key::Key;
