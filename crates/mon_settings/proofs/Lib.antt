@@ -1,5 +1,7 @@
+pub mod Accepted
 pub mod Addrs
 pub mod KeyNames
 pub mod Oids
 pub mod Policies
 pub mod Rows
+pub mod Steps

@@ -13,6 +13,9 @@ use Rattle.mon_vacm.specs.declared.community.Community.{Community}
 use Rattle.mon_vacm.specs.declared.family.Family.{Family}
 use Rattle.mon_vacm.specs.declared.fault.PolicyFault.{PolicyFault}
 use Rattle.mon_vacm.specs.declared.fault.PolicyFault.TheVariants.{DuplicateCommunity, UnknownView, DuplicateFamily}
+use Rattle.mon_settings.specs.declared.key.Key.{Key}
+use Rattle.mon_settings.specs.declared.key.Key.TheVariants as key
+use Rattle.mon_settings.specs.declared.fault.SettingsFault.{SettingsFault}
 use Rattle.mon_settings.specs.declared.fault.SettingsFault.TheVariants as fault
 use Rattle.mon_settings.specs.Tables.{all_pairs, other_names, communities_differ, has_view, is_known, knows_views, other_families, families_differ, list_of, policy_of}
 
@@ -109,6 +112,9 @@ not_false : (b : Bool) → (b ≡ true → ⊥) → b ≡ false
 not_false true h = absurd (h refl)
 not_false false h = refl
 
+abbrev failed : Key → Result Lists SettingsFault
+failed k = Err (fault.BadValue k)
+
 module _ (t : Lists) where
   distinct : (communities_differ t.communities ≡ true) ↔ AreCommunitiesDistinct t.communities
   distinct = (pairs_from other_names _ names_differ t.communities, pairs_to other_names _ names_differ t.communities)
@@ -141,3 +147,20 @@ module _ (t : Lists) where
       let second = known.1 (c refl).1 in
       let third = not_false (families_differ t.families) (λ h. (c refl).2 (apart.0 h)) in
       rw (first, second, third)
+
+  pub policy_accepted : (u : Lists) → policy_of t ≡ Ok u → (t ≡ u) × IsPolicy t
+  unfolding policy_of
+  policy_accepted u h =
+      elim (cases_Bool (communities_differ t.communities)) [
+        | inr first ↦ let refused : failed key.Community ≡ Ok u = rw first at h in absurd cc
+        | inl first ↦
+            elim (cases_Bool (list_all (knows_views t.families) t.accesses)) [
+              | inr second ↦ let refused : failed key.Access ≡ Ok u = rw (first, second) at h in absurd cc
+              | inl second ↦
+                  elim (cases_Bool (families_differ t.families)) [
+                    | inr third ↦ let refused : failed key.View ≡ Ok u = rw (first, second, third) at h in absurd cc
+                    | inl third ↦ let found : (let r : Result Lists SettingsFault = Ok t in r) ≡ Ok u = rw (first, second, third) at h in
+                        (cc, record { communities = distinct.0 first; views = known.0 second; families = apart.0 third })
+                  ]
+            ]
+      ]

@@ -8,6 +8,7 @@ mod fault;
 mod interfaces;
 mod key;
 mod keys;
+pub mod laws;
 mod leaf;
 mod list;
 mod octets;
