@@ -1,11 +1,11 @@
 -- The reading of each table gives what the table is, and nothing else.
-use Rattle.std.proofs.Common.{◌≡◌, ◌↔◌, ◌⊎◌, ℕ, zero, suc, ◌<◌, ◌≤◌, ◌^◌, Bool, true, false, ◌&&◌, nat_le, nat_lt, List, [], ◌∷◌, length, get_or, map, Option, Some, None, option_map, All, AllPairs, Result, Ok, Err, refl, sym, ap, ◌∙◌, subst, arith, inl, inr, ℤ, pos, negsuc}
+use Rattle.std.proofs.Common.{◌≡◌, ◌↔◌, ℕ, zero, suc, ◌<◌, ◌≤◌, ◌^◌, true, ◌&&◌, nat_le, nat_lt, List, [], ◌∷◌, Option, Some, None, option_map, All, AllPairs, Result, Ok, Err, refl, ap, ◌∙◌, subst, arith, inl, inr, ℤ, pos, negsuc}
 use Rattle.std.specs.Prelude.{option_and_then}
 use Rattle.std.proofs.lemmas.Bool.{and_parts, cases_Bool}
 use Rattle.std.proofs.lemmas.Bool.Decides.{nat_tests}
-use Rattle.std.proofs.lemmas.List.Elements.{All-cons, All-nil, All-tail}
+use Rattle.std.proofs.lemmas.List.Elements.{All-cons, All-nil}
 use Rattle.std.proofs.lemmas.List.Kept.{AllPairs-cons}
-use Rattle.toml.specs.Data.{Data, Items, no_items, item, Members, as_table, as_integer, as_bool}
+use Rattle.toml.specs.Data.{Items, no_items, item, Members, as_table, as_integer, as_bool}
 use Rattle.mon_mib.specs.Held.{AreIndexes}
 use Rattle.mon_mib.specs.Sim.{indexes_of}
 use Rattle.mon_mib.specs.declared.interface.Growth.{Growth}
@@ -22,10 +22,10 @@ use Rattle.mon_settings.specs.declared.fault.SettingsFault.{SettingsFault}
 use Rattle.mon_settings.specs.Accepted.{Holds, HoldsOr, HoldsRows, AreRows, HoldsGrowth, IsCommunity, IsGroup, IsAccess, IsFamily, IsGrowth, IsInterface, IsAgent}
 use Rattle.mon_settings.specs.Agent.{Agent, agent_keys, system_of, agent_of}
 use Rattle.mon_settings.specs.Interfaces.{interface_keys, long_in, growth_of, growth_at, interface_of, rise_from, rising, interfaces_in}
-use Rattle.mon_settings.specs.Keys.{◌>>=◌, only, needed_at, default_at, optional_at}
+use Rattle.mon_settings.specs.Keys.{only, needed_at, default_at}
 use Rattle.mon_settings.specs.Leaf.{bounded, number_in, int_in, text_in, hex_in, oid_in, addr_in, model_in}
-use Rattle.mon_settings.specs.Lists.{list_in, list_at}
-use Rattle.mon_settings.specs.Tables.{community_of, group_of, access_of, family_of, policy_of, policy_in}
+use Rattle.mon_settings.specs.Lists.{list_at}
+use Rattle.mon_settings.specs.Tables.{community_of, group_of, access_of, family_of, policy_in}
 use Rattle.mon_settings.proofs.Policies.{policy_made, policy_accepted}
 use Rattle.mon_settings.proofs.Steps.{bind_from, bind_to, ok_same, needed_from, needed_to, default_from, default_to, only_from, only_to, list_from, list_to}
 
@@ -292,15 +292,23 @@ risen ps qs h =
       | inr down ↦ let refused : (let r : Result (List Interface) SettingsFault = Err _ in r) ≡ Ok qs = rw down at h in absurd cc
     ]
 
+-- the indexes of listed interfaces, where they rise
+pub listed_indexes : (t : Members) (ps : List Interface) → list_at key.Interface interface_of t ≡ Ok ps → rise_from 0 ps ≡ true → AreIndexes (indexes_of ps)
+listed_indexes t ps there rises =
+    let listed = list_from key.Interface interface_of IsInterface interface_of-is t ps there in
+    let (above, pairs) = rise_both 0 ps rises in
+    record { rising = pairs; positive = one_up (indexes_of ps) above; small = small_rows listed.0 ps listed.2 }
+
 module _ (t : Members) (ps : List Interface) where
   interfaces_from : interfaces_in t ≡ Ok ps → HoldsRows key.Interface IsInterface t ps × AreIndexes (indexes_of ps)
   unfolding interfaces_in
   interfaces_from h =
       let (qs, there, up) = bind_from (list_at key.Interface interface_of t) rising ps h in
       let (same, rises) = risen qs ps up in
-      let listed = list_from key.Interface interface_of IsInterface interface_of-is t ps (there ∙ ap Ok same) in
-      let (above, pairs) = rise_both 0 ps (subst (λ (l : List Interface). rise_from 0 l ≡ true) same rises) in
-      (listed, record { rising = pairs; positive = one_up (indexes_of ps) above; small = small_rows listed.0 ps listed.2 })
+      let own : list_at key.Interface interface_of t ≡ Ok ps = there ∙ ap Ok same in (
+        list_from key.Interface interface_of IsInterface interface_of-is t ps own,
+        listed_indexes t ps own (subst (λ (l : List Interface). rise_from 0 l ≡ true) same rises),
+      )
 
   interfaces_to : HoldsRows key.Interface IsInterface t ps → AreIndexes (indexes_of ps) → interfaces_in t ≡ Ok ps
   unfolding interfaces_in rising

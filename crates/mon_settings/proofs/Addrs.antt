@@ -1,10 +1,9 @@
 -- The texts of addresses.
-use Rattle.std.proofs.Common.{◌≡◌, ◌↔◌, ℕ, List, [], ◌∷◌, ◌++◌, Option, Some, None, refl, sym, ap, ◌∙◌, append-nil, subst, length, ◌==◌, false, arith}
+use Rattle.std.proofs.Common.{◌≡◌, ◌↔◌, ℕ, List, [], ◌∷◌, Option, Some, None, refl, sym, ◌∙◌, append-nil, subst, length, ◌==◌, false, arith}
 use Rattle.std.proofs.lemmas.Bool.Decides.{nat_tests}
 use Rattle.std.specs.declared.net.socket_addr.SocketAddrV4.{SocketAddrV4}
-use Rattle.std.specs.declared.net.ipv4_addr.Ipv4Addr.{Ipv4Addr}
 use Rattle.std.specs.Net.Grammar.{IsSocketV4Text}
-use Rattle.std.specs.Net.Reader.{Read, read_socket_v4, whole_value, v4_parts}
+use Rattle.std.specs.Net.Reader.{Read, read_socket_v4, whole_value}
 use Rattle.std.specs.Prelude.{option_map}
 use Rattle.std.proofs.NetLemmas.Sockets.{read_socket_v4_complete, read_socket_v4_sound}
 use Rattle.mon_settings.specs.declared.addr.Addr.{Addr}

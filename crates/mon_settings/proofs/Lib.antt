@@ -1,6 +1,7 @@
 pub mod Accepted
 pub mod Addrs
 pub mod KeyNames
+pub mod Named
 pub mod Oids
 pub mod Policies
 pub mod Rows

@@ -1,5 +1,5 @@
 -- The dotted texts of object identifiers, and how they are read.
-use Rattle.std.proofs.Common.{◌≡◌, ◌↔◌, ℕ, zero, suc, ◌<◌, ◌≤◌, ◌^◌, ◌==◌, Bool, true, false, ◌&&◌, ◌||◌, nat_le, nat_lt, List, [], ◌∷◌, length, map, get_or, slice_index, Option, Some, None, refl, sym, ap, ◌∙◌, subst, arith, rules, inl, inr}
+use Rattle.std.proofs.Common.{◌≡◌, ◌↔◌, ℕ, ◌<◌, ◌≤◌, ◌^◌, ◌==◌, Bool, true, false, ◌&&◌, ◌||◌, nat_le, nat_lt, List, [], ◌∷◌, length, map, slice_index, Option, Some, None, refl, ap, ◌∙◌, subst, arith, rules, inl, inr}
 use Rattle.std.specs.Prelude.{decimal, All}
 use Rattle.std.specs.Char.{is_ascii_digit}
 use Rattle.std.specs.Str.{all_ascii_digits, bytes_eq}
@@ -12,14 +12,13 @@ use Rattle.std.proofs.lemmas.List.Elements.{All-cons, All-tail, All-nil}
 use Rattle.std.proofs.lemmas.List.Splits.{slice_split_none, slice_split_at}
 use Rattle.std.proofs.lemmas.Slice.Eq.{bytes_eq-Decides}
 use Rattle.std.proofs.lemmas.Str.Parse.{IsNumeralModel, numerals_by_value}
-use Rattle.std.specs.Prelude.{Result, Ok, Err, IsOkUnless, ◌⊎◌}
+use Rattle.std.specs.Prelude.{Err, ◌⊎◌}
 use Rattle.mon_oid.specs.declared.fault.OidFault.{OidFault}
 use Rattle.mon_oid.specs.declared.fault.OidFault.TheVariants as oid_fault
 use Rattle.mon_settings.specs.declared.key.Key.{Key}
-use Rattle.mon_settings.specs.declared.fault.SettingsFault.{SettingsFault}
 use Rattle.mon_settings.specs.declared.fault.SettingsFault.TheVariants as fault
 use Rattle.mon_settings.specs.Keys.{or_bad}
-use Rattle.mon_oid.specs.Oid.{IsOid, IsRooted, AreNumbers, Spells, dotted}
+use Rattle.mon_oid.specs.Oid.{IsOid, AreNumbers, Spells, dotted}
 use Rattle.mon_settings.specs.Leaf.{is_rooted, is_oid, refused, numbers_in, checked_oid, oid_of}
 
 abbrev is_dot : ℕ → Bool

@@ -1,5 +1,5 @@
 -- What is known where the reading of a key, of a list or of a chain of keys gives something.
-use Rattle.std.proofs.Common.{◌≡◌, ◌≢◌, ◌↔◌, ◌⊎◌, ℕ, zero, suc, ◌+◌, ◌<◌, Bool, true, false, ◌&&◌, ◌||◌, List, [], ◌∷◌, length, get_or, Option, Some, None, option_map, Any, Result, Ok, Err, refl, sym, ap, ◌∙◌, subst, arith, inl, inr, nat_cmp, is_eq}
+use Rattle.std.proofs.Common.{◌≡◌, ◌↔◌, ℕ, zero, suc, true, List, [], ◌∷◌, Option, Some, None, Any, Result, Ok, Err, refl, sym, ap, ◌∙◌, subst, arith, inl, inr, nat_cmp, is_eq}
 use Rattle.std.specs.Str.{bytes_eq}
 use Rattle.std.specs.Cmp.Lexicographic.{slice_cmp}
 use Rattle.std.specs.Cmp.{tied_itself}

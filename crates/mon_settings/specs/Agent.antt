@@ -1,5 +1,5 @@
 -- The settings of an agent.
-use Rattle.std.specs.Prelude.{List, [], ◌∷◌, ◌++◌, Option, Some, None, Result, Ok, Err, pos}
+use Rattle.std.specs.Prelude.{List, [], ◌∷◌, Option, Some, None, Result, Ok, Err, pos}
 use Rattle.toml.specs.Data.{Members}
 use Rattle.mon_mib.specs.declared.interface.Interface.{Interface}
 use Rattle.mon_mib.specs.declared.settings.Settings.{Settings}

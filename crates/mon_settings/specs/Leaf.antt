@@ -1,11 +1,11 @@
 -- What the value of a key has to be, and what it then gives.
-use Rattle.std.specs.Prelude.{Bool, ◌&&◌, ◌||◌, ℕ, ℤ, ◌^◌, pos, negsuc, nat_le, nat_lt, int_le, ◌==◌, List, length, map, slice_index, Option, Some, None, Result, Ok, Err, option_map, option_and_then, if◌then◌else◌}
+use Rattle.std.specs.Prelude.{Bool, ◌&&◌, ◌||◌, ℕ, ℤ, ◌^◌, pos, negsuc, nat_le, nat_lt, ◌==◌, List, length, map, slice_index, Option, Some, None, Result, Ok, Err, option_map, option_and_then, if◌then◌else◌}
 use Rattle.std.specs.List.{slice_split, list_all}
 use Rattle.std.specs.Str.{bytes_eq}
 use Rattle.std.specs.Str.Parse.{digits_value}
 use Rattle.hex.specs.Hex.{decode_of}
 use Rattle.hex.specs.declared.error.FromHexError.{FromHexError}
-use Rattle.toml.specs.Data.{Data, as_integer, as_str, as_bool}
+use Rattle.toml.specs.Data.{Data, as_integer, as_str}
 use Rattle.mon_oid.specs.Oid.{dotted}
 use Rattle.mon_vacm.specs.declared.model.SecurityModel.{SecurityModel}
 use Rattle.mon_vacm.specs.declared.model.SecurityModel.TheVariants as model

@@ -1,5 +1,5 @@
 -- A list of tables, each read by one rule.
-use Rattle.std.specs.Prelude.{ℕ, ◌+◌, nat_le, List, [], ◌∷◌, Option, Some, None, option_and_then, Result, Ok, Err, if◌then◌else◌}
+use Rattle.std.specs.Prelude.{ℕ, ◌+◌, nat_le, List, [], ◌∷◌, Option, Some, None, option_and_then, Result, Ok, if◌then◌else◌}
 use Rattle.toml.specs.Data.{Data, Items, no_items, item, Members, as_array, as_table}
 use Rattle.mon_settings.specs.declared.key.Key.{Key}
 use Rattle.mon_settings.specs.declared.fault.SettingsFault.{SettingsFault}

@@ -18,3 +18,11 @@ name_of NotToml = codes "NotToml"
 name_of (Missing k) = codes "Missing"
 name_of (BadValue k) = codes "BadValue"
 name_of UnknownKey = codes "UnknownKey"
+
+-- what a tree can be refused for: neither as a text that is not TOML, nor for want of memory
+abbrev pub IsOfTree : SettingsFault → Type 0
+IsOfTree OutOfMemory = ⊥
+IsOfTree NotToml = ⊥
+IsOfTree (Missing k) = Unit {0}
+IsOfTree (BadValue k) = Unit {0}
+IsOfTree UnknownKey = Unit {0}

@@ -1,5 +1,8 @@
 //! The settings of an agent.
 
+ghost use Rattle.std.specs.Prelude.{◌≡◌, None, Err, IfOk};
+ghost use Rattle.mon_mib.specs.Held.{AreIndexes};
+ghost use Rattle.mon_mib.specs.Sim.{indexes_of};
 ghost use Rattle.mon_settings.specs.Agent.{system_of, agent_of, agent_in, agent_view};
 ghost use Rattle.mon_settings.specs.Keys.{Reads};
 ghost use Rattle.toml.specs.Parse.{parse_document};
@@ -94,7 +97,8 @@ fn read_system(alloc: Global, table: &Table) -> Result<System, SettingsFault>
 
 #[tactic(auto, unfolding(crate::specs::Agent::agent_of))]
 fn read_tree(alloc: Global, table: &Table) -> Result<AgentSettings, SettingsFault>
-    ensures { Reads (λ s. agent_view s) (agent_of (table_view table.now)) result }
+    ensures gives { Reads (λ s. agent_view s) (agent_of (table_view table.now)) result }
+    ensures indexes { IfOk result (λ s. AreIndexes (indexes_of s.interfaces.items)) }
 {
     only(table, &KEYS)?;
     let System {
@@ -123,7 +127,9 @@ fn read_tree(alloc: Global, table: &Table) -> Result<AgentSettings, SettingsFaul
 /// # Errors
 /// `NotToml`; `UnknownKey`; `Missing` and `BadValue` with the key; `OutOfMemory`.
 pub fn read_agent(alloc: Global, text: &str) -> Result<AgentSettings, SettingsFault>
-    ensures { Reads (λ s. agent_view s) (agent_in (parse_document text.now)) result }
+    ensures gives { Reads (λ s. agent_view s) (agent_in (parse_document text.now)) result }
+    ensures not_toml { result ≡ Err SettingsFault.NotToml → parse_document text.now ≡ None }
+    ensures indexes { IfOk result (λ s. AreIndexes (indexes_of s.interfaces.items)) }
 {
     match toml::table_from_str(alloc, text) {
         Ok(table) => read_tree(alloc, &table),

@@ -1,6 +1,8 @@
 //! The interfaces of the simulated device.
 
-ghost use Rattle.std.specs.Prelude.{◌≡◌};
+ghost use Rattle.std.specs.Prelude.{◌≡◌, IfOk};
+ghost use Rattle.mon_mib.specs.Held.{AreIndexes};
+ghost use Rattle.mon_mib.specs.Sim.{indexes_of};
 ghost use Rattle.mon_settings.specs.Interfaces.{growth_of, growth_at, rise_from, interfaces_in};
 ghost use Rattle.mon_settings.specs.Keys.{Reads};
 ghost use Rattle.toml.specs.View.{table_view};
@@ -114,7 +116,8 @@ fn rise(interfaces: &[Interface]) -> bool
 /// The list of the interfaces, whose indexes rise.
 #[tactic(auto, unfolding(crate::specs::Interfaces::interfaces_in, crate::specs::Interfaces::rising))]
 pub(crate) fn read_interfaces(alloc: Global, table: &Table) -> Result<Vec<Interface>, SettingsFault>
-    ensures { Reads (λ ps. ps.items) (interfaces_in (table_view table.now)) result }
+    ensures gives { Reads (λ ps. ps.items) (interfaces_in (table_view table.now)) result }
+    ensures indexes { IfOk result (λ ps. AreIndexes (indexes_of ps.items)) }
 {
     let interfaces: Vec<Interface> = list_at(alloc, table, Key::Interface)?;
     if rise(&interfaces) {

@@ -1,4 +1,4 @@
-use Rattle.std.proofs.Common.{◌≡◌, ◌<◌, ◌≤◌, length, sym, ap, ◌∙◌, arith, inl, inr}
+use Rattle.std.proofs.Common.{◌∙◌, arith, inl, inr}
 use Rattle.mon_settings.proofs.Rows.{after_place, fault_place, after_all}
 use Rattle.mon_settings.proofs.list.read_rows.Goals as goal
 

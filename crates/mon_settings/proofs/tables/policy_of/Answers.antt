@@ -1,6 +1,5 @@
-use Rattle.std.proofs.Common.{sym, ap, ◌∙◌, Ok, Err}
+use Rattle.std.proofs.Common.{sym, ap, Err}
 use Rattle.mon_vacm.specs.Tables.{lists_of}
-use Rattle.mon_settings.specs.Tables.{policy_of}
 use Rattle.mon_settings.proofs.Policies.{policy_made, policy_refused}
 use Rattle.mon_settings.proofs.tables.policy_of.Goals as goal
 
