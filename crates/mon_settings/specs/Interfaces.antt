@@ -11,7 +11,7 @@ use Rattle.mon_settings.specs.Keys.{◌>>=◌, only, needed_at}
 use Rattle.mon_settings.specs.Leaf.{number_in, int_in, text_in, hex_in}
 use Rattle.mon_settings.specs.Lists.{list_at}
 
--- a number of up to 31 bits, and one of up to 63 bits
+-- a number of up to 63 bits
 abbrev pub long_in : Data → Option ℕ
 long_in d = number_in 0 9223372036854775807 d
 
