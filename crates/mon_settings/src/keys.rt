@@ -1,11 +1,11 @@
 //! The keys of a table.
 
-ghost use Rattle.std.specs.Prelude.{◌≡◌, ◌↔◌, All, IsTrue, option_map, Some, string_bytes};
+ghost use Rattle.std.specs.Prelude.{◌≡◌, ◌↔◌, All, IsTrue, option_map, string_bytes};
 ghost use Rattle.std.specs.Map.{keys_of};
 ghost use Rattle.toml.specs.Data.{get_member};
 ghost use Rattle.toml.specs.View.{view, table_view};
 ghost use Rattle.mon_settings.specs.Key.{key_name};
-ghost use Rattle.mon_settings.specs.Keys.{needed_at, is_one_of, only, Reads};
+ghost use Rattle.mon_settings.specs.Keys.{is_one_of, only};
 
 use crate::fault::SettingsFault;
 use crate::key::Key;
@@ -16,16 +16,6 @@ pub(crate) fn find(table: &Table, key: Key) -> Option<&Value>
     ensures { option_map (λ v. view v.now) result ≡ get_member (key_name key) (table_view table.now) }
 {
     table.get(key.name())
-}
-
-/// The value at a key, which has to be there.
-pub(crate) fn needed(table: &Table, key: Key) -> Result<&Value, SettingsFault>
-    ensures { Reads (λ v. view v.now) (needed_at key Some (table_view table.now)) result }
-{
-    match find(table, key) {
-        Some(value) => Ok(value),
-        None => Err(SettingsFault::Missing(key)),
-    }
 }
 
 /// Whether a name is that of one of the keys.

@@ -1,15 +1,15 @@
 //! What the values of keys give.
 
-ghost use Rattle.std.specs.Prelude.{◌≡◌, ◌<◌, ◌≤◌, ◌^◌, [], option_map, IfSome, IfOk};
+ghost use Rattle.std.specs.Prelude.{◌≡◌, ◌≢◌, ◌<◌, ◌≤◌, ◌^◌, [], option_map, IfSome, IfOk, Err};
 ghost use Rattle.toml.specs.Data.{as_bool};
 ghost use Rattle.toml.specs.View.{view, table_view};
 ghost use Rattle.mon_settings.specs.Keys.{needed_at, default_at, or_bad, Reads};
-ghost use Rattle.mon_settings.specs.Leaf.{bounded, number_in, int_in, sized, text_in, hex_of, hex_in, oid_of, oid_in, refused, addr_in, model_of, model_in};
+ghost use Rattle.mon_settings.specs.Leaf.{bounded, number_in, int_in, text_in, hex_of, hex_in, oid_of, oid_in, refused, addr_in, model_of, model_in};
 
 use crate::addr::Addr;
 use crate::fault::SettingsFault;
 use crate::key::Key;
-use crate::keys::{find, needed};
+use crate::keys::find;
 use hex::FromHexError;
 use mon_oid::{Oid, OidFault};
 use mon_vacm::SecurityModel;
@@ -120,7 +120,8 @@ pub(crate) fn text_at(
     least: usize,
     most: usize,
 ) -> Result<&str, SettingsFault>
-    ensures { Reads (λ s. s.now) (needed_at key (text_in least most) (table_view table.now)) result }
+    ensures gives { Reads (λ s. s.now) (needed_at key (text_in least most) (table_view table.now)) result }
+    ensures no_memory { result ≢ Err SettingsFault.OutOfMemory }
 {
     match find(table, key) {
         Some(value) => match text_in(value, least, most) {
