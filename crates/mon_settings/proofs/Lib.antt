@@ -1,0 +1,8 @@
+pub mod Accepted
+pub mod Addrs
+pub mod KeyNames
+pub mod Named
+pub mod Oids
+pub mod Policies
+pub mod Rows
+pub mod Steps

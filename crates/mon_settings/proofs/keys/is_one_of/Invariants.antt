@@ -1,0 +1,6 @@
+use Rattle.std.proofs.Common.{◌≡◌, drop}
+use Rattle.mon_settings.specs.Keys.{is_one_of}
+use Rattle.mon_settings.proofs.keys.is_one_of.Given as goal
+
+abbrev pub invariant-loop-key : goal.invariant-loop-key
+invariant-loop-key l = is_one_of l.keys l.name ≡ is_one_of (drop l.key-index l.keys) l.name

@@ -1,0 +1,74 @@
+-- The interfaces of the simulated device, as the settings give them.
+use Rattle.std.specs.Prelude.{Bool, true, ◌&&◌, ℕ, nat_lt, List, [], ◌∷◌, Option, Result, Ok, Err, if◌then◌else◌}
+use Rattle.toml.specs.Data.{Data, Members, as_table}
+use Rattle.mon_mib.specs.declared.interface.Growth.{Growth}
+use Rattle.mon_mib.specs.declared.interface.Interface.{Interface}
+use Rattle.mon_settings.specs.declared.key.Key.{Key}
+use Rattle.mon_settings.specs.declared.key.Key.TheVariants as key
+use Rattle.mon_settings.specs.declared.fault.SettingsFault.{SettingsFault}
+use Rattle.mon_settings.specs.declared.fault.SettingsFault.TheVariants as fault
+use Rattle.mon_settings.specs.Keys.{◌>>=◌, only, needed_at}
+use Rattle.mon_settings.specs.Leaf.{number_in, int_in, text_in, hex_in}
+use Rattle.mon_settings.specs.Lists.{list_at}
+
+-- a number of up to 63 bits
+abbrev pub long_in : Data → Option ℕ
+long_in d = number_in 0 9223372036854775807 d
+
+-- how a count begins, and what each second adds
+unfoldable pub growth_of : Members → Result Growth SettingsFault
+growth_of t = do
+  known ← only (key.Start ∷ key.Rate ∷ []) t
+  start ← needed_at key.Start long_in t
+  rate ← needed_at key.Rate long_in t
+  Ok (record { start = start; rate = rate })
+
+unfoldable pub growth_at : Key → Members → Result Growth SettingsFault
+growth_at k t = needed_at k as_table t >>= growth_of
+
+abbrev pub interface_keys : List Key
+interface_keys =
+    key.Index ∷ key.Descr ∷ key.Type ∷ key.Mtu ∷ key.Speed ∷ key.Phys ∷ key.Name ∷ key.Alias
+    ∷ key.InOctets ∷ key.InPackets ∷ key.OutOctets ∷ key.OutPackets ∷ []
+
+unfoldable pub interface_of : Members → Result Interface SettingsFault
+interface_of t = do
+  known ← only interface_keys t
+  index ← needed_at key.Index (number_in 1 2147483647) t
+  descr ← needed_at key.Descr (text_in 0 255) t
+  kind ← needed_at key.Type (int_in 0 2147483647) t
+  mtu ← needed_at key.Mtu (int_in 0 2147483647) t
+  speed ← needed_at key.Speed long_in t
+  phys ← needed_at key.Phys (hex_in 0 255) t
+  name ← needed_at key.Name (text_in 0 255) t
+  alias ← needed_at key.Alias (text_in 0 64) t
+  in_octets ← growth_at key.InOctets t
+  in_packets ← growth_at key.InPackets t
+  out_octets ← growth_at key.OutOctets t
+  out_packets ← growth_at key.OutPackets t
+  Ok (record {
+    index = index;
+    descr = descr;
+    kind = kind;
+    mtu = mtu;
+    speed = speed;
+    phys = phys;
+    name = name;
+    alias = alias;
+    in_octets = in_octets;
+    in_packets = in_packets;
+    out_octets = out_octets;
+    out_packets = out_packets;
+  })
+
+-- the indexes rise strictly from above a number
+abbrev pub rise_from : ℕ → List Interface → Bool
+rise_from last [] = true
+rise_from last (p ∷ ps) = nat_lt last p.index && rise_from p.index ps
+
+unfoldable pub rising : List Interface → Result (List Interface) SettingsFault
+rising ps = if rise_from 0 ps then Ok ps else Err (fault.BadValue key.Interface)
+
+-- the list of the interfaces, whose indexes rise
+unfoldable pub interfaces_in : Members → Result (List Interface) SettingsFault
+interfaces_in t = list_at key.Interface interface_of t >>= rising

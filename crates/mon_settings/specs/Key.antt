@@ -1,0 +1,41 @@
+-- How the keys of the settings are written.
+use Rattle.std.specs.Prelude.{ℕ, List, codes}
+use Rattle.mon_settings.specs.declared.key.Key.{Key}
+use Rattle.mon_settings.specs.declared.key.Key.TheVariants as key
+
+-- how a key is written
+abbrev pub key_name : Key → List ℕ
+key_name key.Listen = codes "listen"
+key_name key.Limit = codes "limit"
+key_name key.Engine = codes "engine"
+key_name key.Boots = codes "boots"
+key_name key.Descr = codes "descr"
+key_name key.ObjectId = codes "object_id"
+key_name key.Contact = codes "contact"
+key_name key.Name = codes "name"
+key_name key.Location = codes "location"
+key_name key.Services = codes "services"
+key_name key.Community = codes "community"
+key_name key.Group = codes "group"
+key_name key.Access = codes "access"
+key_name key.View = codes "view"
+key_name key.Interface = codes "interface"
+key_name key.Security = codes "security"
+key_name key.Model = codes "model"
+key_name key.Read = codes "read"
+key_name key.Write = codes "write"
+key_name key.Subtree = codes "subtree"
+key_name key.Mask = codes "mask"
+key_name key.Included = codes "included"
+key_name key.Index = codes "index"
+key_name key.Type = codes "type"
+key_name key.Mtu = codes "mtu"
+key_name key.Speed = codes "speed"
+key_name key.Phys = codes "phys"
+key_name key.Alias = codes "alias"
+key_name key.InOctets = codes "in_octets"
+key_name key.InPackets = codes "in_packets"
+key_name key.OutOctets = codes "out_octets"
+key_name key.OutPackets = codes "out_packets"
+key_name key.Start = codes "start"
+key_name key.Rate = codes "rate"

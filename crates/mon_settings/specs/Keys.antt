@@ -1,0 +1,56 @@
+-- What a key of a table gives.
+use Rattle.std.specs.Prelude.{◌≡◌, ◌⊎◌, Bool, true, false, ◌&&◌, ◌||◌, ℕ, List, [], ◌∷◌, Option, Some, None, option_map, Result, Ok, Err, if◌then◌else◌}
+use Rattle.std.specs.Str.{bytes_eq}
+use Rattle.toml.specs.Data.{Data, Members, no_members, member, get_member}
+use Rattle.mon_settings.specs.declared.key.Key.{Key}
+use Rattle.mon_settings.specs.declared.fault.SettingsFault.{SettingsFault}
+use Rattle.mon_settings.specs.declared.fault.SettingsFault.TheVariants as fault
+use Rattle.mon_settings.specs.Key.{key_name}
+
+-- one reading after another
+infixl 10 ◌>>=◌
+abbrev pub ◌>>=◌ : {A B : Type 0} → Result A SettingsFault → (A → Result B SettingsFault) → Result B SettingsFault
+Err e >>= f = Err e
+Ok a >>= f = f a
+
+-- what a value gives, or that it is bad
+abbrev pub or_bad : {A : Type 0} → Key → Option A → Result A SettingsFault
+or_bad k None = Err (fault.BadValue k)
+or_bad k (Some a) = Ok a
+
+-- what a key gives that has to be there
+abbrev pub needed : {A : Type 0} → Key → (Data → Option A) → Option Data → Result A SettingsFault
+needed k f None = Err (fault.Missing k)
+needed k f (Some d) = or_bad k (f d)
+
+abbrev pub needed_at : {A : Type 0} → Key → (Data → Option A) → Members → Result A SettingsFault
+needed_at k f t = needed k f (get_member (key_name k) t)
+
+-- what a key gives that may be left out
+abbrev pub or_default : {A : Type 0} → Key → A → (Data → Option A) → Option Data → Result A SettingsFault
+or_default k a f None = Ok a
+or_default k a f (Some d) = or_bad k (f d)
+
+abbrev pub default_at : {A : Type 0} → Key → A → (Data → Option A) → Members → Result A SettingsFault
+default_at k a f t = or_default k a f (get_member (key_name k) t)
+
+abbrev pub optional_at : {A : Type 0} → Key → (Data → Option A) → Members → Result (Option A) SettingsFault
+optional_at k f t = default_at k None (λ d. option_map Some (f d)) t
+
+-- the name is that of one of the keys
+abbrev pub is_one_of : List Key → List ℕ → Bool
+is_one_of [] name = false
+is_one_of (k ∷ ks) name = bytes_eq name (key_name k) || is_one_of ks name
+
+-- each key of a table is one of these
+abbrev pub has_only : List Key → Members → Bool
+has_only ks no_members = true
+has_only ks (member name d ms) = is_one_of ks name && has_only ks ms
+
+unfoldable pub only : List Key → Members → Result Unit SettingsFault
+only ks t = if has_only ks t then Ok tt else Err fault.UnknownKey
+
+-- the result is the expected one, memory aside
+abbrev pub Reads : {T A : Type 0} → (T → A) → Result A SettingsFault → Result T SettingsFault → Type 0
+Reads view expected (Ok t) = expected ≡ Ok (view t)
+Reads view expected (Err e) = (e ≡ fault.OutOfMemory) ⊎ (expected ≡ Err e)

@@ -1,0 +1,10 @@
+pub mod Accepted
+pub mod Addr
+pub mod Agent
+pub mod Interfaces
+pub mod Key
+pub mod Keys
+pub mod Leaf
+pub mod Lists
+pub mod SettingsFault
+pub mod Tables

@@ -1,0 +1,28 @@
+-- The faults of settings.
+use Rattle.std.specs.Prelude.{ℕ, List, codes}
+use Rattle.mon_settings.specs.declared.fault.SettingsFault.{SettingsFault}
+use Rattle.mon_settings.specs.declared.fault.SettingsFault.TheVariants.{OutOfMemory, NotToml, Missing, BadValue, UnknownKey}
+
+-- the number of a fault
+abbrev pub number_of : SettingsFault → ℕ
+number_of OutOfMemory = 1
+number_of NotToml = 2
+number_of (Missing k) = 3
+number_of (BadValue k) = 4
+number_of UnknownKey = 5
+
+-- its name, as a printed line gives it
+abbrev pub name_of : SettingsFault → List ℕ
+name_of OutOfMemory = codes "OutOfMemory"
+name_of NotToml = codes "NotToml"
+name_of (Missing k) = codes "Missing"
+name_of (BadValue k) = codes "BadValue"
+name_of UnknownKey = codes "UnknownKey"
+
+-- what a tree can be refused for: neither as a text that is not TOML, nor for want of memory
+abbrev pub IsOfTree : SettingsFault → Type 0
+IsOfTree OutOfMemory = ⊥
+IsOfTree NotToml = ⊥
+IsOfTree (Missing k) = Unit {0}
+IsOfTree (BadValue k) = Unit {0}
+IsOfTree UnknownKey = Unit {0}

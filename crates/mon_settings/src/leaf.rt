@@ -1,0 +1,289 @@
+//! What the values of keys give.
+
+ghost use Rattle.std.specs.Prelude.{◌≡◌, ◌≢◌, ◌<◌, ◌≤◌, ◌^◌, [], option_map, IfSome, IfOk, Err};
+ghost use Rattle.toml.specs.Data.{as_bool};
+ghost use Rattle.toml.specs.View.{view, table_view};
+ghost use Rattle.mon_settings.specs.Keys.{needed_at, default_at, or_bad, Reads};
+ghost use Rattle.mon_settings.specs.Leaf.{bounded, number_in, int_in, text_in, hex_of, hex_in, oid_of, oid_in, refused, addr_in, model_of, model_in};
+
+use crate::addr::Addr;
+use crate::fault::SettingsFault;
+use crate::key::Key;
+use crate::keys::find;
+use hex::FromHexError;
+use mon_oid::{Oid, OidFault};
+use mon_vacm::SecurityModel;
+use std::alloc::Global;
+use toml::{Table, Value};
+
+fn bounded(number: i64, least: u64, most: u64) -> Option<u64>
+    ensures value { result ≡ bounded least most number }
+    ensures small { IfSome result (λ n. n ≤ most) }
+{
+    match u64::try_from(number) {
+        Ok(n) if least <= n && n <= most => Some(n),
+        _ => None,
+    }
+}
+
+fn number_in(value: &Value, least: u64, most: u64) -> Option<u64>
+    ensures value { result ≡ number_in least most (view value.now) }
+    ensures small { IfSome result (λ n. n ≤ most) }
+{
+    match value.as_integer() {
+        Some(number) => bounded(number, least, most),
+        None => None,
+    }
+}
+
+/// The number at a key, from least to most.
+pub(crate) fn number_at(
+    table: &Table,
+    key: Key,
+    least: u64,
+    most: u64,
+) -> Result<u64, SettingsFault>
+    ensures value { result ≡ needed_at key (number_in least most) (table_view table.now) }
+    ensures small { IfOk result (λ n. n ≤ most) }
+{
+    match find(table, key) {
+        Some(value) => match number_in(value, least, most) {
+            Some(n) => Ok(n),
+            None => Err(SettingsFault::BadValue(key)),
+        },
+        None => Err(SettingsFault::Missing(key)),
+    }
+}
+
+fn int_in(value: &Value, least: u64, most: u64) -> Option<i32>
+    requires { most < 2 ^ 31 }
+    ensures { result ≡ int_in least most (view value.now) }
+{
+    let Some(number) = number_in(value, least, most) else {
+        return None;
+    };
+    i32::try_from(number).ok()
+}
+
+/// The number at a key, from least to most, as a signed one.
+pub(crate) fn int_at(table: &Table, key: Key, least: u64, most: u64) -> Result<i32, SettingsFault>
+    requires { most < 2 ^ 31 }
+    ensures { result ≡ needed_at key (int_in least most) (table_view table.now) }
+{
+    match find(table, key) {
+        Some(value) => int_in(value, least, most).ok_or(SettingsFault::BadValue(key)),
+        None => Err(SettingsFault::Missing(key)),
+    }
+}
+
+/// The same, or another number where the key is left out.
+pub(crate) fn int_or(
+    table: &Table,
+    key: Key,
+    default: i32,
+    least: u64,
+    most: u64,
+) -> Result<i32, SettingsFault>
+    requires { most < 2 ^ 31 }
+    ensures { result ≡ default_at key default (int_in least most) (table_view table.now) }
+{
+    match find(table, key) {
+        Some(value) => int_in(value, least, most).ok_or(SettingsFault::BadValue(key)),
+        None => Ok(default),
+    }
+}
+
+/// The truth value at a key.
+pub(crate) fn bool_at(table: &Table, key: Key) -> Result<bool, SettingsFault>
+    ensures { result ≡ needed_at key as_bool (table_view table.now) }
+{
+    match find(table, key) {
+        Some(value) => value.as_bool().ok_or(SettingsFault::BadValue(key)),
+        None => Err(SettingsFault::Missing(key)),
+    }
+}
+
+/// The text that a value is, of least to most octets.
+pub(crate) fn text_in(value: &Value, least: usize, most: usize) -> Option<&str>
+    ensures { option_map (λ s. s.now) result ≡ text_in least most (view value.now) }
+{
+    match value.as_str() {
+        Some(text) if least <= text.len() && text.len() <= most => Some(text),
+        _ => None,
+    }
+}
+
+/// The text at a key, of least to most octets.
+pub(crate) fn text_at(
+    table: &Table,
+    key: Key,
+    least: usize,
+    most: usize,
+) -> Result<&str, SettingsFault>
+    ensures gives { Reads (λ s. s.now) (needed_at key (text_in least most) (table_view table.now)) result }
+    ensures no_memory { result ≢ Err SettingsFault.OutOfMemory }
+{
+    match find(table, key) {
+        Some(value) => match text_in(value, least, most) {
+            Some(text) => Ok(text),
+            None => Err(SettingsFault::BadValue(key)),
+        },
+        None => Err(SettingsFault::Missing(key)),
+    }
+}
+
+fn decoded(
+    alloc: Global,
+    text: &str,
+    key: Key,
+    least: usize,
+    most: usize,
+) -> Result<Vec<u8>, SettingsFault>
+    ensures { Reads (λ v. v.items) (or_bad key (hex_of least most text.now)) result }
+{
+    match hex::decode(alloc, text) {
+        Ok(octets) if least <= octets.len() && octets.len() <= most => Ok(octets),
+        Ok(_) => Err(SettingsFault::BadValue(key)),
+        Err(FromHexError::OutOfMemory) => Err(SettingsFault::OutOfMemory),
+        Err(_) => Err(SettingsFault::BadValue(key)),
+    }
+}
+
+fn hex_in(
+    alloc: Global,
+    value: &Value,
+    key: Key,
+    least: usize,
+    most: usize,
+) -> Result<Vec<u8>, SettingsFault>
+    ensures { Reads (λ v. v.items) (or_bad key (hex_in least most (view value.now))) result }
+{
+    match value.as_str() {
+        Some(text) => decoded(alloc, text, key, least, most),
+        None => Err(SettingsFault::BadValue(key)),
+    }
+}
+
+/// The octets of the hex text at a key, least to most of them.
+pub(crate) fn hex_at(
+    alloc: Global,
+    table: &Table,
+    key: Key,
+    least: usize,
+    most: usize,
+) -> Result<Vec<u8>, SettingsFault>
+    ensures { Reads (λ v. v.items) (needed_at key (hex_in least most) (table_view table.now)) result }
+{
+    match find(table, key) {
+        Some(value) => hex_in(alloc, value, key, least, most),
+        None => Err(SettingsFault::Missing(key)),
+    }
+}
+
+/// The same, or none where the key is left out.
+pub(crate) fn hex_or_none(
+    alloc: Global,
+    table: &Table,
+    key: Key,
+    most: usize,
+) -> Result<Vec<u8>, SettingsFault>
+    ensures { Reads (λ v. v.items) (default_at key [] (hex_in 0 most) (table_view table.now)) result }
+{
+    match find(table, key) {
+        Some(value) => hex_in(alloc, value, key, 0, most),
+        None => Ok(Vec::new(alloc)),
+    }
+}
+
+fn parsed(alloc: Global, text: &str, key: Key) -> Result<Oid, SettingsFault>
+    ensures { Reads (λ o. o) (or_bad key (oid_of text.now)) result }
+{
+    match Oid::parse(alloc, text) {
+        Ok(oid) => Ok(oid),
+        Err(fault) => Err(refused(fault, key)),
+    }
+}
+
+fn refused(fault: OidFault, key: Key) -> SettingsFault
+    ensures { result ≡ refused key fault }
+{
+    match fault {
+        OidFault::OutOfMemory => SettingsFault::OutOfMemory,
+        _ => SettingsFault::BadValue(key),
+    }
+}
+
+fn oid_in(alloc: Global, value: &Value, key: Key) -> Result<Oid, SettingsFault>
+    ensures { Reads (λ o. o) (or_bad key (oid_in (view value.now))) result }
+{
+    match value.as_str() {
+        Some(text) => parsed(alloc, text, key),
+        None => Err(SettingsFault::BadValue(key)),
+    }
+}
+
+/// The dotted object identifier at a key.
+pub(crate) fn oid_at(alloc: Global, table: &Table, key: Key) -> Result<Oid, SettingsFault>
+    ensures { Reads (λ o. o) (needed_at key oid_in (table_view table.now)) result }
+{
+    match find(table, key) {
+        Some(value) => oid_in(alloc, value, key),
+        None => Err(SettingsFault::Missing(key)),
+    }
+}
+
+fn addr_in(value: &Value) -> Option<Addr>
+    ensures { result ≡ addr_in (view value.now) }
+{
+    match value.as_str() {
+        Some(text) => Addr::parse(text),
+        None => None,
+    }
+}
+
+/// The address at a key.
+pub(crate) fn addr_at(table: &Table, key: Key) -> Result<Addr, SettingsFault>
+    ensures { result ≡ needed_at key addr_in (table_view table.now) }
+{
+    match find(table, key) {
+        Some(value) => addr_in(value).ok_or(SettingsFault::BadValue(key)),
+        None => Err(SettingsFault::Missing(key)),
+    }
+}
+
+fn model_of(number: i64) -> Option<SecurityModel>
+    ensures { result ≡ model_of number }
+{
+    match number {
+        0 => Some(SecurityModel::Any),
+        2 => Some(SecurityModel::V2c),
+        _ => None,
+    }
+}
+
+fn model_in(value: &Value) -> Option<SecurityModel>
+    ensures { result ≡ model_in (view value.now) }
+{
+    match value.as_integer() {
+        Some(number) => model_of(number),
+        None => None,
+    }
+}
+
+/// The security model at a key.
+pub(crate) fn model_at(table: &Table, key: Key) -> Result<SecurityModel, SettingsFault>
+    ensures { result ≡ needed_at key model_in (table_view table.now) }
+{
+    match find(table, key) {
+        Some(value) => model_in(value).ok_or(SettingsFault::BadValue(key)),
+        None => Err(SettingsFault::Missing(key)),
+    }
+}
+
+/// The index at a key, 1 to 2147483647.
+pub(crate) fn index_at(table: &Table, key: Key) -> Result<u32, SettingsFault>
+    ensures { result ≡ needed_at key (number_in 1 2147483647) (table_view table.now) }
+{
+    let index = number_at(table, key, 1, 2147483647)?;
+    u32::try_from(index).map_err(|_| SettingsFault::BadValue(key))
+}

@@ -1,0 +1,20 @@
+//! Settings, read from TOML 1.0 texts: what an agent serves, at which address, and to whom.
+//! To the layer above: where the text is TOML, the result is what one definition gives for its tree, want of memory aside.
+#![tactic(auto)]
+
+mod addr;
+mod agent;
+mod fault;
+mod interfaces;
+mod key;
+mod keys;
+pub mod laws;
+mod leaf;
+mod list;
+mod octets;
+mod tables;
+
+pub use addr::Addr;
+pub use agent::{AgentSettings, read_agent};
+pub use fault::SettingsFault;
+pub use key::Key;
