@@ -1,11 +1,13 @@
 -- The reading of each table gives what the table is, and nothing else.
-use Rattle.std.proofs.Common.{◌≡◌, ◌↔◌, ℕ, zero, suc, ◌<◌, ◌≤◌, ◌^◌, true, ◌&&◌, nat_le, nat_lt, List, [], ◌∷◌, Option, Some, None, option_map, All, AllPairs, Result, Ok, Err, refl, ap, ◌∙◌, subst, arith, inl, inr, ℤ, pos, negsuc}
+use Rattle.std.proofs.Common.{◌≡◌, ◌↔◌, ℕ, zero, suc, ◌<◌, ◌≤◌, ◌^◌, true, ◌&&◌, nat_le, nat_lt, List, [], ◌∷◌, Option, Some, None, option_map, All, AllPairs, Result, Ok, Err, refl, sym, ap, ◌∙◌, subst, arith, inl, inr, ℤ, pos, negsuc}
 use Rattle.std.specs.Prelude.{option_and_then}
 use Rattle.std.proofs.lemmas.Bool.{and_parts, cases_Bool}
 use Rattle.std.proofs.lemmas.Bool.Decides.{nat_tests}
 use Rattle.std.proofs.lemmas.List.Elements.{All-cons, All-nil}
 use Rattle.std.proofs.lemmas.List.Kept.{AllPairs-cons}
 use Rattle.toml.specs.Data.{Items, no_items, item, Members, as_table, as_integer, as_bool}
+use Rattle.mon_mib.specs.declared.status.Status.{Status}
+use Rattle.mon_mib.specs.Held.{at_start}
 use Rattle.mon_mib.specs.Held.{AreIndexes}
 use Rattle.mon_mib.specs.Sim.{indexes_of}
 use Rattle.mon_mib.specs.declared.interface.Growth.{Growth}
@@ -190,7 +192,7 @@ interface_of-from t x h =
     let (v10, p10, h11) = bind_from (growth_at key.InPackets t) _ x h10 in
     let (v11, p11, h12) = bind_from (growth_at key.OutOctets t) _ x h11 in
     let (v12, p12, h13) = bind_from (growth_at key.OutPackets t) _ x h12 in
-    let made : Interface = record { index = v1; descr = v2; kind = v3; mtu = v4; speed = v5; phys = v6; name = v7; alias = v8; in_octets = v9; in_packets = v10; out_octets = v11; out_packets = v12 } in
+    let made : Interface = record { index = v1; descr = v2; kind = v3; mtu = v4; speed = v5; phys = v6; name = v7; alias = v8; status = at_start; in_octets = v9; in_packets = v10; out_octets = v11; out_packets = v12 } in
     let is : made ≡ x = ok_same made x h13 in
     subst (λ (y : Interface). IsInterface t y) is (record {
       known = only_from interface_keys t _ p0;
@@ -202,6 +204,7 @@ interface_of-from t x h =
       phys = needed_from key.Phys (hex_in 0 255) t _ p6;
       name = needed_from key.Name (text_in 0 255) t _ p7;
       alias = needed_from key.Alias (text_in 0 64) t _ p8;
+      status = refl;
       in_octets = growth_at_from key.InOctets t _ p9;
       in_packets = growth_at_from key.InPackets t _ p10;
       out_octets = growth_at_from key.OutOctets t _ p11;
@@ -224,7 +227,7 @@ interface_of-to t x h =
     (bind_to (growth_at key.InPackets t) _ x.in_packets x (growth_at_to key.InPackets t _ h.in_packets)
     (bind_to (growth_at key.OutOctets t) _ x.out_octets x (growth_at_to key.OutOctets t _ h.out_octets)
     (bind_to (growth_at key.OutPackets t) _ x.out_packets x (growth_at_to key.OutPackets t _ h.out_packets)
-    refl))))))))))))
+    (ap (λ (s : Status). Ok (record x { status = s })) (sym h.status))))))))))))))
 
 pub interface_of-is : (t : Members) (x : Interface) → (interface_of t ≡ Ok x) ↔ IsInterface t x
 interface_of-is t x = (interface_of-from t x, interface_of-to t x)

@@ -1,6 +1,7 @@
 -- Which trees are settings of an agent, and of which: key by key, with no order of reading.
 use Rattle.std.specs.Prelude.{◌≡◌, ◌⊎◌, ℕ, List, [], ◌∷◌, Any, Option, Some, None, option_map, pos}
 use Rattle.toml.specs.Data.{Data, Items, no_items, item, Members, get_member, as_table, as_bool}
+use Rattle.mon_mib.specs.Held.{at_start}
 use Rattle.mon_mib.specs.Held.{AreIndexes}
 use Rattle.mon_mib.specs.Sim.{indexes_of}
 use Rattle.mon_mib.specs.declared.interface.Growth.{Growth}
@@ -94,6 +95,7 @@ pub record IsInterface (t : Members) (p : Interface) : Type 0 where
   pub phys : Holds key.Phys (hex_in 0 255) t p.phys
   pub name : Holds key.Name (text_in 0 255) t p.name
   pub alias : Holds key.Alias (text_in 0 64) t p.alias
+  pub status : p.status ≡ at_start
   pub in_octets : HoldsGrowth key.InOctets t p.in_octets
   pub in_packets : HoldsGrowth key.InPackets t p.in_packets
   pub out_octets : HoldsGrowth key.OutOctets t p.out_octets

@@ -6,12 +6,19 @@ use crate::fault::Fault;
 use crate::words::command;
 use clap::ArgMatches;
 use clap::error::ErrorKind;
-use mon_app::{AppFault, Asking, Question, SocketWire, answer_text, read_all};
+use mon_agent::Agent;
+use mon_app::{
+    AppFault, Asking, Question, Repeats, SocketPort, SocketWire, answer_text, read_all, serve_one,
+};
+use mon_mib::SimDevice;
 use mon_oid::Oid;
-use std::alloc::Global;
+use mon_settings::read_agent;
+use mon_smi::Names;
+use std::alloc::{AllocError, Global};
+use std::fs::File;
 use std::io::Write;
-use std::net::{Net, SocketAddrV4};
-use std::rt::{Clock, Env};
+use std::net::{Ipv4Addr, Net, SocketAddrV4};
+use std::rt::{Clock, Env, Files};
 use std::{env, io};
 
 /// How many samples a window keeps where no command is named.
@@ -20,8 +27,11 @@ const USUAL_SIZE: u8 = 8;
 /// The longest community, in octets.
 const LONGEST_COMMUNITY: usize = 512;
 
+/// The greatest datagram that UDP carries over IPv4, in octets.
+const GREATEST_DATAGRAM: usize = 65_507;
+
 /// Runs the command that the words name, and answers the status.
-pub fn start<R: Env + Clock + Net + Input + Print + Eprint + AllocGlobal>(rt: &R) -> u8 {
+pub fn start<R: Env + Clock + Files + Net + Input + Print + Eprint + AllocGlobal>(rt: &R) -> u8 {
     let words: Result<Vec<String>, _> = match env::args(rt) {
         Ok(args) => args.collect(rt.alloc()),
         Err(error) if error.kind() == io::ErrorKind::OutOfMemory => {
@@ -69,13 +79,16 @@ fn failed(rt: &impl Eprint, fault: Fault) -> u8 {
     1
 }
 
-fn run<R: Clock + Net + Input + Print + AllocGlobal>(
+fn run<R: Clock + Files + Net + Input + Print + Eprint + AllocGlobal>(
     rt: &R,
     matches: &ArgMatches<'_>,
 ) -> Result<(), Fault> {
     match matches.subcommand() {
         Some(("get", words)) => ask(rt, words, Asking::Get),
         Some(("next", words)) => ask(rt, words, Asking::GetNext),
+        Some(("bulk", words)) => ask(rt, words, Asking::GetBulk(repeats(words))),
+        Some(("walk", words)) => walk(rt, words),
+        Some(("agent", words)) => agent(rt, words),
         Some((_, words)) => replay(rt, size_of(words)),
         None => replay(rt, USUAL_SIZE),
     }
@@ -104,14 +117,8 @@ fn ask<R: Clock + Net + Print + AllocGlobal>(
     words: &ArgMatches<'_>,
     asking: Asking,
 ) -> Result<(), Fault> {
-    let agent: SocketAddrV4 = match words.get_str("ADDRESS").map(|text| text.parse()) {
-        Some(Ok(agent)) => agent,
-        _ => return Err(Fault::App(AppFault::BadText)),
-    };
-    let community = words.get_str("COMMUNITY").unwrap_or("").as_bytes();
-    if community.is_empty() || community.len() > LONGEST_COMMUNITY {
-        return Err(Fault::App(AppFault::BadText));
-    }
+    let agent = address(words)?;
+    let community = community(words)?;
     let names = names(rt.alloc(), words)?;
     let question = Question {
         asking,
@@ -125,12 +132,89 @@ fn ask<R: Clock + Net + Print + AllocGlobal>(
     Ok(())
 }
 
-/// The names that the words give.
+/// Walks through the variables under the name, and prints those that were met, also where the walk then fails.
+fn walk<R: Clock + Net + Print + AllocGlobal>(
+    rt: &R,
+    words: &ArgMatches<'_>,
+) -> Result<(), Fault> {
+    let agent = address(words)?;
+    let community = community(words)?;
+    let start = Names::new(rt.alloc())?.resolve(rt.alloc(), words.get_str("NAME").unwrap_or(""))?;
+    let mut wire = SocketWire::open(rt, agent)?;
+    let mut text = String::new(rt.alloc());
+    let walked = mon_app::walk(rt.alloc(), &mut wire, community, &start, &mut text);
+    io::writer(rt).write_all(text.as_bytes())?;
+    walked?;
+    Ok(())
+}
+
+/// The agent's address that the words give. It is never looked up.
+fn address(words: &ArgMatches<'_>) -> Result<SocketAddrV4, Fault> {
+    match words.get_str("ADDRESS").map(|text| text.parse()) {
+        Some(Ok(agent)) => Ok(agent),
+        _ => Err(Fault::App(AppFault::BadText)),
+    }
+}
+
+/// The community that the words give.
+fn community<'a>(words: &'a ArgMatches<'_>) -> Result<&'a [u8], Fault> {
+    let community = words.get_str("COMMUNITY").unwrap_or("").as_bytes();
+    if community.is_empty() || community.len() > LONGEST_COMMUNITY {
+        return Err(Fault::App(AppFault::BadText));
+    }
+    Ok(community)
+}
+
+/// The names that the words give, by the built-in names or in numbers.
 fn names(alloc: Global, words: &ArgMatches<'_>) -> Result<Vec<Oid>, Fault> {
+    let known = Names::new(alloc)?;
     let mut names = Vec::new(alloc);
     for text in words.get_raw("NAME").unwrap_or(&[]) {
-        let name = Oid::parse(alloc, text)?;
+        let name = known.resolve(alloc, text)?;
         names.push(name)?;
     }
     Ok(names)
+}
+
+/// How often a GetBulk asks. The command line takes 0 to 2147483647 alone.
+fn repeats(words: &ArgMatches<'_>) -> Repeats {
+    Repeats {
+        non_repeaters: words.get_one::<i32>("non-repeaters").unwrap_or(0),
+        max_repetitions: words.get_one::<i32>("max-repetitions").unwrap_or(0),
+    }
+}
+
+/// Serves the agent of the settings, so many datagrams.
+fn agent<R: Clock + Files + Net + Eprint + AllocGlobal>(
+    rt: &R,
+    words: &ArgMatches<'_>,
+) -> Result<(), Fault> {
+    let text = read_text(rt, words.get_str("SETTINGS").unwrap_or(""))?;
+    let mut told = read_agent(rt.alloc(), &text)?;
+    if let Some(boots) = words.get_one::<i32>("boots") {
+        told.settings.boots = boots;
+    }
+    let listen = SocketAddrV4::new(Ipv4Addr::from(told.listen.octets), told.listen.port);
+    let device = SimDevice::new(told.interfaces, told.texts)?;
+    let mut agent = Agent::new(told.policy, told.settings, device);
+    let mut room = room(rt.alloc())?;
+    let mut port = SocketPort::open(rt, listen)?;
+    let at = port.address()?;
+    let _ = eprintln!(rt; "snmpmon: agent at {at}");
+    for _ in 0..words.get_one::<u32>("count").unwrap_or(0) {
+        serve_one(rt.alloc(), &mut port, &mut agent, room.as_mut_slice())?;
+    }
+    Ok(())
+}
+
+/// Room for the greatest datagram.
+fn room(alloc: Global) -> Result<Vec<u8>, AllocError> {
+    vec![in alloc; 0u8; GREATEST_DATAGRAM]
+}
+
+/// The text of a file.
+fn read_text<R: Files + AllocGlobal>(rt: &R, path: &str) -> Result<String, Fault> {
+    let mut file = File::open(rt, path)?;
+    let octets = read_all(rt.alloc(), &mut file)?;
+    String::from_utf8(octets).map_err(|_| Fault::App(AppFault::BadText))
 }

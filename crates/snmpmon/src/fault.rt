@@ -1,7 +1,9 @@
 //! Why a command failed.
 
 use mon_app::AppFault;
-use mon_oid::OidFault;
+use mon_mib::DeviceFault;
+use mon_settings::SettingsFault;
+use mon_smi::NamesFault;
 use std::alloc::{AllocError, AllocFailed};
 use std::io;
 
@@ -9,7 +11,9 @@ use std::io;
 #[derive(Clone, Copy, Debug, PartialEq, Eq)]
 pub enum Fault {
     App(AppFault),
-    Oid(OidFault),
+    Names(NamesFault),
+    Settings(SettingsFault),
+    Device(DeviceFault),
 }
 
 impl Fault {
@@ -17,7 +21,9 @@ impl Fault {
     pub fn of(self) -> &'static str {
         match self {
             Fault::App(_) => "mon_app",
-            Fault::Oid(_) => "mon_oid",
+            Fault::Names(_) => "mon_smi",
+            Fault::Settings(_) => "mon_settings",
+            Fault::Device(_) => "mon_mib",
         }
     }
 
@@ -25,7 +31,9 @@ impl Fault {
     pub fn number(self) -> u8 {
         match self {
             Fault::App(fault) => fault.number(),
-            Fault::Oid(fault) => fault.number(),
+            Fault::Names(fault) => fault.number(),
+            Fault::Settings(fault) => fault.number(),
+            Fault::Device(fault) => fault.number(),
         }
     }
 
@@ -33,7 +41,9 @@ impl Fault {
     pub fn name(self) -> &'static str {
         match self {
             Fault::App(fault) => fault.name(),
-            Fault::Oid(fault) => fault.name(),
+            Fault::Names(fault) => fault.name(),
+            Fault::Settings(fault) => fault.name(),
+            Fault::Device(fault) => fault.name(),
         }
     }
 }
@@ -44,9 +54,21 @@ impl From<AppFault> for Fault {
     }
 }
 
-impl From<OidFault> for Fault {
-    fn from(fault: OidFault) -> Fault {
-        Fault::Oid(fault)
+impl From<NamesFault> for Fault {
+    fn from(fault: NamesFault) -> Fault {
+        Fault::Names(fault)
+    }
+}
+
+impl From<SettingsFault> for Fault {
+    fn from(fault: SettingsFault) -> Fault {
+        Fault::Settings(fault)
+    }
+}
+
+impl From<DeviceFault> for Fault {
+    fn from(fault: DeviceFault) -> Fault {
+        Fault::Device(fault)
     }
 }
 

@@ -69,7 +69,7 @@ const ADDRESS: &str = "The agent's address, a.b.c.d:port";
 
 const COMMUNITY: &str = "The community, 1 to 512 octets";
 
-const NAME: &str = "A name in decimal numbers with dots between them, as 1.3.6.1.2.1.1.5.0";
+const NAME: &str = "A name, in numbers as 1.3.6.1.2.1.1.5.0, or behind a built-in name as mib-2.1.5.0";
 
 fn needed<'a>(alloc: Global, id: &'a str, help: &'a str) -> Arg<'a> {
     Arg::new(alloc, id).required(true).help(help)
@@ -91,6 +91,72 @@ fn client<'a>(
         .arg(names)
 }
 
+const BULK: &str = "Asks an agent for many variables after names (GetBulkRequest)";
+
+const BULK_MORE: &str =
+    "Sends a GetBulkRequest for the NAMEs to the agent at ADDRESS, and prints what it answers as `get` does: one variable
+after each of the first N names, then M rounds of the variables after the others, as many as fit the agent's limit.
+
+Example: snmpmon bulk -n 0 -m 10 127.0.0.1:161 public mib-2.2.2.1.10";
+
+/// A count of a GetBulk, 0 to 2147483647.
+fn count<'a>(alloc: Global, id: &'a str, short: char, help: &'a str) -> Arg<'a> {
+    needed(alloc, id, help)
+        .short(short)
+        .value_parser(value_parser!(i32).range(0..))
+}
+
+fn bulk<'a>(alloc: Global) -> Result<Command<'a>, AllocError> {
+    client(alloc, "bulk", BULK, BULK_MORE)?
+        .arg(count(alloc, "non-repeaters", 'n', "How many of the names are asked for once"))?
+        .arg(count(alloc, "max-repetitions", 'm', "How many rounds of the others are asked for"))
+}
+
+const WALK: &str = "Asks an agent for all variables under a name (GetNextRequests)";
+
+const WALK_MORE: &str =
+    "Asks the agent at ADDRESS for the variable after NAME, then for the one after that, and so on, and prints each as `get`
+does. It ends at the first variable that is not under NAME, at the agent's last one, or after 65536 requests.
+
+An agent whose names do not increase ends it with 5 NotIncreasing, behind what was printed so far.
+
+Example: snmpmon walk 127.0.0.1:161 public mib-2.2";
+
+fn walk<'a>(alloc: Global) -> Result<Command<'a>, AllocError> {
+    Command::new(alloc, "walk")
+        .about(WALK)
+        .long_about(WALK_MORE)
+        .arg(needed(alloc, "ADDRESS", ADDRESS))?
+        .arg(needed(alloc, "COMMUNITY", COMMUNITY))?
+        .arg(needed(alloc, "NAME", NAME))
+}
+
+const AGENT: &str = "Serves an agent over a simulated device";
+
+const AGENT_MORE: &str =
+    "Reads SETTINGS, a TOML file (examples/agent.toml explains each key), listens at the address in it, says on standard
+error where, and answers so many datagrams: Get, GetNext and GetBulk requests of the communities in the settings.
+
+A fault in SETTINGS ends the command before it listens, with one line as `snmpmon: mon_settings 4 BadValue`.
+
+Example: snmpmon agent examples/agent.toml --count 1000";
+
+fn agent<'a>(alloc: Global) -> Result<Command<'a>, AllocError> {
+    let boots = Arg::new(alloc, "boots")
+        .long("boots")
+        .value_parser(value_parser!(i32).range(1..))
+        .help("snmpEngineBoots, 1 to 2147483647, in place of the settings'");
+    let count = needed(alloc, "count", "How many datagrams are served, 1 to 4294967295")
+        .long("count")
+        .value_parser(value_parser!(u32).range(1..));
+    Command::new(alloc, "agent")
+        .about(AGENT)
+        .long_about(AGENT_MORE)
+        .arg(needed(alloc, "SETTINGS", "The settings of the agent, a TOML file"))?
+        .arg(boots)?
+        .arg(count)
+}
+
 /// The whole command line. With no words it names no command, which the caller takes for `replay 8`.
 pub fn command<'a>(alloc: Global) -> Result<Command<'a>, AllocError> {
     Command::new(alloc, "snmpmon")
@@ -98,5 +164,8 @@ pub fn command<'a>(alloc: Global) -> Result<Command<'a>, AllocError> {
         .after_help(MORE)
         .subcommand(replay(alloc)?)?
         .subcommand(client(alloc, "get", GET, GET_MORE)?)?
-        .subcommand(client(alloc, "next", NEXT, NEXT_MORE)?)
+        .subcommand(client(alloc, "next", NEXT, NEXT_MORE)?)?
+        .subcommand(bulk(alloc)?)?
+        .subcommand(walk(alloc)?)?
+        .subcommand(agent(alloc)?)
 }
