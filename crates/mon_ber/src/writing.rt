@@ -1,6 +1,7 @@
 //! Writing values, with the shortest lengths and numbers. Sizes are counted first, which takes no memory.
+//! What is written goes behind the octets of a vector that has room for it, so it never fails.
 
-ghost use Rattle.std.specs.Prelude.{◌≡◌, ℕ, ◌≤◌, ◌<◌, ◌+◌, ◌^◌, ◌++◌, ◌∷◌, [], pos, negsuc, ◌≤ℤ◌, ◌<ℤ◌, length, List, ◌⊎◌, OnOk, IfOk, IfErr, MatchOption, MatchResult};
+ghost use Rattle.std.specs.Prelude.{◌≡◌, ℕ, ◌≤◌, ◌<◌, ◌+◌, ◌^◌, ◌++◌, ◌∷◌, [], pos, negsuc, ◌≤ℤ◌, ◌<ℤ◌, length, List, ◌⊎◌, IfOk, IfErr, MatchResult, vec_len, vec_capacity};
 ghost use Rattle.mon_ber.specs.declared.value.Value.{Value};
 ghost use Rattle.mon_ber.specs.declared.value.Value.TheVariants.{Integer, Name, Octets as OctetString};
 ghost use Rattle.mon_ber.specs.declared.fault.BerFault.TheVariants.{OutOfMemory, BadLength};
@@ -13,7 +14,7 @@ use crate::fault::BerFault;
 use crate::tag::Tag;
 use crate::value::Value;
 use mon_oid::Oid;
-use std::alloc::{AllocError, Global};
+use std::alloc::Global;
 
 /// How many octets the number takes in two's complement.
 fn width(number: i128) -> usize
@@ -46,78 +47,113 @@ fn number_len(number: i128) -> usize
     width(number)
 }
 
+/// Writes an octet where there is room for it.
+fn put_octet(out: &mut Vec<u8>, octet: u8)
+    requires room { vec_len out.old < vec_capacity out.old }
+    ensures items { out.new.items ≡ out.old.items ++ octet ∷ [] }
+    ensures len { vec_len out.new ≡ vec_len out.old + 1 }
+    ensures capacity { vec_capacity out.old ≤ vec_capacity out.new }
+{
+    out.push(octet).unwrap();
+}
+
+/// Writes the octets where there is room for them.
+fn put_slice(out: &mut Vec<u8>, octets: &[u8])
+    requires room { vec_len out.old + length octets.now ≤ vec_capacity out.old }
+    ensures items { out.new.items ≡ out.old.items ++ octets.now }
+    ensures len { vec_len out.new ≡ vec_len out.old + length octets.now }
+    ensures capacity { vec_capacity out.old ≤ vec_capacity out.new }
+{
+    out.extend_from_slice(octets).unwrap();
+}
+
 /// Writes the number, big-endian in two's complement.
 #[tactic(auto, unfolding(crate::specs::Writing::number_octets))]
-fn put_number(out: &mut Vec<u8>, number: i128) -> Result<(), AllocError>
+fn put_number(out: &mut Vec<u8>, number: i128)
     requires low { negsuc 18446744073709551615 ≤ℤ number }
     requires high { number <ℤ pos (2 ^ 64) }
-    ensures { OnOk result (out.new.items ≡ out.old.items ++ number_octets number) }
+    requires room { vec_len out.old + length (number_octets number) ≤ vec_capacity out.old }
+    ensures items { out.new.items ≡ out.old.items ++ number_octets number }
+    ensures len { vec_len out.new ≡ vec_len out.old + length (number_octets number) }
+    ensures capacity { vec_capacity out.old ≤ vec_capacity out.new }
 {
     let octets = number.to_be_bytes();
-    out.extend_from_slice(&octets[16 - width(number)..])
+    put_slice(out, &octets[16 - width(number)..]);
 }
 
 /// Writes the digit of this place in base 128, where the number reaches it.
-fn put_digit(out: &mut Vec<u8>, place: u64, number: u64) -> Result<(), AllocError>
-    requires { 0 < place }
-    ensures { OnOk result (out.new.items ≡ out.old.items ++ digit place number) }
+fn put_digit(out: &mut Vec<u8>, place: u64, number: u64)
+    requires place { 0 < place }
+    requires room { vec_len out.old + length (digit place number) ≤ vec_capacity out.old }
+    ensures items { out.new.items ≡ out.old.items ++ digit place number }
+    ensures len { vec_len out.new ≡ vec_len out.old + length (digit place number) }
+    ensures capacity { vec_capacity out.old ≤ vec_capacity out.new }
 {
     if number >= place {
-        out.push((0x80 + number / place % 128) as u8)?;
+        put_octet(out, (0x80 + number / place % 128) as u8);
     }
-    Ok(())
 }
 
 /// Writes the number in base 128.
 #[tactic(auto, unfolding(crate::specs::Writing::base128))]
-fn put_base128(out: &mut Vec<u8>, number: u64) -> Result<(), AllocError>
-    ensures { OnOk result (out.new.items ≡ out.old.items ++ base128 number) }
+fn put_base128(out: &mut Vec<u8>, number: u64)
+    requires room { vec_len out.old + length (base128 number) ≤ vec_capacity out.old }
+    ensures items { out.new.items ≡ out.old.items ++ base128 number }
+    ensures len { vec_len out.new ≡ vec_len out.old + length (base128 number) }
+    ensures capacity { vec_capacity out.old ≤ vec_capacity out.new }
 {
-    put_digit(out, 1 << 28, number)?;
-    put_digit(out, 1 << 21, number)?;
-    put_digit(out, 1 << 14, number)?;
-    put_digit(out, 1 << 7, number)?;
-    out.push((number % 128) as u8)?;
-    Ok(())
+    put_digit(out, 1 << 28, number);
+    put_digit(out, 1 << 21, number);
+    put_digit(out, 1 << 14, number);
+    put_digit(out, 1 << 7, number);
+    put_octet(out, (number % 128) as u8);
 }
 
 /// Writes sub-identifiers, one after the other.
-fn put_subidentifiers(out: &mut Vec<u8>, parts: &[u32]) -> Result<(), AllocError>
-    ensures { OnOk result (out.new.items ≡ out.old.items ++ flat_map base128 parts.now) }
+fn put_subidentifiers(out: &mut Vec<u8>, parts: &[u32])
+    requires room { vec_len out.old + length (flat_map base128 parts.now) ≤ vec_capacity out.old }
+    ensures items { out.new.items ≡ out.old.items ++ flat_map base128 parts.now }
+    ensures len { vec_len out.new ≡ vec_len out.old + length (flat_map base128 parts.now) }
+    ensures capacity { vec_capacity out.old ≤ vec_capacity out.new }
 {
     for part in parts {
-        put_base128(out, u64::from(*part))?;
+        put_base128(out, u64::from(*part));
     }
-    Ok(())
 }
 
 /// Writes an identifier's contents.
-fn put_name(out: &mut Vec<u8>, parts: &[u32]) -> Result<(), AllocError>
-    requires { IsOid parts.now }
-    ensures { OnOk result (out.new.items ≡ out.old.items ++ name_octets parts.now) }
+fn put_name(out: &mut Vec<u8>, parts: &[u32])
+    requires oid { IsOid parts.now }
+    requires room { vec_len out.old + length (name_octets parts.now) ≤ vec_capacity out.old }
+    ensures items { out.new.items ≡ out.old.items ++ name_octets parts.now }
+    ensures len { vec_len out.new ≡ vec_len out.old + length (name_octets parts.now) }
+    ensures capacity { vec_capacity out.old ≤ vec_capacity out.new }
 {
     let [first, second, others @ ..] = parts else {
         unreachable!();
     };
-    put_base128(out, u64::from(*first) * 40 + u64::from(*second))?;
-    put_subidentifiers(out, others)
+    put_base128(out, u64::from(*first) * 40 + u64::from(*second));
+    put_subidentifiers(out, others);
 }
 
 /// Writes the contents of the value.
-fn put_contents(out: &mut Vec<u8>, value: &Value) -> Result<(), AllocError>
-    ensures { OnOk result (out.new.items ≡ out.old.items ++ contents_of value.now) }
+fn put_contents(out: &mut Vec<u8>, value: &Value)
+    requires room { vec_len out.old + length (contents_of value.now) ≤ vec_capacity out.old }
+    ensures items { out.new.items ≡ out.old.items ++ contents_of value.now }
+    ensures len { vec_len out.new ≡ vec_len out.old + length (contents_of value.now) }
+    ensures capacity { vec_capacity out.old ≤ vec_capacity out.new }
 {
     match value {
         Value::Integer(number) => put_number(out, i128::from(*number)),
-        Value::Octets(octets) => out.extend_from_slice(octets.as_slice()),
+        Value::Octets(octets) => put_slice(out, octets.as_slice()),
         Value::Name(name) => put_name(out, name.parts()),
-        Value::IpAddress(address) => out.extend_from_slice(address),
+        Value::IpAddress(address) => put_slice(out, address),
         Value::Counter32(number) => put_number(out, i128::from(*number)),
         Value::Gauge32(number) => put_number(out, i128::from(*number)),
         Value::TimeTicks(number) => put_number(out, i128::from(*number)),
-        Value::Opaque(octets) => out.extend_from_slice(octets.as_slice()),
+        Value::Opaque(octets) => put_slice(out, octets.as_slice()),
         Value::Counter64(number) => put_number(out, i128::from(*number)),
-        Value::Null | Value::NoSuchObject | Value::NoSuchInstance | Value::EndOfMibView => Ok(()),
+        Value::Null | Value::NoSuchObject | Value::NoSuchInstance | Value::EndOfMibView => {}
     }
 }
 
@@ -136,18 +172,21 @@ fn length_width(len: usize) -> usize
 
 /// Writes a length in its shortest form (X.690 8.1.3).
 #[tactic(auto, unfolding(crate::specs::Writing::length_octets))]
-fn put_length(out: &mut Vec<u8>, len: usize) -> Result<(), AllocError>
-    requires { len < 2 ^ 32 }
-    ensures { OnOk result (out.new.items ≡ out.old.items ++ length_octets len) }
+fn put_length(out: &mut Vec<u8>, len: usize)
+    requires fits { len < 2 ^ 32 }
+    requires room { vec_len out.old + length (length_octets len) ≤ vec_capacity out.old }
+    ensures items { out.new.items ≡ out.old.items ++ length_octets len }
+    ensures len { vec_len out.new ≡ vec_len out.old + length (length_octets len) }
+    ensures capacity { vec_capacity out.old ≤ vec_capacity out.new }
 {
     if len < 0x80 {
-        out.push(len as u8)?;
-        return Ok(());
+        put_octet(out, len as u8);
+        return;
     }
     let count = length_width(len);
-    out.push((0x80 + count) as u8)?;
+    put_octet(out, (0x80 + count) as u8);
     let octets = (len as u32).to_be_bytes();
-    out.extend_from_slice(&octets[4 - count..])
+    put_slice(out, &octets[4 - count..]);
 }
 
 /// How many octets the number takes in base 128.
@@ -218,13 +257,16 @@ fn length_len(len: usize) -> usize
     if len < 0x80 { 1 } else { 1 + length_width(len) }
 }
 
-/// Writes a tag and a length at the end.
-pub fn put_header(out: &mut Vec<u8>, tag: u8, len: usize) -> Result<(), AllocError>
-    requires { len < 2 ^ 32 }
-    ensures { OnOk result (out.new.items ≡ out.old.items ++ (tag ∷ length_octets len)) }
+/// Writes a tag and a length at the end, where there is room for them.
+pub fn put_header(out: &mut Vec<u8>, tag: u8, len: usize)
+    requires fits { len < 2 ^ 32 }
+    requires room { vec_len out.old + length (tag ∷ length_octets len) ≤ vec_capacity out.old }
+    ensures items { out.new.items ≡ out.old.items ++ (tag ∷ length_octets len) }
+    ensures len { vec_len out.new ≡ vec_len out.old + length (tag ∷ length_octets len) }
+    ensures capacity { vec_capacity out.old ≤ vec_capacity out.new }
 {
-    out.push(tag)?;
-    put_length(out, len)
+    put_octet(out, tag);
+    put_length(out, len);
 }
 
 /// How many octets an INTEGER takes.
@@ -236,23 +278,29 @@ pub fn integer_size(number: i32) -> usize
     element_len(number_len(i128::from(number)))
 }
 
-/// Writes an INTEGER at the end.
+/// Writes an INTEGER at the end, where there is room for it: `integer_size` octets.
 #[tactic(auto, unfolding(crate::specs::Writing::written, crate::specs::Writing::element))]
-pub fn put_integer(out: &mut Vec<u8>, number: i32) -> Result<(), AllocError>
-    ensures { OnOk result (out.new.items ≡ out.old.items ++ written (Integer number)) }
+pub fn put_integer(out: &mut Vec<u8>, number: i32)
+    requires room { vec_len out.old + length (written (Integer number)) ≤ vec_capacity out.old }
+    ensures items { out.new.items ≡ out.old.items ++ written (Integer number) }
+    ensures len { vec_len out.new ≡ vec_len out.old + length (written (Integer number)) }
+    ensures capacity { vec_capacity out.old ≤ vec_capacity out.new }
 {
-    put_header(out, 0x02, number_len(i128::from(number)))?;
-    put_number(out, i128::from(number))
+    put_header(out, 0x02, number_len(i128::from(number)));
+    put_number(out, i128::from(number));
 }
 
-/// Writes an OCTET STRING at the end.
+/// Writes an OCTET STRING at the end, where there is room for it: `element_len` octets of its length.
 #[tactic(auto, unfolding(crate::specs::Writing::written, crate::specs::Writing::element))]
-pub fn put_octets(out: &mut Vec<u8>, octets: &[u8]) -> Result<(), AllocError>
-    requires { length octets.now < 2 ^ 32 }
-    ensures { OnOk result (out.new.items ≡ out.old.items ++ written (OctetString octets.now)) }
+pub fn put_octets(out: &mut Vec<u8>, octets: &[u8])
+    requires fits { length octets.now < 2 ^ 32 }
+    requires room { vec_len out.old + length (written (OctetString octets.now)) ≤ vec_capacity out.old }
+    ensures items { out.new.items ≡ out.old.items ++ written (OctetString octets.now) }
+    ensures len { vec_len out.new ≡ vec_len out.old + length (written (OctetString octets.now)) }
+    ensures capacity { vec_capacity out.old ≤ vec_capacity out.new }
 {
-    put_header(out, 0x04, octets.len())?;
-    out.extend_from_slice(octets)
+    put_header(out, 0x04, octets.len());
+    put_slice(out, octets);
 }
 
 /// How many octets an OBJECT IDENTIFIER takes.
@@ -264,13 +312,16 @@ pub fn name_size(name: &Oid) -> usize
     element_len(name_len(name.parts()))
 }
 
-/// Writes an OBJECT IDENTIFIER at the end.
+/// Writes an OBJECT IDENTIFIER at the end, where there is room for it: `name_size` octets.
 #[tactic(auto, unfolding(crate::specs::Writing::written, crate::specs::Writing::element))]
-pub fn put_object_identifier(out: &mut Vec<u8>, name: &Oid) -> Result<(), AllocError>
-    ensures { OnOk result (out.new.items ≡ out.old.items ++ written (Name name.now)) }
+pub fn put_object_identifier(out: &mut Vec<u8>, name: &Oid)
+    requires room { vec_len out.old + length (written (Name name.now)) ≤ vec_capacity out.old }
+    ensures items { out.new.items ≡ out.old.items ++ written (Name name.now) }
+    ensures len { vec_len out.new ≡ vec_len out.old + length (written (Name name.now)) }
+    ensures capacity { vec_capacity out.old ≤ vec_capacity out.new }
 {
-    put_header(out, 0x06, name_len(name.parts()))?;
-    put_name(out, name.parts())
+    put_header(out, 0x06, name_len(name.parts()));
+    put_name(out, name.parts());
 }
 
 /// The first number of octets that takes a length of more than 4 octets. No size is counted further.
@@ -318,14 +369,17 @@ pub fn size_of(value: &Value) -> Result<usize, BerFault>
     Ok(element_len(len))
 }
 
-/// Writes the value at the end.
+/// Writes the value at the end, where there is room for it: `value_size` octets.
 #[tactic(auto, unfolding(crate::specs::Writing::written, crate::specs::Writing::element))]
-pub fn put_value(out: &mut Vec<u8>, value: &Value) -> Result<(), AllocError>
-    requires { HasLength value.now }
-    ensures { OnOk result (out.new.items ≡ out.old.items ++ written value.now) }
+pub fn put_value(out: &mut Vec<u8>, value: &Value)
+    requires fits { HasLength value.now }
+    requires room { vec_len out.old + length (written value.now) ≤ vec_capacity out.old }
+    ensures items { out.new.items ≡ out.old.items ++ written value.now }
+    ensures len { vec_len out.new ≡ vec_len out.old + length (written value.now) }
+    ensures capacity { vec_capacity out.old ≤ vec_capacity out.new }
 {
-    put_header(out, Tag::of(value).octet(), contents_len(value))?;
-    put_contents(out, value)
+    put_header(out, Tag::of(value).octet(), contents_len(value));
+    put_contents(out, value);
 }
 
 /// The shortest spelling of the value, in one allocation.
@@ -335,6 +389,6 @@ pub fn write_value(alloc: Global, value: &Value) -> Result<Vec<u8>, BerFault>
     ensures err { IfErr result (λ e. (e ≡ OutOfMemory) ⊎ ((e ≡ BadLength) × (2 ^ 32 ≤ length (contents_of value.now)))) }
 {
     let mut out = Vec::with_capacity(alloc, size_of(value)?)?;
-    put_value(&mut out, value)?;
+    put_value(&mut out, value);
     Ok(out)
 }

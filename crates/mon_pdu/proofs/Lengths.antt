@@ -5,7 +5,7 @@ use Rattle.std.specs.List.{AllByRecursion}
 use Rattle.std.specs.Int.{w32, cast_signed, cast_unsigned}
 use Rattle.std.proofs.lemmas.Int.{to_z-of_z}
 use Rattle.std.proofs.lemmas.Bool.{cases_lt}
-use Rattle.std.proofs.lemmas.List.{length-append, take_more, flat_map_more}
+use Rattle.std.proofs.lemmas.List.{length-append, append_assoc, take_more, flat_map_more}
 use Rattle.mon_ber.specs.declared.value.Value.TheVariants.{Integer, Octets, Name}
 use Rattle.mon_ber.specs.Writing.{contents_of, written, size_for, counted}
 use Rattle.mon_ber.proofs.Promised.{length-element, written_size, size_longer}
@@ -87,6 +87,22 @@ passed z fits = to_z-of_z w32 z fits
 
 pub numbers_total : (body : Body) → length (numbers_of body) ≡ length (written (Integer (first_of body))) + length (written (Integer (second_of body))) + length (written (Integer (third_of body)))
 numbers_total body = omega (arith, length-append (written (Integer (first_of body)) ++ written (Integer (second_of body))) (written (Integer (third_of body))), length-append (written (Integer (first_of body))) (written (Integer (second_of body))))
+
+-- three numbers that are passed on, behind what was there
+pub three_total : (a b c : List ℕ) → length (a ++ b ++ c) ≡ length a + length b + length c
+three_total a b c = simp length-append (omega arith)
+
+pub three_passed : (front text : List ℕ) (x y z : ℤ) → FitsSigned w32 x → FitsSigned w32 y → FitsSigned w32 z
+    → text ≡ front ++ written (Integer (cast_signed w32 (cast_unsigned w32 x))) ++ written (Integer (cast_signed w32 (cast_unsigned w32 y))) ++ written (Integer (cast_signed w32 (cast_unsigned w32 z)))
+    → text ≡ front ++ (written (Integer x) ++ written (Integer y) ++ written (Integer z))
+three_passed front text x y z one two three is =
+    subst (λ n. text ≡ front ++ (written (Integer n) ++ written (Integer y) ++ written (Integer z))) (passed x one)
+    (subst (λ n. text ≡ front ++ (written (Integer (cast_signed w32 (cast_unsigned w32 x))) ++ written (Integer n) ++ written (Integer z))) (passed y two)
+    (subst (λ n. text ≡ front ++ (written (Integer (cast_signed w32 (cast_unsigned w32 x))) ++ written (Integer (cast_signed w32 (cast_unsigned w32 y))) ++ written (Integer n))) (passed z three)
+    (is ∙ behind front _ _ _)))
+  where
+    behind : (front a b c : List ℕ) → front ++ a ++ b ++ c ≡ front ++ (a ++ b ++ c)
+    behind front a b c = ap (λ t. t ++ c) (append_assoc front a b) ∙ append_assoc front (a ++ b) c
 
 -- one binding more is valid
 pub valid_more : (bs : List Binding) (i : ℕ) (b : Binding) → i < length bs → b ≡ get_or bs i b → AllByRecursion IsValidBinding (take i bs) → IsValidBinding b → AllByRecursion IsValidBinding (take (i + 1) bs)

@@ -59,5 +59,5 @@ message_grows m bindings more =
     omega (arith, ap length (flat_map-append written_binding bindings more), length-append (list_contents bindings) (list_contents more)) in
     let list : size_for (length (list_contents bindings)) ≤ size_for (length (list_contents (bindings ++ more))) = size_grows _ _ longer in
     let body : size_for (length (numbers_of m.body) + size_for (length (list_contents bindings)))
-        ≤ size_for (length (numbers_of m.body) + size_for (length (list_contents (bindings ++ more)))) = size_grows _ _ (omega arith) in
+    ≤ size_for (length (numbers_of m.body) + size_for (length (list_contents (bindings ++ more)))) = size_grows _ _ (omega arith) in
     rw (whole_size m bindings, whole_size m (bindings ++ more)) (size_grows _ _ (omega arith))

@@ -1,6 +1,6 @@
-//! Writing messages.
+//! Writing messages. Lengths are counted first, so that what is written needs no memory of its own and never fails.
 
-ghost use Rattle.std.specs.Prelude.{◌≡◌, FitsSigned, ℕ, ◌≤◌, ◌<◌, ◌+◌, ◌^◌, ◌++◌, ◌⊎◌, List, [], pos, length, OnOk, IfOk, IfErr, MatchResult};
+ghost use Rattle.std.specs.Prelude.{◌≡◌, FitsSigned, ℕ, ◌≤◌, ◌<◌, ◌+◌, ◌^◌, ◌++◌, ◌⊎◌, List, [], pos, length, IfOk, IfErr, MatchResult, vec_len, vec_capacity};
 ghost use Rattle.std.specs.List.{flat_map, AllByRecursion};
 ghost use Rattle.std.specs.Int.{w32};
 ghost use Rattle.mon_ber.specs.declared.value.Value.TheVariants.{Integer};
@@ -18,7 +18,7 @@ use mon_ber::writing::{
     LIMIT, element_len, element_size, integer_size, name_size, put_header, put_integer,
     put_object_identifier, put_octets, put_value, value_size,
 };
-use std::alloc::{AllocError, Global};
+use std::alloc::Global;
 
 /// An address has four octets.
 fn look_at_address(address: [u8; 4])
@@ -84,12 +84,15 @@ fn three_len(first: i32, second: i32, third: i32) -> usize
 }
 
 #[tactic(auto, using(crate::proofs::Lengths::passed))]
-fn put_three(out: &mut Vec<u8>, first: i32, second: i32, third: i32) -> Result<(), AllocError>
-    ensures { OnOk result (out.new.items ≡ out.old.items ++ written (Integer first) ++ written (Integer second) ++ written (Integer third)) }
+fn put_three(out: &mut Vec<u8>, first: i32, second: i32, third: i32)
+    requires room { vec_len out.old + length (written (Integer first) ++ written (Integer second) ++ written (Integer third)) ≤ vec_capacity out.old }
+    ensures items { out.new.items ≡ out.old.items ++ written (Integer first) ++ written (Integer second) ++ written (Integer third) }
+    ensures len { vec_len out.new ≡ vec_len out.old + length (written (Integer first) ++ written (Integer second) ++ written (Integer third)) }
+    ensures capacity { vec_capacity out.old ≤ vec_capacity out.new }
 {
-    put_integer(out, first)?;
-    put_integer(out, second)?;
-    put_integer(out, third)
+    put_integer(out, first);
+    put_integer(out, second);
+    put_integer(out, third);
 }
 
 /// How many octets the numbers before the bindings take.
@@ -106,8 +109,11 @@ fn numbers_len(body: &Body) -> usize
 }
 
 #[tactic(auto, using(crate::proofs::Lengths::passed))]
-fn put_numbers(out: &mut Vec<u8>, body: &Body) -> Result<(), AllocError>
-    ensures { OnOk result (out.new.items ≡ out.old.items ++ numbers_of body.now) }
+fn put_numbers(out: &mut Vec<u8>, body: &Body)
+    requires room { vec_len out.old + length (numbers_of body.now) ≤ vec_capacity out.old }
+    ensures items { out.new.items ≡ out.old.items ++ numbers_of body.now }
+    ensures len { vec_len out.new ≡ vec_len out.old + length (numbers_of body.now) }
+    ensures capacity { vec_capacity out.old ≤ vec_capacity out.new }
 {
     match body {
         Body::Pdu(pdu) => put_three(out, pdu.request_id, pdu.error_status, pdu.error_index),
@@ -199,64 +205,95 @@ pub fn size_with(message: &Message, list: usize) -> usize
 }
 
 #[tactic(auto, using(crate::proofs::Lengths::value_fits), unfolding(crate::specs::Writing::written_binding, mon_ber::specs::Writing::element))]
-fn put_binding(out: &mut Vec<u8>, binding: &Binding) -> Result<(), AllocError>
-    requires { length (binding_contents binding.now) < 2 ^ 32 }
-    ensures { OnOk result (out.new.items ≡ out.old.items ++ written_binding binding.now) }
+fn put_binding(out: &mut Vec<u8>, binding: &Binding)
+    requires fits { length (binding_contents binding.now) < 2 ^ 32 }
+    requires room { vec_len out.old + length (written_binding binding.now) ≤ vec_capacity out.old }
+    ensures items { out.new.items ≡ out.old.items ++ written_binding binding.now }
+    ensures len { vec_len out.new ≡ vec_len out.old + length (written_binding binding.now) }
+    ensures capacity { vec_capacity out.old ≤ vec_capacity out.new }
 {
-    put_header(out, 0x30, binding_len(binding))?;
-    put_object_identifier(out, &binding.name)?;
-    put_value(out, &binding.value)
+    put_header(out, 0x30, binding_len(binding));
+    put_object_identifier(out, &binding.name);
+    put_value(out, &binding.value);
 }
 
-fn put_bindings(out: &mut Vec<u8>, bindings: &[Binding]) -> Result<(), AllocError>
-    requires { length (list_contents bindings.now) < 2 ^ 32 }
-    ensures { OnOk result (out.new.items ≡ out.old.items ++ list_contents bindings.now) }
+fn put_bindings(out: &mut Vec<u8>, bindings: &[Binding])
+    requires fits { length (list_contents bindings.now) < 2 ^ 32 }
+    requires room { vec_len out.old + length (list_contents bindings.now) ≤ vec_capacity out.old }
+    ensures items { out.new.items ≡ out.old.items ++ list_contents bindings.now }
+    ensures len { vec_len out.new ≡ vec_len out.old + length (list_contents bindings.now) }
+    ensures capacity { vec_capacity out.old ≤ vec_capacity out.new }
 {
     for binding in bindings {
-        put_binding(out, binding)?;
+        put_binding(out, binding);
     }
-    Ok(())
 }
 
 #[tactic(auto, unfolding(crate::specs::Writing::written_list, mon_ber::specs::Writing::element))]
-fn put_list(out: &mut Vec<u8>, bindings: &[Binding], len: usize) -> Result<(), AllocError>
+fn put_list(out: &mut Vec<u8>, bindings: &[Binding], len: usize)
     requires fits { len < 2 ^ 32 }
     requires len { len ≡ length (list_contents bindings.now) }
-    ensures { OnOk result (out.new.items ≡ out.old.items ++ written_list bindings.now) }
+    requires room { vec_len out.old + length (written_list bindings.now) ≤ vec_capacity out.old }
+    ensures items { out.new.items ≡ out.old.items ++ written_list bindings.now }
+    ensures len { vec_len out.new ≡ vec_len out.old + length (written_list bindings.now) }
+    ensures capacity { vec_capacity out.old ≤ vec_capacity out.new }
 {
-    put_header(out, 0x30, len)?;
-    put_bindings(out, bindings)
+    put_header(out, 0x30, len);
+    put_bindings(out, bindings);
 }
 
 #[tactic(auto, using(crate::proofs::Lengths::list_fits), unfolding(crate::specs::Writing::written_body, mon_ber::specs::Writing::element))]
-fn put_body(out: &mut Vec<u8>, body: &Body, lengths: Lengths) -> Result<(), AllocError>
+fn put_body(out: &mut Vec<u8>, body: &Body, lengths: Lengths)
     requires fits { length (body_contents body.now) < 2 ^ 32 }
     requires body { lengths.body ≡ counted (length (body_contents body.now)) }
     requires list { lengths.list ≡ counted (length (list_contents (bindings_of body.now))) }
-    ensures { OnOk result (out.new.items ≡ out.old.items ++ written_body body.now) }
+    requires room { vec_len out.old + length (written_body body.now) ≤ vec_capacity out.old }
+    ensures items { out.new.items ≡ out.old.items ++ written_body body.now }
+    ensures len { vec_len out.new ≡ vec_len out.old + length (written_body body.now) }
+    ensures capacity { vec_capacity out.old ≤ vec_capacity out.new }
 {
-    put_header(out, body.octet(), lengths.body)?;
-    put_numbers(out, body)?;
-    put_list(out, body.bindings(), lengths.list)
+    put_header(out, body.octet(), lengths.body);
+    put_numbers(out, body);
+    put_list(out, body.bindings(), lengths.list);
 }
 
 #[tactic(auto, using(crate::proofs::Lengths::body_fits), unfolding(crate::specs::Writing::written_message, mon_ber::specs::Writing::element))]
-fn put_message(out: &mut Vec<u8>, message: &Message, lengths: Lengths) -> Result<(), AllocError>
+fn put_message(out: &mut Vec<u8>, message: &Message, lengths: Lengths)
     requires fits { HasLength message.now }
     requires message { lengths.message ≡ counted (length (message_contents message.now)) }
     requires body { lengths.body ≡ counted (length (body_contents message.now.body)) }
     requires list { lengths.list ≡ counted (length (list_contents (bindings_of message.now.body))) }
-    ensures { OnOk result (out.new.items ≡ out.old.items ++ written_message message.now) }
+    requires room { vec_len out.old + length (written_message message.now) ≤ vec_capacity out.old }
+    ensures items { out.new.items ≡ out.old.items ++ written_message message.now }
+    ensures len { vec_len out.new ≡ vec_len out.old + length (written_message message.now) }
+    ensures capacity { vec_capacity out.old ≤ vec_capacity out.new }
 {
-    put_header(out, 0x30, lengths.message)?;
-    put_integer(out, 1)?;
-    put_octets(out, message.community.as_slice())?;
-    put_body(out, &message.body, lengths)
+    put_header(out, 0x30, lengths.message);
+    put_integer(out, 1);
+    put_octets(out, message.community.as_slice());
+    put_body(out, &message.body, lengths);
+}
+
+/// Writes the shortest spelling of the message behind what `out` holds, where there is room for it: `message_size` octets.
+/// Takes no memory and never fails, so memory can be taken before and the message written once nothing else can go wrong.
+/// Names and values are measured three times, as `write_message` does, so the time is linear in what is written.
+pub fn write_within(out: &mut Vec<u8>, message: &Message)
+    requires fits { HasLength message.now }
+    requires room { vec_len out.old + length (written_message message.now) ≤ vec_capacity out.old }
+    ensures valid { IsValid message.now }
+    ensures items { out.new.items ≡ out.old.items ++ written_message message.now }
+    // What is written is a spelling of the message.
+    ensures spelled { IsMessage (written_message message.now) message.now }
+    ensures len { vec_len out.new ≡ vec_len out.old + length (written_message message.now) }
+    ensures capacity { vec_capacity out.old ≤ vec_capacity out.new }
+{
+    put_message(out, message, lengths_of(message));
 }
 
 /// The shortest spelling of the message, in a vector of just its size, which is the one allocation.
 /// Names and values are measured three times, for the size of the message, of their binding and of their own, so
 /// the time is linear in what is written. Besides `OutOfMemory` the one fault is `BadLength`, as of `message_size`.
+#[tactic(auto, using(crate::proofs::Lengths::message_length))]
 pub fn write_message(alloc: Global, message: &Message) -> Result<Vec<u8>, PduFault>
     ensures valid { IsValid message.now }
     ensures ok { IfOk result (λ v. HasLength message.now × (v.items ≡ written_message message.now)) }
@@ -269,6 +306,6 @@ pub fn write_message(alloc: Global, message: &Message) -> Result<Vec<u8>, PduFau
         return Err(PduFault::BadLength);
     }
     let mut out = Vec::with_capacity(alloc, element_len(lengths.message))?;
-    put_message(&mut out, message, lengths)?;
+    put_message(&mut out, message, lengths);
     Ok(out)
 }
