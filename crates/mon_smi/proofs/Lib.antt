@@ -6,3 +6,9 @@ pub mod Meanings
 pub mod Nearness
 pub mod BuiltIn
 pub mod Exact
+pub mod Runs
+pub mod Quoted
+pub mod Comments
+pub mod Taken
+pub mod Found
+pub mod ByPieces
