@@ -1,12 +1,12 @@
 -- Reading by longest pieces: what stands at a place, one more piece, and that no text is read whole and also stuck.
-use Rattle.std.proofs.Common.{◌≡◌, ℕ, zero, suc, ◌+◌, ◌<◌, ◌≤◌, List, [], ◌∷◌, ◌++◌, length, get_or, take, drop, Option, Some, None, Result, Ok, Err, rules, sym, refl, ap, ◌∙◌, subst, arith, append_assoc, append-nil, take-append-drop, length-take-le, length-append, ◌⊎◌, ⊎_elim}
+use Rattle.std.proofs.Common.{◌≡◌, ℕ, zero, suc, ◌+◌, ◌<◌, ◌≤◌, List, [], ◌∷◌, ◌++◌, length, take, drop, Option, Some, None, Result, Ok, Err, rules, sym, refl, ap, ◌∙◌, subst, arith, append_assoc, append-nil, take-append-drop, length-take-le, length-append, ◌⊎◌, ⊎_elim}
 use Rattle.std.specs.Prelude.{IfSome, IfOk, IsErr, IsTrue}
 use Rattle.mon_smi.specs.declared.kind.Kind.{Kind}
 use Rattle.mon_smi.specs.declared.token.Token.{Token}
 use Rattle.mon_smi.specs.declared.token.Piece.{Piece}
 use Rattle.mon_smi.specs.declared.text_fault.TextFault.{TextFault}
 use Rattle.mon_smi.specs.declared.text_fault.TextFault.TheVariants.{OutOfMemory, Unclosed, Unexpected, Duplicate}
-use Rattle.mon_smi.specs.Tokens.{IsSpelled, IsLongest, IsPassed, IsComment, is_space, IsPiece, IsPieceOf, IsRead, NothingStands, bytes_of, token_of, tokens_of, AreTokens, IsStuck, IsFaultAt, IsFaultOfTokens}
+use Rattle.mon_smi.specs.Tokens.{IsSpelled, IsComment, is_space, IsPiece, IsPieceOf, IsRead, NothingStands, bytes_of, token_of, tokens_of, AreTokens, IsStuck, IsFaultAt, IsFaultOfTokens}
 use Rattle.mon_smi.specs.Scan.{piece_at}
 use Rattle.mon_smi.proofs.Taken.{TakenAs, Taken, spelled_at}
 use Rattle.mon_smi.proofs.Found.{piece, found_at, passed_at}

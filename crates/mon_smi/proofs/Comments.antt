@@ -1,11 +1,11 @@
 -- Comments: what is passed as one is a comment, and a comment is passed.
-use Rattle.std.proofs.Common.{◌≡◌, ℕ, zero, suc, ◌+◌, ◌<◌, ◌≤◌, Bool, true, false, cond, List, [], ◌∷◌, ◌++◌, length, get_or, take, drop, sym, refl, ap, ◌∙◌, subst, arith, append_assoc, length-append, take-append-drop, length-take-le, ◌⊎◌, ⊎_elim, inl, inr}
-use Rattle.std.specs.Prelude.{IsTrue, ◌||◌, ◌&&◌, ◌==◌}
+use Rattle.std.proofs.Common.{◌≡◌, ℕ, suc, ◌+◌, ◌≤◌, Bool, true, false, List, [], ◌∷◌, ◌++◌, length, get_or, take, drop, sym, refl, ap, ◌∙◌, subst, arith, append_assoc, length-append, take-append-drop, length-take-le, ◌⊎◌, ⊎_elim, inl, inr}
+use Rattle.std.specs.Prelude.{◌||◌, ◌&&◌, ◌==◌}
 use Rattle.std.proofs.lemmas.Bool.{eqb-true}
 use Rattle.std.proofs.lemmas.Bool.Decides.{nat_tests}
-use Rattle.std.proofs.lemmas.List.{take_at, drop_at}
+use Rattle.std.proofs.lemmas.List.{drop_at}
 use Rattle.mon_smi.specs.Tokens.{AreAll, AreHyphens, is_hyphen, BeginsOtherwise, IsRemark, EndsLine, IsComment}
-use Rattle.mon_smi.specs.Scan.{run_at, remark_at, ending_at, comment_at}
+use Rattle.mon_smi.specs.Scan.{run_at, remark_at, comment_at}
 use Rattle.mon_smi.proofs.Runs.{by_test, run_within, run_all, Stops, run_stops, run_front}
 
 no_equal : (a b : ℕ) → (a ≡ b → ⊥) → (a == b) ≡ false

@@ -1,13 +1,13 @@
 -- What is spelled at the front of a text is found there, whatever follows.
-use Rattle.std.proofs.Common.{◌≡◌, ℕ, zero, suc, ◌+◌, ◌<◌, ◌≤◌, Bool, true, false, cond, List, [], ◌∷◌, ◌++◌, length, get_or, take, drop, Option, Some, None, sym, refl, ap, ◌∙◌, subst, arith, length-append, append_assoc, take-append-drop, length-take-le, ◌⊎◌, ⊎_elim, inl, inr}
-use Rattle.std.specs.Prelude.{IsTrue, ◌||◌, ◌&&◌, ◌==◌}
+use Rattle.std.proofs.Common.{◌≡◌, ℕ, suc, ◌+◌, ◌<◌, ◌≤◌, Bool, true, false, List, [], ◌∷◌, ◌++◌, length, get_or, take, drop, Option, Some, None, sym, refl, ap, ◌∙◌, subst, arith, length-append, append_assoc, take-append-drop, length-take-le, ⊎_elim}
+use Rattle.std.specs.Prelude.{IsTrue, ◌==◌}
 use Rattle.std.specs.List.{flat_map}
 use Rattle.std.specs.Char.{is_ascii_alphabetic, is_ascii_digit, is_ascii_hexdigit}
 use Rattle.std.proofs.lemmas.Bool.{eqb-true}
 use Rattle.std.proofs.lemmas.Bool.Decides.{nat_tests}
 use Rattle.std.proofs.lemmas.List.{drop_at}
 use Rattle.mon_smi.specs.Words.{IsWord}
-use Rattle.mon_smi.specs.Tokens.{AreAll, AreDigits, IsNumber, IsQuoted, IsBits, doubled, IsSpelled, is_space, is_bit, is_hyphen, IsPassed, IsComment}
+use Rattle.mon_smi.specs.Tokens.{AreAll, AreDigits, IsQuoted, IsBits, doubled, IsSpelled, is_space, is_bit, is_hyphen, IsPassed, IsComment}
 use Rattle.mon_smi.specs.Scan.{run_at, word_at, closes_at, comment_at, closed_bits, token, piece_at}
 use Rattle.mon_smi.specs.declared.kind.Kind.{Kind}
 use Rattle.mon_smi.specs.declared.kind.Kind.TheVariants.{Word, Number, Quoted, Hex, Binary, Assign, Range, LeftBrace, RightBrace, LeftParen, RightParen, LeftBracket, RightBracket, Comma, Semicolon, Dot, Bar}

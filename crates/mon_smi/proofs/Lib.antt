@@ -12,3 +12,7 @@ pub mod Comments
 pub mod Taken
 pub mod Found
 pub mod ByPieces
+pub mod ForRules
+pub mod ForValues
+pub mod ForModules
+pub mod ForText

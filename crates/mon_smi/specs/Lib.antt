@@ -4,5 +4,9 @@ pub mod Faults
 pub mod TextFaults
 pub mod Tokens
 pub mod Scan
+pub mod Lexemes
+pub mod Reading
+pub mod Grammar
+pub mod ModuleFaults
 pub mod BuiltIn
 pub mod Nearest

@@ -1,5 +1,5 @@
 -- What stands at the front of a text, as a function of the text.
-use Rattle.std.specs.Prelude.{◌≡◌, ℕ, zero, suc, ◌+◌, List, [], ◌∷◌, length, slice_index, take, drop, Bool, true, false, ◌||◌, ◌&&◌, ◌==◌, IsTrue, if◌then◌else◌, Option, Some, None}
+use Rattle.std.specs.Prelude.{ℕ, suc, ◌+◌, List, [], ◌∷◌, slice_index, drop, Bool, ◌||◌, ◌&&◌, ◌==◌, if◌then◌else◌, Option, Some, None}
 use Rattle.std.specs.Char.{is_ascii_alphabetic, is_ascii_digit, is_ascii_hexdigit}
 use Rattle.mon_smi.specs.Words.{is_part}
 use Rattle.mon_smi.specs.Tokens.{is_space, is_hyphen, is_bit}

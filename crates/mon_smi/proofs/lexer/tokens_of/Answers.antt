@@ -1,5 +1,4 @@
-use Rattle.std.proofs.Common.{◌≡◌, ◌+◌, ◌<◌, ◌≤◌, ◌^◌, ◌++◌, length, Some, None, sym, arith, rules}
-use Rattle.mon_smi.specs.Tokens.{token_of}
+use Rattle.std.proofs.Common.{◌≡◌, ◌+◌, ◌<◌, ◌≤◌, ◌^◌, length, Some, None, arith, rules}
 use Rattle.mon_smi.specs.Scan.{piece_at}
 use Rattle.mon_smi.proofs.ByPieces.{piece_within, next_smaller, next_of, stuck_at}
 use Rattle.mon_smi.proofs.lexer.tokens_of.Goals as goal

@@ -1,4 +1,4 @@
-use Rattle.std.proofs.Common.{◌≡◌, ◌<◌, ◌≤◌, length, get_or, refl, arith}
+use Rattle.std.proofs.Common.{refl, arith}
 use Rattle.mon_smi.proofs.Quoted.{next_byte, next_pair, behind_one, behind_two, second_of}
 use Rattle.mon_smi.proofs.scan.closing_len.Goals as goal
 
