@@ -6,3 +6,13 @@ pub mod Meanings
 pub mod Nearness
 pub mod BuiltIn
 pub mod Exact
+pub mod Runs
+pub mod Quoted
+pub mod Comments
+pub mod Taken
+pub mod Found
+pub mod ByPieces
+pub mod ForRules
+pub mod ForValues
+pub mod ForModules
+pub mod ForText

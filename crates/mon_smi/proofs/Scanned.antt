@@ -63,6 +63,14 @@ is_longest text n m stops within word =
 pub begins : (text : List ℕ) → IsTrue (is_ascii_alphabetic (get_or text 0 0)) → GoesOn text 0
 begins text letter = inl (ap (λ t. (t || is_ascii_digit (get_or text 0 0)) || get_or text 0 0 == 95) letter)
 
+-- nothing goes on at the end
+pub ends : (text : List ℕ) (n : ℕ) → length text ≤ n → GoesOn text n → ⊥
+ends text n past goes =
+    ⊎_elim (λ part. not_past text n past part)
+    (λ hyphen. let nothing : get_or text n 0 ≡ 0 = get_or-eq_default text 0 past in
+    let is : get_or text n 0 ≡ 45 = hyphen.0 in omega arith)
+    goes
+
 -- so the word has a byte at least
 pub some_byte : (text : List ℕ) (n : ℕ) → IsTrue (is_ascii_alphabetic (get_or text 0 0)) → (GoesOn text n → ⊥) → 0 < n
 some_byte text n letter stops =

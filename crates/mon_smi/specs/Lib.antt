@@ -1,5 +1,12 @@
 pub mod Words
 pub mod Names
 pub mod Faults
+pub mod TextFaults
+pub mod Tokens
+pub mod Scan
+pub mod Lexemes
+pub mod Reading
+pub mod Grammar
+pub mod ModuleFaults
 pub mod BuiltIn
 pub mod Nearest

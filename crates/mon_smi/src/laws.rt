@@ -1,7 +1,10 @@
-//! Laws of names. Each is a function that does nothing.
+//! Laws of names, tokens and modules. Each is a function that does nothing.
 
 ghost use Rattle.std.specs.Prelude.{◌≡◌, ℕ, List};
 ghost use Rattle.mon_smi.specs.declared.definition.Definition.{Definition as AnyDefinition};
+ghost use Rattle.mon_smi.specs.declared.token.Token.{Token as AnyToken};
+ghost use Rattle.mon_smi.specs.Tokens.{AreTokens};
+ghost use Rattle.mon_smi.specs.Grammar.{Derives};
 ghost use Rattle.mon_smi.specs.Names.{AreDistinct, Stands, Means, IsLost, IsCircular};
 
 /// A name stands for one identifier at most.
@@ -25,3 +28,13 @@ pub fn one_reading()
 {
     mon_oid::laws::one_reading();
 }
+
+/// A text has one list of tokens at most.
+pub fn one_cut()
+    ensures { (text : List ℕ) (a b : List AnyToken) → AreTokens text a → AreTokens text b → a ≡ b }
+{}
+
+/// A text derives one module at most.
+pub fn one_module()
+    ensures { (text v w : List ℕ) (a b : List AnyDefinition) → Derives text v a → Derives text w b → (v ≡ w) × (a ≡ b) }
+{}

@@ -1,22 +1,38 @@
-//! Names of managed objects, by RFC 2578 (SMIv2): `Names::new` has the built-in ones, `add` adds the definitions of a
-//! `Module`, `resolve` gives the identifier that a text means, and `name_of` the name of an identifier. Texts of modules
-//! are not read here: a caller makes a `Module`. To the layer above `Names` is the list of its definitions, all distinct.
+//! Names of managed objects, by RFC 2578 (SMIv2): `tokens` cuts a module's text, `read_module` gives its definitions,
+//! `Names::new` has the built-in ones, `add` adds those of a `Module`, `resolve` gives the identifier that a text means,
+//! and `name_of` the name of an identifier. To the layer above `Names` is the list of its definitions, all distinct.
 #![tactic(auto)]
 
+mod assignments;
 mod built_in;
 mod chain;
 mod definition;
 mod fault;
+mod kind;
 pub mod laws;
+mod lexeme;
+mod lexer;
+mod modules;
 mod names;
 mod nearest;
 mod numbers;
+mod part;
+mod pieces;
+mod rules;
 mod scan;
 mod text;
+mod text_fault;
+mod token;
+mod values;
 mod word;
 
 pub use definition::{Definition, Definitions, Module};
 pub use fault::NamesFault;
+pub use kind::Kind;
+pub use lexer::tokens;
+pub use modules::read_module;
 pub use names::Names;
 pub use numbers::Numbers;
+pub use text_fault::TextFault;
+pub use token::{Span, Token};
 pub use word::Word;

@@ -18,6 +18,13 @@ impl Model for Numbers {
 }
 
 impl Numbers {
+    /// These numbers.
+    pub fn new(items: Vec<u32>) -> Self
+        ensures { result ≡ items.items }
+    {
+        Numbers { items }
+    }
+
     /// These numbers. An `Err` is for want of memory.
     pub fn from_slice(alloc: Global, numbers: &[u32]) -> Result<Self, AllocError>
         ensures { IfOk result (λ n. n ≡ numbers.now) }

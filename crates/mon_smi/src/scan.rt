@@ -1,8 +1,10 @@
-//! How long the word at the front of a text is.
+//! How long what stands at the front of a text is.
 
-ghost use Rattle.std.specs.Prelude.{◌≡◌, ◌+◌, ◌<◌, ◌≤◌, ◌↔◌, ℕ, length, take, slice_index, IsTrue};
-ghost use Rattle.std.specs.Char.{is_ascii_alphabetic};
+ghost use Rattle.std.specs.Prelude.{◌≡◌, ◌+◌, ◌<◌, ◌≤◌, ◌↔◌, ℕ, length, take, drop, slice_index, IsTrue, IfSome};
+ghost use Rattle.std.specs.Char.{is_ascii_alphabetic, is_ascii_digit, is_ascii_hexdigit};
 ghost use Rattle.mon_smi.specs.Words.{is_part, GoesOn, IsWord};
+ghost use Rattle.mon_smi.specs.Tokens.{is_bit, is_hyphen};
+ghost use Rattle.mon_smi.specs.Scan.{run_at, word_at, closes_at, remark_at, ending_at, comment_at};
 
 /// Whether the byte is a letter, a digit or an underscore.
 fn is_part(byte: u8) -> bool
@@ -28,10 +30,160 @@ pub fn word_len(text: &[u8]) -> usize
     ensures within { result ≤ length text.now }
     ensures word { IsWord (take result text.now) }
     ensures longest { (m : ℕ) → m ≤ length text.now → IsWord (take m text.now) → m ≤ result }
+    ensures exact { result ≡ word_at text.now }
 {
     let mut len = 0;
     while len < text.len() && goes_on(text, len) {
         len += 1;
     }
     len
+}
+
+/// The byte at this place, or 0 behind the end.
+pub fn byte_at(text: &[u8], i: usize) -> u8
+    ensures { result ≡ slice_index text.now i }
+{
+    if i < text.len() {
+        return text[i];
+    }
+    0
+}
+
+/// What stands behind so many bytes.
+pub fn behind(text: &[u8], n: usize) -> &[u8]
+    requires { n ≤ length text.now }
+    ensures { result.now ≡ drop n text.now }
+{
+    &text[n..]
+}
+
+/// The number of digits at the front.
+pub fn digits_len(text: &[u8]) -> usize
+    ensures within { result ≤ length text.now }
+    ensures exact { result ≡ run_at is_ascii_digit text.now }
+{
+    let mut len = 0;
+    let mut rest = text;
+    while let [byte, after @ ..] = rest {
+        if !byte.is_ascii_digit() {
+            return len;
+        }
+        rest = after;
+        len += 1;
+    }
+    len
+}
+
+/// The number of hex digits at the front.
+pub fn hex_digits_len(text: &[u8]) -> usize
+    ensures within { result ≤ length text.now }
+    ensures exact { result ≡ run_at is_ascii_hexdigit text.now }
+{
+    let mut len = 0;
+    let mut rest = text;
+    while let [byte, after @ ..] = rest {
+        if !byte.is_ascii_hexdigit() {
+            return len;
+        }
+        rest = after;
+        len += 1;
+    }
+    len
+}
+
+/// The number of binary digits at the front.
+pub fn bits_len(text: &[u8]) -> usize
+    ensures within { result ≤ length text.now }
+    ensures exact { result ≡ run_at is_bit text.now }
+{
+    let mut len = 0;
+    let mut rest = text;
+    while let [byte, after @ ..] = rest {
+        if *byte != b'0' && *byte != b'1' {
+            return len;
+        }
+        rest = after;
+        len += 1;
+    }
+    len
+}
+
+/// The number of hyphens at the front.
+fn hyphens_len(text: &[u8]) -> usize
+    ensures within { result ≤ length text.now }
+    ensures exact { result ≡ run_at is_hyphen text.now }
+{
+    let mut len = 0;
+    let mut rest = text;
+    while let [byte, after @ ..] = rest {
+        if *byte != b'-' {
+            return len;
+        }
+        rest = after;
+        len += 1;
+    }
+    len
+}
+
+/// The length of a comment up to its closing hyphens or the end of the line.
+fn remark_len(text: &[u8]) -> usize
+    ensures within { result ≤ length text.now }
+    ensures exact { result ≡ remark_at text.now }
+{
+    let mut len = 0;
+    let mut rest = text;
+    while let [byte, after @ ..] = rest {
+        if *byte == b'\n' || (*byte == b'-' && byte_at(after, 0) == b'-') {
+            return len;
+        }
+        rest = after;
+        len += 1;
+    }
+    len
+}
+
+/// The length of a comment behind its opening hyphens.
+fn ending_len(text: &[u8]) -> usize
+    ensures within { result ≤ length text.now }
+    ensures exact { result ≡ ending_at text.now }
+{
+    let remark = remark_len(text);
+    remark + hyphens_len(behind(text, remark))
+}
+
+/// The length of a comment behind its first hyphen.
+pub fn comment_len(text: &[u8]) -> usize
+    ensures within { result ≤ length text.now }
+    ensures exact { result ≡ comment_at text.now }
+{
+    let opening = hyphens_len(text);
+    opening + ending_len(behind(text, opening))
+}
+
+/// The length of the longest string behind its opening quote, with its closing one, or none where
+/// the text ends first.
+pub fn closing_len(text: &[u8]) -> Option<usize>
+    ensures within { IfSome result (λ n. n ≤ length text.now) }
+    ensures exact { result ≡ closes_at text.now }
+{
+    let mut end = None;
+    let mut len = 0;
+    let mut rest = text;
+    while let [byte, after @ ..] = rest {
+        if *byte != b'"' {
+            rest = after;
+            len += 1;
+            continue;
+        }
+        let [next, others @ ..] = after else {
+            return Some(len + 1);
+        };
+        if *next != b'"' {
+            return Some(len + 1);
+        }
+        end = Some(len + 1);
+        rest = others;
+        len += 2;
+    }
+    end
 }

@@ -1,0 +1,111 @@
+-- What the grammar of modules sees of a token.
+use Rattle.std.specs.Prelude.{ℕ, ◌-◌, ◌≤◌, List, [], ◌∷◌, length, take, drop, map, Bool, true, false, ◌&&◌, ◌==◌, Option, Some, None, slice_index}
+use Rattle.std.specs.Char.{is_ascii_lowercase, is_ascii_uppercase}
+use Rattle.mon_smi.specs.declared.kind.Kind.{Kind}
+use Rattle.mon_smi.specs.declared.kind.Kind.TheVariants.{Word, Number, Quoted, Hex, Binary, Assign, Range, LeftBrace, RightBrace, LeftParen, RightParen, LeftBracket, RightBracket, Comma, Semicolon, Dot, Bar}
+use Rattle.mon_smi.specs.declared.token.Token.{Token}
+use Rattle.mon_smi.specs.Tokens.{IsSpelled}
+
+-- a word or a number with its text, or another token by its kind
+pub data Lexeme : Type 0 where
+  word : List ℕ → Lexeme
+  number : List ℕ → Lexeme
+  mark : Kind → Lexeme
+
+-- a token of this kind and text
+abbrev pub lexeme_of : Kind → List ℕ → Lexeme
+lexeme_of Word text = word text
+lexeme_of Number text = number text
+lexeme_of Quoted text = mark Quoted
+lexeme_of Hex text = mark Hex
+lexeme_of Binary text = mark Binary
+lexeme_of Assign text = mark Assign
+lexeme_of Range text = mark Range
+lexeme_of LeftBrace text = mark LeftBrace
+lexeme_of RightBrace text = mark RightBrace
+lexeme_of LeftParen text = mark LeftParen
+lexeme_of RightParen text = mark RightParen
+lexeme_of LeftBracket text = mark LeftBracket
+lexeme_of RightBracket text = mark RightBracket
+lexeme_of Comma text = mark Comma
+lexeme_of Semicolon text = mark Semicolon
+lexeme_of Dot text = mark Dot
+lexeme_of Bar text = mark Bar
+
+-- a token of this text
+abbrev pub lexeme_at : List ℕ → Token → Lexeme
+lexeme_at text t = lexeme_of t.kind (take (t.span.end - t.span.start) (drop t.span.start text))
+
+-- these tokens of this text
+abbrev pub lexemes : List ℕ → List Token → List Lexeme
+lexemes text tokens = map (lexeme_at text) tokens
+
+-- the token stands in the text and is spelled as its kind is
+pub record IsTokenOf (text : List ℕ) (t : Token) : Type 0 where
+  pub begun : t.span.start ≤ t.span.end
+  pub within : t.span.end ≤ length text
+  pub spelled : IsSpelled t.kind (take (t.span.end - t.span.start) (drop t.span.start text))
+
+abbrev pub AreTokensOf : List ℕ → List Token → Type 0
+AreTokensOf text [] = Unit {0}
+AreTokensOf text (t ∷ ts) = IsTokenOf text t × AreTokensOf text ts
+
+-- kinds by number
+abbrev pub code_of : Kind → ℕ
+code_of Word = 0
+code_of Number = 1
+code_of Quoted = 2
+code_of Hex = 3
+code_of Binary = 4
+code_of Assign = 5
+code_of Range = 6
+code_of LeftBrace = 7
+code_of RightBrace = 8
+code_of LeftParen = 9
+code_of RightParen = 10
+code_of LeftBracket = 11
+code_of RightBracket = 12
+code_of Comma = 13
+code_of Semicolon = 14
+code_of Dot = 15
+code_of Bar = 16
+
+abbrev pub same_text : List ℕ → List ℕ → Bool
+same_text [] [] = true
+same_text [] (b ∷ bs) = false
+same_text (a ∷ xs) [] = false
+same_text (a ∷ xs) (b ∷ bs) = a == b && same_text xs bs
+
+abbrev pub is_word : List ℕ → Lexeme → Bool
+is_word w (word v) = same_text v w
+is_word w (number v) = false
+is_word w (mark k) = false
+
+abbrev pub is_mark : Kind → Lexeme → Bool
+is_mark k (word v) = false
+is_mark k (number v) = false
+is_mark k (mark j) = code_of j == code_of k
+
+-- the text of a word
+abbrev pub word_of : Lexeme → Option (List ℕ)
+word_of (word w) = Some w
+word_of (number d) = None
+word_of (mark k) = None
+
+-- the text of a number
+abbrev pub digits_of : Lexeme → Option (List ℕ)
+digits_of (word w) = None
+digits_of (number d) = Some d
+digits_of (mark k) = None
+
+-- a value's name begins with a small letter, a type's and a module's with a capital (RFC 2578 section 3.1)
+abbrev pub begins_small : List ℕ → Bool
+begins_small w = is_ascii_lowercase (slice_index w 0)
+
+abbrev pub begins_capital : List ℕ → Bool
+begins_capital w = is_ascii_uppercase (slice_index w 0)
+
+abbrev pub is_capital : Lexeme → Bool
+is_capital (word w) = begins_capital w
+is_capital (number d) = false
+is_capital (mark k) = false

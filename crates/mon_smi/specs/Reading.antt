@@ -1,0 +1,318 @@
+-- Reading a module's tokens from the left.
+use Rattle.std.specs.Char.{is_ascii_digit}
+use Rattle.std.specs.Prelude.{◌≡◌, ℕ, zero, suc, ◌+◌, ◌-◌, ◌*◌, ◌^◌, List, [], ◌∷◌, ◌++◌, length, drop, option_to_list, Bool, false, not, ◌&&◌, ◌||◌, ◌==◌, nat_le, nat_lt, if◌then◌else◌, Option, Some, None, Result, Ok, Err, codes}
+use Rattle.mon_smi.specs.declared.text_fault.TextFault.{TextFault}
+use Rattle.mon_smi.specs.declared.text_fault.TextFault.TheVariants.{OutOfMemory, Unclosed, Unexpected, Duplicate}
+use Rattle.mon_smi.specs.declared.kind.Kind.{Kind}
+use Rattle.mon_smi.specs.declared.kind.Kind.TheVariants.{Quoted, Assign, LeftBrace, RightBrace, LeftParen, RightParen, Semicolon}
+use Rattle.mon_smi.specs.declared.definition.Definition.{Definition}
+use Rattle.mon_smi.specs.declared.part.Part.{Part}
+use Rattle.mon_smi.specs.declared.part.Part.TheVariants.{Syntax, Text, Access, Status, Group}
+use Rattle.mon_smi.specs.Lexemes.{Lexeme, is_word, is_mark, word_of, digits_of, begins_small, begins_capital, is_capital}
+
+-- a step, and what follows it unless it failed
+infixl 10 ◌>>=◌
+abbrev pub ◌>>=◌ : {A B : Type 0} → Option A → (A → Option B) → Option B
+(Some x) >>= f = f x
+None >>= f = None
+
+-- a call that failed so failed as reading does, unless memory ran out
+abbrev pub Fails : {Y : Type 0} → TextFault → Option Y → Type 0
+Fails OutOfMemory read = Unit {0}
+Fails Unclosed read = read ≡ None
+Fails (Unexpected span) read = read ≡ None
+Fails (Duplicate span) read = ⊥
+
+-- what a call returned, seen by view, is what reading gives, unless memory ran out
+abbrev pub Gives : {X Y : Type 0} → (X → Y) → Result X TextFault → Option Y → Type 0
+Gives view (Ok x) read = read ≡ Some (view x)
+Gives view (Err e) read = Fails e read
+
+-- one token that passes the test, and what follows it
+abbrev pub one : (Lexeme → Bool) → List Lexeme → Option (List Lexeme)
+one test [] = None
+one test (l ∷ ls) = if test l then Some ls else None
+
+-- this word
+abbrev pub word_at : List ℕ → List Lexeme → Option (List Lexeme)
+word_at w ls = one (is_word w) ls
+
+-- this mark
+abbrev pub mark_at : Kind → List Lexeme → Option (List Lexeme)
+mark_at kind ls = one (is_mark kind) ls
+
+-- this mark comes next
+abbrev pub begins : Kind → List Lexeme → Bool
+begins kind [] = false
+begins kind (l ∷ ls) = is_mark kind l
+
+-- this word comes next
+abbrev pub begins_word : List ℕ → List Lexeme → Bool
+begins_word w [] = false
+begins_word w (l ∷ ls) = is_word w l
+
+-- a word, and what follows it
+abbrev pub name_at : List Lexeme → Option (List ℕ × List Lexeme)
+name_at [] = None
+name_at (l ∷ ls) = word_of l >>= λ w. Some (w, ls)
+
+-- ---- types and groups
+
+-- the rest of a group of which so many are open inside
+abbrev pub nested_at : Kind → Kind → ℕ → List Lexeme → Option (List Lexeme)
+nested_at left right depth [] = None
+nested_at left right depth (l ∷ ls) =
+    if is_mark left l then nested_at left right (suc depth) ls else
+    (if is_mark right l then (if depth == 0 then Some ls else nested_at left right (depth - 1) ls) else nested_at left right depth ls)
+
+unfoldable pub group_at : Kind → Kind → List Lexeme → Option (List Lexeme)
+group_at left right ls = do
+  rest ← mark_at left ls
+  nested_at left right 0 rest
+
+-- two words come next that are a type's name, and no assignment of the second begins
+abbrev pub is_pair : List ℕ → List ℕ → List Lexeme → Bool
+is_pair v w [] = false
+is_pair v w (a ∷ []) = false
+is_pair v w (a ∷ b ∷ ls) = is_word v a && (is_word w b && not (begins Assign ls))
+
+abbrev pub is_sequence_of : List Lexeme → Bool
+is_sequence_of [] = false
+is_sequence_of (a ∷ []) = false
+is_sequence_of (a ∷ b ∷ []) = false
+is_sequence_of (a ∷ b ∷ c ∷ ls) = is_word (codes "SEQUENCE") a && (is_word (codes "OF") b && is_capital c)
+
+unfoldable pub type_name_at : List Lexeme → Option (List Lexeme)
+type_name_at ls =
+    if is_pair (codes "OCTET") (codes "STRING") ls then Some (drop 2 ls) else
+    (if is_pair (codes "OBJECT") (codes "IDENTIFIER") ls then Some (drop 2 ls) else
+    (if is_sequence_of ls then Some (drop 3 ls) else one is_capital ls))
+
+unfoldable pub maybe_group : List Lexeme → Option (List Lexeme)
+maybe_group ls =
+    if begins LeftBrace ls then group_at LeftBrace RightBrace ls else
+    (if begins LeftParen ls then group_at LeftParen RightParen ls else Some ls)
+
+unfoldable pub type_at : List Lexeme → Option (List Lexeme)
+type_at ls = do
+  rest ← type_name_at ls
+  maybe_group rest
+
+-- ---- clauses
+
+abbrev pub is_access : Lexeme → Bool
+is_access l = is_word (codes "not-accessible") l || (is_word (codes "accessible-for-notify") l || (is_word (codes "read-only") l || (is_word (codes "read-write") l || is_word (codes "read-create") l)))
+
+abbrev pub is_status : Lexeme → Bool
+is_status l = is_word (codes "current") l || (is_word (codes "deprecated") l || is_word (codes "obsolete") l)
+
+unfoldable pub part_at : Part → List Lexeme → Option (List Lexeme)
+part_at Syntax ls = type_at ls
+part_at Text ls = mark_at Quoted ls
+part_at Access ls = one is_access ls
+part_at Status ls = one is_status ls
+part_at Group ls = group_at LeftBrace RightBrace ls
+
+unfoldable pub clause_at : List ℕ → Part → List Lexeme → Option (List Lexeme)
+clause_at keyword part ls = do
+  rest ← word_at keyword ls
+  part_at part rest
+
+unfoldable pub optional_at : List ℕ → Part → List Lexeme → Option (List Lexeme)
+optional_at keyword part ls = if begins_word keyword ls then clause_at keyword part ls else Some ls
+
+unfoldable pub index_at : List Lexeme → Option (List Lexeme)
+index_at ls = if begins_word (codes "AUGMENTS") ls then clause_at (codes "AUGMENTS") Group ls else optional_at (codes "INDEX") Group ls
+
+unfoldable pub syntax_at : List Lexeme → Option (List Lexeme)
+syntax_at ls = do
+  syntax ← clause_at (codes "SYNTAX") Syntax ls
+  units ← optional_at (codes "UNITS") Text syntax
+  clause_at (codes "MAX-ACCESS") Access units
+
+unfoldable pub described_at : List Lexeme → Option (List Lexeme)
+described_at ls = do
+  status ← clause_at (codes "STATUS") Status ls
+  description ← clause_at (codes "DESCRIPTION") Text status
+  optional_at (codes "REFERENCE") Text description
+
+unfoldable pub object_type_at : List Lexeme → Option (List Lexeme)
+object_type_at ls = do
+  syntax ← syntax_at ls
+  described ← described_at syntax
+  index ← index_at described
+  optional_at (codes "DEFVAL") Group index
+
+unfoldable pub convention_at : List Lexeme → Option (List Lexeme)
+convention_at ls = do
+  hint ← optional_at (codes "DISPLAY-HINT") Text ls
+  described ← described_at hint
+  clause_at (codes "SYNTAX") Syntax described
+
+-- ---- one after the other
+
+-- what reads one of them reads all up to where it stops, each giving what it emits
+unfoldable pub many : {X A : Type 0} → (List Lexeme → Option (X × List Lexeme)) → (X → List A) → (List Lexeme → Bool) → ℕ → List Lexeme → Option (List A × List Lexeme)
+many read emit stop zero ls = if stop ls then Some ([], ls) else None
+many read emit stop (suc room) ls =
+    if stop ls then Some ([], ls) else
+    (read ls >>= λ x. many read emit stop room x.1 >>= λ ys. Some (emit x.0 ++ ys.0, ys.1))
+
+-- what was read before, and what is still read
+abbrev pub behind : {A : Type 0} → List A → Option (List A × List Lexeme) → Option (List A × List Lexeme)
+behind front read = read >>= λ ys. Some (front ++ ys.0, ys.1)
+
+-- ---- values
+
+-- digits behind a number give this one
+abbrev pub number_from : ℕ → List ℕ → Option ℕ
+number_from n [] = Some n
+number_from n (b ∷ bs) =
+    if is_ascii_digit b then (if nat_lt (10 * n + (b - 48)) (2 ^ 32) then number_from (10 * n + (b - 48)) bs else None) else None
+
+-- a number below 2^32 in decimal digits
+abbrev pub number_of : List ℕ → Option ℕ
+number_of [] = None
+number_of (b ∷ bs) = number_from 0 (b ∷ bs)
+
+unfoldable pub sub_at : List Lexeme → Option (ℕ × List Lexeme)
+sub_at [] = None
+sub_at (l ∷ ls) = do
+  digits ← digits_of l
+  n ← number_of digits
+  Some (n, ls)
+
+unfoldable pub in_parens_at : List Lexeme → Option (ℕ × List Lexeme)
+in_parens_at ls = do
+  inner ← mark_at LeftParen ls
+  n ← sub_at inner
+  rest ← mark_at RightParen n.1
+  Some (n.0, rest)
+
+unfoldable pub component_at : List Lexeme → Option (ℕ × List Lexeme)
+component_at ls = elim (name_at ls) [ Some x ↦ in_parens_at x.1 | None ↦ sub_at ls ]
+
+-- a word with no number of its own
+abbrev pub parent_at : List Lexeme → Option (List ℕ) × List Lexeme
+parent_at ls = elim (name_at ls) [ Some x ↦ if begins LeftParen x.1 then (None, ls) else (Some x.0, x.1) | None ↦ (None, ls) ]
+
+-- behind a parent one number at least, and else two
+abbrev pub enough : Option (List ℕ) → List ℕ → Bool
+enough None numbers = nat_le 2 (length numbers)
+enough (Some w) numbers = nat_le 1 (length numbers)
+
+abbrev pub single : ℕ → List ℕ
+single n = n ∷ []
+
+unfoldable pub numbers_at : List Lexeme → Option (List ℕ × List Lexeme)
+numbers_at ls = many component_at single (begins RightBrace) (length ls) ls
+
+unfoldable pub value_at : List Lexeme → Option ((Option (List ℕ) × List ℕ) × List Lexeme)
+value_at ls = do
+  inner ← mark_at LeftBrace ls
+  numbers ← numbers_at (parent_at inner).1
+  if enough (parent_at inner).0 numbers.0 then (mark_at RightBrace numbers.1 >>= λ rest. Some (((parent_at inner).0, numbers.0), rest)) else None
+
+-- ---- assignments
+
+abbrev pub is_macro : Lexeme → Bool
+is_macro l = is_word (codes "MODULE-IDENTITY") l || (is_word (codes "OBJECT-IDENTITY") l || (is_word (codes "NOTIFICATION-TYPE") l || (is_word (codes "OBJECT-GROUP") l
+    || (is_word (codes "NOTIFICATION-GROUP") l || (is_word (codes "MODULE-COMPLIANCE") l || is_word (codes "AGENT-CAPABILITIES") l)))))
+
+-- all up to this mark
+abbrev pub up_to : Kind → List Lexeme → Option (List Lexeme)
+up_to kind [] = None
+up_to kind (l ∷ ls) = if is_mark kind l then Some (l ∷ ls) else up_to kind ls
+
+unfoldable pub identifier_at : List Lexeme → Option (List Lexeme)
+identifier_at ls = do
+  rest ← word_at (codes "OBJECT") ls
+  word_at (codes "IDENTIFIER") rest
+
+unfoldable pub object_at : List Lexeme → Option (List Lexeme)
+object_at ls = do
+  rest ← word_at (codes "OBJECT-TYPE") ls
+  object_type_at rest
+
+unfoldable pub macro_at : List Lexeme → Option (List Lexeme)
+macro_at ls = do
+  rest ← one is_macro ls
+  up_to Assign rest
+
+unfoldable pub head_at : List Lexeme → Option (List Lexeme)
+head_at ls = if begins_word (codes "OBJECT") ls then identifier_at ls else (if begins_word (codes "OBJECT-TYPE") ls then object_at ls else macro_at ls)
+
+-- a value's assignment behind its name
+unfoldable pub definition_at : List ℕ → List Lexeme → Option (Definition × List Lexeme)
+definition_at name ls = do
+  head ← head_at ls
+  rest ← mark_at Assign head
+  value ← value_at rest
+  Some (record { name = name; parent = value.0.0; numbers = value.0.1 }, value.1)
+
+-- a clause of a textual convention comes next, and no assignment of its keyword
+abbrev pub is_convention : List Lexeme → Bool
+is_convention [] = false
+is_convention (a ∷ []) = false
+is_convention (a ∷ b ∷ ls) = is_word (codes "TEXTUAL-CONVENTION") a && ((is_word (codes "DISPLAY-HINT") b || is_word (codes "STATUS") b) && not (begins Assign ls))
+
+unfoldable pub textual_at : List Lexeme → Option (List Lexeme)
+textual_at ls = do
+  rest ← word_at (codes "TEXTUAL-CONVENTION") ls
+  convention_at rest
+
+-- a type's assignment behind its name
+unfoldable pub type_body_at : List Lexeme → Option (List Lexeme)
+type_body_at ls = do
+  rest ← mark_at Assign ls
+  if is_convention rest then textual_at rest else type_at rest
+
+abbrev pub assigned : Definition × List Lexeme → Option Definition × List Lexeme
+assigned d = (Some d.0, d.1)
+
+abbrev pub passed_over : List Lexeme → Option Definition × List Lexeme
+passed_over rest = (None, rest)
+
+unfoldable pub assignment_of : List ℕ → List Lexeme → Option (Option Definition × List Lexeme)
+assignment_of name ls =
+    if begins_small name then (definition_at name ls >>= λ d. Some (assigned d)) else
+    (if begins_capital name then (type_body_at ls >>= λ rest. Some (passed_over rest)) else None)
+
+unfoldable pub assignment_at : List Lexeme → Option (Option Definition × List Lexeme)
+assignment_at ls = do
+  name ← name_at ls
+  assignment_of name.0 name.1
+
+-- ---- modules
+
+-- END is the last
+abbrev pub is_end : List Lexeme → Bool
+is_end [] = false
+is_end (l ∷ []) = is_word (codes "END") l
+is_end (l ∷ m ∷ ls) = false
+
+unfoldable pub imported_at : List Lexeme → Option (List Lexeme)
+imported_at ls = do
+  rest ← up_to Semicolon ls
+  mark_at Semicolon rest
+
+unfoldable pub imports_at : List Lexeme → Option (List Lexeme)
+imports_at ls = if begins_word (codes "IMPORTS") ls then imported_at ls else Some ls
+
+unfoldable pub definitions_at : List Lexeme → Option (List Definition)
+definitions_at ls = do
+  all ← many assignment_at option_to_list is_end (length ls) ls
+  Some all.0
+
+unfoldable pub body_at : List Lexeme → Option (List Definition)
+body_at ls = do
+  defined ← word_at (codes "DEFINITIONS") ls
+  assigned ← mark_at Assign defined
+  begun ← word_at (codes "BEGIN") assigned
+  rest ← imports_at begun
+  definitions_at rest
+
+unfoldable pub module_at : List Lexeme → Option (List ℕ × List Definition)
+module_at ls = do
+  name ← name_at ls
+  if begins_capital name.0 then (body_at name.1 >>= λ defs. Some (name.0, defs)) else None

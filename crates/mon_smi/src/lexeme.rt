@@ -1,0 +1,169 @@
+//! Tokens with their texts.
+
+ghost use Rattle.std.specs.Prelude.{◌≡◌, ◌≤◌, ◌-◌, length, take, drop, IfOk};
+ghost use Rattle.std.specs.Str.{IsUtf8};
+ghost use Rattle.std.specs.Option.{option_map};
+ghost use Rattle.mon_smi.specs.Lexemes.{IsTokenOf, AreTokensOf, lexeme_at, lexemes, code_of, same_text, is_word, is_mark, word_of, digits_of, begins_small, begins_capital, is_capital};
+
+use crate::kind::Kind;
+use crate::scan::byte_at;
+use crate::token::{Span, Token};
+use std::alloc::{AllocError, Global};
+use std::marker::Model;
+
+/// A token of a text, with its text where it is a word or a number.
+#[derive(Drop)]
+pub struct Lexeme<'a> {
+    kind: Kind,
+    text: &'a str,
+    span: Span,
+}
+
+impl<'a> Model for Lexeme<'a> {
+    ghost use Rattle.mon_smi.specs.Lexemes.{Lexeme, lexeme_of};
+
+    ghost Value = { Lexeme };
+
+    ghost view = { λ l. lexeme_of l.kind l.text.now };
+}
+
+/// The text of these bytes, which are UTF-8.
+fn text_of(bytes: &[u8]) -> &str
+    requires { IsUtf8 bytes.now }
+    ensures { result.now ≡ bytes.now }
+{
+    match str::from_utf8(bytes) {
+        Ok(text) => text,
+        Err(_) => "",
+    }
+}
+
+/// The bytes of a token.
+fn slice_of(text: &[u8], span: Span) -> &[u8]
+    requires begun { span.start ≤ span.end }
+    requires within { span.end ≤ length text.now }
+    ensures { result.now ≡ take (span.end - span.start) (drop span.start text.now) }
+{
+    &text[span.start..span.end]
+}
+
+/// A token with its text.
+fn lexeme_at(text: &[u8], token: Token) -> Lexeme
+    requires { IsTokenOf text.now token }
+    ensures { result ≡ lexeme_at text.now token }
+{
+    let slice = slice_of(text, token.span);
+    let text = match token.kind {
+        Kind::Word => text_of(slice),
+        Kind::Number => text_of(slice),
+        _ => "",
+    };
+    Lexeme {
+        kind: token.kind,
+        text,
+        span: token.span,
+    }
+}
+
+/// These tokens with their texts.
+pub fn lexemes<'a>(
+    alloc: Global,
+    text: &'a [u8],
+    tokens: &[Token],
+) -> Result<Vec<Lexeme<'a>>, AllocError>
+    requires { AreTokensOf text.now tokens.now }
+    ensures { IfOk result (λ v. v.items ≡ lexemes text.now tokens.now) }
+{
+    let mut lexemes = Vec::new(alloc);
+    let mut rest = tokens;
+    while let [token, after @ ..] = rest {
+        lexemes.push(lexeme_at(text, *token))?;
+        rest = after;
+    }
+    Ok(lexemes)
+}
+
+/// The number of a kind.
+fn code_of(kind: Kind) -> u8
+    ensures { result ≡ code_of kind }
+{
+    kind as u8
+}
+
+/// Whether the texts are the same.
+fn same_text(text: &str, other: &str) -> bool
+    ensures { result ≡ same_text text.now other.now }
+{
+    text == other
+}
+
+impl<'a> Lexeme<'a> {
+    /// Where the token stands.
+    pub fn span(&self) -> Span {
+        self.span
+    }
+
+    /// Whether it is this word.
+    pub fn is_word(&self, text: &str) -> bool
+        ensures { result ≡ is_word text.now self.now }
+    {
+        match self.kind {
+            Kind::Word => same_text(self.text, text),
+            _ => false,
+        }
+    }
+
+    /// Whether it is a token of this kind, which is neither a word nor a number.
+    pub fn is_mark(&self, kind: Kind) -> bool
+        ensures { result ≡ is_mark kind self.now }
+    {
+        match self.kind {
+            Kind::Word | Kind::Number => false,
+            _ => code_of(self.kind) == code_of(kind),
+        }
+    }
+
+    /// The text of a word.
+    pub fn word(&self) -> Option<&str>
+        ensures { option_map (λ w. w.now) result ≡ word_of self.now }
+    {
+        match self.kind {
+            Kind::Word => Some(self.text),
+            _ => None,
+        }
+    }
+
+    /// The text of a number.
+    pub fn digits(&self) -> Option<&str>
+        ensures { option_map (λ d. d.now) result ≡ digits_of self.now }
+    {
+        match self.kind {
+            Kind::Number => Some(self.text),
+            _ => None,
+        }
+    }
+
+    /// Whether it is a word with a capital first letter.
+    pub fn is_capital(&self) -> bool
+        ensures { result ≡ is_capital self.now }
+    {
+        match self.kind {
+            Kind::Word => begins_capital(self.text),
+            _ => false,
+        }
+    }
+}
+
+/// Whether the first letter is small.
+pub fn begins_small(word: &str) -> bool
+    ensures { result ≡ begins_small word.now }
+{
+    byte_at(word.as_bytes(), 0).is_ascii_lowercase()
+}
+
+/// Whether the first letter is a capital.
+pub fn begins_capital(word: &str) -> bool
+    ensures { result ≡ begins_capital word.now }
+{
+    byte_at(word.as_bytes(), 0).is_ascii_uppercase()
+}

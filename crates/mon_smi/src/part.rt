@@ -1,0 +1,16 @@
+//! What stands behind the keyword of a clause.
+
+/// What a clause of an OBJECT-TYPE or a TEXTUAL-CONVENTION says (RFC 2578 section 7, RFC 2579 section 3).
+#[derive(Clone, Copy)]
+pub enum Part {
+    /// A type.
+    Syntax,
+    /// A quoted string.
+    Text,
+    /// How the object may be accessed.
+    Access,
+    /// Whether the definition is current.
+    Status,
+    /// Tokens between braces.
+    Group,
+}

@@ -1,0 +1,154 @@
+//! What stands at the front of a text.
+
+ghost use Rattle.std.specs.Prelude.{◌≡◌, ◌<◌, ◌^◌};
+ghost use Rattle.mon_smi.specs.Tokens.{is_space};
+ghost use Rattle.mon_smi.specs.Scan.{token, passed, signed, hyphen_at, quoted_at, closed_bits, bits_at, assign_at, dot_at, mark_at, behind_at, piece_at};
+
+use crate::kind::Kind;
+use crate::scan::{
+    behind, bits_len, byte_at, closing_len, comment_len, digits_len, hex_digits_len, word_len,
+};
+use crate::token::Piece;
+
+/// A token of this length.
+fn token(kind: Kind, len: usize) -> Option<Piece>
+    ensures { result ≡ token kind len }
+{
+    Some(Piece {
+        kind: Some(kind),
+        len,
+    })
+}
+
+/// So many bytes that are no token.
+fn passed(len: usize) -> Option<Piece>
+    ensures { result ≡ passed len }
+{
+    Some(Piece { kind: None, len })
+}
+
+/// A comment or a number, behind its first hyphen.
+fn hyphen_at(text: &[u8]) -> Option<Piece>
+    ensures { result ≡ hyphen_at text.now }
+{
+    if byte_at(text, 0) == b'-' {
+        return passed(comment_len(text) + 1);
+    }
+    let digits = digits_len(text);
+    if digits == 0 {
+        return None;
+    }
+    token(Kind::Number, digits + 1)
+}
+
+/// A string, behind its opening quote.
+fn quoted_at(text: &[u8]) -> Option<Piece>
+    ensures { result ≡ quoted_at text.now }
+{
+    match closing_len(text) {
+        Some(len) => token(Kind::Quoted, len + 1),
+        None => None,
+    }
+}
+
+/// Hex or binary digits, by what stands behind them.
+fn closed_bits(digits: usize, bits: usize, text: &[u8]) -> Option<Piece>
+    requires { digits < 2 ^ 63 }
+    ensures { result ≡ closed_bits digits bits text.now }
+{
+    let [b'\'', letter, ..] = text else {
+        return None;
+    };
+    match *letter {
+        b'h' | b'H' => token(Kind::Hex, digits + 3),
+        b'b' | b'B' if bits == digits => token(Kind::Binary, digits + 3),
+        _ => None,
+    }
+}
+
+/// Hex or binary digits, behind the first single quote.
+fn bits_at(text: &[u8]) -> Option<Piece>
+    ensures { result ≡ bits_at text.now }
+{
+    let digits = hex_digits_len(text);
+    closed_bits(digits, bits_len(text), behind(text, digits))
+}
+
+/// The assignment mark, behind its first colon.
+fn assign_at(text: &[u8]) -> Option<Piece>
+    ensures { result ≡ assign_at text.now }
+{
+    if byte_at(text, 0) == b':' && byte_at(text, 1) == b'=' {
+        return token(Kind::Assign, 3);
+    }
+    None
+}
+
+/// One dot or two, behind the first.
+fn dot_at(text: &[u8]) -> Option<Piece>
+    ensures { result ≡ dot_at text.now }
+{
+    if byte_at(text, 0) == b'.' {
+        return token(Kind::Range, 2);
+    }
+    token(Kind::Dot, 1)
+}
+
+/// A mark of one byte.
+fn mark_at(byte: u8) -> Option<Piece>
+    ensures { result ≡ mark_at byte }
+{
+    match byte {
+        b'{' => token(Kind::LeftBrace, 1),
+        b'}' => token(Kind::RightBrace, 1),
+        b'(' => token(Kind::LeftParen, 1),
+        b')' => token(Kind::RightParen, 1),
+        b'[' => token(Kind::LeftBracket, 1),
+        b']' => token(Kind::RightBracket, 1),
+        b',' => token(Kind::Comma, 1),
+        b';' => token(Kind::Semicolon, 1),
+        b'|' => token(Kind::Bar, 1),
+        _ => None,
+    }
+}
+
+/// What stands behind a first byte of no word, digits or space.
+fn behind_at(first: u8, rest: &[u8]) -> Option<Piece>
+    ensures { result ≡ behind_at first rest.now }
+{
+    match first {
+        b'-' => hyphen_at(rest),
+        b'"' => quoted_at(rest),
+        b'\'' => bits_at(rest),
+        b':' => assign_at(rest),
+        b'.' => dot_at(rest),
+        _ => mark_at(first),
+    }
+}
+
+/// Whether the byte is blank, tab, LF, VT, FF or CR.
+fn is_space(byte: u8) -> bool
+    ensures { result ≡ is_space byte }
+{
+    byte == b' ' || (b'\t' <= byte && byte <= b'\r')
+}
+
+/// The token, space or comment at the front.
+#[tactic(auto, unfolding(crate::specs::Scan::piece_at))]
+pub fn piece_at(text: &[u8]) -> Option<Piece>
+    ensures { result ≡ piece_at text.now }
+{
+    let [first, rest @ ..] = text else {
+        return None;
+    };
+    if is_space(*first) {
+        return passed(1);
+    }
+    if first.is_ascii_alphabetic() {
+        return token(Kind::Word, word_len(text));
+    }
+    if first.is_ascii_digit() {
+        return token(Kind::Number, digits_len(text));
+    }
+    behind_at(*first, rest)
+}
