@@ -1,6 +1,7 @@
 -- The interfaces of the simulated device, as the settings give them.
 use Rattle.std.specs.Prelude.{Bool, true, ◌&&◌, ℕ, nat_lt, List, [], ◌∷◌, Option, Result, Ok, Err, if◌then◌else◌}
 use Rattle.toml.specs.Data.{Data, Members, as_table}
+use Rattle.mon_mib.specs.Held.{at_start}
 use Rattle.mon_mib.specs.declared.interface.Growth.{Growth}
 use Rattle.mon_mib.specs.declared.interface.Interface.{Interface}
 use Rattle.mon_settings.specs.declared.key.Key.{Key}
@@ -55,6 +56,7 @@ interface_of t = do
     phys = phys;
     name = name;
     alias = alias;
+    status = at_start;
     in_octets = in_octets;
     in_packets = in_packets;
     out_octets = out_octets;

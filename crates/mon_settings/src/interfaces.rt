@@ -13,7 +13,7 @@ use crate::keys::{find, only};
 use crate::leaf::{index_at, int_at, number_at};
 use crate::list::{Row, list_at};
 use crate::octets::{hex_octets_at, octets_at};
-use mon_mib::{Growth, Interface};
+use mon_mib::{Growth, Interface, Status};
 use std::alloc::Global;
 use toml::Table;
 
@@ -91,6 +91,7 @@ impl Row for Interface {
             phys,
             name,
             alias,
+            status: Status::new(),
             in_octets,
             in_packets,
             out_octets,

@@ -88,6 +88,11 @@ impl Key {
 
 /// As it is written.
 impl fmt::Display for Key {
+    ghost use Rattle.std.specs.Prelude.{Some};
+    ghost use Rattle.mon_settings.specs.Key.{key_name};
+
+    ghost output = { λ k. Some (key_name k) };
+
     fn fmt<W: fmt::Write>(&self, f: &mut fmt::Formatter<W>) -> fmt::Result {
         f.write_str(self.name())
     }
