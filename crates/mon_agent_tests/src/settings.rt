@@ -35,9 +35,9 @@ fn system_text(alloc: Global, read: &AgentSettings) -> Result<String, Fail> {
         read.settings.boots,
         read.settings.services,
     );
-    Ok(
-        format!(in alloc; "{listen:?} {limit} {engine} {boots} {descr} {object_id} {contact}/{name}/{location} {services}")?,
-    )
+    Ok(format!(in alloc;
+        "{listen:?} {limit} {engine} {boots} {descr} {object_id} {contact}/{name}/{location} {services}"
+    )?)
 }
 
 /// The interfaces as text.
@@ -120,7 +120,7 @@ fn fault(alloc: Global, old: &str, new: &str) -> Result<Option<SettingsFault>, F
     Ok(settings(alloc, text.as_str()).err())
 }
 
-fn boots(alloc: Global, new: &str) -> Result<u32, Fail> {
+fn boots(alloc: Global, new: &str) -> Result<i32, Fail> {
     let text = changed(alloc, "boots = 1\n", new)?;
     Ok(settings(alloc, text.as_str())?.settings.boots)
 }
@@ -219,10 +219,7 @@ fn refuses_texts(rt: HostRuntime) -> Result<(), Fail> {
         settings(alloc, "").err(),
         Some(SettingsFault::Missing(Key::Listen))
     );
-    assert_eq!(rt;
-        settings(alloc, "x =").err(),
-        Some(SettingsFault::NotToml)
-    );
+    assert_eq!(rt; settings(alloc, "x =").err(), Some(SettingsFault::NotToml));
     Ok(())
 }
 

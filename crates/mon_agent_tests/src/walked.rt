@@ -138,7 +138,8 @@ fn walks_to_the_end(rt: HostRuntime) -> Result<(), Fail> {
 #[test]
 fn stops_where_names_do_not_increase(rt: HostRuntime) -> Result<(), Fail> {
     let alloc = rt.alloc();
-    let reply = "302702010104067075626c6963a21a020100020100020100300f300d06082b06010201020100020102";
+    let reply =
+        "302702010104067075626c6963a21a020100020100020100300f300d06082b06010201020100020102";
     let mut wire = Same {
         id: 0,
         reply: hex::decode(alloc, reply)?,
