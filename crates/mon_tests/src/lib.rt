@@ -1,4 +1,4 @@
-//! Tests of single calls of all crates: outside vectors, happy paths, and each fault once.
+//! Tests of single calls: outside vectors, happy paths, and each fault once. Those of the agent and of what stands around it are in mon_agent_tests.
 //! They stand in one crate at the top, so that no crate below is proved a second time for its tests.
 //! Contract: none; a test that fails ends the gate.
 #![tactic(auto)]
@@ -8,10 +8,6 @@ mod app;
 #[cfg(test)]
 mod ber;
 #[cfg(test)]
-mod client;
-#[cfg(test)]
-mod mib;
-#[cfg(test)]
 mod oid;
 #[cfg(test)]
 mod pdu;
@@ -19,7 +15,5 @@ mod pdu;
 mod sample;
 #[cfg(test)]
 mod smi;
-#[cfg(test)]
-mod vacm;
 #[cfg(test)]
 mod window;

@@ -1,6 +1,6 @@
 //! The client commands over a wire in memory.
 
-use mon_app::{AppFault, Asking, Heard, Question, Wire, answer_text, request};
+use mon_app::{AppFault, Asking, Heard, Question, Repeats, Wire, answer_text, request};
 use mon_oid::Oid;
 use mon_pdu::write_message;
 use std::alloc::{AllocError, Global};
@@ -9,6 +9,13 @@ use std::test::Fail;
 /// A Get of sysName.0 under request-id 7, and its reply.
 const REQUEST: &str =
     "302602010104067075626C6963A019020107020100020100300E300C06082B060102010105000500";
+
+/// The GetNext, and the GetBulk with 1 non-repeater and 2 repetitions.
+const GET_NEXT: &str =
+    "302602010104067075626C6963A119020107020100020100300E300C06082B060102010105000500";
+
+const GET_BULK: &str =
+    "302602010104067075626C6963A519020107020101020102300E300C06082B060102010105000500";
 
 const REPLY: &str =
     "302802010104067075626C6963A21B0201070201000201003010300E06082B0601020101050004027231";
@@ -75,10 +82,10 @@ fn names(alloc: Global) -> Result<Vec<Oid>, AllocError> {
     Ok(names)
 }
 
-fn written(alloc: Global) -> Result<Vec<u8>, AppFault> {
+fn written(alloc: Global, asking: Asking) -> Result<Vec<u8>, AppFault> {
     let names = names(alloc)?;
     let question = Question {
-        asking: Asking::Get,
+        asking,
         request_id: 7,
         community: b"public",
         names: names.as_slice(),
@@ -88,9 +95,19 @@ fn written(alloc: Global) -> Result<Vec<u8>, AppFault> {
 
 #[test]
 fn asks(rt: HostRuntime) -> Result<(), Fail> {
-    let wanted = octets(rt.alloc(), REQUEST)?;
-    assert_eq!(rt; written(rt.alloc())?.as_slice(), wanted.as_slice());
-    assert_eq!(rt; Asking::GetNext.kind().octet(), 0xa1);
+    let bulk = Asking::GetBulk(Repeats {
+        non_repeaters: 1,
+        max_repetitions: 2,
+    });
+    let rows = [
+        (Asking::Get, REQUEST),
+        (Asking::GetNext, GET_NEXT),
+        (bulk, GET_BULK),
+    ];
+    for (asking, text) in rows {
+        let wanted = octets(rt.alloc(), text)?;
+        assert_eq!(rt; written(rt.alloc(), asking)?.as_slice(), wanted.as_slice());
+    }
     Ok(())
 }
 

@@ -1,7 +1,7 @@
 use mon_ber::{Octets, Tag, Value};
 use mon_mib::{
     AdminStatus, Column, Counter, Device, DeviceFault, Got, Growth, Interface, MaxAccess, Mib,
-    Moment, Object, OperStatus, Scalar, Settings, SimDevice, SysTexts, all_objects,
+    Moment, Object, OperStatus, Scalar, Settings, SimDevice, Status, SysTexts, all_objects,
 };
 use mon_oid::{Oid, OidFault};
 use mon_pdu::Binding;
@@ -117,6 +117,7 @@ fn interface(alloc: Global, index: u32) -> Result<Interface, AllocError> {
         phys: octets(alloc, b"")?,
         name: octets(alloc, b"e")?,
         alias: octets(alloc, b"")?,
+        status: Status::new(),
         in_octets: Growth {
             start: 0xffff_ffff,
             rate: 1000,

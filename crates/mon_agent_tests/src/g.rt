@@ -1,0 +1,125 @@
+//! The small agent that the tests ask: its settings, and the agent that they make.
+
+use mon_agent::Agent;
+use mon_app::{Question, request};
+use mon_ber::Octets;
+use mon_mib::{Interface, Moment, Settings, SimDevice, SysTexts};
+use mon_oid::{Oid, OidFault};
+use mon_pdu::{Message, PduFault, read_message, write_message};
+use mon_settings::{AgentSettings, SettingsFault, read_agent};
+use mon_vacm::Policy;
+use std::alloc::{AllocError, Global};
+use std::test::Fail;
+
+/// The settings: `public` reads all but ifPhysAddress, and `private` writes the objects of mib-2 too.
+pub(crate) const TEXT: &str = r#"
+listen = "127.0.0.1:16100"
+limit = 484
+engine = "8000000001"
+boots = 1
+descr = "lab"
+object_id = "1.3.6.1.4.1.32473.1"
+contact = ""
+name = "r1"
+location = ""
+services = 4
+community = [{ community = "public", security = "ro" }, { community = "private", security = "rw" }]
+group = [{ security = "ro", group = "g1" }, { security = "rw", group = "g2" }]
+access = [{ group = "g1", model = 2, read = "all" }, { group = "g2", model = 0, read = "all", write = "mib" }]
+view = [
+  { view = "all", subtree = "1.3.6.1", included = true },
+  { view = "all", subtree = "1.3.6.1.2.1.2.2.1.6", included = false },
+  { view = "mib", subtree = "1.3.6.1.2.1", included = true },
+]
+
+[[interface]]
+index = 1
+descr = "e1"
+type = 6
+mtu = 1500
+speed = 1000000000
+phys = ""
+name = "e1"
+alias = ""
+in_octets = { start = 0, rate = 0 }
+in_packets = { start = 0, rate = 0 }
+out_octets = { start = 0, rate = 0 }
+out_packets = { start = 0, rate = 0 }
+
+[[interface]]
+index = 2
+descr = "e2"
+type = 6
+mtu = 1500
+speed = 1000000000
+phys = ""
+name = "e2"
+alias = ""
+in_octets = { start = 0, rate = 0 }
+in_packets = { start = 0, rate = 0 }
+out_octets = { start = 0, rate = 0 }
+out_packets = { start = 0, rate = 0 }
+"#;
+
+/// A Get of sysName.0 in the community `public` under request-id 7.
+pub(crate) const GET: &str =
+    "302602010104067075626c6963a019020107020100020100300e300c06082b060102010105000500";
+
+/// The agent's Response to it.
+pub(crate) const RESPONSE: &str =
+    "302802010104067075626c6963a21b0201070201000201003010300e06082b0601020101050004027231";
+
+// These have no clauses, which a test's proof needn't carry.
+
+pub(crate) fn settings(alloc: Global, text: &str) -> Result<AgentSettings, SettingsFault> {
+    read_agent(alloc, text)
+}
+
+pub(crate) fn oid(alloc: Global, text: &str) -> Result<Oid, OidFault> {
+    Oid::parse(alloc, text)
+}
+
+pub(crate) fn octets(alloc: Global, bytes: &[u8]) -> Result<Octets, AllocError> {
+    Octets::from_slice(alloc, bytes)
+}
+
+pub(crate) fn read(alloc: Global, bytes: &[u8]) -> Result<Message, PduFault> {
+    read_message(alloc, bytes)
+}
+
+/// The datagram that asks.
+pub(crate) fn written(alloc: Global, question: &Question<'_>) -> Result<Vec<u8>, Fail> {
+    let message = request(alloc, question)?;
+    Ok(write_message(alloc, &message)?)
+}
+
+/// The settings with another text in the place of the first that is spelled so.
+pub(crate) fn changed(alloc: Global, old: &str, new: &str) -> Result<String, AllocError> {
+    TEXT.replacen(alloc, old, new, 1)
+}
+
+pub(crate) fn moment(hundredths: u64) -> Result<Moment, Fail> {
+    Ok(Moment::new(hundredths).ok_or("no moment")?)
+}
+
+fn made(
+    policy: Policy,
+    settings: Settings,
+    texts: SysTexts,
+    interfaces: Vec<Interface>,
+) -> Result<Agent<SimDevice>, Fail> {
+    let device = SimDevice::new(interfaces, texts)?;
+    Ok(Agent::new(policy, settings, device))
+}
+
+/// The agent of these settings.
+pub(crate) fn agent(alloc: Global, text: &str) -> Result<Agent<SimDevice>, Fail> {
+    let AgentSettings {
+        settings,
+        texts,
+        policy,
+        interfaces,
+        ..
+    } = settings(alloc, text)?;
+    made(policy, settings, texts, interfaces)
+}

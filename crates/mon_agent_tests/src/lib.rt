@@ -1,0 +1,23 @@
+//! Tests of the agent, of what it stands on and of its clients: outside vectors, happy paths, and each fault once.
+//! They stand in one crate at the top, so that no crate below is proved a second time for its tests.
+//! Contract: none; a test that fails ends the gate.
+#![tactic(auto)]
+
+#[cfg(test)]
+mod agent;
+#[cfg(test)]
+mod client;
+#[cfg(test)]
+mod g;
+#[cfg(test)]
+mod mib;
+#[cfg(test)]
+mod serving;
+#[cfg(test)]
+mod set;
+#[cfg(test)]
+mod settings;
+#[cfg(test)]
+mod vacm;
+#[cfg(test)]
+mod walked;
