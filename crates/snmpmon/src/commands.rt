@@ -3,6 +3,7 @@
 ghost use Rattle.std.specs.Prelude.{◌≤◌};
 
 use crate::fault::Fault;
+use crate::listing::list;
 use crate::words::command;
 use clap::ArgMatches;
 use clap::error::ErrorKind;
@@ -89,6 +90,7 @@ fn run<R: Clock + Files + Net + Input + Print + Eprint + AllocGlobal>(
         Some(("bulk", words)) => ask(rt, words, Asking::GetBulk(repeats(words))),
         Some(("walk", words)) => walk(rt, words),
         Some(("agent", words)) => agent(rt, words),
+        Some(("mib", words)) => mib(rt, words),
         Some((_, words)) => replay(rt, size_of(words)),
         None => replay(rt, USUAL_SIZE),
     }
@@ -204,6 +206,14 @@ fn agent<R: Clock + Files + Net + Eprint + AllocGlobal>(
     for _ in 0..words.get_one::<u32>("count").unwrap_or(0) {
         serve_one(rt.alloc(), &mut port, &mut agent, room.as_mut_slice())?;
     }
+    Ok(())
+}
+
+/// Prints the names of the module in a file.
+fn mib<R: Files + Print + AllocGlobal>(rt: &R, words: &ArgMatches<'_>) -> Result<(), Fault> {
+    let text = read_text(rt, words.get_str("FILE").unwrap_or(""))?;
+    let lines = list(rt.alloc(), &text)?;
+    io::writer(rt).write_all(lines.as_bytes())?;
     Ok(())
 }
 

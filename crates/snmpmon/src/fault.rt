@@ -3,7 +3,7 @@
 use mon_app::AppFault;
 use mon_mib::DeviceFault;
 use mon_settings::SettingsFault;
-use mon_smi::NamesFault;
+use mon_smi::{NamesFault, TextFault};
 use std::alloc::{AllocError, AllocFailed};
 use std::io;
 
@@ -12,6 +12,7 @@ use std::io;
 pub enum Fault {
     App(AppFault),
     Names(NamesFault),
+    Text(TextFault),
     Settings(SettingsFault),
     Device(DeviceFault),
 }
@@ -21,7 +22,7 @@ impl Fault {
     pub fn of(self) -> &'static str {
         match self {
             Fault::App(_) => "mon_app",
-            Fault::Names(_) => "mon_smi",
+            Fault::Names(_) | Fault::Text(_) => "mon_smi",
             Fault::Settings(_) => "mon_settings",
             Fault::Device(_) => "mon_mib",
         }
@@ -32,6 +33,7 @@ impl Fault {
         match self {
             Fault::App(fault) => fault.number(),
             Fault::Names(fault) => fault.number(),
+            Fault::Text(fault) => fault.number(),
             Fault::Settings(fault) => fault.number(),
             Fault::Device(fault) => fault.number(),
         }
@@ -42,6 +44,7 @@ impl Fault {
         match self {
             Fault::App(fault) => fault.name(),
             Fault::Names(fault) => fault.name(),
+            Fault::Text(fault) => fault.name(),
             Fault::Settings(fault) => fault.name(),
             Fault::Device(fault) => fault.name(),
         }
@@ -57,6 +60,12 @@ impl From<AppFault> for Fault {
 impl From<NamesFault> for Fault {
     fn from(fault: NamesFault) -> Fault {
         Fault::Names(fault)
+    }
+}
+
+impl From<TextFault> for Fault {
+    fn from(fault: TextFault) -> Fault {
+        Fault::Text(fault)
     }
 }
 

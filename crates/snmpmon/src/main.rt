@@ -5,6 +5,7 @@
 
 mod commands;
 mod fault;
+mod listing;
 mod words;
 
 use std::process::ExitCode;

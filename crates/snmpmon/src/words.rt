@@ -157,6 +157,24 @@ fn agent<'a>(alloc: Global) -> Result<Command<'a>, AllocError> {
         .arg(count)
 }
 
+const MIB: &str = "Prints the names that a module defines";
+
+const MIB_MORE: &str =
+    "Reads one SMIv2 module (RFC 2578) from FILE and prints NAME IDENTIFIER for each value name that it defines, by identifier.
+The built-in names, as enterprises and mib-2, are known; other modules are not read.
+
+A text that is no module ends it with 2 Unclosed, 3 Unexpected or 4 Duplicate; a name that cannot be resolved with 5 Unknown,
+6 Cycle, 7 TooDeep or 8 BadIdentifier, and then nothing is printed.
+
+Example: snmpmon mib examples/EX-MIB.txt";
+
+fn mib<'a>(alloc: Global) -> Result<Command<'a>, AllocError> {
+    Command::new(alloc, "mib")
+        .about(MIB)
+        .long_about(MIB_MORE)
+        .arg(needed(alloc, "FILE", "A text file with one SMIv2 module"))
+}
+
 /// The whole command line. With no words it names no command, which the caller takes for `replay 8`.
 pub fn command<'a>(alloc: Global) -> Result<Command<'a>, AllocError> {
     Command::new(alloc, "snmpmon")
@@ -167,5 +185,6 @@ pub fn command<'a>(alloc: Global) -> Result<Command<'a>, AllocError> {
         .subcommand(client(alloc, "next", NEXT, NEXT_MORE)?)?
         .subcommand(bulk(alloc)?)?
         .subcommand(walk(alloc)?)?
-        .subcommand(agent(alloc)?)
+        .subcommand(agent(alloc)?)?
+        .subcommand(mib(alloc)?)
 }

@@ -1,0 +1,30 @@
+//! The listing of a module's names.
+
+use crate::fault::Fault;
+use mon_smi::{Names, read_module};
+use std::alloc::Global;
+
+/// The value names of the module in a text with their identifiers, a line each, by identifier and then by name.
+/// Where some name does not resolve, the fault is that of the first such name in the order of bytes.
+pub fn list(alloc: Global, text: &str) -> Result<String, Fault> {
+    let module = read_module(alloc, text)?;
+    let mut known = Names::new(alloc)?;
+    known.add(alloc, &module)?;
+    let mut names = Vec::new(alloc);
+    for definition in module.defs.as_slice() {
+        names.push(definition.name.as_str())?;
+    }
+    names.sort_unstable();
+    let mut rows = Vec::new(alloc);
+    for name in names.as_slice() {
+        let oid = known.resolve(alloc, name)?;
+        rows.push((oid, *name))?;
+    }
+    rows.sort_unstable();
+    let mut lines = String::new(alloc);
+    for (oid, name) in rows.as_slice() {
+        let dotted = oid.text(alloc)?;
+        write!(lines, "{name} {dotted}\n")?;
+    }
+    Ok(lines)
+}
