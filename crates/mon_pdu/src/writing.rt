@@ -276,7 +276,7 @@ fn put_message(out: &mut Vec<u8>, message: &Message, lengths: Lengths)
 
 /// Writes the shortest spelling of the message behind what `out` holds, where there is room for it: `message_size` octets.
 /// Takes no memory and never fails, so memory can be taken before and the message written once nothing else can go wrong.
-/// Names and values are measured three times, as `write_message` does, so the time is linear in what is written.
+/// Names and values are measured three times, as by `write_message`, so the time is linear in what is written.
 pub fn write_within(out: &mut Vec<u8>, message: &Message)
     requires fits { HasLength message.now }
     requires room { vec_len out.old + length (written_message message.now) ≤ vec_capacity out.old }
