@@ -38,15 +38,17 @@ fn parts(alloc: Global, bytes: &[u8]) -> Result<(i32, usize, usize), BerFault> {
 }
 
 /// The octets of -129, of 1.3, of 0xff and of Null behind a header, and the sizes of the first two.
+#[tactic(auto, unfolding(mon_ber::specs::Writing::written, mon_ber::specs::Writing::element, mon_ber::specs::Writing::length_octets))]
 fn put_parts(alloc: Global) -> Result<(Vec<u8>, usize, usize), BerFault> {
     let (name, _rest) = name_at(alloc, &[0x06, 0x01, 0x2b])?;
-    let mut out = Vec::new(alloc);
-    put_header(&mut out, 0x30, 12)?;
-    put_integer(&mut out, -129)?;
-    put_object_identifier(&mut out, &name)?;
-    put_octets(&mut out, &[0xff])?;
-    put_value(&mut out, &Value::Null)?;
-    Ok((out, integer_size(-129), name_size(&name)))
+    let (integer, named) = (integer_size(-129), name_size(&name));
+    let mut out = Vec::with_capacity(alloc, integer + named + 7)?;
+    put_header(&mut out, 0x30, 12);
+    put_integer(&mut out, -129);
+    put_object_identifier(&mut out, &name);
+    put_octets(&mut out, &[0xff]);
+    put_value(&mut out, &Value::Null);
+    Ok((out, integer, named))
 }
 
 /// Whether the octets are read as the value, which is shown so, and written for it and its copy.

@@ -187,3 +187,31 @@ fn numbers_and_names(rt: HostRuntime) {
     }
     assert_eq!(rt; PduKind::from_octet(0xa5), None);
 }
+
+/// The octets of the message in a vector that was taken before.
+fn write_into(alloc: Global, message: &Message) -> Result<Vec<u8>, PduFault> {
+    let mut out = Vec::with_capacity(alloc, mon_pdu::message_size(message)?)?;
+    mon_pdu::write_within(&mut out, message);
+    Ok(out)
+}
+
+/// The octets of the message behind those of another, in room for both.
+fn write_both(alloc: Global, one: &Message, other: &Message) -> Result<Vec<u8>, PduFault> {
+    let mut out = mon_pdu::write_message(alloc, one)?;
+    out.reserve(mon_pdu::message_size(other)?)?;
+    mon_pdu::write_within(&mut out, other);
+    Ok(out)
+}
+
+#[test]
+fn writes_within(rt: HostRuntime) -> Result<(), Fail> {
+    let bytes = hex::decode(rt.alloc(), RESPONSE)?;
+    let message = read(rt.alloc(), &bytes)?;
+    let written = write_into(rt.alloc(), &message)?;
+    assert_eq!(rt; written.as_slice(), bytes.as_slice());
+    assert_eq!(rt; written.capacity(), bytes.len());
+    let both = write_both(rt.alloc(), &message, &message)?;
+    assert_eq!(rt; both.len(), 2 * bytes.len());
+    assert_eq!(rt; &both[bytes.len()..], bytes.as_slice());
+    Ok(())
+}
