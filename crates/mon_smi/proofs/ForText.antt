@@ -16,12 +16,12 @@ use Rattle.mon_smi.specs.declared.text_fault.TextFault.{TextFault}
 use Rattle.mon_smi.specs.declared.text_fault.TextFault.TheVariants.{OutOfMemory, Unclosed, Unexpected, Duplicate}
 use Rattle.mon_smi.specs.Words.{is_part, IsWord}
 use Rattle.mon_smi.specs.Names.{AreDistinct, IsUndefined}
-use Rattle.mon_smi.specs.Tokens.{AreAll, AreDigits, IsNumber, IsSpelled, IsPieceOf, IsRead, token_of, tokens_of, AreTokens, IsFaultOfTokens}
+use Rattle.mon_smi.specs.Tokens.{AreAll, AreDigits, IsNumber, IsSpelled, IsPieceOf, IsRead, token_of, tokens_of, AreTokens, IsFaultOfTokens, RisesFrom}
 use Rattle.mon_smi.specs.Lexemes.{AreTokensOf, lexemes}
 use Rattle.mon_smi.specs.Reading.{Fails, module_at}
 use Rattle.mon_smi.specs.Grammar.{Derives}
 use Rattle.mon_smi.specs.ModuleFaults.{IsFaultOfModule, IsTwice}
-use Rattle.mon_smi.proofs.ByPieces.{one_cut, not_stuck}
+use Rattle.mon_smi.proofs.ByPieces.{one_cut, not_stuck, piece_some, again}
 use Rattle.mon_smi.proofs.Chains.{distinct_push}
 use Rattle.mon_smi.proofs.ForValues.{pair_parts}
 use Rattle.mon_smi.proofs.ForModules.{module_takes, module_again}
@@ -89,6 +89,19 @@ tokens_at text (p ∷ ps) start rest is within read =
 
 pub tokens_stand : (text : List ℕ) (tokens : List Token) → AreTokens text tokens → AreTokensOf text tokens
 tokens_stand text tokens are = subst (λ (l : List Token). AreTokensOf text l) (sym are.2) (tokens_at text are.0 0 text refl (omega arith) are.1)
+
+rises : (ps : List Piece) (at start : ℕ) (rest : List ℕ) → at ≤ start → IsRead ps rest [] → RisesFrom at (tokens_of start ps)
+rises [] at start rest le read = tt
+rises (p ∷ ps) at start rest le read =
+    let some : 0 < p.len = piece_some rest p (again rest p read.0) in
+    go p.kind some (rises ps at (start + p.len) (drop p.len rest) (omega arith) read.1) (rises ps (start + p.len) (start + p.len) (drop p.len rest) (omega arith) read.1)
+  where
+    go : (kind : Option Kind) → 0 < p.len → RisesFrom at (tokens_of (start + p.len) ps) → RisesFrom (start + p.len) (tokens_of (start + p.len) ps) → RisesFrom at (token_of start p.len kind ++ tokens_of (start + p.len) ps)
+    go None some passed behind = passed
+    go (Some kind) some passed behind = (le, omega arith, behind)
+
+pub tokens_rise : (text : List ℕ) (tokens : List Token) → AreTokens text tokens → RisesFrom 0 tokens
+tokens_rise text tokens are = subst (λ (l : List Token). RisesFrom 0 l) (sym are.2) (rises are.0 0 0 text (omega arith) are.1)
 
 -- ---- modules
 

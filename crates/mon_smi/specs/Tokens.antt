@@ -144,6 +144,11 @@ tokens_of start (p ∷ ps) = token_of start p.len p.kind ++ tokens_of (start + p
 abbrev pub AreTokens : List ℕ → List Token → Type 0
 AreTokens text tokens = (pieces : List Piece) × IsRead pieces text [] × (tokens ≡ tokens_of 0 pieces)
 
+-- tokens have a byte at least, and each one begins where the one before it ends, or later
+abbrev pub RisesFrom : ℕ → List Token → Type 0
+RisesFrom at [] = Unit {0}
+RisesFrom at (t ∷ ts) = (at ≤ t.span.start) × (t.span.start < t.span.end) × RisesFrom t.span.end ts
+
 -- read from the left the text comes to this place, and nothing stands there
 abbrev pub IsStuck : List ℕ → ℕ → List ℕ → Type 0
 IsStuck text at rest = (pieces : List Piece) × IsRead pieces text rest × (bytes_of pieces ≡ at) × NothingStands rest

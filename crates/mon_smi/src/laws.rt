@@ -3,7 +3,8 @@
 ghost use Rattle.std.specs.Prelude.{◌≡◌, ℕ, List};
 ghost use Rattle.mon_smi.specs.declared.definition.Definition.{Definition as AnyDefinition};
 ghost use Rattle.mon_smi.specs.declared.token.Token.{Token as AnyToken};
-ghost use Rattle.mon_smi.specs.Tokens.{AreTokens};
+ghost use Rattle.mon_smi.specs.Tokens.{AreTokens, RisesFrom};
+ghost use Rattle.mon_smi.specs.Lexemes.{AreTokensOf};
 ghost use Rattle.mon_smi.specs.Grammar.{Derives};
 ghost use Rattle.mon_smi.specs.Names.{AreDistinct, Stands, Means, IsLost, IsCircular};
 
@@ -32,6 +33,16 @@ pub fn one_reading()
 /// A text has one list of tokens at most.
 pub fn one_cut()
     ensures { (text : List ℕ) (a b : List AnyToken) → AreTokens text a → AreTokens text b → a ≡ b }
+{}
+
+/// Each token's bytes, from its start to its end, stand in the text and are spelled as its kind is.
+pub fn slices()
+    ensures { (text : List ℕ) (tokens : List AnyToken) → AreTokens text tokens → AreTokensOf text tokens }
+{}
+
+/// Tokens have a byte at least, and none begins before the one before it ends.
+pub fn rising()
+    ensures { (text : List ℕ) (tokens : List AnyToken) → AreTokens text tokens → RisesFrom 0 tokens }
 {}
 
 /// A text derives one module at most.
