@@ -34,23 +34,17 @@ impl Wire for Local {
         let Some(octets) = self.reply.take() else {
             return Ok(Heard::Quiet);
         };
-        Ok(put(octets.as_slice(), room))
+        let Some(front) = room.get_mut(..octets.len()) else {
+            return Ok(Heard::Quiet);
+        };
+        front.copy_from_slice(octets.as_slice());
+        Ok(Heard::Datagram(octets.len()))
     }
-}
-
-/// Puts a datagram into the room.
-fn put(octets: &[u8], room: &mut [u8]) -> Heard {
-    let Some(front) = room.get_mut(..octets.len()) else {
-        return Heard::Quiet;
-    };
-    front.copy_from_slice(octets);
-    Heard::Datagram(octets.len())
 }
 
 /// A wire to an agent that answers each request with ifNumber.0, under the request's id.
 #[derive(Drop)]
 struct Same {
-    id: u8,
     reply: Vec<u8>,
 }
 
@@ -63,18 +57,20 @@ impl Wire for Same {
     ghost sends = { λ _. None };
 
     fn send(&mut self, octets: &[u8]) -> Result<(), AppFault> {
-        if let Some(id) = octets.get(ID) {
-            self.id = *id;
+        if let Some(id) = octets.get(ID)
+            && let Some(place) = self.reply.get_mut(ID)
+        {
+            *place = *id;
         }
         Ok(())
     }
 
     fn receive(&mut self, room: &mut [u8]) -> Result<Heard, AppFault> {
-        let heard = put(self.reply.as_slice(), room);
-        if let Some(id) = room.get_mut(ID) {
-            *id = self.id;
-        }
-        Ok(heard)
+        let Some(front) = room.get_mut(..self.reply.len()) else {
+            return Ok(Heard::Quiet);
+        };
+        front.copy_from_slice(self.reply.as_slice());
+        Ok(Heard::Datagram(self.reply.len()))
     }
 }
 
@@ -141,7 +137,6 @@ fn stops_where_names_do_not_increase(rt: HostRuntime) -> Result<(), Fail> {
     let reply =
         "302702010104067075626c6963a21a020100020100020100300f300d06082b06010201020100020102";
     let mut wire = Same {
-        id: 0,
         reply: hex::decode(alloc, reply)?,
     };
     let start = oid(alloc, "1.3.6.1.2.1.2")?;
