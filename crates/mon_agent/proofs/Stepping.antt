@@ -1,12 +1,11 @@
 -- The answer to each name in a GetNext is found: the variables are a finite list, and of those that are wanted one is least.
-use Rattle.std.proofs.Common.{◌≡◌, ◌≢◌, ℕ, zero, suc, ◌<◌, List, [], ◌∷◌, length, Contains, ◌⊎◌, ◌↔◌, inl, inr, refl, sym, ◌∙◌, ap, subst, arith}
-use Rattle.std.specs.Prelude.{Option, Some, None}
+use Rattle.std.proofs.Common.{◌≡◌, ◌≢◌, ℕ, zero, suc, List, [], ◌∷◌, Contains, ◌⊎◌, ◌↔◌, inl, inr, refl, sym, subst, arith}
 use Rattle.std.specs.declared.cmp.Ordering.{Ordering}
 use Rattle.std.specs.declared.cmp.Ordering.TheVariants.{Less, Equal, Greater}
 use Rattle.std.proofs.lemmas.Cmp.{nat_list_cmp_total, tied_itself}
 use Rattle.mon_pdu.specs.declared.message.Binding.{Binding}
 use Rattle.mon_mib.specs.Known.{Known, vars}
-use Rattle.mon_mib.specs.Next.{IsVariable, IsLater, IsNext}
+use Rattle.mon_mib.specs.Next.{IsVariable, IsLater}
 use Rattle.mon_mib.specs.Objects.{objects}
 use Rattle.mon_mib.specs.Order.{name_cmp}
 use Rattle.mon_agent.specs.Bulk.{IsStepper}
@@ -127,11 +126,14 @@ module _ (k : Known) (sees : List ℕ → Type 0) (seen : (name : List ℕ) → 
 
   step : (name : List ℕ) → (b : Binding) × IsStep k sees name b
   step name = elim (lowest (IsLater sees name) (later name) (vars k)) [
-    | inl found ↦ (found.0, inl (record {
+    | inl found ↦ (
+      found.0,
+      inl (record {
         variable = (listed found.0).0 found.1.listed;
         later = found.1.wanted;
         least = λ c v wanted. found.1.lowest c ((listed c).1 v) wanted;
-      }))
+      }),
+    )
     | inr none ↦ (at_end name, inr ((λ c v wanted. none c ((listed c).1 v) wanted), refl))
   ]
 
