@@ -2,3 +2,4 @@ pub mod Each
 pub mod Longest
 pub mod Rounds
 pub mod Sent
+pub mod Stepping

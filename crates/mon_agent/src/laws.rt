@@ -5,6 +5,7 @@ ghost use Rattle.mon_pdu.specs.declared.message.Binding.{Binding};
 ghost use Rattle.mon_vacm.specs.declared.family.Family.{Family};
 ghost use Rattle.mon_vacm.specs.View.{IsInView};
 ghost use Rattle.mon_mib.specs.Known.{Known};
+ghost use Rattle.mon_agent.specs.Bulk.{IsStepper};
 ghost use Rattle.mon_agent.specs.Step.{IsStep};
 
 /// One answer alone is right for a name in a GetNext.
@@ -13,4 +14,13 @@ pub fn one_step()
         → IsStep k (IsInView families view) name a → IsStep k (IsInView families view) name b → a ≡ b }
 {
     mon_mib::laws::one_next();
+}
+
+/// Each name in a GetNext has an answer: some function gives it to every name.
+pub fn stepper()
+    ensures { (k : Known) (families : List Family) (view : List ℕ)
+        → (next : List ℕ → Binding) × IsStepper k (IsInView families view) next }
+{
+    mon_vacm::laws::decided();
+    mon_mib::laws::variables();
 }

@@ -1,3 +1,4 @@
+pub mod Decided
 pub mod Deciding
 pub mod Distinct
 pub mod Exclusive

@@ -1,6 +1,6 @@
 //! Laws of views and decisions. Each is a function that does nothing.
 
-ghost use Rattle.std.specs.Prelude.{◌≡◌, ℕ, List, Contains};
+ghost use Rattle.std.specs.Prelude.{◌≡◌, ◌⊎◌, ℕ, List, Contains};
 ghost use Rattle.mon_vacm.specs.declared.family.Family.{Family as AnyFamily};
 ghost use Rattle.mon_vacm.specs.declared.decision.Decision.{Decision as AnyDecision};
 ghost use Rattle.mon_vacm.specs.declared.need.Need.{Need as AnyNeed};
@@ -25,4 +25,10 @@ pub fn only_members()
 pub fn one_decision()
     ensures { (tables : Lists) (community : List ℕ) (need : AnyNeed) (name : List ℕ) (d e : AnyDecision)
         → IsRight tables community need name d → IsRight tables community need name e → d ≡ e }
+{}
+
+/// Whether a name is in a view is decided.
+pub fn decided()
+    ensures { (families : List AnyFamily) (view name : List ℕ)
+        → IsInView families view name ⊎ ¬ (IsInView families view name) }
 {}
