@@ -68,11 +68,11 @@ module _ (next : List ℕ → Binding) where
     next = b;
     rest = answers (drop (suc i) asked);
     whole =
-      ap (λ l. before ++ answers l) (split_at asked i d lt)
-      ∙ (ap (λ l. before ++ l) (answers-append (take i asked) (get_or asked i d ∷ drop (suc i) asked))
-      ∙ (sym (append_assoc before (answers (take i asked)) (answers (get_or asked i d ∷ drop (suc i) asked)))
-      ∙ (ap (λ l. l ++ answers (get_or asked i d ∷ drop (suc i) asked)) (sym is)
-      ∙ ap (λ (x : Binding). reply ++ x ∷ answers (drop (suc i) asked)) (sym one))));
+        ap (λ l. before ++ answers l) (split_at asked i d lt)
+        ∙ (ap (λ l. before ++ l) (answers-append (take i asked) (get_or asked i d ∷ drop (suc i) asked))
+        ∙ (sym (append_assoc before (answers (take i asked)) (answers (get_or asked i d ∷ drop (suc i) asked)))
+        ∙ (ap (λ l. l ++ answers (get_or asked i d ∷ drop (suc i) asked)) (sym is)
+        ∙ ap (λ (x : Binding). reply ++ x ∷ answers (drop (suc i) asked)) (sym one))));
     full = full;
   }
 
@@ -166,7 +166,7 @@ take_least n l k few many = elim (either n (length l)) [
     either : (n m : ℕ) → (n ≤ m) ⊎ (m ≤ n)
     either zero m = inl (omega arith)
     either (suc n) zero = inr (omega arith)
-    either (suc n) (suc m) = elim (either n m) [ | inl le ↦ inl (omega arith) | inr le ↦ inr (omega arith) ]
+    either (suc n) (suc m) = elim (either n m) [ inl le ↦ inl (omega arith) | inr le ↦ inr (omega arith) ]
 
 pub all_taken : (n : ℕ) (l : List Binding) → length l ≤ n → take n l ≡ l
 all_taken n l le = take_all n l le
@@ -201,7 +201,7 @@ dropped_first n k l is = elim (either n (length l)) [
     either : (n m : ℕ) → (n ≤ m) ⊎ (m ≤ n)
     either zero m = inl (omega arith)
     either (suc n) zero = inr (omega arith)
-    either (suc n) (suc m) = elim (either n m) [ | inl le ↦ inl (omega arith) | inr le ↦ inr (omega arith) ]
+    either (suc n) (suc m) = elim (either n m) [ inl le ↦ inl (omega arith) | inr le ↦ inr (omega arith) ]
 
 -- ---- what a GetBulk has put, at each of its ends
 
@@ -242,7 +242,7 @@ module _ (next : List ℕ → Binding) (fits : List Binding → Type 0) (non_rep
       → IsEnded fits (full_list next non_repeaters max_repetitions asked) part
   further m middle round part some is put ended =
       let to : (middle ++ answers next repeated) ++ more_rounds next m (last (length repeated) (middle ++ answers next repeated))
-          ≡ full_list next non_repeaters max_repetitions asked =
+      ≡ full_list next non_repeaters max_repetitions asked =
       sym (goes_on next middle (answers next repeated) m (length repeated) (length-answers next repeated)) ∙ whole m middle some is in
       subst (λ l. IsEnded fits l part) to (subst (λ l. IsEnded fits (l ++ more_rounds next m (last (length repeated) l)) part) put ended)
 

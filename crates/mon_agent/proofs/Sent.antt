@@ -29,7 +29,6 @@ longer m = omega (arith, length-append (0x30 ∷ length_octets (length (message_
 pub too_long : (m : Message) (limit : ℤ) → count_of limit < 2 ^ 31 → 2 ^ 32 ≤ length (message_contents m) → Fits limit m → ⊥
 too_long m limit small le fits = omega (arith, longer m, small, le, fits)
 
-
 -- what is sent of a response depends on its request by community and request-id alone
 sent_of : (m reply : Message) (limit : ℤ) (octets : List ℕ) → too_big reply ≡ too_big m → IsSent limit reply reply octets → IsSent limit m reply octets
 sent_of m reply limit octets same (inl sent) = inl sent
@@ -72,7 +71,7 @@ negative : {m n : ℕ} → negsuc m ≡ pos n → ⊥
 negative e = cc
 
 one : (v : ℤ) → ((v ≢ pos 1) → ⊥) → v ≡ pos 1
-one (pos n) not_other = elim (cases_eq n 1) [ | inl is ↦ ap pos is | inr other ↦ absurd (not_other (λ e. other (pos_is e))) ]
+one (pos n) not_other = elim (cases_eq n 1) [ inl is ↦ ap pos is | inr other ↦ absurd (not_other (λ e. other (pos_is e))) ]
 one (negsuc n) not_other = absurd (not_other (λ e. negative e))
 
 pub not_true : {A : Type 0} → false ≡ true → A
@@ -82,13 +81,13 @@ broken : (policy : Lists) (k : Known) (datagram : List ℕ) (r : Result Message 
     → Some BadMessage ≡ Some cause → ((m : Message) → Gives (λ x. x) (Err e) (Ok m) → ⊥) → ((v : ℤ) → e ≢ faults.BadVersion v)
     → ((m : Message) → BeginsWithMessage datagram m → Gives (λ x. x) r (Ok m))
     → ((v : ℤ) → (r ≡ Err (faults.BadVersion v)) ↔ (IsVersioned datagram v × (v ≢ pos 1))) → IsAnswer policy k datagram (Silent cause)
-broken policy k datagram r e cause is of fails other only version = subst (λ (x : Silence). IsAnswer policy k datagram (Silent x)) (some_is of)
-    (λ m begins. fails m (subst (λ q. Gives (λ x. x) q (Ok m)) is (only m begins)),
-    λ v versioned. one v (λ differs. other v (err_is e (faults.BadVersion v) is ((version v).1 (versioned, differs)) refl)))
+broken policy k datagram r e cause is of fails other only version = subst (λ (x : Silence). IsAnswer policy k datagram (Silent x)) (some_is of) (
+  λ m begins. fails m (subst (λ q. Gives (λ x. x) q (Ok m)) is (only m begins)),
+  λ v versioned. one v (λ differs. other v (err_is e (faults.BadVersion v) is ((version v).1 (versioned, differs)) refl)),
+)
   where
     some_is : {x y : Silence} → Some x ≡ Some y → x ≡ y
     some_is e = cc
-
 
 -- what could not be read begins with no message, and is of version 1 or of the other version that was named
 pub unread : (policy : Lists) (k : Known) (datagram : List ℕ) (r : Result Message PduFault) (e : PduFault) (cause : Silence) → r ≡ Err e

@@ -66,9 +66,9 @@ IsGranted k sees m reply = (answers : List Binding) × AreAnswers k sees m m.bod
 abbrev pub IsResponse : Lists → Known → Message → Message → Type 0
 IsResponse policy k m reply =
     ((why : Denied) × (why ≢ NoCommunity) × (access_of policy m.community (need_of m.body) ≡ Err why)
-        × (reply ≡ response m (pos 16) (pos 0) (bindings_of m.body)))
+    × (reply ≡ response m (pos 16) (pos 0) (bindings_of m.body)))
     ⊎ ((view : List ℕ) × (access_of policy m.community (need_of m.body) ≡ Ok view)
-        × IsGranted k (IsInView policy.families view) m reply)
+    × IsGranted k (IsInView policy.families view) m reply)
 
 -- the request's community is known
 abbrev pub IsKnown : Lists → Message → Type 0

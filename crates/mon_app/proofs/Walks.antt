@@ -48,17 +48,17 @@ pub goes_on : (start before now last after name : List ℕ) → IsAt start befor
 goes_on start before now last after name at line =
     let b : Binding = record { name = name; value = line.value } in
     record {
-  walked = record {
-    bindings = at.walked.bindings ++ b ∷ [];
-    under = all_more (λ b. IsPrefix start b.name) at.walked.bindings b at.walked.under line.under;
-    rising = rises_more start at.walked.bindings b at.walked.rising (ap (λ l. slice_cmp nat_cmp l name) (sym at.last_is) ∙ line.rising);
-    printed = line.printed ∙ (ap (λ l. l ++ binding_line b) at.walked.printed
-        ∙ (append_assoc before (flat_map binding_line at.walked.bindings) (binding_line b)
-        ∙ ap (λ l. before ++ l) (ap (λ l. flat_map binding_line at.walked.bindings ++ l) (sym (append-nil (binding_line b)))
-        ∙ sym (flat_map-append binding_line at.walked.bindings (b ∷ [])))));
-  };
-  last_is = sym (last_more start at.walked.bindings b);
-}
+      walked = record {
+        bindings = at.walked.bindings ++ b ∷ [];
+        under = all_more (λ b. IsPrefix start b.name) at.walked.bindings b at.walked.under line.under;
+        rising = rises_more start at.walked.bindings b at.walked.rising (ap (λ l. slice_cmp nat_cmp l name) (sym at.last_is) ∙ line.rising);
+        printed = line.printed ∙ (ap (λ l. l ++ binding_line b) at.walked.printed
+            ∙ (append_assoc before (flat_map binding_line at.walked.bindings) (binding_line b)
+            ∙ ap (λ l. before ++ l) (ap (λ l. flat_map binding_line at.walked.bindings ++ l) (sym (append-nil (binding_line b)))
+            ∙ sym (flat_map-append binding_line at.walked.bindings (b ∷ [])))));
+      };
+      last_is = sym (last_more start at.walked.bindings b);
+    }
 
 -- the text stays while it is the same
 pub stays : (start before now later last : List ℕ) → IsAt start before now last → later ≡ now → IsWalked start before later

@@ -23,7 +23,11 @@ pub fn bindings_text(alloc: Global, bindings: &[Binding]) -> Result<String, Allo
 }
 
 #[tactic(auto, unfolding(crate::specs::Printed::binding_line))]
-pub(crate) fn put_binding(alloc: Global, text: &mut String, binding: &Binding) -> Result<(), AllocError>
+pub(crate) fn put_binding(
+    alloc: Global,
+    text: &mut String,
+    binding: &Binding,
+) -> Result<(), AllocError>
     ensures { OnOk result (string_bytes text.new ≡ string_bytes text.old ++ binding_line binding.now) }
 {
     let name = binding.name.text(alloc)?;

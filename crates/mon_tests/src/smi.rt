@@ -1,7 +1,7 @@
 use mon_oid::{Oid, OidFault};
 use mon_smi::{
-    Definition, Definitions, Kind, Module, Names, NamesFault, Numbers, Span, TextFault, Token, Word,
-    read_module, tokens,
+    Definition, Definitions, Kind, Module, Names, NamesFault, Numbers, Span, TextFault, Token,
+    Word, read_module, tokens,
 };
 use std::alloc::{AllocError, Global};
 use std::test::Fail;
@@ -115,7 +115,8 @@ fn names_identifiers(rt: HostRuntime) -> Result<(), Fail> {
 }
 
 /// A module of four names, of which two stand for each other.
-const EX_MIB: &str = "EX-MIB DEFINITIONS ::= BEGIN ex OBJECT IDENTIFIER ::= { enterprises 32473 1 } exCount OBJECT-TYPE SYNTAX Counter32 MAX-ACCESS read-only STATUS current DESCRIPTION \"n\" ::= { ex 2 } exLoop OBJECT IDENTIFIER ::= { exPool 1 } exPool OBJECT IDENTIFIER ::= { exLoop 1 } END";
+const EX_MIB: &str =
+    "EX-MIB DEFINITIONS ::= BEGIN ex OBJECT IDENTIFIER ::= { enterprises 32473 1 } exCount OBJECT-TYPE SYNTAX Counter32 MAX-ACCESS read-only STATUS current DESCRIPTION \"n\" ::= { ex 2 } exLoop OBJECT IDENTIFIER ::= { exPool 1 } exPool OBJECT IDENTIFIER ::= { exLoop 1 } END";
 
 fn cut(alloc: Global, text: &str) -> Result<Vec<Token>, TextFault> {
     tokens(alloc, text)
@@ -148,9 +149,18 @@ fn meaning(alloc: Global, text: &str) -> Result<String, NamesFault> {
 fn cuts_a_module(rt: HostRuntime) -> Result<(), Fail> {
     let found = cut(rt.alloc(), EX_MIB)?;
     assert_eq!(rt; found.len(), 45);
-    assert_eq!(rt; found.get(2).map(|t| (t.kind, t.span.start, t.span.end)), Some((Kind::Assign, 19, 22)));
-    assert_eq!(rt; found.get(22).map(|t| (t.kind, t.span.start, t.span.end)), Some((Kind::Quoted, 163, 166)));
-    assert_eq!(rt; found.get(44).map(|t| (t.kind, t.span.start, t.span.end)), Some((Kind::Word, 264, 267)));
+    assert_eq!(rt;
+        found.get(2).map(|t| (t.kind, t.span.start, t.span.end)),
+        Some((Kind::Assign, 19, 22))
+    );
+    assert_eq!(rt;
+        found.get(22).map(|t| (t.kind, t.span.start, t.span.end)),
+        Some((Kind::Quoted, 163, 166))
+    );
+    assert_eq!(rt;
+        found.get(44).map(|t| (t.kind, t.span.start, t.span.end)),
+        Some((Kind::Word, 264, 267))
+    );
     Ok(())
 }
 
@@ -162,21 +172,33 @@ fn refuses_texts(rt: HostRuntime) -> Result<(), Fail> {
         ("A DEFINITIONS ::= BEGIN x OBJECT", 2),
         ("EX-MIB DEFINITIONS ::= BEGIN 5 END", 3),
         ("A ? B", 3),
-        ("A DEFINITIONS ::= BEGIN a OBJECT IDENTIFIER ::= { iso 1 } a OBJECT IDENTIFIER ::= { iso 2 } END", 4),
+        (
+            "A DEFINITIONS ::= BEGIN a OBJECT IDENTIFIER ::= { iso 1 } a OBJECT IDENTIFIER ::= { iso 2 } END",
+            4,
+        ),
     ];
     for (text, number) in rows {
         assert_eq!(rt; fault_of(rt.alloc(), text), number);
     }
-    assert_eq!(rt; TextFault::Unexpected(Span { start: 29, end: 30 }).name(), "Unexpected");
+    assert_eq!(rt;
+        TextFault::Unexpected(Span { start: 29, end: 30 }).name(),
+        "Unexpected"
+    );
     Ok(())
 }
 
 #[test]
 fn names_of_a_module(rt: HostRuntime) -> Result<(), Fail> {
     let alloc = rt.alloc();
-    assert_eq!(rt; meaning(alloc, "exCount.0")?.as_str(), "1.3.6.1.4.1.32473.1.2.0");
+    assert_eq!(rt;
+        meaning(alloc, "exCount.0")?.as_str(),
+        "1.3.6.1.4.1.32473.1.2.0"
+    );
     assert_eq!(rt; meaning(alloc, "exLoop").err(), Some(NamesFault::Cycle));
     assert_eq!(rt; meaning(alloc, "nope").err(), Some(NamesFault::Unknown));
-    assert_eq!(rt; meaning(alloc, "iso").err(), Some(NamesFault::BadIdentifier));
+    assert_eq!(rt;
+        meaning(alloc, "iso").err(),
+        Some(NamesFault::BadIdentifier)
+    );
     Ok(())
 }

@@ -120,7 +120,8 @@ fn ask<R: Clock + Net + Print + AllocGlobal>(
     asking: Asking,
 ) -> Result<(), Fault> {
     let agent = address(words)?;
-    let community = community(words)?;
+    let community = words.get_str("COMMUNITY").unwrap_or("").as_bytes();
+    check_community(community)?;
     let names = names(rt.alloc(), words)?;
     let question = Question {
         asking,
@@ -135,12 +136,10 @@ fn ask<R: Clock + Net + Print + AllocGlobal>(
 }
 
 /// Walks through the variables under the name, and prints those that were met, also where the walk then fails.
-fn walk<R: Clock + Net + Print + AllocGlobal>(
-    rt: &R,
-    words: &ArgMatches<'_>,
-) -> Result<(), Fault> {
+fn walk<R: Clock + Net + Print + AllocGlobal>(rt: &R, words: &ArgMatches<'_>) -> Result<(), Fault> {
     let agent = address(words)?;
-    let community = community(words)?;
+    let community = words.get_str("COMMUNITY").unwrap_or("").as_bytes();
+    check_community(community)?;
     let start = Names::new(rt.alloc())?.resolve(rt.alloc(), words.get_str("NAME").unwrap_or(""))?;
     let mut wire = SocketWire::open(rt, agent)?;
     let mut text = String::new(rt.alloc());
@@ -158,13 +157,12 @@ fn address(words: &ArgMatches<'_>) -> Result<SocketAddrV4, Fault> {
     }
 }
 
-/// The community that the words give.
-fn community<'a>(words: &'a ArgMatches<'_>) -> Result<&'a [u8], Fault> {
-    let community = words.get_str("COMMUNITY").unwrap_or("").as_bytes();
+/// Refuses a community of no length that is sent.
+fn check_community(community: &[u8]) -> Result<(), Fault> {
     if community.is_empty() || community.len() > LONGEST_COMMUNITY {
         return Err(Fault::App(AppFault::BadText));
     }
-    Ok(community)
+    Ok(())
 }
 
 /// The names that the words give, by the built-in names or in numbers.

@@ -69,7 +69,8 @@ const ADDRESS: &str = "The agent's address, a.b.c.d:port";
 
 const COMMUNITY: &str = "The community, 1 to 512 octets";
 
-const NAME: &str = "A name, in numbers as 1.3.6.1.2.1.1.5.0, or behind a built-in name as mib-2.1.5.0";
+const NAME: &str =
+    "A name, in numbers as 1.3.6.1.2.1.1.5.0, or behind a built-in name as mib-2.1.5.0";
 
 fn needed<'a>(alloc: Global, id: &'a str, help: &'a str) -> Arg<'a> {
     Arg::new(alloc, id).required(true).help(help)
@@ -108,8 +109,18 @@ fn count<'a>(alloc: Global, id: &'a str, short: char, help: &'a str) -> Arg<'a> 
 
 fn bulk<'a>(alloc: Global) -> Result<Command<'a>, AllocError> {
     client(alloc, "bulk", BULK, BULK_MORE)?
-        .arg(count(alloc, "non-repeaters", 'n', "How many of the names are asked for once"))?
-        .arg(count(alloc, "max-repetitions", 'm', "How many rounds of the others are asked for"))
+        .arg(count(
+            alloc,
+            "non-repeaters",
+            'n',
+            "How many of the names are asked for once",
+        ))?
+        .arg(count(
+            alloc,
+            "max-repetitions",
+            'm',
+            "How many rounds of the others are asked for",
+        ))
 }
 
 const WALK: &str = "Asks an agent for all variables under a name (GetNextRequests)";
@@ -146,9 +157,13 @@ fn agent<'a>(alloc: Global) -> Result<Command<'a>, AllocError> {
         .long("boots")
         .value_parser(value_parser!(i32).range(1..))
         .help("snmpEngineBoots, 1 to 2147483647, in place of the settings'");
-    let count = needed(alloc, "count", "How many datagrams are served, 1 to 4294967295")
-        .long("count")
-        .value_parser(value_parser!(u32).range(1..));
+    let count = needed(
+        alloc,
+        "count",
+        "How many datagrams are served, 1 to 4294967295",
+    )
+    .long("count")
+    .value_parser(value_parser!(u32).range(1..));
     Command::new(alloc, "agent")
         .about(AGENT)
         .long_about(AGENT_MORE)

@@ -25,9 +25,9 @@ loop-binding-preserved g c =
     let lt : at.binding-index < length asked = search rules in
     let more : c.push.new.self.bindings ≡ at.reply.bindings ++ found ∷ [] = search rules in
     record {
-  head = c.push.ensures.head ∙ at.invariant.head;
-  limit = c.push.ensures.limit ∙ at.invariant.limit;
-  long = omega (arith, ap length more, length-append at.reply.bindings (found ∷ []), at.invariant.long);
-  put = λ next steps. more ∙ more_at next c.args.reply.now.bindings asked at.reply.bindings at.binding-index c.binding-item.result found lt
-      (at.invariant.put next steps) (c.in_ok-found.ensures.only next steps ∙ ap (λ (b : Binding). next b.name) c.binding-item.is);
-}
+      head = c.push.ensures.head ∙ at.invariant.head;
+      limit = c.push.ensures.limit ∙ at.invariant.limit;
+      long = omega (arith, ap length more, length-append at.reply.bindings (found ∷ []), at.invariant.long);
+      put = λ next steps. more ∙ more_at next c.args.reply.now.bindings asked at.reply.bindings at.binding-index c.binding-item.result found lt
+          (at.invariant.put next steps) (c.in_ok-found.ensures.only next steps ∙ ap (λ (b : Binding). next b.name) c.binding-item.is);
+    }

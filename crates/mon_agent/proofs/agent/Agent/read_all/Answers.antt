@@ -15,8 +15,8 @@ loop-binding-preserved g c =
     let old = c.binding-item.result in
     let new : Binding = record { name = (slice_index_or at.binding-items at.binding-index old).name; value = c.in_ok-binding.field-0 } in
     record {
-  long = long_of R c.args.asked.items at.binding-items at.binding-index new at.invariant.long;
-  done = one_more R c.args.asked.items at.binding-items at.binding-index old new lt at.invariant.long
-      at.invariant.rest at.invariant.done (record { named = refl; found = c.in_ok-binding.ensures });
-  rest = rest_of R c.args.asked.items at.binding-items at.binding-index old new lt at.invariant.long at.invariant.rest;
-}
+      long = long_of R c.args.asked.items at.binding-items at.binding-index new at.invariant.long;
+      done = one_more R c.args.asked.items at.binding-items at.binding-index old new lt at.invariant.long
+          at.invariant.rest at.invariant.done (record { named = refl; found = c.in_ok-binding.ensures });
+      rest = rest_of R c.args.asked.items at.binding-items at.binding-index old new lt at.invariant.long at.invariant.rest;
+    }

@@ -31,15 +31,15 @@ loop-preserved g c =
     let more : c.push.new.self.bindings ≡ at.reply.bindings ++ found ∷ [] = search rules in
     let name : c.name_before.result.now ≡ (get_or at.reply.bindings (length at.reply.bindings - width) found).name = c.name_before.ensures found in
     record {
-  head = c.push.ensures.head ∙ at.invariant.head;
-  limit = c.push.ensures.limit ∙ at.invariant.limit;
-  wide = omega (arith, ap length more, length-append at.reply.bindings (found ∷ []), at.invariant.wide);
-  put = λ next steps.
-      let lt : at.counter < length (last width before) = omega (arith, all_last next width before wide, inside) in
-      more ∙ more_at next before (last width before) at.reply.bindings at.counter found found lt (at.invariant.put next steps)
-      (c.in_ok-found.ensures.only next steps
-      ∙ (ap next name ∙ ap (λ b. next b.name) (name_back next before at.reply.bindings width at.counter found wide inside (at.invariant.put next steps))));
-}
+      head = c.push.ensures.head ∙ at.invariant.head;
+      limit = c.push.ensures.limit ∙ at.invariant.limit;
+      wide = omega (arith, ap length more, length-append at.reply.bindings (found ∷ []), at.invariant.wide);
+      put = λ next steps.
+          let lt : at.counter < length (last width before) = omega (arith, all_last next width before wide, inside) in
+          more ∙ more_at next before (last width before) at.reply.bindings at.counter found found lt (at.invariant.put next steps)
+          (c.in_ok-found.ensures.only next steps
+          ∙ (ap next name ∙ ap (λ b. next b.name) (name_back next before at.reply.bindings width at.counter found wide inside (at.invariant.put next steps))));
+    }
 
 pub returns-clause-put : goal.returns-clause-put
 returns-clause-put g c = λ next steps.

@@ -24,7 +24,7 @@ returns-then-not-branch-clause-put g c = λ next steps.
     let put : IsCut (FitsWith at.reply) (at.reply.bindings ++ answers next round) c.repeat.new.reply.bindings =
     subst (λ all. IsPut (FitsWith at.reply) (at.reply.bindings ++ answers next round) all c.repeat.new.reply.bindings) is (c.in_ok-repeat.ensures.put next steps) in
     let whole : (at.reply.bindings ++ answers next round) ++ more_rounds next m (answers next round)
-        ≡ c.args.reply.now.bindings ++ more_rounds next c.args.rounds (last width c.args.reply.now.bindings) =
+    ≡ c.args.reply.now.bindings ++ more_rounds next c.args.rounds (last width c.args.reply.now.bindings) =
     unrolled next at.reply.bindings round (c.args.rounds - at.counter) m left other ∙ sym (at.invariant.put next steps) in
     inr (cut_same c.args.reply.now at.reply _ c.repeat.new.reply.bindings at.invariant.head at.invariant.limit
     (cut_is (FitsWith at.reply) _ _ c.repeat.new.reply.bindings whole
@@ -40,19 +40,19 @@ loop-preserved g c =
     let left : c.args.rounds - at.counter ≡ suc m = one_less c.args.rounds at.counter (search rules) in
     let wide : width ≤ length c.repeat.new.reply.bindings = search rules in
     record {
-  head = c.repeat.ensures.head ∙ at.invariant.head;
-  limit = c.repeat.ensures.limit ∙ at.invariant.limit;
-  wide = wide;
-  put = λ next steps.
-      let is : c.in_ok-repeat.field-0 ≡ true = search rules in
-      let put : c.repeat.new.reply.bindings ≡ at.reply.bindings ++ answers next round =
-      subst (λ all. IsPut (FitsWith at.reply) (at.reply.bindings ++ answers next round) all c.repeat.new.reply.bindings) is (c.in_ok-repeat.ensures.put next steps) in
-      at.invariant.put next steps
-      ∙ (sym (unrolled next at.reply.bindings round (c.args.rounds - at.counter) m left other)
-      ∙ (append_assoc at.reply.bindings (answers next round) (more_rounds next m (answers next round))
-      ∙ (goes_on next at.reply.bindings (answers next round) m width (length-answers next round ∙ all_last next width at.reply.bindings at.invariant.wide)
-      ∙ ap (λ l. l ++ more_rounds next m (last width l)) (sym put))));
-}
+      head = c.repeat.ensures.head ∙ at.invariant.head;
+      limit = c.repeat.ensures.limit ∙ at.invariant.limit;
+      wide = wide;
+      put = λ next steps.
+          let is : c.in_ok-repeat.field-0 ≡ true = search rules in
+          let put : c.repeat.new.reply.bindings ≡ at.reply.bindings ++ answers next round =
+          subst (λ all. IsPut (FitsWith at.reply) (at.reply.bindings ++ answers next round) all c.repeat.new.reply.bindings) is (c.in_ok-repeat.ensures.put next steps) in
+          at.invariant.put next steps
+          ∙ (sym (unrolled next at.reply.bindings round (c.args.rounds - at.counter) m left other)
+          ∙ (append_assoc at.reply.bindings (answers next round) (more_rounds next m (answers next round))
+          ∙ (goes_on next at.reply.bindings (answers next round) m width (length-answers next round ∙ all_last next width at.reply.bindings at.invariant.wide)
+          ∙ ap (λ l. l ++ more_rounds next m (last width l)) (sym put))));
+    }
 
 pub returns-clause-put : goal.returns-clause-put
 returns-clause-put g c = λ next steps.

@@ -12,8 +12,8 @@ loop-binding-preserved g c =
     let at = c.loop-binding in
     let lt : at.binding-index < length at.binding-items = search rules in
     record {
-  long = long_of R c.args.asked.items at.binding-items at.binding-index c.in_ok-binding.field-0 at.invariant.long;
-  done = one_more R c.args.asked.items at.binding-items at.binding-index c.binding-item.result c.in_ok-binding.field-0 lt at.invariant.long
-      at.invariant.rest at.invariant.done c.in_ok-binding.ensures.step;
-  rest = rest_of R c.args.asked.items at.binding-items at.binding-index c.binding-item.result c.in_ok-binding.field-0 lt at.invariant.long at.invariant.rest;
-}
+      long = long_of R c.args.asked.items at.binding-items at.binding-index c.in_ok-binding.field-0 at.invariant.long;
+      done = one_more R c.args.asked.items at.binding-items at.binding-index c.binding-item.result c.in_ok-binding.field-0 lt at.invariant.long
+          at.invariant.rest at.invariant.done c.in_ok-binding.ensures.step;
+      rest = rest_of R c.args.asked.items at.binding-items at.binding-index c.binding-item.result c.in_ok-binding.field-0 lt at.invariant.long at.invariant.rest;
+    }
