@@ -2,4 +2,5 @@ pub mod Each
 pub mod Longest
 pub mod Rounds
 pub mod Sent
+pub mod Shrinking
 pub mod Stepping

@@ -1,24 +1,46 @@
 -- Sizes of responses, and what is sent of them.
-use Rattle.std.proofs.Common.{◌≡◌, ◌≢◌, ◌↔◌, true, false, ℕ, ◌<◌, ◌≤◌, ◌^◌, ℤ, pos, negsuc, List, ◌∷◌, length, refl, ap, subst, ◌∙◌, inl, inr, arith}
+use Rattle.std.proofs.Common.{◌≡◌, ◌≢◌, ◌↔◌, true, false, ℕ, ◌<◌, ◌≤◌, ◌^◌, ℤ, pos, negsuc, List, ◌∷◌, length, refl, sym, ap, subst, ◌∙◌, inl, inr, arith}
 use Rattle.std.specs.Prelude.{Some, None, Result, Ok, Err, IfOk}
+use Rattle.std.specs.Global.{Vec}
 use Rattle.std.proofs.lemmas.Bool.{cases_eq}
 use Rattle.std.proofs.lemmas.List.{length-append}
 use Rattle.mon_ber.specs.Writing.{element, length_octets}
+use Rattle.mon_pdu.specs.declared.message.Body.{Body}
+use Rattle.mon_pdu.specs.declared.message.Body.TheVariants as bodies
 use Rattle.mon_pdu.specs.declared.message.Message.{Message}
+use Rattle.mon_pdu.specs.declared.message.PduKind.{PduKind}
+use Rattle.mon_pdu.specs.declared.message.PduKind.TheVariants as kinds
 use Rattle.mon_pdu.specs.Writing.{message_contents, written_message}
 use Rattle.mon_pdu.specs.declared.fault.PduFault.{PduFault}
 use Rattle.mon_pdu.specs.declared.fault.PduFault.TheVariants as faults
-use Rattle.mon_pdu.specs.Grammar.{BeginsWithMessage, IsVersioned}
+use Rattle.mon_pdu.specs.Grammar.{BeginsWithMessage, IsVersioned, bindings_of}
 use Rattle.mon_pdu.specs.Reading.{Gives}
+use Rattle.mon_vacm.specs.declared.need.Need.TheVariants.{Write}
+use Rattle.mon_vacm.specs.Access.{access_of}
 use Rattle.mon_vacm.specs.Tables.{Lists}
+use Rattle.mon_vacm.specs.View.{IsInView}
+use Rattle.mon_mib.specs.declared.change.Change.{Change}
+use Rattle.mon_mib.specs.declared.commit.Commit.{Commit}
+use Rattle.mon_mib.specs.declared.set_fault.SetFault.{SetFault}
+use Rattle.mon_mib.specs.declared.set_fault.SetFault.TheVariants.{OutOfMemory, Refused}
+use Rattle.mon_mib.specs.declared.set_status.SetStatus.{SetStatus}
+use Rattle.mon_mib.specs.Commit.{IsCommitted, failures_of}
+use Rattle.mon_mib.specs.Refusal.{IsSetFault}
+use Rattle.mon_mib.specs.SetStatus.{status_number}
+use Rattle.mon_mib.specs.Held.{Held}
 use Rattle.mon_mib.specs.Known.{Known}
 use Rattle.mon_agent.specs.declared.fault.AgentFault.{AgentFault}
+use Rattle.mon_agent.specs.declared.ready.Assigning.{Assigning}
+use Rattle.mon_agent.specs.declared.ready.Ready.{Ready}
+use Rattle.mon_agent.specs.declared.ready.Ready.TheVariants.{Answer, Assign}
 use Rattle.mon_agent.specs.declared.reply.Reply.{Reply}
 use Rattle.mon_agent.specs.declared.reply.Reply.TheVariants.{Send, Silent}
 use Rattle.mon_agent.specs.declared.reply.Silence.{Silence}
 use Rattle.mon_agent.specs.declared.reply.Silence.TheVariants.{BadMessage, BadVersion, BadCommunity, NotARequest, TooBigTwice}
-use Rattle.mon_agent.specs.Answer.{IsAnswer, IsAnswered, IsKnown, IsOut, IsResponse, cause_of, is_request}
-use Rattle.mon_agent.specs.Reply.{count_of, too_big, Fits, IsAbove, IsSent, IsDropped}
+use Rattle.mon_agent.specs.Answer.{IsAnswer, IsAnswered, IsGranted, IsKnown, IsResponse, cause_of, is_answered, is_request, need_of, need_of_kind}
+use Rattle.mon_agent.specs.Assigned.{greatest, returned, status_of, place_of}
+use Rattle.mon_agent.specs.Ready.{IsReady, IsReadyFor, IsReadyToSet, IsReturned}
+use Rattle.mon_agent.specs.Reply.{count_of, too_big, Fits, IsAbove, IsOut, IsSent, IsDropped}
 
 -- what is written is no shorter than its contents
 pub longer : (m : Message) → length (message_contents m) ≤ length (written_message m)
@@ -37,29 +59,117 @@ sent_of m reply limit octets same (inr sent) = inr (sent.0, subst (λ t. Fits li
 dropped_of : (m reply : Message) (limit : ℤ) → too_big reply ≡ too_big m → IsDropped limit reply reply → IsDropped limit m reply
 dropped_of m reply limit same dropped = (dropped.0, subst (λ t. IsAbove limit t) same dropped.1)
 
--- what becomes of a response answers its request
-pub out_answers : (policy : Lists) (k : Known) (m reply : Message) (r : Result Reply AgentFault) → IsKnown policy m → is_request m.body ≡ true
-    → IsResponse policy k m reply → too_big reply ≡ too_big m → IfOk r (IsOut k.settings.limit reply reply) → IfOk r (IsAnswered policy k m)
-out_answers policy k m reply (Err e) known request right same out = out
-out_answers policy k m reply (Ok (Send octets)) known request right same out =
-    (known, request, (reply, right, sent_of m reply k.settings.limit octets.items same out))
-out_answers policy k m reply (Ok (Silent TooBigTwice)) known request right same out =
-    (known, request, (reply, right, dropped_of m reply k.settings.limit same out))
-out_answers policy k m reply (Ok (Silent BadMessage)) known request right same out = absurd out
-out_answers policy k m reply (Ok (Silent BadVersion)) known request right same out = absurd out
-out_answers policy k m reply (Ok (Silent BadCommunity)) known request right same out = absurd out
-out_answers policy k m reply (Ok (Silent NotARequest)) known request right same out = absurd out
+-- what is granted to write is a request
+kind_answers : (kind : PduKind) → need_of_kind kind ≡ Write → is_answered kind ≡ true
+kind_answers kinds.Get e = absurd cc
+kind_answers kinds.GetNext e = absurd cc
+kind_answers kinds.Response e = absurd cc
+kind_answers kinds.Set e = refl
+kind_answers kinds.Inform e = absurd cc
+kind_answers kinds.Trap e = absurd cc
+kind_answers kinds.Report e = absurd cc
 
--- what answers the message answers the datagram that begins with it
-pub message_answers : (policy : Lists) (k : Known) (datagram : List ℕ) (m : Message) (r : Result Reply AgentFault) → BeginsWithMessage datagram m
-    → IfOk r (IsAnswered policy k m) → IfOk r (IsAnswer policy k datagram)
-message_answers policy k datagram m (Err e) begins answered = answered
-message_answers policy k datagram m (Ok (Send octets)) begins answered = (m, begins, answered)
-message_answers policy k datagram m (Ok (Silent TooBigTwice)) begins answered = (m, begins, answered)
-message_answers policy k datagram m (Ok (Silent BadMessage)) begins answered = absurd answered
-message_answers policy k datagram m (Ok (Silent BadVersion)) begins answered = absurd answered
-message_answers policy k datagram m (Ok (Silent BadCommunity)) begins answered = (m, begins, answered)
-message_answers policy k datagram m (Ok (Silent NotARequest)) begins answered = (m, begins, answered)
+pub set_answers : (body : Body) → need_of body ≡ Write → is_request body ≡ true
+set_answers (bodies.Pdu p) e = kind_answers p.kind e
+set_answers (bodies.Bulk p) e = absurd cc
+
+pub known_view : (policy : Lists) (m : Message) (view : List ℕ) → access_of policy m.community (need_of m.body) ≡ Ok view → IsKnown policy m
+known_view policy m view access unknown = absurd cc
+
+module _ {D : Type 0} (held : D → Held) (failed : D → ℕ) (refuses : D → Change → Type 0) (policy : Lists) (k : Known) where
+  -- what becomes of a response answers its request
+  pub out_answers : (before after : D) (m reply : Message) (r : Reply) → IsKnown policy m → is_request m.body ≡ true
+      → IsResponse held failed refuses policy k before after m reply → too_big reply ≡ too_big m → IsOut k.settings.limit reply reply r
+      → IsAnswered held failed refuses policy k before after m r
+  out_answers before after m reply (Send octets) known request right same out =
+      (known, request, (reply, right, sent_of m reply k.settings.limit octets.items same out))
+  out_answers before after m reply (Silent TooBigTwice) known request right same out =
+      (known, request, (reply, right, dropped_of m reply k.settings.limit same out))
+  out_answers before after m reply (Silent BadMessage) known request right same out = absurd out
+  out_answers before after m reply (Silent BadVersion) known request right same out = absurd out
+  out_answers before after m reply (Silent BadCommunity) known request right same out = absurd out
+  out_answers before after m reply (Silent NotARequest) known request right same out = absurd out
+
+  -- what is to be done about a Set of a community that may write is to be done about the message
+  pub set_ready : (device : D) (m : Message) (view : List ℕ) (r : Result Ready AgentFault) → need_of m.body ≡ Write
+      → access_of policy m.community (need_of m.body) ≡ Ok view
+      → IfOk r (IsReadyToSet held failed refuses k (IsInView policy.families view) device m)
+      → IfOk r (IsReadyFor held failed refuses policy k device m)
+  set_ready device m view (Err e) set access ready = ready
+  set_ready device m view (Ok (Assign a)) set access ready = record { view = view; set = set; access = access; planned = ready }
+  set_ready device m view (Ok (Answer r)) set access ready =
+      out_answers device device m ready.0 r (known_view policy m view access) (set_answers m.body set)
+      (inr (view, access, subst (λ n. IsGranted held failed refuses n k (IsInView policy.families view) device device m ready.0) (sym set) ready.1))
+      ready.2 ready.3
+
+  -- a Set that was assigned is answered
+  pub assigned_answers : (before after : D) (datagram : List ℕ) (a : Assigning) (outcome : Commit) (octets : Vec ℕ)
+      → IsReady held failed refuses policy k before datagram (Assign a)
+      → IsCommitted held refuses a.plan (held before) (held after) outcome → failed after ≡ failures_of outcome (failed before)
+      → octets.items ≡ written_message (returned a.response (status_of outcome) (pos (place_of outcome)))
+      → length octets.items ≤ length (written_message a.response)
+      → IsAnswer held failed refuses policy k before after datagram (Send octets)
+  assigned_answers before after datagram a outcome octets ready committed failures written shorter =
+      let m = ready.0 in
+      let to = ready.2 in
+      let reply = returned m (status_of outcome) (pos (place_of outcome)) in
+      let is : octets.items ≡ written_message reply =
+      written ∙ ap (λ (r : Message). written_message (returned r (status_of outcome) (pos (place_of outcome)))) to.planned.is in
+      let fits : Fits k.settings.limit reply =
+      omega (arith, ap length is, shorter, ap (λ (r : Message). length (written_message r)) to.planned.is, to.planned.fits) in
+      let granted : IsGranted held failed refuses Write k (IsInView policy.families to.view) before after m reply = inr (inr (record {
+        steps = a.plan;
+        outcome = outcome;
+        fits = to.planned.fits;
+        accepted = to.planned.accepted;
+        plan = to.planned.plan;
+        committed = committed;
+        failures = failures;
+        is = refl;
+      })) in (
+        m,
+        ready.1,
+        (
+          known_view policy m to.view to.access,
+          set_answers m.body to.set,
+          (
+            reply,
+            inr (to.view, to.access, subst (λ n. IsGranted held failed refuses n k (IsInView policy.families to.view) before after m reply) (sym to.set) granted),
+            inl (fits, is),
+          ),
+        ),
+      )
+
+  -- a Set that was refused is answered
+  pub refused_ready : (device : D) (sees : List ℕ → Type 0) (m response : Message) (fault : SetFault) (r : Reply)
+      → ((status : SetStatus) (index : ℕ) → index ≤ length (bindings_of m.body)
+      → length (written_message (returned (greatest m) (status_number status) (pos index))) ≤ length (written_message (greatest m)))
+      → response ≡ greatest m → Fits k.settings.limit (greatest m) → IsSetFault k sees (bindings_of m.body) fault → IsReturned response fault r
+      → IsReadyToSet held failed refuses k sees device m (Answer r)
+  refused_ready device sees m response OutOfMemory r shorter is fits refused given = absurd given
+  refused_ready device sees m response (Refused status index) (Silent cause) shorter is fits refused given = absurd given
+  refused_ready device sees m response (Refused status index) (Send octets) shorter is fits refused given =
+      let reply = returned m (status_number status) (pos index) in
+      let below : index ≤ length (bindings_of m.body) = omega (arith, refused.number, refused.within) in (
+        reply,
+        inr (inl (record { status = status; index = index; fits = fits; refused = refused; stays = refl; is = refl })),
+        refl,
+        inl (
+          omega (arith, shorter status index below, fits),
+          given ∙ ap (λ (x : Message). written_message (returned x (status_number status) (pos index))) is,
+        ),
+      )
+
+-- what becomes of a message depends on it by its size, its community and its request-id alone
+pub out_same : (limit : ℤ) (m n : Message) (r : Reply) → too_big m ≡ too_big n → IsAbove limit m → IsAbove limit n → IsOut limit m m r
+    → IsOut limit n n r
+out_same limit m n (Send octets) same above other (inl sent) = absurd (omega (arith, above, sent.0))
+out_same limit m n (Send octets) same above other (inr sent) = inr (other, subst (λ t. Fits limit t) same sent.1, sent.2 ∙ ap written_message same)
+out_same limit m n (Silent TooBigTwice) same above other out = (other, subst (λ t. IsAbove limit t) same out.1)
+out_same limit m n (Silent BadMessage) same above other out = absurd out
+out_same limit m n (Silent BadVersion) same above other out = absurd out
+out_same limit m n (Silent BadCommunity) same above other out = absurd out
+out_same limit m n (Silent NotARequest) same above other out = absurd out
 
 err_is : (x y : PduFault) {r s : Result Message PduFault} → r ≡ Err x → s ≡ Err y → r ≡ s → x ≡ y
 err_is x y a b c = cc
@@ -77,33 +187,35 @@ one (negsuc n) not_other = absurd (not_other (λ e. negative e))
 pub not_true : {A : Type 0} → false ≡ true → A
 not_true e = absurd cc
 
-broken : (policy : Lists) (k : Known) (datagram : List ℕ) (r : Result Message PduFault) (e : PduFault) (cause : Silence) → r ≡ Err e
-    → Some BadMessage ≡ Some cause → ((m : Message) → Gives (λ x. x) (Err e) (Ok m) → ⊥) → ((v : ℤ) → e ≢ faults.BadVersion v)
-    → ((m : Message) → BeginsWithMessage datagram m → Gives (λ x. x) r (Ok m))
-    → ((v : ℤ) → (r ≡ Err (faults.BadVersion v)) ↔ (IsVersioned datagram v × (v ≢ pos 1))) → IsAnswer policy k datagram (Silent cause)
-broken policy k datagram r e cause is of fails other only version = subst (λ (x : Silence). IsAnswer policy k datagram (Silent x)) (some_is of) (
-  λ m begins. fails m (subst (λ q. Gives (λ x. x) q (Ok m)) is (only m begins)),
-  λ v versioned. one v (λ differs. other v (err_is e (faults.BadVersion v) is ((version v).1 (versioned, differs)) refl)),
-)
-  where
-    some_is : {x y : Silence} → Some x ≡ Some y → x ≡ y
-    some_is e = cc
+module _ {D : Type 0} (held : D → Held) (failed : D → ℕ) (refuses : D → Change → Type 0) (policy : Lists) (k : Known) (device : D) where
+  broken : (datagram : List ℕ) (r : Result Message PduFault) (e : PduFault) (cause : Silence) → r ≡ Err e
+      → Some BadMessage ≡ Some cause → ((m : Message) → Gives (λ x. x) (Err e) (Ok m) → ⊥) → ((v : ℤ) → e ≢ faults.BadVersion v)
+      → ((m : Message) → BeginsWithMessage datagram m → Gives (λ x. x) r (Ok m))
+      → ((v : ℤ) → (r ≡ Err (faults.BadVersion v)) ↔ (IsVersioned datagram v × (v ≢ pos 1))) → IsAnswer held failed refuses policy k device device datagram (Silent cause)
+  broken datagram r e cause is of fails other only version = subst (λ (x : Silence). IsAnswer held failed refuses policy k device device datagram (Silent x)) (some_is of) (
+    λ m begins. fails m (subst (λ q. Gives (λ x. x) q (Ok m)) is (only m begins)),
+    λ v versioned. one v (λ differs. other v (err_is e (faults.BadVersion v) is ((version v).1 (versioned, differs)) refl)),
+    refl,
+  )
+    where
+      some_is : {x y : Silence} → Some x ≡ Some y → x ≡ y
+      some_is e = cc
 
--- what could not be read begins with no message, and is of version 1 or of the other version that was named
-pub unread : (policy : Lists) (k : Known) (datagram : List ℕ) (r : Result Message PduFault) (e : PduFault) (cause : Silence) → r ≡ Err e
-    → cause_of e ≡ Some cause → ((m : Message) → BeginsWithMessage datagram m → Gives (λ x. x) r (Ok m))
-    → ((v : ℤ) → (r ≡ Err (faults.BadVersion v)) ↔ (IsVersioned datagram v × (v ≢ pos 1))) → IsAnswer policy k datagram (Silent cause)
-unread policy k datagram r faults.OutOfMemory cause is of only version = absurd (never of)
-  where
-    never : {x : Silence} → None ≡ Some x → ⊥
-    never e = cc
-unread policy k datagram r (faults.BadVersion v) cause is of only version = subst (λ (x : Silence). IsAnswer policy k datagram (Silent x)) (some_is of) (v, ((version v).0 is).0, ((version v).0 is).1)
-  where
-    some_is : {x y : Silence} → Some x ≡ Some y → x ≡ y
-    some_is e = cc
-unread policy k datagram r faults.Truncated cause is of only version = broken policy k datagram r faults.Truncated cause is of (λ m given. cc) (λ v same. cc) only version
-unread policy k datagram r faults.BadTag cause is of only version = broken policy k datagram r faults.BadTag cause is of (λ m given. cc) (λ v same. cc) only version
-unread policy k datagram r faults.BadLength cause is of only version = broken policy k datagram r faults.BadLength cause is of (λ m given. cc) (λ v same. cc) only version
-unread policy k datagram r faults.OutOfRange cause is of only version = broken policy k datagram r faults.OutOfRange cause is of (λ m given. cc) (λ v same. cc) only version
-unread policy k datagram r faults.BadOid cause is of only version = broken policy k datagram r faults.BadOid cause is of (λ m given. cc) (λ v same. cc) only version
-unread policy k datagram r (faults.UnknownPdu t) cause is of only version = broken policy k datagram r (faults.UnknownPdu t) cause is of (λ m given. cc) (λ v same. cc) only version
+  -- what could not be read begins with no message, and is of version 1 or of the other version that was named
+  pub unread : (datagram : List ℕ) (r : Result Message PduFault) (e : PduFault) (cause : Silence) → r ≡ Err e
+      → cause_of e ≡ Some cause → ((m : Message) → BeginsWithMessage datagram m → Gives (λ x. x) r (Ok m))
+      → ((v : ℤ) → (r ≡ Err (faults.BadVersion v)) ↔ (IsVersioned datagram v × (v ≢ pos 1))) → IsAnswer held failed refuses policy k device device datagram (Silent cause)
+  unread datagram r faults.OutOfMemory cause is of only version = absurd (never of)
+    where
+      never : {x : Silence} → None ≡ Some x → ⊥
+      never e = cc
+  unread datagram r (faults.BadVersion v) cause is of only version = subst (λ (x : Silence). IsAnswer held failed refuses policy k device device datagram (Silent x)) (some_is of) (v, ((version v).0 is).0, ((version v).0 is).1, refl)
+    where
+      some_is : {x y : Silence} → Some x ≡ Some y → x ≡ y
+      some_is e = cc
+  unread datagram r faults.Truncated cause is of only version = broken datagram r faults.Truncated cause is of (λ m given. cc) (λ v same. cc) only version
+  unread datagram r faults.BadTag cause is of only version = broken datagram r faults.BadTag cause is of (λ m given. cc) (λ v same. cc) only version
+  unread datagram r faults.BadLength cause is of only version = broken datagram r faults.BadLength cause is of (λ m given. cc) (λ v same. cc) only version
+  unread datagram r faults.OutOfRange cause is of only version = broken datagram r faults.OutOfRange cause is of (λ m given. cc) (λ v same. cc) only version
+  unread datagram r faults.BadOid cause is of only version = broken datagram r faults.BadOid cause is of (λ m given. cc) (λ v same. cc) only version
+  unread datagram r (faults.UnknownPdu t) cause is of only version = broken datagram r (faults.UnknownPdu t) cause is of (λ m given. cc) (λ v same. cc) only version

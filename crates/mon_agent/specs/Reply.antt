@@ -7,6 +7,9 @@ use Rattle.mon_pdu.specs.declared.message.Message.{Message}
 use Rattle.mon_pdu.specs.declared.message.PduKind.TheVariants.{Response}
 use Rattle.mon_pdu.specs.Grammar.{first_of}
 use Rattle.mon_pdu.specs.Writing.{written_message}
+use Rattle.mon_agent.specs.declared.reply.Reply.{Reply}
+use Rattle.mon_agent.specs.declared.reply.Reply.TheVariants.{Send, Silent}
+use Rattle.mon_agent.specs.declared.reply.Silence.TheVariants.{TooBigTwice}
 
 -- a number of a request or of the settings that counts; one below 0 is 0
 abbrev pub count_of : ℤ → ℕ
@@ -47,3 +50,9 @@ IsSent limit request reply octets =
 -- nothing is sent where both are above the limit
 abbrev pub IsDropped : ℤ → Message → Message → Type 0
 IsDropped limit request reply = IsAbove limit reply × IsAbove limit (too_big request)
+
+-- What becomes of a response: it is sent, or it is dropped.
+abbrev pub IsOut : ℤ → Message → Message → Reply → Type 0
+IsOut limit m reply (Send octets) = IsSent limit m reply octets.items
+IsOut limit m reply (Silent TooBigTwice) = IsDropped limit m reply
+IsOut limit m reply (Silent other) = ⊥

@@ -1,42 +1,33 @@
 //! The agent.
 
-ghost use Rattle.std.specs.Prelude.{◌≡◌, ◌≢◌, ◌↔◌, ℕ, pos, true, List, Err, IfOk, OnErr, IsTrue};
+ghost use Rattle.std.specs.Prelude.{◌≡◌, ◌↔◌, ℕ, true, List, Err, IfOk, OnErr, IsTrue};
 ghost use Rattle.mon_pdu.specs.declared.message.Binding.{Binding as AnyBinding};
 ghost use Rattle.mon_pdu.specs.declared.message.Body.TheVariants as bodies;
 ghost use Rattle.mon_pdu.specs.declared.message.Message.{Message as AnyMessage};
-ghost use Rattle.mon_pdu.specs.Grammar.{bindings_of, first_of};
-ghost use Rattle.mon_pdu.specs.Writing.{written_message};
 ghost use Rattle.mon_vacm.specs.declared.denied.Denied.TheVariants.{NoCommunity};
-ghost use Rattle.mon_vacm.specs.Access.{access_of};
-ghost use Rattle.mon_vacm.specs.Borrowed.{granted};
+ghost use Rattle.mon_vacm.specs.Tables.{Lists as AnyLists};
 ghost use Rattle.mon_vacm.specs.View.{IsInView};
 ghost use Rattle.mon_mib.specs.Counters.{counted, no_counts};
 ghost use Rattle.mon_mib.specs.declared.counters.Counter.TheVariants.{InPackets};
-ghost use Rattle.mon_mib.specs.Known.{known_of};
-ghost use Rattle.mon_agent.specs.Answer.{IsAnswer, IsAnswered, IsResponse, IsGranted, IsOfKind, IsOut, cause_of, is_answered, is_request, need_of, raised_by};
+ghost use Rattle.mon_mib.specs.Known.{Known as AnyKnown, known_of};
+ghost use Rattle.mon_agent.specs.Answer.{IsAnswer, IsReading, IsOfKind, cause_of, is_answered, is_request, need_of, need_of_kind, raised_by};
 ghost use Rattle.mon_agent.specs.Bulk.{IsStepper};
-ghost use Rattle.mon_agent.specs.Reply.{Fits, response, response_body, too_big};
+ghost use Rattle.mon_agent.specs.Ready.{IsReady, IsReadyFor, IsRoomy};
+ghost use Rattle.mon_agent.specs.Reply.{too_big};
 ghost use Rattle.mon_agent.specs.Step.{AreFor, IsRead, IsSeen, IsStep, value_of};
 
 use crate::fault::AgentFault;
-use crate::growing::{Growing, is_within};
+use crate::growing::Growing;
 use crate::laws;
+use crate::ready::Ready;
 use crate::reply::{Reply, Silence};
+use crate::sending::{answered, returned, send};
 use mon_ber::{Octets, Value};
 use mon_mib::{Counter, Counters, Device, Got, Mib, Moment, Settings};
 use mon_oid::Oid;
-use mon_pdu::{
-    Binding, Bindings, Body, Bulk, Message, Pdu, PduFault, PduKind, message_size, read_message,
-    write_message,
-};
+use mon_pdu::{Binding, Body, Bulk, Message, Pdu, PduFault, PduKind, read_message};
 use mon_vacm::{Access, Denied, Need, Policy};
 use std::alloc::{AllocError, Global};
-
-/// noError (RFC 3416 section 3).
-const NO_ERROR: i32 = 0;
-
-/// tooBig (RFC 3416 section 3).
-const TOO_BIG: i32 = 1;
 
 /// authorizationError (RFC 3416 section 3).
 const AUTHORIZATION_ERROR: i32 = 16;
@@ -65,32 +56,34 @@ impl<D: Device + Drop> Agent<D> {
     }
 
     /// What the agent does about a datagram at a moment. Every datagram counts in snmpInPkts before it is answered, and
-    /// then in the counter of its cause where it is not answered.
+    /// then in the counter of its cause where it is not answered. A Set that is refused, or is too big, assigns nothing; all
+    /// memory of a Set, its response's too, is taken before the first assignment.
     ///
     /// # Errors
-    /// `OutOfMemory`; then everything is as it was, the counters too.
+    /// `OutOfMemory`; then everything is as it was, the counters and the device too.
     pub fn answer(
         &mut self,
         alloc: Global,
         datagram: &[u8],
         moment: Moment,
     ) -> Result<Reply, AgentFault>
+        // The reply, and what becomes of the device: only a Set that is granted and refused in nothing changes it.
         ensures answer { let known = known_of self.old.mib.settings (counted self.old.mib.counters InPackets) (D.held self.old.mib.device) moment in
-            IfOk result (IsAnswer self.old.policy known datagram.now) }
+            IfOk result (IsAnswer D.held D.failed D.refuses self.old.policy known self.old.mib.device self.new.mib.device datagram.now) }
         ensures counters { IfOk result (λ reply. self.new.mib.counters ≡ raised_by reply (counted self.old.mib.counters InPackets)) }
 
         // The rest stays.
         ensures policy { self.new.policy ≡ self.old.policy }
         ensures settings { self.new.mib.settings ≡ self.old.mib.settings }
-        ensures device { self.new.mib.device ≡ self.old.mib.device }
 
         // A fault changes nothing.
         ensures fault { OnErr result (self.new ≡ self.old) }
     {
         let before = self.mib.counters;
         self.mib.counters.count(Counter::InPackets);
-        match self.reply_to(alloc, datagram, moment) {
-            Ok(reply) => {
+        match self.prepare(alloc, datagram, moment) {
+            Ok(ready) => {
+                let reply = self.finish(ready);
                 raise(&mut self.mib.counters, &reply);
                 Ok(reply)
             }
@@ -101,65 +94,85 @@ impl<D: Device + Drop> Agent<D> {
         }
     }
 
-    /// The reply to a datagram.
-    fn reply_to(&self, alloc: Global, datagram: &[u8], moment: Moment) -> Result<Reply, AgentFault>
-        ensures { let known = known_of self.now.mib.settings self.now.mib.counters (D.held self.now.mib.device) moment in
-            IfOk result (IsAnswer self.now.policy known datagram.now) }
+    /// What the agent is about to do about a datagram.
+    fn prepare(&self, alloc: Global, datagram: &[u8], moment: Moment) -> Result<Ready, AgentFault>
+        ensures ready { let known = known_of self.now.mib.settings self.now.mib.counters (D.held self.now.mib.device) moment in
+            IfOk result (IsReady D.held D.failed D.refuses self.now.policy known self.now.mib.device datagram.now) }
+        ensures room { IfOk result IsRoomy }
     {
         match read_message(alloc, datagram) {
-            Ok(message) => self.reply_to_message(alloc, message, moment),
+            Ok(message) => self.prepare_for(alloc, message, moment),
             Err(fault) => match cause_of(fault) {
-                Some(cause) => Ok(Reply::Silent(cause)),
+                Some(cause) => Ok(Ready::Answer(Reply::Silent(cause))),
                 None => Err(AgentFault::OutOfMemory),
             },
         }
     }
 
-    /// The reply to a message.
-    fn reply_to_message(
+    /// What the agent is about to do about a message.
+    fn prepare_for(
         &self,
         alloc: Global,
         message: Message,
         moment: Moment,
-    ) -> Result<Reply, AgentFault>
-        ensures { let known = known_of self.now.mib.settings self.now.mib.counters (D.held self.now.mib.device) moment in
-            IfOk result (IsAnswered self.now.policy known message) }
+    ) -> Result<Ready, AgentFault>
+        ensures ready { let known = known_of self.now.mib.settings self.now.mib.counters (D.held self.now.mib.device) moment in
+            IfOk result (IsReadyFor D.held D.failed D.refuses self.now.policy known self.now.mib.device message) }
+        ensures room { IfOk result IsRoomy }
     {
-        let access = self
-            .policy
-            .access(message.community.as_slice(), need_of(&message.body));
+        let need = need_of(&message.body);
+        let access = self.policy.access(message.community.as_slice(), need);
         if is_unknown(&access) {
-            return Ok(Reply::Silent(Silence::BadCommunity));
+            return Ok(Ready::Answer(Reply::Silent(Silence::BadCommunity)));
         }
         if !is_request(&message.body) {
-            return Ok(Reply::Silent(Silence::NotARequest));
+            return Ok(Ready::Answer(Reply::Silent(Silence::NotARequest)));
         }
-        let reply = self.response(alloc, access, message, moment)?;
-        send(alloc, reply, self.mib.settings.limit)
+        let Ok(access) = access else {
+            let denied = returned(message, AUTHORIZATION_ERROR, 0);
+            return Ok(Ready::Answer(send(alloc, denied, self.mib.settings.limit)?));
+        };
+        if need == Need::Write {
+            return self.prepare_set(alloc, access, message, moment);
+        }
+        let response = self.response(alloc, access, message, moment)?;
+        Ok(Ready::Answer(send(alloc, response, self.mib.settings.limit)?))
     }
 
-    /// The response to a request.
+    /// Does what it was about to do. Takes no memory.
+    fn finish(&mut self, ready: Ready) -> Reply
+        requires { IsRoomy ready }
+        ensures answer { (policy : AnyLists) (k : AnyKnown) (datagram : List ℕ)
+            → IsReady D.held D.failed D.refuses policy k self.old.mib.device datagram ready
+            → IsAnswer D.held D.failed D.refuses policy k self.old.mib.device self.new.mib.device datagram result }
+        ensures policy { self.new.policy ≡ self.old.policy }
+        ensures settings { self.new.mib.settings ≡ self.old.mib.settings }
+        ensures counters { self.new.mib.counters ≡ self.old.mib.counters }
+    {
+        match ready {
+            Ready::Answer(reply) => reply,
+            Ready::Assign(set) => Reply::Send(self.assign(set)),
+        }
+    }
+
+    /// The response to a request to read that is granted in a view.
     fn response(
         &self,
         alloc: Global,
-        access: Result<Access<'_>, Denied>,
+        access: Access<'_>,
         message: Message,
         moment: Moment,
-    ) -> Result<Message, AgentFault>
+    ) -> Result<Message, AllocError>
         requires request { is_request message.body ≡ true }
-        requires known { access_of self.now.policy message.community (need_of message.body) ≢ Err NoCommunity }
-        requires access { granted access ≡ access_of self.now.policy message.community (need_of message.body) }
+        requires read { need_of message.body ≡ Need.Read }
         ensures response { let known = known_of self.now.mib.settings self.now.mib.counters (D.held self.now.mib.device) moment in
-            IfOk result (IsResponse self.now.policy known message) }
+            IfOk result (IsReading known (IsInView self.now.policy.families access.entry.view.now) message) }
         ensures small { IfOk result (λ reply. too_big reply ≡ too_big message) }
     {
-        let Ok(access) = access else {
-            return Ok(denied(message));
-        };
         let Message { community, body } = message;
         match body {
-            Body::Bulk(bulk) => Ok(self.bulk_response(alloc, access, community, bulk, moment)?),
-            Body::Pdu(pdu) => Ok(self.pdu_response(alloc, access, community, pdu, moment)?),
+            Body::Bulk(bulk) => self.bulk_response(alloc, access, community, bulk, moment),
+            Body::Pdu(pdu) => self.pdu_response(alloc, access, community, pdu, moment),
         }
     }
 
@@ -172,10 +185,11 @@ impl<D: Device + Drop> Agent<D> {
         pdu: Pdu,
         moment: Moment,
     ) -> Result<Message, AllocError>
-        requires { is_answered pdu.kind ≡ true }
+        requires answered { is_answered pdu.kind ≡ true }
+        requires read { need_of_kind pdu.kind ≡ Need.Read }
         ensures { let known = known_of self.now.mib.settings self.now.mib.counters (D.held self.now.mib.device) moment in
             let message : AnyMessage = record { community = community; body = bodies.Pdu pdu } in
-            IfOk result (IsGranted known (IsInView self.now.policy.families access.entry.view.now) message) }
+            IfOk result (IsReading known (IsInView self.now.policy.families access.entry.view.now) message) }
     {
         let asked = pdu.bindings.into_vec();
         let answers = self.answers(alloc, access, pdu.kind, asked, moment)?;
@@ -191,7 +205,8 @@ impl<D: Device + Drop> Agent<D> {
         asked: Vec<Binding>,
         moment: Moment,
     ) -> Result<Vec<Binding>, AllocError>
-        requires { is_answered kind ≡ true }
+        requires answered { is_answered kind ≡ true }
+        requires read { need_of_kind kind ≡ Need.Read }
         ensures { let known = known_of self.now.mib.settings self.now.mib.counters (D.held self.now.mib.device) moment in
             IfOk result (λ answers. IsOfKind known (IsInView self.now.policy.families access.entry.view.now) kind asked.items answers.items) }
     {
@@ -213,7 +228,7 @@ impl<D: Device + Drop> Agent<D> {
     ) -> Result<Message, AllocError>
         ensures { let known = known_of self.now.mib.settings self.now.mib.counters (D.held self.now.mib.device) moment in
             let message : AnyMessage = record { community = community; body = bodies.Bulk bulk } in
-            IfOk result (IsGranted known (IsInView self.now.policy.families access.entry.view.now) message) }
+            IfOk result (IsReading known (IsInView self.now.policy.families access.entry.view.now) message) }
     {
         mon_pdu::laws::grows();
         let head = answered(community, bulk.request_id, Vec::new(alloc));
@@ -340,7 +355,7 @@ fn is_request(body: &Body) -> bool
     ensures { result ≡ is_request body.now }
 {
     match body {
-        Body::Pdu(pdu) => matches!(pdu.kind, PduKind::Get | PduKind::GetNext),
+        Body::Pdu(pdu) => matches!(pdu.kind, PduKind::Get | PduKind::GetNext | PduKind::Set),
         Body::Bulk(_) => true,
     }
 }
@@ -350,103 +365,6 @@ fn is_unknown(access: &Result<Access<'_>, Denied>) -> bool
     ensures { IsTrue result ↔ (access.now ≡ Err NoCommunity) }
 {
     matches!(access, Err(Denied::NoCommunity))
-}
-
-/// The response to a request that is denied.
-fn denied(message: Message) -> Message
-    ensures { result ≡ response message (pos 16) (pos 0) (bindings_of message.body) }
-{
-    Message {
-        community: message.community,
-        body: denied_body(message.body),
-    }
-}
-
-fn denied_body(body: Body) -> Body
-    ensures { result ≡ response_body (first_of body) (pos 16) (pos 0) (bindings_of body) }
-{
-    match body {
-        Body::Pdu(pdu) => response_body(pdu.request_id, AUTHORIZATION_ERROR, pdu.bindings),
-        Body::Bulk(bulk) => response_body(bulk.request_id, AUTHORIZATION_ERROR, bulk.bindings),
-    }
-}
-
-/// The response without an error.
-fn answered(community: Octets, request_id: i32, answers: Vec<Binding>) -> Message
-    ensures { result ≡ record { community = community; body = response_body request_id (pos 0) (pos 0) answers.items } }
-{
-    Message {
-        community,
-        body: response_body(request_id, NO_ERROR, Bindings::new(answers)),
-    }
-}
-
-/// A Response with an error index of 0.
-fn response_body(request_id: i32, error_status: i32, bindings: Bindings) -> Body
-    ensures { result ≡ response_body request_id error_status (pos 0) bindings }
-{
-    Body::Pdu(Pdu {
-        kind: PduKind::Response,
-        request_id,
-        error_status,
-        error_index: 0,
-        bindings,
-    })
-}
-
-/// Sends a response, or tooBig in its place where it is above the limit, or nothing where both are.
-fn send(alloc: Global, reply: Message, limit: i32) -> Result<Reply, AgentFault>
-    ensures { IfOk result (IsOut limit reply reply) }
-{
-    if fits(&reply, limit) {
-        return Ok(Reply::Send(write(alloc, &reply)?));
-    }
-    let too_big = too_big(alloc, reply);
-    if fits(&too_big, limit) {
-        return Ok(Reply::Send(write(alloc, &too_big)?));
-    }
-    Ok(Reply::Silent(Silence::TooBigTwice))
-}
-
-/// The response that says that no response fits.
-fn too_big(alloc: Global, reply: Message) -> Message
-    ensures { result ≡ too_big reply }
-{
-    let request_id = request_id(&reply.body);
-    Message {
-        community: reply.community,
-        body: response_body(request_id, TOO_BIG, Bindings::new(Vec::new(alloc))),
-    }
-}
-
-/// The number by which a response is matched with its request.
-fn request_id(body: &Body) -> i32
-    ensures { result ≡ first_of body.now }
-{
-    match body {
-        Body::Pdu(pdu) => pdu.request_id,
-        Body::Bulk(bulk) => bulk.request_id,
-    }
-}
-
-/// Whether a message is within a limit.
-fn fits(message: &Message, limit: i32) -> bool
-    ensures { IsTrue result ↔ Fits limit message.now }
-{
-    match message_size(message) {
-        Ok(size) => is_within(size, limit),
-        Err(_) => false,
-    }
-}
-
-/// Writes a message that is within a limit, for which memory alone may be wanting.
-fn write(alloc: Global, message: &Message) -> Result<Vec<u8>, AgentFault>
-    ensures { IfOk result (λ octets. octets.items ≡ written_message message.now) }
-{
-    match write_message(alloc, message) {
-        Ok(octets) => Ok(octets),
-        Err(_) => Err(AgentFault::OutOfMemory),
-    }
 }
 
 /// The value that stands for what was found.

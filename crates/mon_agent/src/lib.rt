@@ -4,11 +4,14 @@
 #![tactic(auto)]
 
 mod agent;
+mod assigning;
 mod bulk;
 mod fault;
 mod growing;
 pub mod laws;
+mod ready;
 mod reply;
+mod sending;
 
 pub use agent::Agent;
 pub use fault::AgentFault;

@@ -44,7 +44,12 @@ fn heard(alloc: Global, agent: &mut Agent<SimDevice>, datagram: &str) -> Result<
 }
 
 /// A request of these names, with blanks between them, in a community under a request-id.
-fn asking(alloc: Global, asking: Asking, community: &[u8], names: &str) -> Result<Vec<u8>, Fail> {
+fn asking(
+    alloc: Global,
+    asking: Asking<'_>,
+    community: &[u8],
+    names: &str,
+) -> Result<Vec<u8>, Fail> {
     let texts: Vec<&str> = names.split(' ').collect(alloc)?;
     let mut names = Vec::new(alloc);
     for text in &texts {
@@ -71,7 +76,7 @@ fn shown(alloc: Global, octets: &[u8]) -> Result<String, Fail> {
 }
 
 /// The reply of a new agent to a request, as text.
-fn answered(alloc: Global, text: &str, kind: Asking, names: &str) -> Result<String, Fail> {
+fn answered(alloc: Global, text: &str, kind: Asking<'_>, names: &str) -> Result<String, Fail> {
     let mut agent = agent(alloc, text)?;
     let datagram = asking(alloc, kind, b"public", names)?;
     let octets = sent(alloc, &mut agent, datagram.as_slice())?;
@@ -102,7 +107,7 @@ fn sent_to(alloc: Global, agent: &mut Agent<SimDevice>, community: &str) -> Resu
     Ok(sent(alloc, agent, datagram.as_slice())?.len())
 }
 
-fn bulk(non_repeaters: i32, max_repetitions: i32) -> Asking {
+fn bulk(non_repeaters: i32, max_repetitions: i32) -> Asking<'static> {
     Asking::GetBulk(Repeats {
         non_repeaters,
         max_repetitions,

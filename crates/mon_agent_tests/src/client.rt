@@ -1,6 +1,7 @@
 //! The client commands over a wire in memory.
 
 use mon_app::{AppFault, Asking, Heard, Question, Repeats, Wire, answer_text, request};
+use mon_ber::{Octets, Value};
 use mon_oid::Oid;
 use mon_pdu::write_message;
 use std::alloc::{AllocError, Global};
@@ -16,6 +17,10 @@ const GET_NEXT: &str =
 
 const GET_BULK: &str =
     "302602010104067075626C6963A519020107020101020102300E300C06082B060102010105000500";
+
+/// The Set of it to `x`.
+const SET: &str =
+    "302702010104067075626C6963A31A020107020100020100300F300D06082B06010201010500040178";
 
 const REPLY: &str =
     "302802010104067075626C6963A21B0201070201000201003010300E06082B0601020101050004027231";
@@ -61,8 +66,9 @@ fn octets(alloc: Global, text: &str) -> Result<Vec<u8>, AllocError> {
 /// The text that the wire's datagrams come to, for a Get of sysName.0.
 fn answered(alloc: Global, heard: Vec<Vec<u8>>, community: &[u8]) -> Result<String, AppFault> {
     let names = names(alloc)?;
+    let asking = Asking::Get;
     let question = Question {
-        asking: Asking::Get,
+        asking,
         request_id: 7,
         community,
         names: names.as_slice(),
@@ -82,7 +88,7 @@ fn names(alloc: Global) -> Result<Vec<Oid>, AllocError> {
     Ok(names)
 }
 
-fn written(alloc: Global, asking: Asking) -> Result<Vec<u8>, AppFault> {
+fn written(alloc: Global, asking: Asking<'_>) -> Result<Vec<u8>, AppFault> {
     let names = names(alloc)?;
     let question = Question {
         asking,
@@ -108,6 +114,19 @@ fn asks(rt: HostRuntime) -> Result<(), Fail> {
         let wanted = octets(rt.alloc(), text)?;
         assert_eq!(rt; written(rt.alloc(), asking)?.as_slice(), wanted.as_slice());
     }
+    Ok(())
+}
+
+/// The Set to the text `x`.
+fn written_set(alloc: Global) -> Result<Vec<u8>, AppFault> {
+    let value = Value::Octets(Octets::from_slice(alloc, b"x")?);
+    written(alloc, Asking::Set(&value))
+}
+
+#[test]
+fn sets(rt: HostRuntime) -> Result<(), Fail> {
+    let wanted = octets(rt.alloc(), SET)?;
+    assert_eq!(rt; written_set(rt.alloc())?.as_slice(), wanted.as_slice());
     Ok(())
 }
 

@@ -16,8 +16,12 @@ mod serving;
 #[cfg(test)]
 mod set;
 #[cfg(test)]
+mod sets;
+#[cfg(test)]
 mod settings;
 #[cfg(test)]
 mod vacm;
+#[cfg(test)]
+mod values;
 #[cfg(test)]
 mod walked;

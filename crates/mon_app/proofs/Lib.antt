@@ -6,3 +6,4 @@ pub mod Readings
 pub mod Search
 pub mod Windows
 pub mod Walks
+pub mod Meanings

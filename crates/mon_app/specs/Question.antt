@@ -2,6 +2,7 @@
 use Rattle.std.specs.Prelude.{ℕ, ℤ, pos, Bool, true, false, not, List, [], ◌∷◌, length, map, ◌==◌, ◌&&◌, ◌||◌}
 use Rattle.std.specs.Ordering.{int_eq}
 use Rattle.std.specs.Str.{bytes_eq}
+use Rattle.mon_ber.specs.declared.value.Value.{Value}
 use Rattle.mon_ber.specs.declared.value.Value.TheVariants as values
 use Rattle.mon_pdu.specs.declared.message.Binding.{Binding}
 use Rattle.mon_pdu.specs.declared.message.Body.{Body}
@@ -11,11 +12,11 @@ use Rattle.mon_pdu.specs.declared.message.PduKind.{PduKind}
 use Rattle.mon_pdu.specs.declared.message.PduKind.TheVariants as pdu
 use Rattle.mon_pdu.specs.Kinds.{octet_of}
 use Rattle.mon_app.specs.declared.question.Asking.{Asking}
-use Rattle.mon_app.specs.declared.question.Asking.TheVariants.{Get, GetNext, GetBulk}
+use Rattle.mon_app.specs.declared.question.Asking.TheVariants.{Get, GetNext, GetBulk, Set}
 use Rattle.mon_app.specs.declared.question.Question.{Question}
 use Rattle.mon_app.specs.Reading.{is_zero}
 
--- a request of a kind that has no numbers of its own (RFC 3416 sections 4.2.1 and 4.2.2)
+-- a request of a kind that has no numbers of its own (RFC 3416 sections 4.2.1, 4.2.2 and 4.2.5)
 abbrev pub plain : PduKind → ℤ → List Binding → Body
 plain kind id bindings = Pdu (record { kind = kind; request_id = id; error_status = pos 0; error_index = pos 0; bindings = bindings })
 
@@ -25,6 +26,7 @@ body_of Get id bindings = plain pdu.Get id bindings
 body_of GetNext id bindings = plain pdu.GetNext id bindings
 body_of (GetBulk r) id bindings =
     Bulk (record { request_id = id; non_repeaters = r.non_repeaters; max_repetitions = r.max_repetitions; bindings = bindings })
+body_of (Set v) id bindings = plain pdu.Set id bindings
 
 -- a question as its parts
 pub record Asked : Type 0 where
@@ -37,13 +39,23 @@ pub record Asked : Type 0 where
 abbrev pub asked_in : Question → Asked
 asked_in q = record { asking = q.asking; request_id = q.request_id; community = q.community.now; names = q.names.now }
 
--- a name with no value yet (unSpecified, RFC 3416 section 3)
-abbrev pub unset : List ℕ → Binding
-unset name = record { name = name; value = values.Null }
+-- the value that each name has in the request: the one to be assigned, or none yet (unSpecified, RFC 3416 section 3)
+abbrev pub wanted_value : Asking → Value
+wanted_value Get = values.Null
+wanted_value GetNext = values.Null
+wanted_value (GetBulk r) = values.Null
+wanted_value (Set v) = v.now
 
--- the request that asks (RFC 3416 sections 4.2.1 to 4.2.3)
+-- a name with this value
+abbrev pub asked_for : Value → List ℕ → Binding
+asked_for v name = record { name = name; value = v }
+
+-- the request that asks (RFC 3416 sections 4.2.1 to 4.2.3 and 4.2.5)
 abbrev pub request_of : Asked → Message
-request_of q = record { community = q.community; body = body_of q.asking q.request_id (map unset q.names) }
+request_of q = record {
+  community = q.community;
+  body = body_of q.asking q.request_id (map (asked_for (wanted_value q.asking)) q.names);
+}
 
 -- the bindings have these names, in order
 abbrev pub same_names : List (List ℕ) → List Binding → Bool
@@ -52,11 +64,12 @@ same_names [] (b ∷ bs) = false
 same_names (n ∷ ns) [] = false
 same_names (n ∷ ns) (b ∷ bs) = bytes_eq n b.name && same_names ns bs
 
--- each name is answered: by itself, or by some name after it; a GetBulk may be answered by any
+-- each name is answered: by itself, or, to a GetNext, by some name; a GetBulk may be answered by any
 abbrev pub are_answers : Asking → List (List ℕ) → List Binding → Bool
 are_answers Get names bindings = same_names names bindings
 are_answers GetNext names bindings = length names == length bindings
 are_answers (GetBulk r) names bindings = true
+are_answers (Set v) names bindings = same_names names bindings
 
 -- a Response in the question's community, with its request-id, that has an error status or answers each name
 abbrev pub is_reply : Asked → Message → Bool

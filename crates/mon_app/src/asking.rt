@@ -1,6 +1,6 @@
 //! Asking an agent over a wire.
 
-ghost use Rattle.std.specs.Prelude.{◌≡◌, IfOk, IfSome, IsTrue};
+ghost use Rattle.std.specs.Prelude.{◌≡◌, IfOk, IfSome, IsTrue, length};
 ghost use Rattle.mon_app.specs.Counts.{GrowsBy, GrowsByAtMost};
 ghost use Rattle.mon_app.specs.Question.{asked_in, is_reply};
 
@@ -16,8 +16,15 @@ const SENDS: u8 = 3;
 /// How many datagrams that are no reply are passed over after each sending.
 const STRANGE: u8 = 64;
 
-/// The greatest datagram that UDP carries over IPv4.
-const ROOM: usize = 65_507;
+/// The greatest datagram that UDP carries over IPv4, in octets.
+const GREATEST_DATAGRAM: usize = 65_507;
+
+/// Room for the greatest datagram that UDP carries over IPv4, 65507 octets.
+pub fn room(alloc: Global) -> Result<Vec<u8>, AllocError>
+    ensures { IfOk result (λ room. length room.items ≡ 65507) }
+{
+    zeros(alloc, GREATEST_DATAGRAM)
+}
 
 /// Asks: sends the request at most three times, and gives the first reply that is heard. After each sending it waits as long as
 /// the wire does, and passes over at most 64 datagrams that are no reply.
@@ -33,7 +40,7 @@ pub fn send_request<W: Wire>(
     ensures reply { IfOk result (λ m. IsTrue (is_reply (asked_in question.now) m)) }
 {
     let octets = write_message(alloc, &request(alloc, question)?)?;
-    let mut room = zeros(alloc, ROOM)?;
+    let mut room = room(alloc)?;
     for _ in 0..SENDS {
         wire.send(octets.as_slice())?;
         if let Some(reply) = take_reply(alloc, wire, question, room.as_mut_slice())? {
@@ -83,6 +90,8 @@ fn reply_in(
 }
 
 /// So many zeros.
-fn zeros(alloc: Global, len: usize) -> Result<Vec<u8>, AllocError> {
+fn zeros(alloc: Global, len: usize) -> Result<Vec<u8>, AllocError>
+    ensures { IfOk result (λ zeros. length zeros.items ≡ len) }
+{
     vec![in alloc; 0u8; len]
 }

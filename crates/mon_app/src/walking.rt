@@ -74,11 +74,11 @@ fn walk_on<W: Wire>(
 }
 
 /// The variable after a name; none where the agent has no further one.
-fn after<W: Wire>(
+fn after<'a, W: Wire>(
     alloc: Global,
     wire: &mut W,
-    community: &[u8],
-    name: &Oid,
+    community: &'a [u8],
+    name: &'a Oid,
     request_id: i32,
 ) -> Result<Option<Binding>, AppFault>
     ensures { GrowsByAtMost 3 (W.sends wire.old) (W.sends wire.new) }

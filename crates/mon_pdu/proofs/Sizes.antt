@@ -1,18 +1,20 @@
 -- The size of a message by the size of its variable bindings.
-use Rattle.std.proofs.Common.{◌≡◌, ℕ, ◌+◌, ◌≤◌, pos, List, ◌++◌, length, sym, ap, ◌∙◌, arith}
+use Rattle.std.proofs.Common.{◌≡◌, ℕ, ◌+◌, ◌<◌, ◌≤◌, pos, List, [], ◌∷◌, ◌++◌, length, sym, ap, ◌∙◌, arith}
 use Rattle.std.proofs.lemmas.List.{length-append}
 use Rattle.std.proofs.lemmas.Grind.{flat_map-append}
 use Rattle.std.proofs.lemmas.Bool.Decides.{nat_tests}
 use Rattle.mon_ber.specs.declared.value.Value.TheVariants.{Integer}
-use Rattle.mon_ber.specs.Writing.{written, size_for, counted, length_octets}
-use Rattle.mon_ber.proofs.Promised.{length-high_first}
+use Rattle.mon_ber.specs.Writing.{written, size_for, counted, length_octets, number_octets, octets_for}
+use Rattle.mon_ber.proofs.Promised.{length-high_first, written_size, size_longer}
 use Rattle.mon_pdu.specs.declared.message.Binding.{Binding}
 use Rattle.mon_pdu.specs.declared.message.Body.{Body}
 use Rattle.mon_pdu.specs.declared.message.Body.TheVariants.{Pdu, Bulk}
 use Rattle.mon_pdu.specs.declared.message.Message.{Message}
-use Rattle.mon_pdu.specs.Sizes.{body_with, with_bindings}
-use Rattle.mon_pdu.specs.Writing.{written_binding, list_contents, numbers_of, body_contents, written_message}
-use Rattle.mon_pdu.proofs.Lengths.{counted_twice, body_total, message_total, message_length}
+use Rattle.mon_pdu.specs.declared.message.Pdu.{Pdu as AnyPdu}
+use Rattle.mon_pdu.specs.Grammar.{bindings_of}
+use Rattle.mon_pdu.specs.Sizes.{body_with, with_bindings, with_error}
+use Rattle.mon_pdu.specs.Writing.{binding_contents, written_binding, list_contents, numbers_of, body_contents, message_contents, written_message}
+use Rattle.mon_pdu.proofs.Lengths.{counted_twice, body_total, message_total, message_length, binding_length, flat_length, numbers_total}
 
 -- the variable bindings stand behind the numbers, which stay
 pub body_size : (body : Body) (bindings : List Binding)
@@ -61,3 +63,53 @@ message_grows m bindings more =
     let body : size_for (length (numbers_of m.body) + size_for (length (list_contents bindings)))
     ≤ size_for (length (numbers_of m.body) + size_for (length (list_contents (bindings ++ more)))) = size_grows _ _ (omega arith) in
     rw (whole_size m bindings, whole_size m (bindings ++ more)) (size_grows _ _ (omega arith))
+
+-- an element takes an octet at least
+some : (n : ℕ) → 1 ≤ size_for n
+unfolding size_for
+some n = omega arith
+
+-- and so does each variable binding
+each_counts : (bindings : List Binding) → length bindings ≤ length (list_contents bindings)
+each_counts [] = omega arith
+each_counts (b ∷ bindings) =
+    omega (arith, each_counts bindings, flat_length b bindings, binding_length b, some (length (binding_contents b)))
+
+pub all_count : (m : Message) → length (bindings_of m.body) ≤ length (written_message m)
+all_count m =
+    let list = length (list_contents (bindings_of m.body)) in
+    let body = length (body_contents m.body) in
+    omega (
+      arith,
+      each_counts (bindings_of m.body),
+      size_longer list,
+      body_total m.body,
+      size_longer body,
+      message_total m,
+      message_length m,
+      size_longer (length (message_contents m)),
+    )
+
+-- a number takes as many octets as it has to
+number_size : (n : ℕ) → length (written (Integer (pos n))) ≡ size_for (octets_for n)
+unfolding number_octets
+number_size n = written_size (Integer (pos n)) ∙ ap size_for (length-high_first (octets_for n) _)
+
+no_wider : (m n : ℕ) → m ≤ n → octets_for m ≤ octets_for n
+no_wider m n le = grind (arith, nat_tests)
+
+one_octet : (m n : ℕ) → m < 128 → octets_for m ≤ octets_for n
+one_octet m n lt = grind (arith, nat_tests)
+
+pub error_shrinks : (community : List ℕ) (p : AnyPdu) (status index other most : ℕ) → status < 128 → index ≤ most
+    → length (written_message (with_error community p (pos status) (pos index))) ≤ length (written_message (with_error community p (pos other) (pos most)))
+error_shrinks community p status index other most small le =
+    let m = with_error community p (pos status) (pos index) in
+    let n = with_error community p (pos other) (pos most) in
+    let first : size_for (octets_for status) ≤ size_for (octets_for other) = size_grows _ _ (one_octet status other small) in
+    let second : size_for (octets_for index) ≤ size_for (octets_for most) = size_grows _ _ (no_wider index most le) in
+    let numbers : length (numbers_of m.body) ≤ length (numbers_of n.body) =
+    omega (arith, numbers_total m.body, numbers_total n.body, number_size status, number_size other, number_size index, number_size most, first, second) in
+    let bodies : size_for (length (body_contents m.body)) ≤ size_for (length (body_contents n.body)) =
+    size_grows _ _ (omega (arith, body_total m.body, body_total n.body, numbers)) in
+    rw (message_length m, message_length n) (size_grows _ _ (omega (arith, message_total m, message_total n, bodies)))

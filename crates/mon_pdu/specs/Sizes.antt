@@ -1,9 +1,10 @@
--- Messages that differ in their variable bindings alone.
-use Rattle.std.specs.Prelude.{List}
+-- Messages that differ in their variable bindings alone, or in their error alone.
+use Rattle.std.specs.Prelude.{ℕ, ℤ, List}
 use Rattle.mon_pdu.specs.declared.message.Binding.{Binding}
 use Rattle.mon_pdu.specs.declared.message.Body.{Body}
 use Rattle.mon_pdu.specs.declared.message.Body.TheVariants.{Pdu, Bulk}
 use Rattle.mon_pdu.specs.declared.message.Message.{Message}
+use Rattle.mon_pdu.specs.declared.message.Pdu.{Pdu as AnyPdu}
 
 -- the same PDU with these variable bindings
 abbrev pub body_with : Body → List Binding → Body
@@ -13,3 +14,7 @@ body_with (Bulk p) bindings = Bulk (record p { bindings = bindings })
 -- the same message with these variable bindings
 abbrev pub with_bindings : Message → List Binding → Message
 with_bindings m bindings = record m { body = body_with m.body bindings }
+
+-- a message of this community with this PDU, but with this error-status and error-index
+abbrev pub with_error : List ℕ → AnyPdu → ℤ → ℤ → Message
+with_error community p status index = record { community = community; body = Pdu (record p { error_status = status; error_index = index }) }

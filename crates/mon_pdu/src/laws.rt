@@ -1,13 +1,14 @@
 //! Laws over the spellings of messages. Each is a function that does nothing; its clause is the law.
 
-ghost use Rattle.std.specs.Prelude.{◌≡◌, ◌≢◌, ◌≤◌, ◌↔◌, ℕ, ℤ, pos, List, [], ◌++◌, length, Result, Ok, Err};
+ghost use Rattle.std.specs.Prelude.{◌≡◌, ◌≢◌, ◌<◌, ◌≤◌, ◌↔◌, ℕ, ℤ, pos, List, [], ◌++◌, length, Result, Ok, Err};
 ghost use Rattle.mon_pdu.specs.declared.fault.PduFault.{PduFault};
 ghost use Rattle.mon_pdu.specs.declared.fault.PduFault.TheVariants.{OutOfMemory, BadVersion, UnknownPdu};
 ghost use Rattle.mon_pdu.specs.declared.message.Binding.{Binding};
 ghost use Rattle.mon_pdu.specs.declared.message.Message.{Message};
-ghost use Rattle.mon_pdu.specs.Grammar.{AreOctets, IsMessage, BeginsWithMessage, IsVersioned, HasUnknownPdu};
+ghost use Rattle.mon_pdu.specs.declared.message.Pdu.{Pdu};
+ghost use Rattle.mon_pdu.specs.Grammar.{AreOctets, IsMessage, BeginsWithMessage, IsVersioned, HasUnknownPdu, bindings_of};
 ghost use Rattle.mon_pdu.specs.Reading.{Fails, message_at};
-ghost use Rattle.mon_pdu.specs.Sizes.{with_bindings};
+ghost use Rattle.mon_pdu.specs.Sizes.{with_bindings, with_error};
 ghost use Rattle.mon_pdu.specs.Writing.{HasLength, IsValid, written_message};
 
 /// No spelling of a message is a proper prefix of a spelling of any message, and each has one meaning.
@@ -70,4 +71,16 @@ pub fn round_trip()
 pub fn grows()
     ensures { (m : Message) (bindings more : List Binding)
         → length (written_message (with_bindings m bindings)) ≤ length (written_message (with_bindings m (bindings ++ more))) }
+{}
+
+/// A message is written in no fewer octets than it has variable bindings.
+pub fn counts()
+    ensures { (m : Message) → length (bindings_of m.body) ≤ length (written_message m) }
+{}
+
+/// A PDU with an error-status of one octet is written no longer than with another status and an index that is no smaller.
+pub fn shrinks()
+    ensures { (community : List ℕ) (p : Pdu) (status index other most : ℕ) → status < 128 → index ≤ most
+        → length (written_message (with_error community p (pos status) (pos index)))
+        ≤ length (written_message (with_error community p (pos other) (pos most))) }
 {}

@@ -368,7 +368,7 @@ imported_takes ls rest first is =
         let here : is_word (codes "IMPORTS") l ≡ true = sym (ap (begins_word (codes "IMPORTS")) whole) ∙ first in
         (names, free.1, whole ∙ ap (λ (x : Lexeme). x ∷ (names ++ mark Semicolon ∷ rest)) (word_is (codes "IMPORTS") l here) ∙ ap (λ (k : List Lexeme). word (codes "IMPORTS") ∷ k) (sym (append_assoc names (mark Semicolon ∷ []) rest)))
 
-imports_take : (ls rest : List Lexeme) → imports_at ls ≡ Some rest → (imports : List Lexeme) × AreImports imports rest × (ls ≡ imports ++ rest)
+pub imports_take : (ls rest : List Lexeme) → imports_at ls ≡ Some rest → (imports : List Lexeme) × AreImports imports rest × (ls ≡ imports ++ rest)
 unfolding imports_at
 imports_take ls rest is =
     ⊎_elim

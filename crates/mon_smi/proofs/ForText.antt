@@ -20,11 +20,12 @@ use Rattle.mon_smi.specs.Tokens.{AreAll, AreDigits, IsNumber, IsSpelled, IsPiece
 use Rattle.mon_smi.specs.Lexemes.{AreTokensOf, lexemes}
 use Rattle.mon_smi.specs.Reading.{Fails, module_at}
 use Rattle.mon_smi.specs.Grammar.{Derives}
-use Rattle.mon_smi.specs.ModuleFaults.{IsFaultOfModule, IsTwice}
+use Rattle.mon_smi.specs.ModuleFaults.{AllBegin, IsFaultOfModule, IsTwice}
 use Rattle.mon_smi.proofs.ByPieces.{one_cut, not_stuck, piece_some, again}
-use Rattle.mon_smi.proofs.Chains.{distinct_push}
+use Rattle.mon_smi.proofs.Chains.{distinct_push, again_twice}
 use Rattle.mon_smi.proofs.ForValues.{pair_parts}
 use Rattle.mon_smi.proofs.ForModules.{module_takes, module_again}
+use Rattle.mon_smi.proofs.Begun.{twice_at}
 
 -- ---- words and numbers are ASCII
 
@@ -129,11 +130,11 @@ no_module text tokens Unclosed are fault = λ name defs is. let read = read_of t
 no_module text tokens (Unexpected span) are fault = λ name defs is. let read = read_of text tokens name defs are is in absurd (cc)
 no_module text tokens (Duplicate span) are fault = absurd fault
 
-pub twice_there : (text name : List ℕ) (defs : List Definition) (e : TextFault) → Derives text name defs → IsTwice e defs → IsFaultOfModule e text
-twice_there text name defs OutOfMemory is fault = absurd fault
-twice_there text name defs Unclosed is fault = absurd fault
-twice_there text name defs (Unexpected span) is fault = absurd fault
-twice_there text name defs (Duplicate span) is fault = (name, defs, is, fault)
+pub twice_there : (text name : List ℕ) (tokens : List Token) (starts : List ℕ) (defs : List Definition) (e : TextFault) → AreTokens text tokens → AllBegin (lexemes text tokens) starts defs → Derives text name defs → IsTwice e tokens starts defs → IsFaultOfModule e text
+twice_there text name tokens starts defs OutOfMemory are begin is fault = fault
+twice_there text name tokens starts defs Unclosed are begin is fault = absurd fault
+twice_there text name tokens starts defs (Unexpected span) are begin is fault = absurd fault
+twice_there text name tokens starts defs (Duplicate span) are begin is fault = twice_at text name tokens starts defs span are is begin fault
 
 -- a text that derives distinct definitions has no other fault than want of memory
 pub no_fault : {V : Type 0} (text name : List ℕ) (defs : List Definition) (r : Result V TextFault) → IfErr r (λ e. IsFaultOfModule e text) → Derives text name defs → AreDistinct defs → IsOkUnless r OutOfMemory
@@ -142,8 +143,8 @@ no_fault text name defs (Err OutOfMemory) fault is distinct = search rules
 no_fault text name defs (Err Unclosed) fault is distinct = absurd (fault name defs is)
 no_fault text name defs (Err (Unexpected span)) fault is distinct = absurd (fault name defs is)
 no_fault text name defs (Err (Duplicate span)) fault is distinct =
-    let same = one_module text name fault.0 defs fault.1 is fault.2 in
-    absurd (fault.3 (subst AreDistinct same.1 distinct))
+    let same = one_module text name fault.0 defs fault.1 is fault.4 in
+    absurd (again_twice fault.1 fault.2 fault.3 fault.5 (subst AreDistinct same.1 distinct))
 
 pub word_slice : (kind : Kind) (slice text : List ℕ) → kind ≡ kinds.Word → slice ≡ text → IsSpelled kind text → IsUtf8 slice
 word_slice kind slice text is same spelled = subst IsUtf8 (sym same) (word_utf8 text (subst (λ (k : Kind). IsSpelled k text) is spelled))
@@ -165,6 +166,6 @@ pub found_there : (text : List ℕ) (r : Result Module TextFault) (read : Module
 found_there text (Ok m) read is found = (subst (λ (x : Module). Derives text x.name x.defs) (sym found.0) is, found.1)
 found_there text (Err e) read is found = tt
 
-pub fault_there : (text : List ℕ) (r : Result Module TextFault) (read : Module) → Derives text read.name read.defs → IfErr r (λ e. IsTwice e read.defs) → IfErr r (λ e. IsFaultOfModule e text)
-fault_there text (Ok m) read is fault = tt
-fault_there text (Err e) read is fault = twice_there text read.name read.defs e is fault
+pub fault_there : (text : List ℕ) (tokens : List Token) (starts : List ℕ) (r : Result Module TextFault) (read : Module) → AreTokens text tokens → AllBegin (lexemes text tokens) starts read.defs → Derives text read.name read.defs → IfErr r (λ e. IsTwice e tokens starts read.defs) → IfErr r (λ e. IsFaultOfModule e text)
+fault_there text tokens starts (Ok m) read are begin is fault = tt
+fault_there text tokens starts (Err e) read are begin is fault = twice_there text read.name tokens starts read.defs e are begin is fault

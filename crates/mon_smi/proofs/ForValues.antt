@@ -35,7 +35,7 @@ pair_parts {A = A} {B = B} a c b d is =
 abbrev pub TakesOne : {X : Type 0} → (List Lexeme → X → Type 0) → (List Lexeme → Option (X × List Lexeme)) → Type 0
 TakesOne {X} Is read = (ls : List Lexeme) (x : X) (rest : List Lexeme) → read ls ≡ Some (x, rest) → (text : List Lexeme) × Is text x × (ls ≡ text ++ rest)
 
-suffix : (ls front back : List Lexeme) → ls ≡ front ++ back → drop (length ls - length back) ls ≡ back
+pub suffix : (ls front back : List Lexeme) → ls ≡ front ++ back → drop (length ls - length back) ls ≡ back
 suffix ls front back is =
     let lens : length ls ≡ length front + length back = ap (λ (l : List Lexeme). length l) is ∙ length-append front back in
     let at : length front ≡ length ls - length back = omega arith in

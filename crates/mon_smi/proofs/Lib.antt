@@ -15,4 +15,6 @@ pub mod ByPieces
 pub mod ForRules
 pub mod ForValues
 pub mod ForModules
+pub mod Begun
 pub mod ForText
+pub mod Indexed

@@ -10,3 +10,4 @@ pub mod Grammar
 pub mod ModuleFaults
 pub mod BuiltIn
 pub mod Nearest
+pub mod Places

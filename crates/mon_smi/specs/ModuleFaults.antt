@@ -1,28 +1,56 @@
 -- Why a text gives no module.
-use Rattle.std.specs.Prelude.{ℕ, List}
+use Rattle.std.specs.Prelude.{◌≡◌, ℕ, List, [], ◌∷◌, ◌++◌, length, slice_index}
 use Rattle.mon_smi.specs.declared.definition.Definition.{Definition}
+use Rattle.mon_smi.specs.declared.token.Span.{Span}
+use Rattle.mon_smi.specs.declared.token.Token.{Token}
 use Rattle.mon_smi.specs.declared.text_fault.TextFault.{TextFault}
 use Rattle.mon_smi.specs.declared.text_fault.TextFault.TheVariants.{OutOfMemory, Unclosed, Unexpected, Duplicate}
-use Rattle.mon_smi.specs.Names.{AreDistinct}
-use Rattle.mon_smi.specs.Grammar.{Derives}
+use Rattle.mon_smi.specs.Lexemes.{Lexeme, lexemes}
+use Rattle.mon_smi.specs.Tokens.{AreTokens}
+use Rattle.mon_smi.specs.Places.{IsAgain}
+use Rattle.mon_smi.specs.Grammar.{IsValueAssignment, Derives}
 
 -- the text derives no module
 abbrev pub IsNoModule : List ℕ → Type 0
 IsNoModule text = (name : List ℕ) (defs : List Definition) → Derives text name defs → ⊥
 
--- the text derives a module, which defines a name twice
-abbrev pub HasTwice : List ℕ → Type 0
-HasTwice text = (name : List ℕ) × (defs : List Definition) × Derives text name defs × ¬ (AreDistinct defs)
+-- the token of the text that stands at this place begins the assignment of this definition
+abbrev pub BeginsAt : List ℕ → Span → Definition → Type 0
+BeginsAt text span d = (before after : List Token) × (token : Token) × (assignment rest : List Lexeme)
+    × AreTokens text (before ++ token ∷ after) × (token.span ≡ span)
+    × (lexemes text (token ∷ after) ≡ assignment ++ rest) × IsValueAssignment assignment d
+
+-- the text derives a module, and a definition begins at this place whose name an earlier one has
+abbrev pub HasTwice : List ℕ → Span → Type 0
+HasTwice text span = (name : List ℕ) × (defs : List Definition) × (i : ℕ) × (d : Definition)
+    × Derives text name defs × IsAgain defs i d × BeginsAt text span d
 
 abbrev pub IsFaultOfModule : TextFault → List ℕ → Type 0
 IsFaultOfModule OutOfMemory text = Unit {0}
 IsFaultOfModule Unclosed text = IsNoModule text
 IsFaultOfModule (Unexpected span) text = IsNoModule text
-IsFaultOfModule (Duplicate span) text = HasTwice text
+IsFaultOfModule (Duplicate span) text = HasTwice text span
 
--- the fault of definitions of which two have one name
-abbrev pub IsTwice : TextFault → List Definition → Type 0
-IsTwice OutOfMemory defs = ⊥
-IsTwice Unclosed defs = ⊥
-IsTwice (Unexpected span) defs = ⊥
-IsTwice (Duplicate span) defs = ¬ (AreDistinct defs)
+-- ---- places as reading keeps them: how many lexemes are left
+
+-- the assignment of this definition begins where so many lexemes are left
+abbrev pub Begins : List Lexeme → ℕ → Definition → Type 0
+Begins ls n d = (before assignment after : List Lexeme) × (ls ≡ before ++ (assignment ++ after)) × IsValueAssignment assignment d × (n ≡ length (assignment ++ after))
+
+-- so each of these definitions does
+abbrev pub AllBegin : List Lexeme → List ℕ → List Definition → Type 0
+AllBegin ls [] [] = Unit {0}
+AllBegin ls [] (d ∷ ds) = ⊥
+AllBegin ls (n ∷ ns) [] = ⊥
+AllBegin ls (n ∷ ns) (d ∷ ds) = Begins ls n d × AllBegin ls ns ds
+
+-- the token with which so many are left stands at this place
+abbrev pub IsLeftAt : List Token → ℕ → Span → Type 0
+IsLeftAt tokens n span = (before after : List Token) × (token : Token) × (tokens ≡ before ++ token ∷ after) × (token.span ≡ span) × (length (token ∷ after) ≡ n)
+
+-- the fault of definitions that begin where so many of the tokens are left, where one has its name again
+abbrev pub IsTwice : TextFault → List Token → List ℕ → List Definition → Type 0
+IsTwice OutOfMemory tokens starts defs = Unit {0}
+IsTwice Unclosed tokens starts defs = ⊥
+IsTwice (Unexpected span) tokens starts defs = ⊥
+IsTwice (Duplicate span) tokens starts defs = (i : ℕ) × (d : Definition) × IsAgain defs i d × IsLeftAt tokens (slice_index starts i) span

@@ -14,7 +14,7 @@ use crate::word::Word;
 use std::alloc::Global;
 
 /// Whether the word is a macro whose clauses are passed over.
-pub fn is_macro(l: &Lexeme) -> bool
+fn is_macro(l: &Lexeme) -> bool
     ensures { result ≡ is_macro l.now }
 {
     l.is_word("MODULE-IDENTITY")

@@ -1,56 +1,38 @@
 //! The chain of a word's parents.
 
 ghost use Rattle.mon_oid.specs.Oid.{IsOid};
-ghost use Rattle.std.specs.Prelude.{◌≡◌, ℕ, List, true, false, ◌≤◌, ◌++◌, map, length, Some, None, IfOk, IfErr, IfSome, IfNone};
-ghost use Rattle.mon_smi.specs.Names.{IsAt, IsOneOf, IsUndefined, Leads, numbers_of, Stands, IsFaultOfWord, IsFaultOfJoining, IsFaultOfName};
-ghost use Rattle.mon_smi.specs.declared.definition.Definition.{Definition as AnyDefinition};
+ghost use Rattle.std.specs.Prelude.{◌≡◌, ℕ, List, ◌≤◌, ◌++◌, map, length, Some, None, IfOk, IfErr};
+ghost use Rattle.mon_smi.specs.Names.{Leads, numbers_of, Stands, IsFaultOfWord, IsFaultOfJoining, IsFaultOfName};
+ghost use Rattle.mon_smi.specs.Places.{AreFound};
 
 use crate::definition::Definition;
 use crate::fault::NamesFault;
+use crate::places::position;
 use mon_oid::{Oid, OidFault};
 use std::alloc::Global;
-
-/// Where the name is defined.
-fn position(defs: &[Definition], name: &str) -> Option<usize>
-    ensures found { IfSome result (λ i. (d : AnyDefinition) × IsAt defs.now i d × (d.name ≡ name.now)) }
-    ensures none { IfNone result (IsUndefined defs.now name.now) }
-{
-    for (i, definition) in defs.iter().enumerate() {
-        if definition.name.as_str() == name {
-            return Some(i);
-        }
-    }
-    None
-}
-
-/// Whether the name is defined.
-pub fn is_defined(defs: &[Definition], name: &str) -> bool
-    ensures defined { result ≡ true → (d : AnyDefinition) × IsOneOf defs.now d × (d.name ≡ name.now) }
-    ensures undefined { result ≡ false → IsUndefined defs.now name.now }
-{
-    position(defs, name).is_some()
-}
+use std::collections::{BTreeMap, BTreeSet};
 
 /// The definitions that lead from the word to one with no parent.
 fn chain<'a>(
     alloc: Global,
+    places: &BTreeMap<String, usize>,
     defs: &'a [Definition],
     word: &'a str,
 ) -> Result<Vec<&'a Definition>, NamesFault>
+    requires { AreFound places.now defs.now }
     ensures found { IfOk result (λ v. Leads defs.now (Some word.now) (map (λ d. d.now) v.items) None) }
     ensures fault { IfErr result (λ e. IsFaultOfWord e defs.now word.now) }
 {
-    let mut passed = vec![in alloc; false; defs.len()]?;
+    let mut passed = BTreeSet::new(alloc);
     let mut chain = Vec::new(alloc);
     let mut name = word;
     loop {
-        let Some(place) = position(defs, name) else {
+        let Some(place) = position(places, defs, name) else {
             return Err(NamesFault::Unknown);
         };
-        if passed[place] {
+        if !passed.insert(place)? {
             return Err(NamesFault::Cycle);
         }
-        passed[place] = true;
         let definition = &defs[place];
         chain.push(definition)?;
         match &definition.parent {
@@ -84,14 +66,16 @@ fn joined(alloc: Global, mut chain: Vec<&Definition>, rest: &[u32]) -> Result<Ve
 /// What a word with numbers behind it stands for.
 pub fn identifier_of(
     alloc: Global,
+    places: &BTreeMap<String, usize>,
     defs: &[Definition],
     word: &str,
     rest: &[u32],
 ) -> Result<Oid, NamesFault>
+    requires { AreFound places.now defs.now }
     ensures found { IfOk result (λ oid. IsOid oid × ((known : List ℕ) × Stands defs.now word.now known × (oid ≡ known ++ rest.now))) }
     ensures fault { IfErr result (λ e. IsFaultOfName e defs.now word.now rest.now) }
 {
-    let parents = chain(alloc, defs, word)?;
+    let parents = chain(alloc, places, defs, word)?;
     let numbers = joined(alloc, parents, rest)?;
     match Oid::from_parts(alloc, numbers.as_slice()) {
         Ok(oid) => Ok(oid),

@@ -18,6 +18,7 @@ mod nearest;
 mod numbers;
 mod part;
 mod pieces;
+mod places;
 mod rules;
 mod scan;
 mod text;

@@ -3,33 +3,39 @@ ghost use Rattle.mon_oid.specs.Oid.{IsOid, Spells};
 ghost use Rattle.mon_smi.specs.BuiltIn.{built_in};
 ghost use Rattle.mon_smi.specs.Names.{AreDistinct, Means, IsFaultOfAdding, IsFaultOfText};
 ghost use Rattle.mon_smi.specs.Nearest.{IsNameOf};
+ghost use Rattle.mon_smi.specs.Places.{AreFound};
 
 use crate::built_in::built_in;
-use crate::chain::{identifier_of, is_defined};
+use crate::chain::identifier_of;
 use crate::definition::{Definition, Module};
 use crate::fault::NamesFault;
 use crate::nearest::name_of;
+use crate::places::{add_places, first_twice, is_defined};
 use crate::text::is_word;
 use mon_oid::{Oid, OidFault, dotted_numbers};
 use std::alloc::{AllocError, Global};
+use std::collections::BTreeMap;
 use std::marker::Model;
 
 /// The names that are defined, which contracts see as the list of their definitions.
 #[derive(Drop)]
 pub struct Names {
     defs: Vec<Definition>,
+    // The place of each definition by its name. An add that failed may leave more, of which nothing is believed.
+    places: BTreeMap<String, usize>,
 }
 
 impl Model for Names {
     ghost use Rattle.std.specs.Prelude.{List};
     ghost use Rattle.mon_smi.specs.declared.definition.Definition.{Definition};
     ghost use Rattle.mon_smi.specs.Names.{AreDistinct};
+    ghost use Rattle.mon_smi.specs.Places.{AreFound};
 
     ghost Value = { List Definition };
 
     ghost view = { λ n. n.defs.items };
 
-    ghost invariant = { λ n. AreDistinct n.defs.items };
+    ghost invariant = { λ n. AreDistinct n.defs.items × AreFound n.places n.defs.items };
 }
 
 impl Names {
@@ -37,9 +43,10 @@ impl Names {
     pub fn new(alloc: Global) -> Result<Self, AllocError>
         ensures { IfOk result (λ n. n ≡ built_in) }
     {
-        Ok(Names {
-            defs: built_in(alloc)?,
-        })
+        let defs = built_in(alloc)?;
+        let mut places = BTreeMap::new(alloc);
+        add_places(alloc, &mut places, &[], defs.as_slice())?;
+        Ok(Names { defs, places })
     }
 
     /// Adds a module's definitions: `Duplicate` where one of its value names is defined already,
@@ -50,7 +57,9 @@ impl Names {
         ensures err { OnErr result (self.new ≡ self.old) }
         ensures fault { IfErr result (λ e. IsFaultOfAdding e self.old added.now.defs) }
     {
-        let mut copies = copies(alloc, self.defs.as_slice(), added.defs.as_slice())?;
+        let known = self.defs.as_slice();
+        let mut copies = copies(alloc, &self.places, known, added.defs.as_slice())?;
+        add_places(alloc, &mut self.places, known, copies.as_slice())?;
         self.defs.append(&mut copies)?;
         Ok(())
     }
@@ -65,7 +74,7 @@ impl Names {
         ensures fault { IfErr result (λ e. IsFaultOfText e self.now text.now) }
     {
         mon_oid::laws::one_reading();
-        resolved(alloc, self.defs.as_slice(), text)
+        resolved(alloc, &self.places, self.defs.as_slice(), text)
     }
 
     /// The name with the longest identifier that the other one begins with (of equal ones the least
@@ -73,12 +82,18 @@ impl Names {
     pub fn name_of(&self, alloc: Global, oid: &Oid) -> Result<String, AllocError>
         ensures { IfOk result (λ text. IsNameOf self.now oid.now (string_bytes text)) }
     {
-        name_of(alloc, self.defs.as_slice(), oid)
+        name_of(alloc, &self.places, self.defs.as_slice(), oid)
     }
 }
 
 /// The identifier that a text means.
-fn resolved(alloc: Global, defs: &[Definition], text: &str) -> Result<Oid, NamesFault>
+fn resolved(
+    alloc: Global,
+    places: &BTreeMap<String, usize>,
+    defs: &[Definition],
+    text: &str,
+) -> Result<Oid, NamesFault>
+    requires { AreFound places.now defs.now }
     ensures found { IfOk result (λ oid. IsOid oid × Means defs.now text.now oid) }
     ensures fault { IfErr result (λ e. IsFaultOfText e defs.now text.now) }
 {
@@ -86,14 +101,20 @@ fn resolved(alloc: Global, defs: &[Definition], text: &str) -> Result<Oid, Names
         Ok(oid) => Ok(oid),
         Err(OidFault::OutOfMemory) => Err(NamesFault::OutOfMemory),
         Err(OidFault::TooLong) => Err(NamesFault::TooDeep),
-        Err(OidFault::BadText) => named(alloc, defs, text),
+        Err(OidFault::BadText) => named(alloc, places, defs, text),
         Err(OidFault::TooShort | OidFault::BadFirst) => Err(NamesFault::BadIdentifier),
     }
 }
 
 /// The identifier that a text means which does not spell numbers.
-fn named(alloc: Global, defs: &[Definition], text: &str) -> Result<Oid, NamesFault>
-    requires { (q : List ℕ) → ¬ (Spells text.now q) }
+fn named(
+    alloc: Global,
+    places: &BTreeMap<String, usize>,
+    defs: &[Definition],
+    text: &str,
+) -> Result<Oid, NamesFault>
+    requires found { AreFound places.now defs.now }
+    requires no_numbers { (q : List ℕ) → ¬ (Spells text.now q) }
     ensures found { IfOk result (λ oid. IsOid oid × Means defs.now text.now oid) }
     ensures fault { IfErr result (λ e. IsFaultOfText e defs.now text.now) }
 {
@@ -101,13 +122,13 @@ fn named(alloc: Global, defs: &[Definition], text: &str) -> Result<Oid, NamesFau
         if !is_word(text) {
             return Err(NamesFault::Unknown);
         }
-        return identifier_of(alloc, defs, text, &[]);
+        return identifier_of(alloc, places, defs, text, &[]);
     };
     if !is_word(word) {
         return Err(NamesFault::Unknown);
     }
     match dotted_numbers(alloc, rest) {
-        Ok(rest) => identifier_of(alloc, defs, word, rest.as_slice()),
+        Ok(rest) => identifier_of(alloc, places, defs, word, rest.as_slice()),
         Err(OidFault::BadText) => Err(NamesFault::Unknown),
         Err(_) => Err(NamesFault::OutOfMemory),
     }
@@ -116,18 +137,22 @@ fn named(alloc: Global, defs: &[Definition], text: &str) -> Result<Oid, NamesFau
 /// Copies of the definitions, unless a name is defined twice.
 fn copies(
     alloc: Global,
+    places: &BTreeMap<String, usize>,
     known: &[Definition],
     defs: &[Definition],
 ) -> Result<Vec<Definition>, NamesFault>
-    requires { AreDistinct known.now }
+    requires distinct { AreDistinct known.now }
+    requires found { AreFound places.now known.now }
     ensures ok { IfOk result (λ v. v.items ≡ defs.now) }
     ensures distinct { OnOk result (AreDistinct (known.now ++ defs.now)) }
     ensures fault { IfErr result (λ e. IsFaultOfAdding e known.now defs.now) }
 {
+    if first_twice(alloc, defs)?.is_some() {
+        return Err(NamesFault::Duplicate);
+    }
     let mut added = Vec::new(alloc);
     for definition in defs {
-        let name = definition.name.as_str();
-        if is_defined(known, name) || is_defined(added.as_slice(), name) {
+        if is_defined(places, known, definition.name.as_str()) {
             return Err(NamesFault::Duplicate);
         }
         added.push(definition.try_clone(alloc)?)?;

@@ -2,6 +2,7 @@
 
 ghost use Rattle.std.specs.Prelude.{◌≡◌, ◌++◌, ℕ, List, false, true, string_bytes, IfOk, IfSome, IfNone};
 ghost use Rattle.mon_smi.specs.Names.{AreDistinct};
+ghost use Rattle.mon_smi.specs.Places.{AreFound};
 ghost use Rattle.mon_smi.specs.Nearest.{Covers, IsAsNear, IsKept, IsNearest, IsNameless, IsNameOf, behind};
 
 use crate::chain::identifier_of;
@@ -11,13 +12,20 @@ use itoa::Buffer;
 use mon_oid::Oid;
 use std::alloc::{AllocError, Global};
 use std::cmp::Ordering;
+use std::collections::BTreeMap;
 
 /// The nearest name and the rest of the identifier with dots, or all of it with dots.
-pub fn name_of(alloc: Global, defs: &[Definition], oid: &Oid) -> Result<String, AllocError>
-    requires { AreDistinct defs.now }
+pub fn name_of(
+    alloc: Global,
+    places: &BTreeMap<String, usize>,
+    defs: &[Definition],
+    oid: &Oid,
+) -> Result<String, AllocError>
+    requires distinct { AreDistinct defs.now }
+    requires found { AreFound places.now defs.now }
     ensures { IfOk result (λ text. IsNameOf defs.now oid.now (string_bytes text)) }
 {
-    match nearest(alloc, defs, oid)? {
+    match nearest(alloc, places, defs, oid)? {
         Some((name, len)) => with_rest(alloc, name, &oid.parts()[len..]),
         None => oid.text(alloc),
     }
@@ -38,17 +46,19 @@ fn with_rest(alloc: Global, name: &str, rest: &[u32]) -> Result<String, AllocErr
 /// The nearest name with the length of its identifier.
 fn nearest<'a>(
     alloc: Global,
+    places: &BTreeMap<String, usize>,
     defs: &'a [Definition],
     oid: &Oid,
 ) -> Result<Option<(&'a str, usize)>, AllocError>
-    requires { AreDistinct defs.now }
+    requires distinct { AreDistinct defs.now }
+    requires found { AreFound places.now defs.now }
     ensures found { IfOk result (λ best. IfSome best (λ b. IsNearest defs.now oid.now b.0.now b.1)) }
     ensures none { IfOk result (λ best. IfNone best (IsNameless defs.now oid.now)) }
 {
     let mut best: Option<(&str, usize)> = None;
     for definition in defs {
         let name = definition.name.as_str();
-        let Some(len) = covered(alloc, defs, name, oid)? else {
+        let Some(len) = covered(alloc, places, defs, name, oid)? else {
             continue;
         };
         if !is_as_near(best, name, len) {
@@ -61,16 +71,18 @@ fn nearest<'a>(
 /// How many parts the name's identifier has, where the other one begins with it.
 fn covered(
     alloc: Global,
+    places: &BTreeMap<String, usize>,
     defs: &[Definition],
     name: &str,
     oid: &Oid,
 ) -> Result<Option<usize>, AllocError>
-    requires { AreDistinct defs.now }
+    requires distinct { AreDistinct defs.now }
+    requires found { AreFound places.now defs.now }
     ensures found { IfOk result (λ len. IfSome len (λ n. Covers defs.now oid.now name.now n)) }
     ensures only { IfOk result (λ len. IfSome len (λ n. (m : ℕ) → Covers defs.now oid.now name.now m → m ≡ n)) }
     ensures none { IfOk result (λ len. IfNone len ((m : ℕ) → Covers defs.now oid.now name.now m → ⊥)) }
 {
-    let known = match identifier_of(alloc, defs, name, &[]) {
+    let known = match identifier_of(alloc, places, defs, name, &[]) {
         Ok(known) => known,
         Err(fault) => match fault {
             NamesFault::OutOfMemory => return Err(AllocError),

@@ -9,13 +9,14 @@ use clap::ArgMatches;
 use clap::error::ErrorKind;
 use mon_agent::Agent;
 use mon_app::{
-    AppFault, Asking, Question, Repeats, SocketPort, SocketWire, answer_text, read_all, serve_one,
+    AppFault, Asking, Question, Repeats, SocketPort, SocketWire, ValueKind, answer_text, read_all,
+    room, serve_one, value_of,
 };
 use mon_mib::SimDevice;
 use mon_oid::Oid;
 use mon_settings::read_agent;
 use mon_smi::Names;
-use std::alloc::{AllocError, Global};
+use std::alloc::Global;
 use std::fs::File;
 use std::io::Write;
 use std::net::{Ipv4Addr, Net, SocketAddrV4};
@@ -27,9 +28,6 @@ const USUAL_SIZE: u8 = 8;
 
 /// The longest community, in octets.
 const LONGEST_COMMUNITY: usize = 512;
-
-/// The greatest datagram that UDP carries over IPv4, in octets.
-const GREATEST_DATAGRAM: usize = 65_507;
 
 /// Runs the command that the words name, and answers the status.
 pub fn start<R: Env + Clock + Files + Net + Input + Print + Eprint + AllocGlobal>(rt: &R) -> u8 {
@@ -89,6 +87,7 @@ fn run<R: Clock + Files + Net + Input + Print + Eprint + AllocGlobal>(
         Some(("next", words)) => ask(rt, words, Asking::GetNext),
         Some(("bulk", words)) => ask(rt, words, Asking::GetBulk(repeats(words))),
         Some(("walk", words)) => walk(rt, words),
+        Some(("set", words)) => set(rt, words),
         Some(("agent", words)) => agent(rt, words),
         Some(("mib", words)) => mib(rt, words),
         Some((_, words)) => replay(rt, size_of(words)),
@@ -117,19 +116,52 @@ fn replay<R: Input + Print + AllocGlobal>(rt: &R, size: u8) -> Result<(), Fault>
 fn ask<R: Clock + Net + Print + AllocGlobal>(
     rt: &R,
     words: &ArgMatches<'_>,
-    asking: Asking,
+    asking: Asking<'_>,
 ) -> Result<(), Fault> {
-    let agent = address(words)?;
-    let community = words.get_str("COMMUNITY").unwrap_or("").as_bytes();
-    check_community(community)?;
-    let names = names(rt.alloc(), words)?;
+    let query = query_of(rt.alloc(), words)?;
+    print_answer(rt, &query, asking)
+}
+
+/// Has the agent assign the value of the words to the variable that they name, and prints its answer.
+fn set<R: Clock + Net + Print + AllocGlobal>(rt: &R, words: &ArgMatches<'_>) -> Result<(), Fault> {
+    let query = query_of(rt.alloc(), words)?;
+    let Some(kind) = ValueKind::named(words.get_str("KIND").unwrap_or("")) else {
+        return Err(Fault::App(AppFault::BadText));
+    };
+    let value = value_of(rt.alloc(), kind, words.get_str("VALUE").unwrap_or(""))?;
+    print_answer(rt, &query, Asking::Set(&value))
+}
+
+/// Whom a client command asks, and about which variables.
+#[derive(Drop)]
+struct Query<'a> {
+    agent: SocketAddrV4,
+    community: &'a [u8],
+    names: Vec<Oid>,
+}
+
+/// Whom the words ask, and about which variables. Their faults are found from left to right.
+fn query_of<'a>(alloc: Global, words: &ArgMatches<'a>) -> Result<Query<'a>, Fault> {
+    Ok(Query {
+        agent: address(words)?,
+        community: community(words)?,
+        names: names(alloc, words)?,
+    })
+}
+
+/// Asks the agent, and prints its answer.
+fn print_answer<'a, R: Clock + Net + Print + AllocGlobal>(
+    rt: &R,
+    query: &'a Query<'a>,
+    asking: Asking<'a>,
+) -> Result<(), Fault> {
     let question = Question {
         asking,
         request_id: 1,
-        community,
-        names: names.as_slice(),
+        community: query.community,
+        names: query.names.as_slice(),
     };
-    let mut wire = SocketWire::open(rt, agent)?;
+    let mut wire = SocketWire::open(rt, query.agent)?;
     let text = answer_text(rt.alloc(), &mut wire, &question)?;
     io::writer(rt).write_all(text.as_bytes())?;
     Ok(())
@@ -138,8 +170,7 @@ fn ask<R: Clock + Net + Print + AllocGlobal>(
 /// Walks through the variables under the name, and prints those that were met, also where the walk then fails.
 fn walk<R: Clock + Net + Print + AllocGlobal>(rt: &R, words: &ArgMatches<'_>) -> Result<(), Fault> {
     let agent = address(words)?;
-    let community = words.get_str("COMMUNITY").unwrap_or("").as_bytes();
-    check_community(community)?;
+    let community = community(words)?;
     let start = Names::new(rt.alloc())?.resolve(rt.alloc(), words.get_str("NAME").unwrap_or(""))?;
     let mut wire = SocketWire::open(rt, agent)?;
     let mut text = String::new(rt.alloc());
@@ -157,12 +188,13 @@ fn address(words: &ArgMatches<'_>) -> Result<SocketAddrV4, Fault> {
     }
 }
 
-/// Refuses a community of no length that is sent.
-fn check_community(community: &[u8]) -> Result<(), Fault> {
+/// The community that the words give.
+fn community<'a>(words: &ArgMatches<'a>) -> Result<&'a [u8], Fault> {
+    let community = words.get_str("COMMUNITY").unwrap_or("").as_bytes();
     if community.is_empty() || community.len() > LONGEST_COMMUNITY {
         return Err(Fault::App(AppFault::BadText));
     }
-    Ok(())
+    Ok(community)
 }
 
 /// The names that the words give, by the built-in names or in numbers.
@@ -213,11 +245,6 @@ fn mib<R: Files + Print + AllocGlobal>(rt: &R, words: &ArgMatches<'_>) -> Result
     let lines = list(rt.alloc(), &text)?;
     io::writer(rt).write_all(lines.as_bytes())?;
     Ok(())
-}
-
-/// Room for the greatest datagram.
-fn room(alloc: Global) -> Result<Vec<u8>, AllocError> {
-    vec![in alloc; 0u8; GREATEST_DATAGRAM]
 }
 
 /// The text of a file.

@@ -2,6 +2,7 @@
 
 use clap::builder::ValueRange;
 use clap::{Arg, Command, value_parser};
+use mon_app::KINDS;
 use std::alloc::{AllocError, Global};
 
 const ABOUT: &str =
@@ -142,11 +143,47 @@ fn walk<'a>(alloc: Global) -> Result<Command<'a>, AllocError> {
         .arg(needed(alloc, "NAME", NAME))
 }
 
+const SET: &str = "Has an agent assign a value to a variable (SetRequest)";
+
+const SET_MORE: &str =
+    "Sends a SetRequest to the agent at ADDRESS that assigns VALUE to the variable of NAME, and prints what it answers as `get` does.
+The community has to be one that may write; an agent that refuses ends the command with 6 AgentStatus, and nothing is printed.
+
+KIND says how VALUE is read:
+
+  integer                        a decimal number, -2147483648 to 2147483647
+  string                         the text's own octets
+  hex                            pairs of hex digits, in either case
+  oid                            numbers with dots between them, as 1.3.6.1.4.1
+  ip                             a.b.c.d
+  counter32, gauge32, timeticks  a decimal number, 0 to 4294967295
+  counter64                      a decimal number, 0 to 18446744073709551615
+
+A decimal number is digits alone, spare zeros allowed, for an integer also with - before them. Any other text ends the command
+with 8 BadText before anything is sent. A VALUE that begins with - stands after --.
+
+Examples: snmpmon set 127.0.0.1:161 private mib-2.1.5.0 string r2
+          snmpmon set 127.0.0.1:161 private mib-2.2.2.1.7.1 integer -- -1";
+
+const VALUE: &str = "The value, a text that KIND can read";
+
+fn set<'a>(alloc: Global) -> Result<Command<'a>, AllocError> {
+    let kind = needed(alloc, "KIND", "How VALUE is read").value_parser(KINDS.as_slice());
+    Command::new(alloc, "set")
+        .about(SET)
+        .long_about(SET_MORE)
+        .arg(needed(alloc, "ADDRESS", ADDRESS))?
+        .arg(needed(alloc, "COMMUNITY", COMMUNITY))?
+        .arg(needed(alloc, "NAME", NAME))?
+        .arg(kind)?
+        .arg(needed(alloc, "VALUE", VALUE))
+}
+
 const AGENT: &str = "Serves an agent over a simulated device";
 
 const AGENT_MORE: &str =
     "Reads SETTINGS, a TOML file (examples/agent.toml explains each key), listens at the address in it, says on standard
-error where, and answers so many datagrams: Get, GetNext and GetBulk requests of the communities in the settings.
+error where, and answers so many datagrams: Get, GetNext, GetBulk and Set requests of the communities in the settings.
 
 A fault in SETTINGS ends the command before it listens, with one line as `snmpmon: mon_settings 4 BadValue`.
 
@@ -200,6 +237,7 @@ pub fn command<'a>(alloc: Global) -> Result<Command<'a>, AllocError> {
         .subcommand(client(alloc, "next", NEXT, NEXT_MORE)?)?
         .subcommand(bulk(alloc)?)?
         .subcommand(walk(alloc)?)?
+        .subcommand(set(alloc)?)?
         .subcommand(agent(alloc)?)?
         .subcommand(mib(alloc)?)
 }

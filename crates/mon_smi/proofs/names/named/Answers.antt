@@ -6,7 +6,7 @@ use Rattle.mon_smi.proofs.names.named.Goals as goal
 
 pub returns-then-not-is_word-clause-fault : goal.returns-then-not-is_word-clause-fault
 returns-then-not-is_word-clause-fault c =
-    inl (c.requires, alone_formless c.args.text.now c.split_once.result c.split_once.ensures.cases c.in_default.is (λ word. let yes = c.is_word.ensures.1 word in absurd (cc)))
+    inl (c.requires.no_numbers, alone_formless c.args.text.now c.split_once.result c.split_once.ensures.cases c.in_default.is (λ word. let yes = c.is_word.ensures.1 word in absurd (cc)))
 
 pub returns-in_default-clause-fault : goal.returns-in_default-clause-fault
 returns-in_default-clause-fault c =
@@ -15,7 +15,7 @@ returns-in_default-clause-fault c =
 pub returns-then-not-is_word-2-clause-fault : goal.returns-then-not-is_word-2-clause-fault
 returns-then-not-is_word-2-clause-fault c =
     inl (
-      c.requires,
+      c.requires.no_numbers,
       λ w rest named.
           let is = cut_named c.args.text.now c.split_once.result _ c.split_once.ensures.cases c.in-Some.is w rest named in
           let yes = c.is_word-2.ensures.1 (subst IsWord (sym is.0) named.0) in absurd (cc),
@@ -36,4 +36,4 @@ returns-in-Ok-clause-fault c =
 pub returns-in-Err-BadText-clause-fault : goal.returns-in-Err-BadText-clause-fault
 returns-in-Err-BadText-clause-fault c =
     let none = rw c.in-Err-BadText.field-0-is at c.in-Err-BadText.ensures.fault in
-    inl (c.requires, λ w rest named. none rest (cut_named c.args.text.now c.split_once.result _ c.split_once.ensures.cases c.in-Some.is w rest named).1)
+    inl (c.requires.no_numbers, λ w rest named. none rest (cut_named c.args.text.now c.split_once.result _ c.split_once.ensures.cases c.in-Some.is w rest named).1)

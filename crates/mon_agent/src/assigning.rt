@@ -1,0 +1,144 @@
+//! A Set in two phases (RFC 3416 section 4.2.5).
+
+ghost use Rattle.std.specs.Prelude.{◌≡◌, ◌<◌, ◌≤◌, ◌^◌, ℕ, pos, length, IfOk, IfSome, IfNone};
+ghost use Rattle.mon_pdu.specs.Grammar.{bindings_of};
+ghost use Rattle.mon_pdu.specs.Writing.{written_message};
+ghost use Rattle.mon_vacm.specs.View.{IsInView};
+ghost use Rattle.mon_mib.specs.declared.commit.Commit.{Commit as AnyCommit};
+ghost use Rattle.mon_mib.specs.Commit.{IsCommitted, failures_of};
+ghost use Rattle.mon_mib.specs.Known.{known_of};
+ghost use Rattle.mon_agent.specs.Assigned.{greatest, returned, status_of, place_of};
+ghost use Rattle.mon_agent.specs.Ready.{HasRoom, IsNumbered, IsReadyToSet, IsReturned, IsRoomy};
+
+use crate::agent::Agent;
+use crate::fault::AgentFault;
+use crate::ready::{Assigning, Ready};
+use crate::reply::Reply;
+use crate::sending::{NO_ERROR, returned, send_too_big, size_within, write};
+use mon_mib::{Commit, Device, Moment, SetFault};
+use mon_pdu::{Body, Message, write_within};
+use mon_vacm::Access;
+use std::alloc::Global;
+
+/// commitFailed (RFC 3416 section 3).
+const COMMIT_FAILED: i32 = 14;
+
+/// undoFailed (RFC 3416 section 3).
+const UNDO_FAILED: i32 = 15;
+
+impl<D: Device + Drop> Agent<D> {
+    /// What the agent is about to do about a Set that is granted in a view. First the Set's size is judged, then each variable
+    /// binding; then all memory for assigning and for the response is taken.
+    pub(crate) fn prepare_set(
+        &self,
+        alloc: Global,
+        access: Access<'_>,
+        message: Message,
+        moment: Moment,
+    ) -> Result<Ready, AgentFault>
+        ensures ready { let known = known_of self.now.mib.settings self.now.mib.counters (D.held self.now.mib.device) moment in
+            IfOk result (IsReadyToSet D.held D.failed D.refuses known (IsInView self.now.policy.families access.entry.view.now) self.now.mib.device message) }
+        ensures room { IfOk result IsRoomy }
+    {
+        mon_pdu::laws::counts();
+        mon_pdu::laws::shrinks();
+        let limit = self.mib.settings.limit;
+        let Some(count) = count_bindings(&message.body) else {
+            return Ok(Ready::Answer(send_too_big(alloc, message, limit)?));
+        };
+        let response = returned(message, NO_ERROR, count);
+        let Some(size) = size_within(&response, limit) else {
+            return Ok(Ready::Answer(send_too_big(alloc, response, limit)?));
+        };
+        let bindings = response.body.bindings();
+        match self
+            .mib
+            .test_set(alloc, &self.policy, access, bindings, moment)
+        {
+            Ok(plan) => Ok(Ready::Assign(Assigning {
+                plan,
+                response,
+                room: Vec::with_capacity(alloc, size)?,
+            })),
+            Err(fault) => Ok(Ready::Answer(refused(alloc, response, size, fault)?)),
+        }
+    }
+
+    /// Assigns what a Set asks for, and writes its response. Takes no memory.
+    pub(crate) fn assign(&mut self, set: Assigning) -> Vec<u8>
+        requires { HasRoom set }
+        ensures assigned { (outcome : AnyCommit) × IsCommitted D.held D.refuses set.plan (D.held self.old.mib.device) (D.held self.new.mib.device) outcome
+            × (D.failed self.new.mib.device ≡ failures_of outcome (D.failed self.old.mib.device))
+            × (result.items ≡ written_message (returned set.response (status_of outcome) (pos (place_of outcome)))) }
+        ensures shorter { length result.items ≤ length (written_message set.response) }
+
+        // The rest stays.
+        ensures policy { self.new.policy ≡ self.old.policy }
+        ensures settings { self.new.mib.settings ≡ self.old.mib.settings }
+        ensures counters { self.new.mib.counters ≡ self.old.mib.counters }
+    {
+        mon_pdu::laws::shrinks();
+        let Assigning {
+            plan,
+            response,
+            room,
+        } = set;
+        let (error_status, place) = error_of(&self.mib.commit(plan));
+        let response = returned(response, error_status, index_of(place));
+        let mut octets = room;
+        write_within(&mut octets, &response);
+        octets
+    }
+}
+
+/// How many variable bindings a PDU has, unless they are too many for an error index.
+fn count_bindings(body: &Body) -> Option<i32>
+    ensures some { IfSome result (λ count. count ≡ pos (length (bindings_of body.now))) }
+    ensures none { IfNone result (2 ^ 31 ≤ length (bindings_of body.now)) }
+{
+    i32::try_from(body.bindings().len()).ok()
+}
+
+/// The response to a Set of which a variable binding is refused, in so many octets.
+fn refused(
+    alloc: Global,
+    response: Message,
+    size: usize,
+    fault: SetFault,
+) -> Result<Reply, AgentFault>
+    requires greatest { response ≡ greatest response }
+    requires few { length (bindings_of response.body) < 2 ^ 31 }
+    requires number { IsNumbered (length (bindings_of response.body)) fault }
+    requires size { size ≡ length (written_message response) }
+    requires small { size < 2 ^ 32 }
+    ensures { IfOk result (IsReturned response fault) }
+{
+    mon_pdu::laws::shrinks();
+    match fault {
+        SetFault::OutOfMemory => Err(AgentFault::OutOfMemory),
+        SetFault::Refused { status, index } => {
+            let response = returned(response, status.number(), index_of(index));
+            Ok(Reply::Send(write(alloc, &response, size)?))
+        }
+    }
+}
+
+/// The error status of what assigning has come to, and the number of the variable binding that its error index names.
+fn error_of(commit: &Commit) -> (i32, usize)
+    ensures status { result.0 ≡ status_of commit.now }
+    ensures place { result.1 ≡ place_of commit.now }
+{
+    match commit {
+        Commit::Done => (NO_ERROR, 0),
+        Commit::CommitFailed(failed) => (COMMIT_FAILED, *failed),
+        Commit::UndoFailed { .. } => (UNDO_FAILED, 0),
+    }
+}
+
+/// The error index that names a variable binding.
+fn index_of(place: usize) -> i32
+    requires { place < 2 ^ 31 }
+    ensures { result ≡ pos place }
+{
+    place as i32
+}

@@ -1,0 +1,133 @@
+//! Responses, and whether they are sent (RFC 3416 section 4.2).
+
+ghost use Rattle.std.specs.Prelude.{◌≡◌, ◌≤◌, ◌↔◌, pos, length, IfOk, IfSome, IfNone};
+ghost use Rattle.mon_pdu.specs.Grammar.{bindings_of, first_of};
+ghost use Rattle.mon_pdu.specs.Writing.{HasLength, written_message};
+ghost use Rattle.mon_agent.specs.Assigned.{returned};
+ghost use Rattle.mon_agent.specs.Reply.{Fits, IsAbove, IsOut, response_body, too_big};
+
+use crate::growing::is_within;
+use crate::reply::{Reply, Silence};
+use mon_ber::Octets;
+use mon_pdu::{Binding, Bindings, Body, Message, Pdu, PduKind, message_size, write_within};
+use std::alloc::{AllocError, Global};
+
+/// noError (RFC 3416 section 3).
+pub(crate) const NO_ERROR: i32 = 0;
+
+/// tooBig (RFC 3416 section 3).
+const TOO_BIG: i32 = 1;
+
+/// The response without an error.
+pub(crate) fn answered(community: Octets, request_id: i32, answers: Vec<Binding>) -> Message
+    ensures { result ≡ record { community = community; body = response_body request_id (pos 0) (pos 0) answers.items } }
+{
+    Message {
+        community,
+        body: response_body(request_id, NO_ERROR, 0, Bindings::new(answers)),
+    }
+}
+
+/// The response to a message that has the variable bindings of the message itself, with this error.
+pub(crate) fn returned(message: Message, error_status: i32, error_index: i32) -> Message
+    ensures { result ≡ returned message error_status error_index }
+{
+    Message {
+        community: message.community,
+        body: returned_body(message.body, error_status, error_index),
+    }
+}
+
+fn returned_body(body: Body, error_status: i32, error_index: i32) -> Body
+    ensures { result ≡ response_body (first_of body) error_status error_index (bindings_of body) }
+{
+    match body {
+        Body::Pdu(pdu) => response_body(pdu.request_id, error_status, error_index, pdu.bindings),
+        Body::Bulk(bulk) => {
+            response_body(bulk.request_id, error_status, error_index, bulk.bindings)
+        }
+    }
+}
+
+/// A Response-PDU.
+fn response_body(request_id: i32, error_status: i32, error_index: i32, bindings: Bindings) -> Body
+    ensures { result ≡ response_body request_id error_status error_index bindings }
+{
+    Body::Pdu(Pdu {
+        kind: PduKind::Response,
+        request_id,
+        error_status,
+        error_index,
+        bindings,
+    })
+}
+
+/// Sends a response, or tooBig in its place where it is above the limit, or nothing where both are.
+pub(crate) fn send(alloc: Global, reply: Message, limit: i32) -> Result<Reply, AllocError>
+    ensures { IfOk result (IsOut limit reply reply) }
+{
+    match size_within(&reply, limit) {
+        Some(size) => Ok(Reply::Send(write(alloc, &reply, size)?)),
+        None => send_too_big(alloc, reply, limit),
+    }
+}
+
+/// Sends tooBig in the place of a response that is above the limit, or nothing where tooBig is above it too.
+pub(crate) fn send_too_big(alloc: Global, reply: Message, limit: i32) -> Result<Reply, AllocError>
+    requires { IsAbove limit reply }
+    ensures { IfOk result (IsOut limit reply reply) }
+{
+    let too_big = too_big(alloc, reply);
+    match size_within(&too_big, limit) {
+        Some(size) => Ok(Reply::Send(write(alloc, &too_big, size)?)),
+        None => Ok(Reply::Silent(Silence::TooBigTwice)),
+    }
+}
+
+/// The response that says that no response fits.
+fn too_big(alloc: Global, reply: Message) -> Message
+    ensures { result ≡ too_big reply }
+{
+    let request_id = request_id(&reply.body);
+    Message {
+        community: reply.community,
+        body: response_body(request_id, TOO_BIG, 0, Bindings::new(Vec::new(alloc))),
+    }
+}
+
+/// The number by which a response is matched with its request.
+fn request_id(body: &Body) -> i32
+    ensures { result ≡ first_of body.now }
+{
+    match body {
+        Body::Pdu(pdu) => pdu.request_id,
+        Body::Bulk(bulk) => bulk.request_id,
+    }
+}
+
+/// The size of a message in octets, where it is within a limit.
+pub(crate) fn size_within(message: &Message, limit: i32) -> Option<usize>
+    ensures size { IfSome result (λ size. size ≡ length (written_message message.now)) }
+    ensures length { IfSome result (λ size. HasLength message.now) }
+    ensures within { IfSome result (λ size. Fits limit message.now) }
+    ensures above { IfNone result (IsAbove limit message.now) }
+{
+    let Ok(size) = message_size(message) else {
+        return None;
+    };
+    if !is_within(size, limit) {
+        return None;
+    }
+    Some(size)
+}
+
+/// Writes a message that takes so many octets at most.
+pub(crate) fn write(alloc: Global, message: &Message, size: usize) -> Result<Vec<u8>, AllocError>
+    requires length { HasLength message.now }
+    requires size { length (written_message message.now) ≤ size }
+    ensures { IfOk result (λ octets. octets.items ≡ written_message message.now) }
+{
+    let mut octets = Vec::with_capacity(alloc, size)?;
+    write_within(&mut octets, message);
+    Ok(octets)
+}

@@ -1,0 +1,70 @@
+//! Where definitions stand, by their names.
+
+ghost use Rattle.std.specs.Prelude.{◌≡◌, ◌++◌, IfOk, OnOk, IfSome, IfNone, true, false};
+ghost use Rattle.mon_smi.specs.Names.{IsAt, IsOneOf, IsUndefined, AreDistinct};
+ghost use Rattle.mon_smi.specs.Places.{AreFound, IsAgain};
+ghost use Rattle.mon_smi.specs.declared.definition.Definition.{Definition as AnyDefinition};
+
+use crate::definition::Definition;
+use std::alloc::{AllocError, Global};
+use std::collections::BTreeMap;
+
+/// The place of the first definition whose name an earlier one has.
+pub fn first_twice(alloc: Global, defs: &[Definition]) -> Result<Option<usize>, AllocError>
+    ensures some { IfOk result (λ found. IfSome found (λ i. (d : AnyDefinition) × IsAgain defs.now i d)) }
+    ensures none { IfOk result (λ found. IfNone found (AreDistinct defs.now)) }
+{
+    let mut places = BTreeMap::new(alloc);
+    for (i, definition) in defs.iter().enumerate() {
+        if places.insert(definition.name.as_str(), i)?.is_some() {
+            return Ok(Some(i));
+        }
+    }
+    Ok(None)
+}
+
+/// Adds the places of these definitions behind those that are known.
+pub fn add_places(
+    alloc: Global,
+    places: &mut BTreeMap<String, usize>,
+    known: &[Definition],
+    defs: &[Definition],
+) -> Result<(), AllocError>
+    requires found { AreFound places.old known.now }
+    requires distinct { AreDistinct (known.now ++ defs.now) }
+    ensures found { OnOk result (AreFound places.new (known.now ++ defs.now)) }
+    ensures kept { AreFound places.new known.now }
+{
+    for (i, definition) in defs.iter().enumerate() {
+        let name = String::from_str(alloc, definition.name.as_str())?;
+        places.insert(name, known.len() + i)?;
+    }
+    Ok(())
+}
+
+/// Where the name is defined.
+pub fn position(places: &BTreeMap<String, usize>, defs: &[Definition], name: &str) -> Option<usize>
+    requires { AreFound places.now defs.now }
+    ensures found { IfSome result (λ i. (d : AnyDefinition) × IsAt defs.now i d × (d.name ≡ name.now)) }
+    ensures none { IfNone result (IsUndefined defs.now name.now) }
+{
+    let Some(place) = places.get(name) else {
+        return None;
+    };
+    let Some(definition) = defs.get(*place) else {
+        return None;
+    };
+    if definition.name.as_str() != name {
+        return None;
+    }
+    Some(*place)
+}
+
+/// Whether the name is defined.
+pub fn is_defined(places: &BTreeMap<String, usize>, defs: &[Definition], name: &str) -> bool
+    requires { AreFound places.now defs.now }
+    ensures defined { result ≡ true → (d : AnyDefinition) × IsOneOf defs.now d × (d.name ≡ name.now) }
+    ensures undefined { result ≡ false → IsUndefined defs.now name.now }
+{
+    position(places, defs, name).is_some()
+}
