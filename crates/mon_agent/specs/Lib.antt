@@ -5,4 +5,5 @@ pub mod Fault
 pub mod Growing
 pub mod Ready
 pub mod Reply
+pub mod Silence
 pub mod Step

@@ -1,5 +1,8 @@
 //! What an agent does about a datagram.
 
+ghost use Rattle.std.specs.Prelude.{◌≡◌};
+ghost use Rattle.mon_agent.specs.Silence.{number_of, name_of};
+
 /// Why a datagram is not answered, in the order of the causes' numbers.
 #[derive(Clone, Copy, Debug, PartialEq, Eq)]
 pub enum Silence {
@@ -13,6 +16,28 @@ pub enum Silence {
     NotARequest = 4,
     /// Neither the response nor tooBig is within the limit; snmpSilentDrops counts it.
     TooBigTwice = 5,
+}
+
+impl Silence {
+    /// The number that a printed line gives the cause.
+    pub fn number(self) -> u8
+        ensures { result ≡ number_of self }
+    {
+        self as u8
+    }
+
+    /// The name that a printed line gives the cause: the variant's.
+    pub fn name(self) -> &'static str
+        ensures { result.now ≡ name_of self }
+    {
+        match self {
+            Silence::BadMessage => "BadMessage",
+            Silence::BadVersion => "BadVersion",
+            Silence::BadCommunity => "BadCommunity",
+            Silence::NotARequest => "NotARequest",
+            Silence::TooBigTwice => "TooBigTwice",
+        }
+    }
 }
 
 /// What an agent does about a datagram.

@@ -8,17 +8,15 @@ mod agent;
 #[cfg(test)]
 mod client;
 #[cfg(test)]
-mod g;
-#[cfg(test)]
 mod mib;
 #[cfg(test)]
 mod serving;
 #[cfg(test)]
 mod set;
 #[cfg(test)]
-mod sets;
-#[cfg(test)]
 mod settings;
+#[cfg(test)]
+mod small_agent;
 #[cfg(test)]
 mod vacm;
 #[cfg(test)]

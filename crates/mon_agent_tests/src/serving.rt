@@ -1,6 +1,6 @@
 //! An agent and its client over sockets, in turn on one thread.
 
-use crate::g::{GET, RESPONSE, TEXT, agent};
+use crate::small_agent::{GET, RESPONSE, TEXT, agent};
 use mon_agent::Agent;
 use mon_app::{AppFault, Heard, Port, SocketPort, SocketWire, Wire, serve_one};
 use mon_mib::{Counter, SimDevice};

@@ -1,6 +1,6 @@
 //! Setting variables of a device that fails when it is told to.
 
-use crate::g::{TEXT, changed, moment, octets, oid, settings};
+use crate::small_agent::{TEXT, moment, octets, oid, settings};
 use mon_ber::Value;
 use mon_mib::{
     AdminStatus, Change, Commit, Device, DeviceFault, FuseDevice, Got, IfText, Interface, Mib,

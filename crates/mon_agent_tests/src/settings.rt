@@ -1,4 +1,4 @@
-use crate::g::{TEXT, changed, oid, settings};
+use crate::small_agent::{TEXT, changed, oid, settings};
 use mon_mib::Growth;
 use mon_settings::{Addr, AgentSettings, Key, SettingsFault};
 use mon_vacm::{Decision, Denied, Need, Policy};

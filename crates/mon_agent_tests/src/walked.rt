@@ -1,6 +1,6 @@
 //! The client commands over a wire in memory, at whose other end an agent answers.
 
-use crate::g::{TEXT, agent, moment, oid};
+use crate::small_agent::{TEXT, agent, moment, oid};
 use mon_agent::{Agent, Reply};
 use mon_app::{AppFault, Asking, Heard, Question, Repeats, Wire, answer_text, walk};
 use mon_mib::{Moment, SimDevice};

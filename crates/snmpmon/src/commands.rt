@@ -2,6 +2,7 @@
 
 ghost use Rattle.std.specs.Prelude.{◌≤◌};
 
+use crate::answering::answers;
 use crate::fault::Fault;
 use crate::listing::list;
 use crate::words::command;
@@ -12,9 +13,9 @@ use mon_app::{
     AppFault, Asking, Question, Repeats, SocketPort, SocketWire, ValueKind, answer_text, read_all,
     room, serve_one, value_of,
 };
-use mon_mib::SimDevice;
+use mon_mib::{FuseDevice, Moment, SimDevice};
 use mon_oid::Oid;
-use mon_settings::read_agent;
+use mon_settings::{AgentSettings, read_agent};
 use mon_smi::Names;
 use std::alloc::Global;
 use std::fs::File;
@@ -89,6 +90,7 @@ fn run<R: Clock + Files + Net + Input + Print + Eprint + AllocGlobal>(
         Some(("walk", words)) => walk(rt, words),
         Some(("set", words)) => set(rt, words),
         Some(("agent", words)) => agent(rt, words),
+        Some(("answer", words)) => answer(rt, words),
         Some(("mib", words)) => mib(rt, words),
         Some((_, words)) => replay(rt, size_of(words)),
         None => replay(rt, USUAL_SIZE),
@@ -221,11 +223,7 @@ fn agent<R: Clock + Files + Net + Eprint + AllocGlobal>(
     rt: &R,
     words: &ArgMatches<'_>,
 ) -> Result<(), Fault> {
-    let text = read_text(rt, words.get_str("SETTINGS").unwrap_or(""))?;
-    let mut told = read_agent(rt.alloc(), &text)?;
-    if let Some(boots) = words.get_one::<i32>("boots") {
-        told.settings.boots = boots;
-    }
+    let told = told_of(rt, words)?;
     let listen = SocketAddrV4::new(Ipv4Addr::from(told.listen.octets), told.listen.port);
     let device = SimDevice::new(told.interfaces, told.texts)?;
     let mut agent = Agent::new(told.policy, told.settings, device);
@@ -236,6 +234,35 @@ fn agent<R: Clock + Files + Net + Eprint + AllocGlobal>(
     for _ in 0..words.get_one::<u32>("count").unwrap_or(0) {
         serve_one(rt.alloc(), &mut port, &mut agent, room.as_mut_slice())?;
     }
+    Ok(())
+}
+
+/// What the file of an agent's settings says, with the boots that the words may give.
+fn told_of<R: Files + AllocGlobal>(rt: &R, words: &ArgMatches<'_>) -> Result<AgentSettings, Fault> {
+    let text = read_text(rt, words.get_str("SETTINGS").unwrap_or(""))?;
+    let mut told = read_agent(rt.alloc(), &text)?;
+    if let Some(boots) = words.get_one::<i32>("boots") {
+        told.settings.boots = boots;
+    }
+    Ok(told)
+}
+
+/// Prints what the agent of the settings answers to the datagrams on standard input.
+fn answer<R: Files + Input + Print + AllocGlobal>(
+    rt: &R,
+    words: &ArgMatches<'_>,
+) -> Result<(), Fault> {
+    let told = told_of(rt, words)?;
+    let simulated = SimDevice::new(told.interfaces, told.texts)?;
+    let device = FuseDevice::new(simulated, words.get_one::<u64>("fuses").unwrap_or(0));
+    let mut agent = Agent::new(told.policy, told.settings, device);
+    let Some(at) = Moment::new(words.get_one::<u64>("at").unwrap_or(0)) else {
+        return Err(Fault::App(AppFault::BadText));
+    };
+    let times = words.get_one::<u32>("times").unwrap_or(1);
+    let text = text_of(read_all(rt.alloc(), &mut rt.reader())?)?;
+    let lines = answers(rt.alloc(), &mut agent, &text, at, times)?;
+    io::writer(rt).write_all(lines.as_bytes())?;
     Ok(())
 }
 
@@ -250,6 +277,10 @@ fn mib<R: Files + Print + AllocGlobal>(rt: &R, words: &ArgMatches<'_>) -> Result
 /// The text of a file.
 fn read_text<R: Files + AllocGlobal>(rt: &R, path: &str) -> Result<String, Fault> {
     let mut file = File::open(rt, path)?;
-    let octets = read_all(rt.alloc(), &mut file)?;
+    text_of(read_all(rt.alloc(), &mut file)?)
+}
+
+/// The text of octets in UTF-8.
+fn text_of(octets: Vec<u8>) -> Result<String, Fault> {
     String::from_utf8(octets).map_err(|_| Fault::App(AppFault::BadText))
 }

@@ -3,6 +3,7 @@
 //! Statuses: 0; 1 with one line on standard error that names the fault; 2 for a command line that it cannot read.
 #![tactic(auto)]
 
+mod answering;
 mod commands;
 mod fault;
 mod listing;

@@ -189,11 +189,17 @@ A fault in SETTINGS ends the command before it listens, with one line as `snmpmo
 
 Example: snmpmon agent examples/agent.toml --count 1000";
 
-fn agent<'a>(alloc: Global) -> Result<Command<'a>, AllocError> {
-    let boots = Arg::new(alloc, "boots")
+const SETTINGS: &str = "The settings of the agent, a TOML file";
+
+/// The boots in place of the settings'.
+fn boots<'a>(alloc: Global) -> Arg<'a> {
+    Arg::new(alloc, "boots")
         .long("boots")
         .value_parser(value_parser!(i32).range(1..))
-        .help("snmpEngineBoots, 1 to 2147483647, in place of the settings'");
+        .help("snmpEngineBoots, 1 to 2147483647, in place of the settings'")
+}
+
+fn agent<'a>(alloc: Global) -> Result<Command<'a>, AllocError> {
     let count = needed(
         alloc,
         "count",
@@ -204,9 +210,62 @@ fn agent<'a>(alloc: Global) -> Result<Command<'a>, AllocError> {
     Command::new(alloc, "agent")
         .about(AGENT)
         .long_about(AGENT_MORE)
-        .arg(needed(alloc, "SETTINGS", "The settings of the agent, a TOML file"))?
-        .arg(boots)?
+        .arg(needed(alloc, "SETTINGS", SETTINGS))?
+        .arg(boots(alloc))?
         .arg(count)
+}
+
+const ANSWER: &str = "Prints what an agent answers to recorded datagrams, without a socket";
+
+const ANSWER_MORE: &str =
+    "Reads SETTINGS as `agent` does, and datagrams from standard input, one a line, in hex digits. A new agent gets them in turn,
+and a line is printed for each; lines that are empty or begin with # are passed over:
+
+  its reply in hex digits   the octets that the agent would send
+  silent 1 BadMessage       the octets begin with no message
+  silent 2 BadVersion       a message of another version than SNMPv2c
+  silent 3 BadCommunity     the community is unknown
+  silent 4 NotARequest      a message, and no request
+  silent 5 TooBigTwice      neither the reply nor tooBig is within the limit
+  refused BadHex            not pairs of hex digits; the agent gets nothing
+
+The agent's clock stands. With --fuses its device fails some of the changes that Sets ask of it, so that one sees what the agent
+answers then and what it undoes.
+
+Example: snmpmon answer examples/agent.toml < examples/requests.hex";
+
+/// A number that may be given, in decimal.
+fn given<'a>(alloc: Global, id: &'a str, help: &'a str) -> Arg<'a> {
+    Arg::new(alloc, id).long(id).help(help)
+}
+
+fn answer<'a>(alloc: Global) -> Result<Command<'a>, AllocError> {
+    let at = given(
+        alloc,
+        "at",
+        "Where the clock stands, in hundredths of a second after the start, 0 to 214748364799; 0 if not given",
+    )
+    .value_parser(value_parser!(u64).range(0..=214_748_364_799));
+    let fuses = given(
+        alloc,
+        "fuses",
+        "The device fails its change number k, from 0, where bit k of this number is 1; 0 if not given",
+    )
+    .value_parser(value_parser!(u64));
+    let times = given(
+        alloc,
+        "times",
+        "How many times each datagram comes, 1 to 4294967295; its last reply is printed; 1 if not given",
+    )
+    .value_parser(value_parser!(u32).range(1..));
+    Command::new(alloc, "answer")
+        .about(ANSWER)
+        .long_about(ANSWER_MORE)
+        .arg(needed(alloc, "SETTINGS", SETTINGS))?
+        .arg(boots(alloc))?
+        .arg(at)?
+        .arg(fuses)?
+        .arg(times)
 }
 
 const MIB: &str = "Prints the names that a module defines";
@@ -239,5 +298,6 @@ pub fn command<'a>(alloc: Global) -> Result<Command<'a>, AllocError> {
         .subcommand(walk(alloc)?)?
         .subcommand(set(alloc)?)?
         .subcommand(agent(alloc)?)?
+        .subcommand(answer(alloc)?)?
         .subcommand(mib(alloc)?)
 }

@@ -1,11 +1,9 @@
 //! The small agent that the tests ask: its settings, and the agent that they make.
 
 use mon_agent::Agent;
-use mon_app::{Question, request};
 use mon_ber::Octets;
 use mon_mib::{Interface, Moment, Settings, SimDevice, SysTexts};
 use mon_oid::{Oid, OidFault};
-use mon_pdu::{Message, PduFault, read_message, write_message};
 use mon_settings::{AgentSettings, SettingsFault, read_agent};
 use mon_vacm::Policy;
 use std::alloc::{AllocError, Global};
@@ -81,16 +79,6 @@ pub(crate) fn oid(alloc: Global, text: &str) -> Result<Oid, OidFault> {
 
 pub(crate) fn octets(alloc: Global, bytes: &[u8]) -> Result<Octets, AllocError> {
     Octets::from_slice(alloc, bytes)
-}
-
-pub(crate) fn read(alloc: Global, bytes: &[u8]) -> Result<Message, PduFault> {
-    read_message(alloc, bytes)
-}
-
-/// The datagram that asks.
-pub(crate) fn written(alloc: Global, question: &Question<'_>) -> Result<Vec<u8>, Fail> {
-    let message = request(alloc, question)?;
-    Ok(write_message(alloc, &message)?)
 }
 
 /// The settings with another text in the place of the first that is spelled so.
