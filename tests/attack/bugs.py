@@ -13,7 +13,7 @@ BUGS = {
         ('src/number.rt', '    if *first < 0x80 {',
          '    if *first <= 0x80 {'),
         ('src/number.rt', '    Ok(-1 - (limit - 1 - number) as i128)',
-         '    Ok(-(limit - 1 - number) as i128)'),
+         '    Ok(0 - (limit - 1 - number) as i128)'),
         ('src/name.rt', '    if number < 40 {',
          '    if number <= 40 {'),
         ('src/name.rt', '        return Ok((1, number as u32 - 40));',
