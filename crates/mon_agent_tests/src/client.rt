@@ -1,6 +1,7 @@
 //! The client commands over a wire in memory.
 
-use mon_app::{AppFault, Asking, Heard, Question, Repeats, Wire, answer_text, request};
+use crate::small_agent::question;
+use mon_app::{AppFault, Asking, Heard, Repeats, Wire, answer_text, request};
 use mon_ber::{Octets, Value};
 use mon_oid::Oid;
 use mon_pdu::write_message;
@@ -66,13 +67,7 @@ fn octets(alloc: Global, text: &str) -> Result<Vec<u8>, AllocError> {
 /// The text that the wire's datagrams come to, for a Get of sysName.0.
 fn answered(alloc: Global, heard: Vec<Vec<u8>>, community: &[u8]) -> Result<String, AppFault> {
     let names = names(alloc)?;
-    let asking = Asking::Get;
-    let question = Question {
-        asking,
-        request_id: 7,
-        community,
-        names: names.as_slice(),
-    };
+    let question = question(Asking::Get, community, names.as_slice());
     let mut wire = Memory {
         heard,
         turn: 0,
@@ -90,12 +85,7 @@ fn names(alloc: Global) -> Result<Vec<Oid>, AllocError> {
 
 fn written(alloc: Global, asking: Asking<'_>) -> Result<Vec<u8>, AppFault> {
     let names = names(alloc)?;
-    let question = Question {
-        asking,
-        request_id: 7,
-        community: b"public",
-        names: names.as_slice(),
-    };
+    let question = question(asking, b"public", names.as_slice());
     Ok(write_message(alloc, &request(alloc, &question)?)?)
 }
 

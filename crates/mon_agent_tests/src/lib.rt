@@ -10,10 +10,6 @@ mod client;
 #[cfg(test)]
 mod mib;
 #[cfg(test)]
-mod serving;
-#[cfg(test)]
-mod set;
-#[cfg(test)]
 mod settings;
 #[cfg(test)]
 mod small_agent;

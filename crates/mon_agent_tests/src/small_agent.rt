@@ -1,6 +1,7 @@
 //! The small agent that the tests ask: its settings, and the agent that they make.
 
 use mon_agent::Agent;
+use mon_app::{Asking, Question};
 use mon_ber::Octets;
 use mon_mib::{Interface, Moment, Settings, SimDevice, SysTexts};
 use mon_oid::{Oid, OidFault};
@@ -84,6 +85,20 @@ pub(crate) fn octets(alloc: Global, bytes: &[u8]) -> Result<Octets, AllocError> 
 /// The settings with another text in the place of the first that is spelled so.
 pub(crate) fn changed(alloc: Global, old: &str, new: &str) -> Result<String, AllocError> {
     TEXT.replacen(alloc, old, new, 1)
+}
+
+/// The question under request-id 7.
+pub(crate) fn question<'a>(
+    asking: Asking<'a>,
+    community: &'a [u8],
+    names: &'a [Oid],
+) -> Question<'a> {
+    Question {
+        asking,
+        request_id: 7,
+        community,
+        names,
+    }
 }
 
 pub(crate) fn moment(hundredths: u64) -> Result<Moment, Fail> {

@@ -25,18 +25,18 @@ pub fn serve_one<P: Port, D: Device + Drop>(
     // A served datagram counts as one message, and at most one is sent for it.
     ensures counted { OnOk result (agent.new.mib.counters.in_packets ≡ one_more agent.old.mib.counters.in_packets) }
     ensures sends { GrowsByAtMost 1 (P.sends port.old) (P.sends port.new) }
-    // What one answer makes of its counters and its device.
+    // What the answer to the datagram in the room makes of its counters and its device.
     ensures served { OnOk result (IsServed D.held D.failed D.refuses agent.old.policy agent.old.mib.settings
-        agent.old.mib.counters agent.new.mib.counters agent.old.mib.device agent.new.mib.device) }
-    // Where it fails the agent is as it was, or as one answer made it.
+        agent.old.mib.counters agent.new.mib.counters agent.old.mib.device agent.new.mib.device room.new) }
+    // Where it fails the agent is as it was, or as that answer made it.
     ensures fault { OnErr result ((agent.new ≡ agent.old) ⊎ IsServed D.held D.failed D.refuses agent.old.policy agent.old.mib.settings
-        agent.old.mib.counters agent.new.mib.counters agent.old.mib.device agent.new.mib.device) }
+        agent.old.mib.counters agent.new.mib.counters agent.old.mib.device agent.new.mib.device room.new) }
     // The agent's policy and settings stay.
     ensures policy { agent.new.policy ≡ agent.old.policy }
     ensures settings { agent.new.mib.settings ≡ agent.old.mib.settings }
 {
     let received = port.receive(room)?;
-    agent.mib.counters.count(mon_mib::Counter::SilentDrops); match agent.answer(alloc, &room[..received.len], received.moment)? {
+    match agent.answer(alloc, &room[..received.len], received.moment)? {
         Reply::Send(octets) => port.reply(&octets),
         Reply::Silent(_) => Ok(()),
     }
