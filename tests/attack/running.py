@@ -33,6 +33,15 @@ class Agent:
             host, port = self.said.split()[-1].split(":")
             self.address = host, int(port)
             self.said = ""
+        os.set_blocking(self.process.stderr.fileno(), False)
+
+    def hear(self):
+        """How many lines it has said on standard error, beside where it listens."""
+        try:
+            self.said += os.read(self.process.stderr.fileno(), 65536).decode()
+        except BlockingIOError:
+            pass
+        return self.said.count("\n")
 
     def ended(self, seconds):
         """Waits so long for its end. Its status (None where it goes on), and what it said on standard error beside where it listens."""
@@ -40,7 +49,8 @@ class Agent:
             self.process.wait(seconds)
         except subprocess.TimeoutExpired:
             return None, "it had not ended"
-        return self.process.returncode, self.said + self.process.stderr.read().decode()
+        self.hear()
+        return self.process.returncode, self.said
 
     def __enter__(self):
         return self

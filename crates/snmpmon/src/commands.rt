@@ -72,11 +72,16 @@ fn unreadable(rt: &impl Eprint) -> u8 {
     2
 }
 
-/// Prints the fault's line. Where that fails too, the status alone tells.
+/// Prints the fault's line, and answers the status. Where printing fails too, the status alone tells.
 fn failed(rt: &impl Eprint, fault: Fault) -> u8 {
+    tell(rt, fault);
+    1
+}
+
+/// Prints the fault's line.
+fn tell(rt: &impl Eprint, fault: Fault) {
     let (number, name, of) = (fault.number(), fault.name(), fault.of());
     let _ = eprintln!(rt; "snmpmon: {of} {number} {name}");
-    1
 }
 
 fn run<R: Clock + Files + Net + Input + Print + Eprint + AllocGlobal>(
@@ -218,7 +223,7 @@ fn repeats(words: &ArgMatches<'_>) -> Repeats {
     }
 }
 
-/// Serves the agent of the settings, so many datagrams.
+/// Serves the agent of the settings, so many datagrams. Want of memory for one of them is told, and leaves the agent as it was.
 fn agent<R: Clock + Files + Net + Eprint + AllocGlobal>(
     rt: &R,
     words: &ArgMatches<'_>,
@@ -232,7 +237,10 @@ fn agent<R: Clock + Files + Net + Eprint + AllocGlobal>(
     let at = port.address()?;
     let _ = eprintln!(rt; "snmpmon: agent at {at}");
     for _ in 0..words.get_one::<u32>("count").unwrap_or(0) {
-        serve_one(rt.alloc(), &mut port, &mut agent, room.as_mut_slice())?;
+        match serve_one(rt.alloc(), &mut port, &mut agent, room.as_mut_slice()) {
+            Err(AppFault::OutOfMemory) => tell(rt, Fault::App(AppFault::OutOfMemory)),
+            served => served?,
+        }
     }
     Ok(())
 }

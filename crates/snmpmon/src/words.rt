@@ -185,7 +185,8 @@ const AGENT_MORE: &str =
     "Reads SETTINGS, a TOML file (examples/agent.toml explains each key), listens at the address in it, says on standard
 error where, and answers so many datagrams: Get, GetNext, GetBulk and Set requests of the communities in the settings.
 
-A fault in SETTINGS ends the command before it listens, with one line as `snmpmon: mon_settings 4 BadValue`.
+A fault in SETTINGS ends the command before it listens, with one line as `snmpmon: mon_settings 4 BadValue`. A datagram for which
+memory runs out is not answered and changes nothing: the line `snmpmon: mon_app 1 OutOfMemory` tells, and the agent goes on.
 
 Example: snmpmon agent examples/agent.toml --count 1000";
 
