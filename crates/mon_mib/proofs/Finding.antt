@@ -1,47 +1,57 @@
--- Going over the objects in order finds the one that a name is under.
-use Rattle.std.proofs.Common.{◌≡◌, ◌≢◌, ℕ, ◌+◌, ◌<◌, ◌≤◌, List, [], ◌∷◌, ◌++◌, length, take, get_or, sym, ◌∙◌, ap, subst, add-one, suc, inl, inr}
+-- The name is under the object at the candidate's place, or under none.
+use Rattle.std.proofs.Common.{◌≡◌, ◌≢◌, ℕ, ◌+◌, ◌<◌, List, ◌++◌, length, get_or, refl, sym, ◌∙◌, ap, subst, arith}
 use Rattle.std.specs.Prelude.{Option, Some, None, Contains}
-use Rattle.std.specs.Option.{MatchOption}
 use Rattle.std.specs.Borrow.{Bor}
-use Rattle.std.proofs.Math.Seq.{take-suc}
-use Rattle.std.proofs.lemmas.List.{take_all}
-use Rattle.std.proofs.lemmas.List.Elements.{Contains-append_cases, Contains-get_or}
+use Rattle.std.specs.List.{AllWithin}
+use Rattle.std.specs.Option.{MatchOption}
+use Rattle.std.specs.Ordering.{nat_cmp}
+use Rattle.std.specs.declared.cmp.Ordering.TheVariants.{Less}
+use Rattle.std.proofs.lemmas.Cmp.{by_ranked, ranked}
+use Rattle.std.proofs.lemmas.List.{get_or_default}
+use Rattle.std.proofs.lemmas.List.Elements.{Contains-get_or}
 use Rattle.mon_mib.specs.declared.object.Object.{Object}
 use Rattle.mon_mib.specs.Objects.{objects, prefix_of}
-use Rattle.mon_mib.specs.Next.{IsServed, IsUnder}
-use Rattle.mon_mib.proofs.Search.{one}
+use Rattle.mon_mib.specs.Order.{name_cmp}
+use Rattle.mon_mib.specs.Next.{IsServed}
+use Rattle.mon_mib.proofs.Candidates.{not_shorter}
+use Rattle.mon_mib.proofs.Unique.{itself}
 
 -- what taking a prefix off a name tells
 abbrev pub IsStripped : List ℕ → List ℕ → Option (Bor (List ℕ)) → Type 0
 IsStripped name prefix r = MatchOption r ((rest : List ℕ) → name ≢ prefix ++ rest) (λ x. name ≡ prefix ++ x.now)
 
-pub found_at : (items : List Object) (j : ℕ) (d : Object) (p name : List ℕ) (r : Option (Bor (List ℕ))) (rest : Bor (List ℕ)) → items ≡ objects → j < length items
-    → p ≡ prefix_of (get_or items j d) → IsStripped name p r → r ≡ Some rest
-    → Contains objects (get_or items j d) × (name ≡ prefix_of (get_or items j d) ++ rest.now)
-found_at items j d p name r rest same lt own stripped is =
-    (subst (λ l. Contains l (get_or items j d)) same (Contains-get_or items j d lt), rest_is)
-  where
-    rest_is : name ≡ prefix_of (get_or items j d) ++ rest.now
-    rest_is = subst (λ q. name ≡ q ++ rest.now) own (subst (IsStripped name p) is stripped)
+pub found_at : (items : List Object) (place : ℕ) (d : Object) (p x : List ℕ) (r : Option (Bor (List ℕ))) (rest : Bor (List ℕ)) → items ≡ objects → place < length objects
+    → p ≡ prefix_of (get_or items place d) → IsStripped x p r → r ≡ Some rest
+    → Contains objects (get_or items place d) × (x ≡ prefix_of (get_or items place d) ++ rest.now)
+found_at items place d p x r rest same within own stripped is = (
+  subst (λ l. Contains l (get_or items place d)) same (Contains-get_or items place d (subst (λ l. place < length l) (sym same) within)),
+  subst (λ q. x ≡ q ++ rest.now) own (subst (IsStripped x p) is stripped),
+)
 
-pub goes_past : (items : List Object) (j : ℕ) (d : Object) (p name : List ℕ) (r : Option (Bor (List ℕ))) → items ≡ objects → j < length items
-    → p ≡ prefix_of (get_or items j d) → IsStripped name p r → r ≡ None
-    → ((o : Object) → Contains (take j objects) o → IsUnder o name → ⊥) → (o : Object) → Contains (take (j + 1) objects) o → IsUnder o name → ⊥
-goes_past items j d p name r same lt own stripped is before o at under =
-    let more : take (suc j) objects ≡ take j objects ++ get_or objects j d ∷ [] = take-suc objects j d (subst (λ l. j < length l) same lt) in
-    let within : Contains (take j objects ++ get_or objects j d ∷ []) o = subst (λ l. Contains l o) more (rw add-one at at) in
-    elim (Contains-append_cases (take j objects) (get_or objects j d ∷ []) o within) [
-      | inl earlier ↦ before o earlier under
-      | inr here ↦ other (one (get_or objects j d) o here)
-    ]
+pub none_found : (items : List Object) (place : ℕ) (d : Object) (p x : List ℕ) (r : Option (Bor (List ℕ))) → items ≡ objects
+    → p ≡ prefix_of (get_or items place d) → IsStripped x p r → r ≡ None
+    → AllWithin (λ o. (rest : List ℕ) → name_cmp (prefix_of o ++ rest) x ≡ Less) objects 0 place
+    → AllWithin (λ o. name_cmp x (prefix_of o) ≡ Less) objects (place + 1) (length objects) → ¬ (IsServed x)
+none_found items place d p x r same own stripped is before behind s = by_place s.listed
   where
-    other : o ≡ get_or objects j d → ⊥
-    other is_here = (subst (IsStripped name p) is stripped) under.0 (under.1 ∙ ap (λ q. q ++ under.0) prefix_is)
-      where
-        prefix_is : prefix_of o ≡ p
-        prefix_is = ap prefix_of (is_here ∙ ap (λ l. get_or l j d) (sym same)) ∙ sym own
+    rest : List ℕ
+    rest = s.under.0
 
-pub none_found : (items : List Object) (j : ℕ) (name : List ℕ) → items ≡ objects → length items ≤ j
-    → ((o : Object) → Contains (take j objects) o → IsUnder o name → ⊥) → ¬ (IsServed name)
-none_found items j name same le before s =
-    before s.object (subst (λ l. Contains l s.object) (sym (take_all j objects (subst (λ l. length l ≤ j) same le))) s.listed) s.under
+    named : x ≡ prefix_of s.object ++ rest
+    named = s.under.1
+
+    elsewhere : (k : ℕ) → get_or objects k s.object ≡ s.object → x ≡ prefix_of (get_or objects k s.object) ++ rest
+    elsewhere k at = named ∙ ap (λ o. prefix_of o ++ rest) (sym at)
+
+    under : (k : ℕ) → k < length objects → get_or objects k s.object ≡ s.object → k ≡ place → ⊥
+    under k within at e =
+        let here : get_or items place d ≡ s.object =
+        ap (λ l. get_or l place d) same ∙ (ap (λ n. get_or objects n d) (sym e) ∙ (get_or_default objects k d s.object within ∙ at)) in
+        (subst (IsStripped x p) is stripped) rest (named ∙ ap (λ q. q ++ rest) (sym (own ∙ ap prefix_of here)))
+
+    by_place : Contains objects s.object → ⊥
+    by_place (k, within, at) = by_ranked (k < place) (k ≡ place) (place < k) (nat_cmp k place) (ranked k place (nat_cmp k place) refl)
+        (λ o lt. itself x (subst (λ n. name_cmp n x ≡ Less) (sym (elsewhere k at)) (before k s.object (omega arith) lt rest)))
+        (λ o e. under k within at e)
+        (λ o gt. not_shorter (prefix_of (get_or objects k s.object)) rest
+        (subst (λ n. name_cmp n (prefix_of (get_or objects k s.object)) ≡ Less) (elsewhere k at) (behind k s.object (omega arith) within)))

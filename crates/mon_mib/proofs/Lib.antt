@@ -1,6 +1,7 @@
 pub mod Applying
 pub mod Assigning
 pub mod Both
+pub mod Candidates
 pub mod Counting
 pub mod Finding
 pub mod Identifiers

@@ -19,7 +19,7 @@ use Rattle.mon_mib.proofs.Starts.{apart}
 
 -- ---- the order of names
 
-itself : (x : List ℕ) → name_cmp x x ≢ Less
+pub itself : (x : List ℕ) → name_cmp x x ≢ Less
 itself x is = let turned = nat_list_cmp_total.antisymm x x in cc
 
 -- names of which neither comes first are one

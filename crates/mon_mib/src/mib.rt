@@ -1,10 +1,12 @@
-ghost use Rattle.std.specs.Prelude.{Some, ◌≡◌, ◌^◌, ◌<◌, ◌+◌, ◌/◌, ◌%◌, min, length, IfOk, IfSome, IfNone, [], ◌∷◌, ◌++◌, Contains};
+ghost use Rattle.std.specs.Prelude.{Some, ◌≡◌, ◌^◌, ◌<◌, ◌+◌, ◌/◌, ◌%◌, min, length, IfOk, IfSome, IfNone, [], ◌∷◌, ◌++◌, Contains, ℕ, List};
+ghost use Rattle.std.specs.List.{AllWithin};
+ghost use Rattle.std.specs.declared.cmp.Ordering.TheVariants.{Less};
 ghost use Rattle.mon_mib.specs.Counters.{no_counts};
 ghost use Rattle.mon_mib.specs.Held.{AreIndexes, IsAbove, IsLeastOf, text_at};
 ghost use Rattle.mon_mib.specs.Known.{known_of, instances, value_of, scalar_value, column_value};
 ghost use Rattle.mon_mib.specs.Next.{IsGot, IsNext, IsServed};
 ghost use Rattle.mon_mib.specs.Objects.{objects, prefix_of};
-ghost use Rattle.mon_mib.specs.Order.{IsFrom};
+ghost use Rattle.mon_mib.specs.Order.{IsFrom, name_cmp};
 ghost use Rattle.mon_vacm.specs.View.{IsInView};
 
 use crate::column::Column;
@@ -79,7 +81,8 @@ impl<D: Device + Drop> Mib<D> {
         ensures { let known = known_of self.now.settings self.now.counters (D.held self.now.device) moment in
             IfOk result (IsNext objects known (IsInView policy.now.families access.entry.view.now) name.now) }
     {
-        for object in all_objects() {
+        let place = candidate_place(name.parts());
+        for object in &all_objects()[place..] {
             if let Some(binding) = self.next_of(alloc, *object, policy, access, name, moment)? {
                 return Ok(Some(binding));
             }
@@ -257,12 +260,22 @@ pub(crate) fn find_object(name: &[u32]) -> Option<(Object, &[u32])>
     ensures some { IfSome result (λ found. Contains objects found.0 × (name.now ≡ prefix_of found.0 ++ found.1.now)) }
     ensures none { IfNone result (¬ (IsServed name.now)) }
 {
-    for object in all_objects() {
-        if let Some(rest) = name.strip_prefix(object.prefix()) {
-            return Some((*object, rest));
-        }
-    }
-    None
+    let object = all_objects()[candidate_place(name)];
+    let Some(rest) = name.strip_prefix(object.prefix()) else {
+        return None;
+    };
+    Some((object, rest))
+}
+
+/// The place of the one served object that a name can be under: all names under the objects before it come before the
+/// name, and the objects behind it come behind the name.
+fn candidate_place(name: &[u32]) -> usize
+    ensures within { result < length objects }
+    ensures earlier { AllWithin (λ o. (rest : List ℕ) → name_cmp (prefix_of o ++ rest) name.now ≡ Less) objects 0 result }
+    ensures later { AllWithin (λ o. name_cmp name.now (prefix_of o) ≡ Less) objects (result + 1) (length objects) }
+{
+    let reached = all_objects().partition_point(|object| object.prefix().cmp(&name).is_le());
+    reached.saturating_sub(1)
 }
 
 /// How many interfaces a device has, which is below 2^31.

@@ -1,4 +1,4 @@
-use Rattle.std.proofs.Common.{take}
+use Rattle.std.proofs.Common.{take, ◌+◌}
 use Rattle.std.specs.Prelude.{None}
 use Rattle.mon_vacm.specs.View.{IsInView}
 use Rattle.mon_mib.specs.Known.{known_of}
@@ -9,5 +9,5 @@ use Rattle.mon_mib.proofs.mib.Mib.next.Given as goal
 -- no earlier object has a variable that is wanted
 abbrev pub invariant-loop-object : goal.invariant-loop-object
 invariant-loop-object g l =
-    IsNext (take l.object-index objects) (known_of l.self.settings l.self.counters (g.D.Device.held l.self.device) l.moment)
+    IsNext (take (l.place + l.object-index) objects) (known_of l.self.settings l.self.counters (g.D.Device.held l.self.device) l.moment)
     (IsInView l.policy.families l.access.view.now) l.name None
