@@ -2,7 +2,7 @@
 
 use crate::small_agent::{GET, RESPONSE, TEXT, agent, moment};
 use mon_agent::{Agent, AgentFault, Reply, Silence};
-use mon_mib::{Counter, Moment, SimDevice};
+use mon_mib::{Counter, Device, Moment, SimDevice, SysText};
 use std::alloc::Global;
 use std::test::Fail;
 
@@ -16,6 +16,14 @@ fn answer(
     agent.answer(alloc, datagram, at)
 }
 
+/// The octets that an agent sends; none where it is silent.
+fn sent(reply: &Reply) -> &[u8] {
+    match reply {
+        Reply::Send(octets) => octets.as_slice(),
+        Reply::Silent(_) => &[],
+    }
+}
+
 /// What an agent does at its start about a datagram in hex digits: its reply in hex digits, or why there is none.
 fn heard(alloc: Global, agent: &mut Agent<SimDevice>, datagram: &str) -> Result<String, Fail> {
     let datagram = hex::decode(alloc, datagram)?;
@@ -23,6 +31,45 @@ fn heard(alloc: Global, agent: &mut Agent<SimDevice>, datagram: &str) -> Result<
         Reply::Send(octets) => Ok(hex::encode(alloc, octets.as_slice())?),
         Reply::Silent(cause) => Ok(format!(in alloc; "{cause:?}")?),
     }
+}
+
+/// What an agent answers to a datagram, which comes again where memory was wanting the first time; and whether the agent had counted
+/// nothing then.
+fn answer_again(
+    alloc: Global,
+    agent: &mut Agent<SimDevice>,
+    datagram: &[u8],
+) -> Result<(Reply, bool), Fail> {
+    let before = agent.mib.counters;
+    if let Ok(reply) = answer(alloc, agent, datagram, moment(0)?) {
+        return Ok((reply, true));
+    }
+    let same = agent.mib.counters == before;
+    Ok((answer(alloc, agent, datagram, moment(0)?)?, same))
+}
+
+#[test]
+fn assigns_on_a_repeat(rt: HostRuntime) -> Result<(), Fail> {
+    let alloc = rt.alloc();
+    let mut agent = agent(alloc, TEXT)?;
+    // sysName.0 as `x`.
+    let set = hex::decode(
+        alloc,
+        "3028020101040770726976617465a31a020107020100020100300f300d06082b06010201010500040178",
+    )?;
+    let reply = hex::decode(
+        alloc,
+        "3028020101040770726976617465a21a020107020100020100300f300d06082b06010201010500040178",
+    )?;
+    let (answered, same) = answer_again(alloc, &mut agent, set.as_slice())?;
+    assert!(rt; same, "it counted what it did not answer");
+    assert_eq!(rt; sent(&answered), reply.as_slice());
+    assert_eq!(rt; agent.mib.counters.value(Counter::InPackets), 1);
+    assert_eq!(rt;
+        agent.mib.device.sys_text(SysText::SystemName),
+        b"x".as_slice()
+    );
+    Ok(())
 }
 
 #[test]

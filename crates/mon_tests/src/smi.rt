@@ -202,3 +202,27 @@ fn names_of_a_module(rt: HostRuntime) -> Result<(), Fail> {
     );
     Ok(())
 }
+
+/// Adds a module, a second time where memory was wanting the first time.
+fn add_again(names: &mut Names, alloc: Global, added: &Module) -> Result<(), NamesFault> {
+    match add(names, alloc, added) {
+        Err(NamesFault::OutOfMemory) => add(names, alloc, added),
+        done => done,
+    }
+}
+
+#[test]
+fn adds_on_a_repeat(rt: HostRuntime) -> Result<(), Fail> {
+    let alloc = rt.alloc();
+    let mut names = built_in(alloc)?;
+    let added = sample(alloc)?;
+    add_again(&mut names, alloc, &added)?;
+    let found = resolved(&names, alloc, "exCount.0")?;
+    let wanted = oid(alloc, &[1, 3, 6, 1, 4, 1, 32473, 1, 2, 0])?;
+    assert!(rt; found == wanted);
+    assert_eq!(rt;
+        add(&mut names, alloc, &added).err(),
+        Some(NamesFault::Duplicate)
+    );
+    Ok(())
+}
