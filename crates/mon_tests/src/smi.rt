@@ -126,11 +126,11 @@ fn read(alloc: Global, text: &str) -> Result<Module, TextFault> {
     read_module(alloc, text)
 }
 
-/// The number of the fault of a module's text, or 0.
-fn fault_of(alloc: Global, text: &str) -> u8 {
+/// The name of the fault of a module's text; empty where it is read.
+fn fault_of(alloc: Global, text: &str) -> &'static str {
     match read(alloc, text) {
-        Ok(_) => 0,
-        Err(fault) => fault.number(),
+        Ok(_) => "",
+        Err(fault) => fault.name(),
     }
 }
 
@@ -167,23 +167,21 @@ fn cuts_a_module(rt: HostRuntime) -> Result<(), Fail> {
 #[test]
 fn refuses_texts(rt: HostRuntime) -> Result<(), Fail> {
     let rows = [
-        (EX_MIB, 0),
-        ("A \"b", 2),
-        ("A DEFINITIONS ::= BEGIN x OBJECT", 2),
-        ("EX-MIB DEFINITIONS ::= BEGIN 5 END", 3),
-        ("A ? B", 3),
+        (EX_MIB, ""),
+        ("A \"b", "Unclosed"),
+        ("A DEFINITIONS ::= BEGIN x OBJECT", "Unclosed"),
+        ("EX-MIB DEFINITIONS ::= BEGIN 5 END", "Unexpected"),
+        ("A ? B", "Unexpected"),
         (
             "A DEFINITIONS ::= BEGIN a OBJECT IDENTIFIER ::= { iso 1 } a OBJECT IDENTIFIER ::= { iso 2 } END",
-            4,
+            "Duplicate",
         ),
     ];
-    for (text, number) in rows {
-        assert_eq!(rt; fault_of(rt.alloc(), text), number);
+    for (text, name) in rows {
+        assert_eq!(rt; fault_of(rt.alloc(), text), name);
     }
-    assert_eq!(rt;
-        TextFault::Unexpected(Span { start: 29, end: 30 }).name(),
-        "Unexpected"
-    );
+    let span = Span { start: 29, end: 30 };
+    assert_eq!(rt; TextFault::Unexpected(span).number(), 3);
     Ok(())
 }
 
