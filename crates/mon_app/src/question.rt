@@ -1,4 +1,4 @@
-//! A question to an agent: a Get, GetNext or GetBulk request, and which messages reply to it.
+//! A question to an agent: a Get, GetNext, GetBulk or Set request, and which messages reply to it.
 
 ghost use Rattle.std.specs.Prelude.{◌≡◌, IfOk, map};
 ghost use Rattle.mon_app.specs.Question.{body_of, plain, request_of, asked_in, wanted_value, asked_for, same_names, are_answers, is_reply};
