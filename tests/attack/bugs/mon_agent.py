@@ -1,0 +1,159 @@
+"""Bugs of mon_agent for planted_bugs: by a name the file, what stands there once, and the bug in its place."""
+
+BUGS = {
+    "bulk_repeats_once_too_few": (
+        "src/bulk.rt",
+        "        for _ in 0..rounds {",
+        "        for _ in 1..rounds {",
+    ),
+    "bulk_takes_negative_counts": (
+        "src/bulk.rt",
+        "    number.max(0) as usize",
+        "    number.max(1) as usize",
+    ),
+    "commit_failed_is_gen_err": (
+        "src/assigning.rt",
+        "const COMMIT_FAILED: i32 = 14;",
+        "const COMMIT_FAILED: i32 = 5;",
+    ),
+    "counts_before_nothing": (
+        "src/agent.rt",
+        "        self.mib.counters.count(Counter::InPackets);",
+        "        self.mib.counters.count(Counter::SilentDrops);",
+    ),
+    "denies_with_gen_err": (
+        "src/agent.rt",
+        "const AUTHORIZATION_ERROR: i32 = 16;",
+        "const AUTHORIZATION_ERROR: i32 = 5;",
+    ),
+    "fault_by_another_name": (
+        "src/fault.rt",
+        '            AgentFault::OutOfMemory => "OutOfMemory",',
+        '            AgentFault::OutOfMemory => "NoMemory",',
+    ),
+    "fault_by_number_2": (
+        "src/fault.rt",
+        "            AgentFault::OutOfMemory => 1,",
+        "            AgentFault::OutOfMemory => 2,",
+    ),
+    "refusal_names_none": (
+        "src/assigning.rt",
+        "            let response = returned(response, status.number(), index_of(index));",
+        "            let response = returned(response, status.number(), index_of(index.min(0)));",
+    ),
+    "set_is_no_request": (
+        "src/agent.rt",
+        "        Body::Pdu(pdu) => matches!(pdu.kind, PduKind::Get | PduKind::GetNext | PduKind::Set),",
+        "        Body::Pdu(pdu) => matches!(pdu.kind, PduKind::Get | PduKind::GetNext),",
+    ),
+    "silence_by_another_name": (
+        "src/reply.rt",
+        '            Silence::BadVersion => "BadVersion",',
+        '            Silence::BadVersion => "BadMessage",',
+    ),
+    "silence_by_another_number": (
+        "src/reply.rt",
+        "    TooBigTwice = 5,",
+        "    TooBigTwice = 6,",
+    ),
+    "starts_with_other_counters": (
+        "src/agent.rt",
+        "            mib: Mib::new(settings, device),",
+        "            mib: { let mut mib = Mib::new(settings, device); mib.counters.count(Counter::InPackets); mib },",
+    ),
+    "too_big_is_no_error": (
+        "src/sending.rt",
+        "const TOO_BIG: i32 = 1;",
+        "const TOO_BIG: i32 = 0;",
+    ),
+    "version_is_a_bad_message": (
+        "src/agent.rt",
+        "        PduFault::BadVersion(_) => Some(Silence::BadVersion),",
+        "        PduFault::BadVersion(_) => Some(Silence::BadMessage),",
+    ),
+    "refuses_a_reply_of_the_limit": (
+        "src/growing.rt",
+        "    size <= limit.max(0) as usize",
+        "    size < limit.max(0) as usize",
+    ),
+    "forgets_the_size_of_the_list": (
+        "src/growing.rt",
+        "        self.list = list;\n",
+        "",
+    ),
+    "goes_on_when_full": (
+        "src/growing.rt",
+        "            return false;",
+        "            return true;",
+    ),
+    "stops_a_round_early": (
+        "src/bulk.rt",
+        "        if rounds == 0 {",
+        "        if rounds == 1 {",
+    ),
+    "repeats_as_many_as_once_asked": (
+        "src/bulk.rt",
+        "        self.repeat_all(alloc, reply, access, repeated.len(), rounds - 1, moment)",
+        "        self.repeat_all(alloc, reply, access, once.len(), rounds - 1, moment)",
+    ),
+    "sends_too_big_at_any_size": (
+        "src/sending.rt",
+        "    match size_within(&too_big, limit) {\n        Some(size) => Ok(Reply::Send(write(alloc, &too_big, size)?)),",
+        "    match size_within(&too_big, i32::MAX) {\n        Some(size) => Ok(Reply::Send(write(alloc, &too_big, size)?)),",
+    ),
+    "calls_too_big_no_request": (
+        "src/sending.rt",
+        "        None => Ok(Reply::Silent(Silence::TooBigTwice)),",
+        "        None => Ok(Reply::Silent(Silence::NotARequest)),",
+    ),
+    "puts_the_status_for_the_index": (
+        "src/sending.rt",
+        "        error_index,\n        bindings,\n    })",
+        "        error_index: error_status,\n        bindings,\n    })",
+    ),
+    "answers_undo_failed_by_14": (
+        "src/assigning.rt",
+        "const UNDO_FAILED: i32 = 15;",
+        "const UNDO_FAILED: i32 = 14;",
+    ),
+    "silences_a_set_above_the_limit": (
+        "src/assigning.rt",
+        "            return Ok(Ready::Answer(send_too_big(alloc, response, limit)?));",
+        "            return Ok(Ready::Answer(Reply::Silent(crate::reply::Silence::TooBigTwice)));",
+    ),
+    "returns_one_binding_of_a_set": (
+        "src/assigning.rt",
+        "        let bindings = response.body.bindings();",
+        "        let bindings = &response.body.bindings()[..response.body.bindings().len().min(1)];",
+    ),
+    "calls_a_trap_a_bad_community": (
+        "src/agent.rt",
+        "        if !is_request(&message.body) {\n            return Ok(Ready::Answer(Reply::Silent(Silence::NotARequest)));",
+        "        if !is_request(&message.body) {\n            return Ok(Ready::Answer(Reply::Silent(Silence::BadCommunity)));",
+    ),
+    "denies_with_index_1": (
+        "src/agent.rt",
+        "            let denied = returned(message, AUTHORIZATION_ERROR, 0);",
+        "            let denied = returned(message, AUTHORIZATION_ERROR, 1);",
+    ),
+    "hides_a_name_as_no_instance": (
+        "src/agent.rt",
+        "            return Ok(Value::NoSuchObject);",
+        "            return Ok(Value::NoSuchInstance);",
+    ),
+    "calls_no_instance_no_object": (
+        "src/agent.rt",
+        "        Got::NoInstance => Value::NoSuchInstance,",
+        "        Got::NoInstance => Value::NoSuchObject,",
+    ),
+    "ends_a_view_as_no_object": (
+        "src/agent.rt",
+        "                value: Value::EndOfMibView,",
+        "                value: Value::NoSuchObject,",
+    ),
+    "counts_no_bad_version": (
+        "src/agent.rt",
+        "        Reply::Silent(Silence::BadVersion) => counters.count(Counter::BadVersions),",
+        "        Reply::Silent(Silence::BadVersion) => {}",
+    ),
+}

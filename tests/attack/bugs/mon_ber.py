@@ -1,0 +1,229 @@
+"""Bugs of mon_ber for planted_bugs: by a name the file, what stands there once, and the bug in its place."""
+
+BUGS = {
+    "clone_turns_opaque": (
+        "src/value.rt",
+        "Value::Opaque(octets) => Value::Opaque(octets.try_clone(alloc)?),",
+        "Value::Opaque(octets) => Value::Octets(octets.try_clone(alloc)?),",
+    ),
+    "clones_no_octets": (
+        "src/octets.rt",
+        "Octets::from_slice(alloc, self.as_slice())",
+        "Octets::from_slice(alloc, &self.as_slice()[..0])",
+    ),
+    "copies_half": (
+        "src/octets.rt",
+        "Vec::from_slice(alloc, bytes)?",
+        "Vec::from_slice(alloc, &bytes[..bytes.len() / 2])?",
+    ),
+    "counter64_of_32_bits": (
+        "src/reading.rt",
+        "Ok(Value::Counter64(u64_of(contents)?))",
+        "Ok(Value::Counter64(u64::from(u32_of(contents)?)))",
+    ),
+    "equal_by_length": (
+        "src/octets.rt",
+        "self.as_slice() == other.as_slice()",
+        "self.as_slice().len() == other.as_slice().len()",
+    ),
+    "gauge_as_counter": (
+        "src/tag.rt",
+        "Value::Gauge32(_) => Tag::Gauge32,",
+        "Value::Gauge32(_) => Tag::Counter32,",
+    ),
+    "header_turns_tag": (
+        "src/writing.rt",
+        "put_octet(out, tag);",
+        "put_octet(out, tag | 1);",
+    ),
+    "integer_from_counter": (
+        "src/reading.rt",
+        "element_at(0x02, bytes)?",
+        "element_at(0x41, bytes)?",
+    ),
+    "integer_of_4_octets": (
+        "src/writing.rt",
+        "element_len(number_len(i128::from(number)))",
+        "element_len(4)",
+    ),
+    "integer_written_as_counter": (
+        "src/writing.rt",
+        "put_header(out, 0x02, number_len(i128::from(number)));",
+        "put_header(out, 0x41, number_len(i128::from(number)));",
+    ),
+    "into_empty_vec": (
+        "src/octets.rt",
+        "let Octets { bytes } = self;",
+        "let Octets { mut bytes } = self; bytes.clear();",
+    ),
+    "ip_address_without_last": (
+        "src/writing.rt",
+        "Value::IpAddress(address) => put_slice(out, address),",
+        "Value::IpAddress(address) => put_slice(out, &address[..3]),",
+    ),
+    "length_85_accepted": (
+        "src/element.rt",
+        "if *first == 0x80 || *first > 0x84 {",
+        "if *first == 0x80 || *first > 0x85 {",
+    ),
+    "lengths_of_one_octet": (
+        "src/writing.rt",
+        "    1 + length_len(len) + len",
+        "    2 + len",
+    ),
+    "lower_tags_accepted": (
+        "src/element.rt",
+        "if *first != tag {",
+        "if *first > tag {",
+    ),
+    "name_from_octet_string": (
+        "src/reading.rt",
+        "element_at(0x06, bytes)?",
+        "element_at(0x04, bytes)?",
+    ),
+    "name_of_one_octet_a_part": (
+        "src/writing.rt",
+        "element_len(name_len(name.parts()))",
+        "element_len(name.parts().len())",
+    ),
+    "name_written_as_relative": (
+        "src/writing.rt",
+        "put_header(out, 0x06, name_len(name.parts()));",
+        "put_header(out, 0x0d, name_len(name.parts()));",
+    ),
+    "names_bad_tag_bad_length": (
+        "src/fault.rt",
+        'BerFault::BadTag => "BadTag",',
+        'BerFault::BadTag => "BadLength",',
+    ),
+    "nothing_past_the_limit": (
+        "src/writing.rt",
+        "        return LIMIT;",
+        "        return 0;",
+    ),
+    "numbers_bad_oid_7": (
+        "src/fault.rt",
+        "BadOid = 6,",
+        "BadOid = 7,",
+    ),
+    "octet_of_counter64": (
+        "src/tag.rt",
+        "Tag::Counter64 => 0x46,",
+        "Tag::Counter64 => 0x45,",
+    ),
+    "octets_emptied": (
+        "src/octets.rt",
+        "        Octets { bytes }",
+        "        Octets { bytes: { let mut kept = bytes; kept.clear(); kept } }",
+    ),
+    "octets_written_as_opaque": (
+        "src/writing.rt",
+        "put_header(out, 0x04, octets.len());",
+        "put_header(out, 0x44, octets.len());",
+    ),
+    "part_above_32_bits": (
+        "src/name.rt",
+        "const LIMIT: u64 = 4_294_967_376;",
+        "const LIMIT: u64 = 4_294_967_377;",
+    ),
+    "shows_no_octets": (
+        "src/octets.rt",
+        "self.bytes.as_slice()",
+        "&self.bytes.as_slice()[..0]",
+    ),
+    "size_without_header": (
+        "src/writing.rt",
+        "    element_size(contents_len(value))",
+        "    contents_len(value).min(LIMIT)",
+    ),
+    "tag_always_null": (
+        "src/writing.rt",
+        "Tag::of(value).octet()",
+        "Tag::Null.octet()",
+    ),
+    "ten_octets_read": (
+        "src/number.rt",
+        "if rest.len() > 8 {",
+        "if rest.len() > 9 {",
+    ),
+    "ticks_as_gauge": (
+        "src/tag.rt",
+        "0x43 => Some(Tag::TimeTicks),",
+        "0x43 => Some(Tag::Gauge32),",
+    ),
+    "under_1_to_40": (
+        "src/name.rt",
+        "if number < 80 {",
+        "if number <= 80 {",
+    ),
+    "unknown_tag_truncated": (
+        "src/element.rt",
+        "None => Err(BerFault::BadTag),",
+        "None => Err(BerFault::Truncated),",
+    ),
+    "value_takes_nothing": (
+        "src/reading.rt",
+        "    Ok((value, rest))",
+        "    Ok((value, bytes))",
+    ),
+    "writes_null_always": (
+        "src/writing.rt",
+        "put_value(&mut out, value);",
+        "put_value(&mut out, &Value::Null);",
+    ),
+    "takes_a_length_cut_short_as_truncated": (
+        "src/element.rt",
+        "    if rest.len() < count {",
+        "    if rest.len() <= count {",
+    ),
+    "calls_a_cut_element_bad_length": (
+        "src/element.rt",
+        "    if rest.len() < len {\n        return Err(BerFault::Truncated);",
+        "    if rest.len() < len {\n        return Err(BerFault::BadLength);",
+    ),
+    "refuses_nine_octets": (
+        "src/number.rt",
+        "    if rest.len() > 8 {",
+        "    if rest.len() > 7 {",
+    ),
+    "takes_128_for_positive": (
+        "src/number.rt",
+        "    if *first < 0x80 {",
+        "    if *first <= 0x80 {",
+    ),
+    "complements_off_by_one": (
+        "src/number.rt",
+        "    Ok(-1 - (limit - 1 - number) as i128)",
+        "    Ok(0 - (limit - 1 - number) as i128)",
+    ),
+    "puts_40_under_0": (
+        "src/name.rt",
+        "    if number < 40 {",
+        "    if number <= 40 {",
+    ),
+    "takes_39_off_under_1": (
+        "src/name.rt",
+        "        return Ok((1, number as u32 - 40));",
+        "        return Ok((1, number as u32 - 39));",
+    ),
+    "refuses_the_last_part": (
+        "src/name.rt",
+        "        if number >= LIMIT {",
+        "        if number > LIMIT {",
+    ),
+    "refuses_the_128th_part": (
+        "src/name.rt",
+        "        if parts.len() == MAX_PARTS {",
+        "        if parts.len() + 1 == MAX_PARTS {",
+    ),
+    "turns_one_exception_into_another": (
+        "src/reading.rt",
+        "        Tag::NoSuchObject => nothing_of(Value::NoSuchObject, contents),",
+        "        Tag::NoSuchObject => nothing_of(Value::NoSuchInstance, contents),",
+    ),
+    "turns_an_address_around": (
+        "src/reading.rt",
+        "        [a, b, c, d] => Ok([*a, *b, *c, *d]),",
+        "        [a, b, c, d] => Ok([*d, *c, *b, *a]),",
+    ),
+}

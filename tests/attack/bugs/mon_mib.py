@@ -1,0 +1,314 @@
+"""Bugs of mon_mib for planted_bugs: by a name the file, what stands there once, and the bug in its place."""
+
+BUGS = {
+    "admin_status_from_0": (
+        "src/admin_status.rt",
+        "    Testing = 3,",
+        "    Testing = 0,",
+    ),
+    "alias_is_read_only": (
+        "src/column.rt",
+        "            Column::IfAdminStatus | Column::IfAlias => MaxAccess::ReadWrite,",
+        "            Column::IfAdminStatus => MaxAccess::ReadWrite,",
+    ),
+    "all_columns_are_integers": (
+        "src/object.rt",
+        "            Object::Column(column) => column.syntax(),",
+        "            Object::Column(_) => Tag::Integer,",
+    ),
+    "all_columns_are_read_only": (
+        "src/object.rt",
+        "            Object::Column(column) => column.access(),",
+        "            Object::Column(_) => MaxAccess::ReadOnly,",
+    ),
+    "blown_fuse_is_not_told": (
+        "src/fuse_device.rt",
+        "        self.device.failures().saturating_add(self.blown)",
+        "        self.device.failures().saturating_add(0)",
+    ),
+    "column_under_another_number": (
+        "src/column.rt",
+        "            Column::IfInDiscards => &[1, 3, 6, 1, 2, 1, 2, 2, 1, 13],",
+        "            Column::IfInDiscards => &[1, 3, 6, 1, 2, 1, 2, 2, 1, 12],",
+    ),
+    "columns_have_no_name": (
+        "src/object.rt",
+        "            Object::Column(column) => column.prefix(),",
+        "            Object::Column(_) => &[],",
+    ),
+    "commit_counts_a_packet": (
+        "src/setting.rt",
+        "        assign_all(&mut self.device, plan)",
+        "        self.counters.in_packets = 0; assign_all(&mut self.device, plan)",
+    ),
+    "commit_lists_another_binding": (
+        "src/commit.rt",
+        "    standing.push(index).unwrap();",
+        "    standing.push(index / 2).unwrap();",
+    ),
+    "counter_stays_at_its_most": (
+        "src/counters.rt",
+        "            Counter::InPackets => self.in_packets = self.in_packets.wrapping_add(1),",
+        "            Counter::InPackets => self.in_packets = self.in_packets.saturating_add(1),",
+    ),
+    "device_finds_an_index_it_lacks": (
+        "src/sim_device.rt",
+        "        Err(_) => None,",
+        "        Err(place) => Some(place),",
+    ),
+    "device_gives_the_index_again": (
+        "src/sim_device.rt",
+        "        Some(after) => after < index,",
+        "        Some(after) => after <= index,",
+    ),
+    "device_grows_each_hundredth": (
+        "src/interface.rt",
+        "        let seconds = u64::from(moment.engine_time());",
+        "        let seconds = moment.hundredths();",
+    ),
+    "device_is_down": (
+        "src/status.rt",
+        "            admin: AdminStatus::Up,",
+        "            admin: AdminStatus::Down,",
+    ),
+    "device_mixes_up_two_texts": (
+        "src/sys_texts.rt",
+        "            SysText::Contact => self.contact.as_slice(),",
+        "            SysText::Contact => self.location.as_slice(),",
+    ),
+    "device_shows_another_text": (
+        "src/interface.rt",
+        "            IfText::Alias => self.alias.as_slice(),",
+        "            IfText::Alias => self.name.as_slice(),",
+    ),
+    "device_takes_index_0": (
+        "src/sim_device.rt",
+        "        if interface.index <= last || interface.index >= 1 << 31 {",
+        "        if interface.index < last || interface.index >= 1 << 31 {",
+    ),
+    "dormant_is_8": (
+        "src/oper_status.rt",
+        "    Dormant = 5,",
+        "    Dormant = 8,",
+    ),
+    "engine_time_in_tenths": (
+        "src/moment.rt",
+        "        (self.hundredths / 100) as u32",
+        "        (self.hundredths / 1000) as u32",
+    ),
+    "failure_is_not_counted": (
+        "src/sim_device.rt",
+        "            self.failures = self.failures.saturating_add(1);",
+        "            self.failures = self.failures.saturating_add(0);",
+    ),
+    "fault_by_another_name": (
+        "src/fault.rt",
+        '            DeviceFault::BadIndex => "BadIndex",',
+        '            DeviceFault::BadIndex => "BadIndexes",',
+    ),
+    "fault_by_number_4": (
+        "src/fault.rt",
+        "    BadIndex = 2,",
+        "    BadIndex = 4,",
+    ),
+    "first_candidate_is_passed_over": (
+        "src/mib.rt",
+        "    reached.saturating_sub(1)",
+        "    (reached + 1).min(43).saturating_sub(1)",
+    ),
+    "fuses_count_from_1": (
+        "src/fuse_device.rt",
+        "            applies: 0,",
+        "            applies: 1,",
+    ),
+    "fuses_from_the_other_end": (
+        "src/fuse_device.rt",
+        "    number < 64 && fuses & (1 << number) != 0",
+        "    number < 64 && fuses & (1 << (63 - number)) != 0",
+    ),
+    "if_name_can_be_set": (
+        "src/object.rt",
+        "            Object::Column(Column::IfAlias) => Some(Writable::Alias),",
+        "            Object::Column(Column::IfName) => Some(Writable::Alias),",
+    ),
+    "if_speed_not_capped": (
+        "src/mib.rt",
+        "            Column::IfSpeed => Value::Gauge32(facts.speed.min(0xffff_ffff) as u32),",
+        "            Column::IfSpeed => Value::Gauge32(low(facts.speed)),",
+    ),
+    "last_moment_is_none": (
+        "src/moment.rt",
+        "        if hundredths < Self::END {",
+        "        if hundredths < Self::END - 1 {",
+    ),
+    "mib_starts_with_counts": (
+        "src/mib.rt",
+        "            counters: Counters::new(),",
+        "            counters: Counters { in_packets: 1, ..Counters::new() },",
+    ),
+    "moment_tells_seconds": (
+        "src/moment.rt",
+        "        self.hundredths",
+        "        0",
+    ),
+    "name_with_instance_0": (
+        "src/object.rt",
+        "        parts.push(instance)?;",
+        "        parts.push(0)?;",
+    ),
+    "no_creation_is_12": (
+        "src/set_status.rt",
+        "    NoCreation = 11,",
+        "    NoCreation = 12,",
+    ),
+    "refusal_of_another_index": (
+        "src/setting.rt",
+        "            Err(fault) => Err(fault.at(index)),",
+        "            Err(fault) => Err(fault.at(index / 2)),",
+    ),
+    "refused_by_another_name": (
+        "src/set_fault.rt",
+        '            SetFault::Refused { .. } => "Refused",',
+        '            SetFault::Refused { .. } => "Refusal",',
+    ),
+    "refused_is_fault_1": (
+        "src/set_fault.rt",
+        "            SetFault::Refused { .. } => 2,",
+        "            SetFault::Refused { .. } => 1,",
+    ),
+    "same_status_is_set_anew": (
+        "src/setting.rt",
+        "            facts.last_change",
+        "            moment.sys_up_time()",
+    ),
+    "services_are_a_gauge": (
+        "src/scalar.rt",
+        "            | Scalar::SnmpEngineMaxMessageSize => Tag::Integer,",
+        "            | Scalar::SnmpEngineMaxMessageSize => Tag::Gauge32,",
+    ),
+    "speeds_are_counters": (
+        "src/column.rt",
+        "            Column::IfSpeed | Column::IfHighSpeed => Tag::Gauge32,",
+        "            Column::IfSpeed | Column::IfHighSpeed => Tag::Counter32,",
+    ),
+    "starts_with_a_counted_packet": (
+        "src/counters.rt",
+        "            in_packets: 0,",
+        "            in_packets: 1,",
+    ),
+    "status_4_is_testing": (
+        "src/admin_status.rt",
+        "            3 => Some(AdminStatus::Testing),",
+        "            3 | 4 => Some(AdminStatus::Testing),",
+    ),
+    "sys_name_is_read_only": (
+        "src/scalar.rt",
+        "            Scalar::SysContact | Scalar::SysName | Scalar::SysLocation => MaxAccess::ReadWrite,",
+        "            Scalar::SysContact | Scalar::SysLocation => MaxAccess::ReadWrite,",
+    ),
+    "sys_name_under_another_number": (
+        "src/scalar.rt",
+        "            Scalar::SysName => &[1, 3, 6, 1, 2, 1, 1, 5],",
+        "            Scalar::SysName => &[1, 3, 6, 1, 2, 1, 1, 6],",
+    ),
+    "sys_text_of_256_octets": (
+        "src/setting.rt",
+        "const SYS_TEXT_MAX: usize = 255;",
+        "const SYS_TEXT_MAX: usize = 256;",
+    ),
+    "tells_another_counter": (
+        "src/counters.rt",
+        "            Counter::SilentDrops => self.silent_drops,",
+        "            Counter::SilentDrops => self.parse_errors,",
+    ),
+    "testing_is_down": (
+        "src/admin_status.rt",
+        "            AdminStatus::Testing => OperStatus::Testing,",
+        "            AdminStatus::Testing => OperStatus::Down,",
+    ),
+    "undo_has_the_new_moment": (
+        "src/sim_device.rt",
+        "                    since: was.since,",
+        "                    since: next.since,",
+    ),
+    "up_time_in_seconds": (
+        "src/moment.rt",
+        "        (self.hundredths % (1 << 32)) as u32",
+        "        (self.hundredths / 100) as u32",
+    ),
+    "begins_a_column_that_lies_before": (
+        "src/start.rt",
+        "        if part < first {\n            return Start::Nowhere;",
+        "        if part < first {\n            return Start::First;",
+    ),
+    "begins_anew_at_a_longer_name": (
+        "src/start.rt",
+        "        [instance, ..] => Start::Above(*instance),",
+        "        [instance] => Start::Above(*instance),\n        [_, _, ..] => Start::First,",
+    ),
+    "takes_a_place_past_the_end": (
+        "src/sim_device.rt",
+        "    if place >= interfaces.len() {",
+        "    if place > interfaces.len() {",
+    ),
+    "leaves_a_failure_uncounted": (
+        "src/sim_device.rt",
+        "            self.failures = self.failures.saturating_add(1);\n",
+        "            ",
+    ),
+    "undoes_with_the_new_moment": (
+        "src/sim_device.rt",
+        "                    since: was.since,",
+        "                    since,",
+    ),
+    "takes_any_instance_of_a_scalar": (
+        "src/setting.rt",
+        "        if rest != [0].as_slice() {",
+        "        if rest.is_empty() {",
+    ),
+    "looks_for_a_name_at_itself": (
+        "src/setting.rt",
+        "            if !is_named(&bindings[index..], &binding.name) {",
+        "            if !is_named(&bindings[i..], &binding.name) {",
+    ),
+    "denies_a_read_only_object_creation": (
+        "src/setting.rt",
+        "            return Err(BindingFault::Refused(SetStatus::NotWritable));",
+        "            return Err(BindingFault::Refused(SetStatus::NoCreation));",
+    ),
+    "keeps_the_moment_of_another_status": (
+        "src/setting.rt",
+        "        let since = if facts.admin == status {",
+        "        let since = if facts.admin != status {",
+    ),
+    "takes_an_alias_of_65_octets": (
+        "src/setting.rt",
+        "const ALIAS_MAX: usize = 64;",
+        "const ALIAS_MAX: usize = 65;",
+    ),
+    "refuses_the_longest_text": (
+        "src/writable.rt",
+        "    if text.len() > longest {",
+        "    if text.len() >= longest {",
+    ),
+    "undoes_one_change_alone": (
+        "src/commit.rt",
+        "    while let Some(undo) = undos.pop() {",
+        "    if let Some(undo) = undos.pop() {",
+    ),
+    "tells_the_binding_after": (
+        "src/commit.rt",
+        "            return undo_all(device, failed, undos, standing);",
+        "            return undo_all(device, failed + 1, undos, standing);",
+    ),
+    "calls_a_longer_name_no_object": (
+        "src/mib.rt",
+        "        if rest.len() != 1 {\n            return Ok(Got::NoInstance);",
+        "        if rest.len() != 1 {\n            return Ok(Got::NoObject);",
+    ),
+    "counts_a_bad_community_as_a_version": (
+        "src/counters.rt",
+        "            Counter::BadCommunities => self.bad_communities = self.bad_communities.wrapping_add(1),",
+        "            Counter::BadCommunities => self.bad_versions = self.bad_versions.wrapping_add(1),",
+    ),
+}

@@ -1,0 +1,44 @@
+"""Bugs of mon_oid for planted_bugs: by a name the file, what stands there once, and the bug in its place."""
+
+BUGS = {
+    "clone_drops_last": (
+        "src/oid.rt",
+        "SmallVec::from_slice(alloc, self.parts())?",
+        "SmallVec::from_slice(alloc, &self.parts()[..self.parts().len() - 1])?",
+    ),
+    "equal_by_length": (
+        "src/oid.rt",
+        "self.parts() == other.parts()",
+        "self.parts().len() == other.parts().len()",
+    ),
+    "keeps_two_parts": (
+        "src/oid.rt",
+        "        Oid { parts }",
+        "        Oid { parts: { let mut kept = parts; kept.truncate(2); kept } }",
+    ),
+    "names_bad_first_bad_text": (
+        "src/fault.rt",
+        'OidFault::BadFirst => "BadFirst",',
+        'OidFault::BadFirst => "BadText",',
+    ),
+    "numbers_bad_text_6": (
+        "src/fault.rt",
+        "BadText = 5,",
+        "BadText = 6,",
+    ),
+    "orders_backwards": (
+        "src/oid.rt",
+        "self.compare(other)",
+        "other.compare(self)",
+    ),
+    "parts_without_first": (
+        "src/oid.rt",
+        "self.parts.as_slice()",
+        "&self.parts.as_slice()[1..]",
+    ),
+    "reads_each_number_as_zero": (
+        "src/oid.rt",
+        "numbers.push(number)?;",
+        "numbers.push(number & 0)?;",
+    ),
+}

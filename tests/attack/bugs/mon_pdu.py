@@ -1,0 +1,154 @@
+"""Bugs of mon_pdu for planted_bugs: by a name the file, what stands there once, and the bug in its place."""
+
+BUGS = {
+    "binding_size_of_its_contents": (
+        "src/writing.rt",
+        "    element_size(binding_len(binding))",
+        "    element_size(binding_len(binding)).min(127)",
+    ),
+    "bulk_has_a4": (
+        "src/message.rt",
+        "            Body::Bulk(_) => 0xa5,",
+        "            Body::Bulk(_) => 0xa4,",
+    ),
+    "bulk_shows_no_bindings": (
+        "src/message.rt",
+        "            Body::Bulk(bulk) => bulk.bindings.as_slice(),",
+        "            Body::Bulk(bulk) => &bulk.bindings.as_slice()[..0],",
+    ),
+    "drops_the_last_binding": (
+        "src/message.rt",
+        "        Bindings { items }",
+        "        let mut kept = items; kept.pop(); Bindings { items: kept }",
+    ),
+    "hands_out_no_bindings": (
+        "src/message.rt",
+        "        self.items",
+        "        let mut kept = self.items; kept.clear(); kept",
+    ),
+    "names_unknown_pdu_bad_tag": (
+        "src/fault.rt",
+        '            PduFault::UnknownPdu(_) => "UnknownPdu",',
+        '            PduFault::UnknownPdu(_) => "BadTag",',
+    ),
+    "numbers_bad_version_8": (
+        "src/fault.rt",
+        "            PduFault::BadVersion(_) => 7,",
+        "            PduFault::BadVersion(_) => 8,",
+    ),
+    "out_of_range_is_bad_length": (
+        "src/fault.rt",
+        "            BerFault::OutOfRange => PduFault::OutOfRange,",
+        "            BerFault::OutOfRange => PduFault::BadLength,",
+    ),
+    "reads_a4_as_set": (
+        "src/message.rt",
+        "            0xa3 => Some(PduKind::Set),",
+        "            0xa3 | 0xa4 => Some(PduKind::Set),",
+    ),
+    "reads_a_later_place": (
+        "src/reading.rt",
+        "    message_at(alloc, bytes)",
+        "    message_at(alloc, &bytes[bytes.len() / 2..])",
+    ),
+    "reads_no_community": (
+        "src/reading.rt",
+        "    let community = Octets::from_slice(alloc, community)?;",
+        "    let community = Octets::from_slice(alloc, &community[..0])?;",
+    ),
+    "set_has_a4": (
+        "src/message.rt",
+        "            PduKind::Set => 0xa3,",
+        "            PduKind::Set => 0xa4,",
+    ),
+    "shows_half_the_bindings": (
+        "src/message.rt",
+        "        &self.items",
+        "        &self.items[self.items.len() / 2..]",
+    ),
+    "size_with_a_short_head": (
+        "src/writing.rt",
+        "    let contents = (integer_size(1) + community + element_size(body)).min(LIMIT);",
+        "    let contents = (integer_size(-129) + community + element_size(body)).min(LIMIT);",
+    ),
+    "takes_memory_before_the_version": (
+        "src/reading.rt",
+        "    if version != 1 {",
+        "    Octets::from_slice(alloc, rest)?; if version != 1 {",
+    ),
+    "writes_no_community": (
+        "src/writing.rt",
+        "    put_octets(out, message.community.as_slice());",
+        "    put_octets(out, &message.community.as_slice()[..0]);",
+    ),
+    "writes_repetitions_twice": (
+        "src/writing.rt",
+        "            bulk.non_repeaters,",
+        "            bulk.max_repetitions,",
+    ),
+    "takes_version_2": (
+        "src/reading.rt",
+        "    if version != 1 {",
+        "    if version < 1 {",
+    ),
+    "looks_for_a_set_tag": (
+        "src/reading.rt",
+        "    let (contents, after) = element_at(0x30, bytes)?;\n    let (name, rest)",
+        "    let (contents, after) = element_at(0x31, bytes)?;\n    let (name, rest)",
+    ),
+    "reads_get_next_as_get": (
+        "src/message.rt",
+        "        0xa1 => Some(PduKind::GetNext),",
+        "        0xa1 => Some(PduKind::Get),",
+    ),
+    "reads_a4_as_a_trap": (
+        "src/message.rt",
+        "        0xa7 => Some(PduKind::Trap),",
+        "        0xa4 => Some(PduKind::Trap),",
+    ),
+    "numbers_bad_oid_5": (
+        "src/fault.rt",
+        "PduFault::BadOid => 6,",
+        "PduFault::BadOid => 5,",
+    ),
+    "writes_index_before_status": (
+        "src/writing.rt",
+        "    put_integer(out, second);\n    put_integer(out, third);",
+        "    put_integer(out, third);\n    put_integer(out, second);",
+    ),
+    "writes_version_0": (
+        "src/writing.rt",
+        "    put_integer(out, 1);\n",
+        "    put_integer(out, 0);\n",
+    ),
+    "writes_every_body_as_a_response": (
+        "src/writing.rt",
+        "    put_header(out, body.octet(), lengths.body);",
+        "    put_header(out, 0xa2, lengths.body);",
+    ),
+    "writes_the_list_by_the_bodys_length": (
+        "src/writing.rt",
+        "    put_list(out, body.bindings(), lengths.list);",
+        "    put_list(out, body.bindings(), lengths.body);",
+    ),
+    "lets_a_message_over_the_limit": (
+        "src/writing.rt",
+        "    if lengths.message >= LIMIT {",
+        "    if lengths.message > LIMIT {",
+    ),
+    "adds_an_octet_to_the_body": (
+        "src/writing.rt",
+        "    (numbers_len(body) + element_size(list)).min(LIMIT)",
+        "    (numbers_len(body) + element_size(list) + 1).min(LIMIT)",
+    ),
+    "takes_too_little_room": (
+        "src/writing.rt",
+        "    let mut out = Vec::with_capacity(alloc, element_len(lengths.message))?;",
+        "    let mut out = Vec::with_capacity(alloc, lengths.message)?;",
+    ),
+    "sizes_without_the_header": (
+        "src/writing.rt",
+        "    if len >= LIMIT {\n        return Err(PduFault::BadLength);\n    }\n    Ok(element_len(len))",
+        "    if len >= LIMIT {\n        return Err(PduFault::BadLength);\n    }\n    Ok(len)",
+    ),
+}

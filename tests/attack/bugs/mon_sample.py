@@ -1,0 +1,66 @@
+"""Bugs of mon_sample for planted_bugs: by a name the file, what stands there once, and the bug in its place."""
+
+BUGS = {
+    "boots_are_the_time": (
+        "src/sample.rt",
+        "        self.boots",
+        "        self.time",
+    ),
+    "kind_by_the_mark": (
+        "src/sample.rt",
+        "        self.kind.number(self.value)",
+        "        (self.kind).number(self.value)",
+        "        self.kind",
+        "        if self.mark == 7 { Kind::Gauge32 } else { self.kind }",
+    ),
+    "mark_is_the_time": (
+        "src/sample.rt",
+        "        self.mark",
+        "        self.time",
+    ),
+    "means_a_counter": (
+        "src/sample.rt",
+        "self.kind.number(self.value)",
+        "Kind::Counter64.number(self.value)",
+    ),
+    "names_a_bad_stamp_a_bad_value": (
+        "src/fault.rt",
+        'SampleFault::BadStamp => "BadStamp",',
+        'SampleFault::BadStamp => "BadValue",',
+    ),
+    "names_a_gauge_a_counter": (
+        "src/kind.rt",
+        'Kind::Gauge32 => "Gauge32",',
+        'Kind::Gauge32 => "Counter32",',
+    ),
+    "numbers_all_faults_2": (
+        "src/fault.rt",
+        "self as u8",
+        "SampleFault::BadTag as u8",
+    ),
+    "reads_ticks_as_a_gauge": (
+        "src/kind.rt",
+        "0x43 => Some(Kind::TimeTicks),",
+        "0x43 => Some(Kind::Gauge32),",
+    ),
+    "tags_all_as_counters": (
+        "src/kind.rt",
+        "        self as u8",
+        "        Kind::Counter32 as u8",
+    ),
+    "time_is_the_boots": (
+        "src/sample.rt",
+        "        self.time",
+        "        self.boots",
+    ),
+    "value_is_the_mark": (
+        "src/sample.rt",
+        "        self.value",
+        "        u64::from(self.mark)",
+    ),
+    "wide_integer": (
+        "src/kind.rt",
+        "Kind::Integer => value < 1 << 31 ||",
+        "Kind::Integer => value <= 1 << 31 ||",
+    ),
+}

@@ -1,0 +1,209 @@
+"""Bugs of mon_smi for planted_bugs: by a name the file, what stands there once, and the bug in its place."""
+
+BUGS = {
+    "again_at_the_front": (
+        "src/places.rt",
+        "            return Ok(Some(i));",
+        "            return Ok(Some(0));",
+    ),
+    "begins_where_half_is_left": (
+        "src/modules.rt",
+        "        body.starts.push(left)?;",
+        "        body.starts.push(left / 2)?;",
+    ),
+    "begins_with_no_names": (
+        "src/names.rt",
+        "        Ok(Names { defs, places })",
+        "        Ok(Names { defs: Vec::new(alloc), places })",
+    ),
+    "clones_empty_word": (
+        "src/word.rt",
+        "        Word::from_str(alloc, self.as_str())",
+        '        Word::from_str(alloc, "")',
+    ),
+    "clones_no_parent": (
+        "src/definition.rt",
+        "            Some(parent) => Some(parent.try_clone(alloc)?),",
+        "            Some(_) => None,",
+    ),
+    "defined_where_missing": (
+        "src/places.rt",
+        "    position(places, defs, name).is_some()",
+        "    position(places, defs, name).is_none()",
+    ),
+    "finds_another_name": (
+        "src/places.rt",
+        "    Some(*place)",
+        "    Some(0)",
+    ),
+    "first_place_of_all": (
+        "src/modules.rt",
+        "        let first = tokens[tokens.len() - starts[i]];",
+        "        let first = tokens[tokens.len() - starts[0]];",
+    ),
+    "keeps_no_definitions": (
+        "src/definition.rt",
+        "        Definitions { items }",
+        "        Definitions { items: { let mut kept = items; kept.clear(); kept } }",
+    ),
+    "keeps_no_numbers": (
+        "src/numbers.rt",
+        "            items: Vec::from_slice(alloc, numbers)?,",
+        "            items: Vec::from_slice(alloc, &[])?,",
+    ),
+    "largest_number_refused": (
+        "src/values.rt",
+        "        if number > 0xffff_ffff {",
+        "        if number > 0xffff_fffe {",
+    ),
+    "makes_no_numbers": (
+        "src/numbers.rt",
+        "        Numbers { items }",
+        "        Numbers { items: { let mut kept = items; kept.clear(); kept } }",
+    ),
+    "names_unclosed_open": (
+        "src/text_fault.rt",
+        '            TextFault::Unclosed => "Unclosed",',
+        '            TextFault::Unclosed => "Open",',
+    ),
+    "names_unknown_lost": (
+        "src/fault.rt",
+        '            NamesFault::Unknown => "Unknown",',
+        '            NamesFault::Unknown => "Lost",',
+    ),
+    "numbers_cycle_9": (
+        "src/fault.rt",
+        "    Cycle = 6,",
+        "    Cycle = 9,",
+    ),
+    "numbers_unexpected_5": (
+        "src/text_fault.rt",
+        "            TextFault::Unexpected(_) => 3,",
+        "            TextFault::Unexpected(_) => 5,",
+    ),
+    "places_from_zero": (
+        "src/places.rt",
+        "        places.insert(name, known.len() + i)?;",
+        "        places.insert(name, i)?;",
+    ),
+    "reads_no_definitions": (
+        "src/definition.rt",
+        "        self.items.as_slice()",
+        "        &[]",
+    ),
+    "reads_no_numbers": (
+        "src/numbers.rt",
+        "        self.items.as_slice()",
+        "        &[]",
+    ),
+    "reads_no_text": (
+        "src/word.rt",
+        "        self.text.as_str()",
+        '        ""',
+    ),
+    "resolves_another_text": (
+        "src/names.rt",
+        "        resolved(alloc, &self.places, self.defs.as_slice(), text)",
+        '        resolved(alloc, &self.places, self.defs.as_slice(), "iso.3")',
+    ),
+    "strings_are_unexpected": (
+        "src/lexer.rt",
+        '    if rest[0] == b\'"\' {',
+        "    if rest[0] == b'\\'' {",
+    ),
+    "tokens_begin_at_their_end": (
+        "src/lexer.rt",
+        "        span: Span { start, end },",
+        "        span: Span { start: end, end },",
+    ),
+    "word_at_the_front": (
+        "src/text.rt",
+        "    word_len(bytes) == bytes.len()",
+        "    word_len(bytes) <= bytes.len()",
+    ),
+    "word_without_text": (
+        "src/word.rt",
+        "            text: String::from_str(alloc, text)?,",
+        '            text: String::from_str(alloc, "")?,',
+    ),
+    "goes_on_one_octet_further": (
+        "src/lexer.rt",
+        "        start += piece.len;\n",
+        "        start += 1;\n",
+    ),
+    "ends_tokens_one_early": (
+        "src/lexer.rt",
+        "    let end = start + piece.len;",
+        "    let end = start + piece.len - 1;",
+    ),
+    "ends_a_comment_one_early": (
+        "src/pieces.rt",
+        "        return passed(comment_len(text) + 1);",
+        "        return passed(comment_len(text));",
+    ),
+    "takes_any_digits_for_bits": (
+        "src/pieces.rt",
+        "        b'b' | b'B' if bits == digits => token(Kind::Binary, digits + 3),",
+        "        b'b' | b'B' => token(Kind::Binary, digits + 3),",
+    ),
+    "takes_a_return_for_no_space": (
+        "src/pieces.rt",
+        "    byte == b' ' || (b'\\t' <= byte && byte <= b'\\r')",
+        "    byte == b' ' || (b'\\t' <= byte && byte < b'\\r')",
+    ),
+    "ends_no_comment_at_hyphens": (
+        "src/scan.rt",
+        "        if *byte == b'\\n' || (*byte == b'-' && byte_at(after, 0) == b'-') {",
+        "        if *byte == b'\\n' {",
+    ),
+    "refuses_the_greatest_number": (
+        "src/values.rt",
+        "        if number > 0xffff_ffff {",
+        "        if number >= 0xffff_ffff {",
+    ),
+    "takes_one_component": (
+        "src/values.rt",
+        "        Some(_) => 1 <= numbers.len(),",
+        "        Some(_) => true,",
+    ),
+    "closes_a_group_early": (
+        "src/rules.rt",
+        "            if depth == 0 {\n                return Ok(rest);",
+        "            if depth <= 1 {\n                return Ok(rest);",
+    ),
+    "spells_read_create_otherwise": (
+        "src/rules.rt",
+        '        || l.is_word("read-create")',
+        '        || l.is_word("read-creat")',
+    ),
+    "takes_a_kind_before_an_assignment": (
+        "src/rules.rt",
+        "    first.is_word(word) && second.is_word(other) && !begins(Kind::Assign, rest)",
+        "    first.is_word(word) && second.is_word(other)",
+    ),
+    "looks_for_the_shortest_prefix": (
+        "src/nearest.rt",
+        "        return len < best_len;",
+        "        return len > best_len;",
+    ),
+    "takes_the_greater_of_equal_names": (
+        "src/nearest.rt",
+        "        Ordering::Greater => false,\n        Ordering::Less | Ordering::Equal => true,",
+        "        Ordering::Less => false,\n        Ordering::Greater | Ordering::Equal => true,",
+    ),
+    "calls_a_cycle_unknown": (
+        "src/chain.rt",
+        "        if !passed.insert(place)? {\n            return Err(NamesFault::Cycle);",
+        "        if !passed.insert(place)? {\n            return Err(NamesFault::Unknown);",
+    ),
+    "drops_the_rest_of_a_name": (
+        "src/chain.rt",
+        "    numbers.extend_from_slice(rest)?;\n",
+        "",
+    ),
+    "refuses_the_128th_number": (
+        "src/chain.rt",
+        "        if part.len() > room - numbers.len() {",
+        "        if part.len() >= room - numbers.len() {",
+    ),
+}

@@ -1,0 +1,106 @@
+"""Bugs of mon_vacm for planted_bugs: by a name the file, what stands there once, and the bug in its place."""
+
+BUGS = {
+    "copies_no_octets": (
+        "src/octets.rt",
+        "Vec::from_slice(alloc, bytes)?",
+        "Vec::from_slice(alloc, &bytes[..0])?",
+    ),
+    "ignores_the_mask": (
+        "src/family.rt",
+        "&& must_agree(self.mask.as_slice(), i) {",
+        "&& (must_agree(self.mask.as_slice(), i) || i < 8) {",
+    ),
+    "mask_from_the_low_bit": (
+        "src/family.rt",
+        "octet & (1 << (7 - i % 8)) != 0",
+        "octet & (1 << (i % 8)) != 0",
+    ),
+    "names_an_unknown_view_a_family": (
+        "src/fault.rt",
+        'PolicyFault::UnknownView => "UnknownView",',
+        'PolicyFault::UnknownView => "DuplicateFamily",',
+    ),
+    "numbers_all_faults_4": (
+        "src/fault.rt",
+        "self as u8",
+        "PolicyFault::DuplicateFamily as u8",
+    ),
+    "shows_no_octets": (
+        "src/octets.rt",
+        "        self.bytes.as_slice()",
+        "        &self.bytes.as_slice()[..0]",
+    ),
+    "swaps_two_faults": (
+        "src/policy.rt",
+        "return Err(PolicyFault::DuplicateCommunity);",
+        "return Err(PolicyFault::UnknownView );",
+        "return Err(PolicyFault::UnknownView);",
+        "return Err(PolicyFault::DuplicateCommunity);",
+    ),
+    "takes_the_community_for_the_security_name": (
+        "src/policy.rt",
+        "self.tables.group_of(security)?;",
+        "self.tables.group_of(if security.is_empty() { security } else { community })?;",
+    ),
+    "keeps_the_first_of_several": (
+        "src/policy.rt",
+        "        Some(other) if other.compare(family).is_ge() => best,",
+        "        Some(other) if other.compare(family).is_le() => best,",
+    ),
+    "forgets_the_best_so_far": (
+        "src/policy.rt",
+        "    if !family.applies(view, name) {\n        return best;",
+        "    if !family.applies(view, name) {\n        return None;",
+    ),
+    "any_model_first": (
+        "src/tables.rt",
+        "        match exact.or(self.entry_for(group, SecurityModel::Any)) {",
+        "        match self.entry_for(group, SecurityModel::Any).or(exact) {",
+    ),
+    "calls_a_lost_group_no_entry": (
+        "src/tables.rt",
+        "            None => Err(Denied::NoGroupName),",
+        "            None => Err(Denied::NoAccessEntry),",
+    ),
+    "looks_for_a_repeated_security_name": (
+        "src/tables.rt",
+        "            if has_community(&communities[..i], own.name.as_slice()) {",
+        "            if has_community(&communities[..i], own.security_name.as_slice()) {",
+    ),
+    "looks_at_the_read_view_twice": (
+        "src/tables.rt",
+        "    is_known(families, &entry.read_view) && is_known(families, &entry.write_view)",
+        "    is_known(families, &entry.read_view) && is_known(families, &entry.read_view)",
+    ),
+    "looks_for_a_family_behind_itself": (
+        "src/tables.rt",
+        "            if has_family(&families[..i], own.view_name.as_slice(), &own.subtree) {",
+        "            if has_family(&families[i..], own.view_name.as_slice(), &own.subtree) {",
+    ),
+    "refuses_an_absent_view": (
+        "src/tables.rt",
+        "        None => true,",
+        "        None => false,",
+    ),
+    "refuses_a_name_of_the_subtrees_length": (
+        "src/family.rt",
+        "        if parts.len() < subtree.len() {",
+        "        if parts.len() <= subtree.len() {",
+    ),
+    "takes_mask_octets_in_turn": (
+        "src/family.rt",
+        "    match mask.get(i / 8) {",
+        "    match mask.get(i % 8) {",
+    ),
+    "matches_in_any_view": (
+        "src/family.rt",
+        "        self.view_name.is(view) && self.matches(name)",
+        "        self.matches(name)",
+    ),
+    "calls_no_view_no_entry": (
+        "src/access_entry.rt",
+        "            None => Err(Denied::NoSuchView),",
+        "            None => Err(Denied::NoAccessEntry),",
+    ),
+}
