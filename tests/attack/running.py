@@ -18,11 +18,11 @@ def settings(folder, more=""):
 
 
 class Agent:
-    """An agent that serves so many datagrams. `address` is where it listens, or None where it ended before that."""
+    """An agent that serves so many datagrams, at its third boot. `address` is where it listens, or None where it ended before that."""
 
     def __init__(self, program, more="", count=4294967295, environment=None, pass_fds=()):
         self.folder = tempfile.TemporaryDirectory()
-        words = [program, "agent", settings(self.folder.name, more), "--count", str(count)]
+        words = [program, "agent", settings(self.folder.name, more), "--boots", "3", "--count", str(count)]
         self.process = subprocess.Popen(
             words, stderr=subprocess.PIPE, stdin=subprocess.DEVNULL, stdout=subprocess.DEVNULL, pass_fds=pass_fds,
             env={**os.environ, **(environment or {})},

@@ -39,6 +39,7 @@ is_answered kinds.GetNext = true
 is_answered kinds.Set = true
 is_answered other = false
 
+-- a Get, GetNext, GetBulk or Set
 abbrev pub is_request : Body → Bool
 is_request (bodies.Pdu p) = is_answered p.kind
 is_request (bodies.Bulk p) = true
@@ -48,6 +49,7 @@ abbrev pub need_of_kind : PduKind → Need
 need_of_kind kinds.Set = Write
 need_of_kind other = Read
 
+-- what the request of a body needs
 abbrev pub need_of : Body → Need
 need_of (bodies.Pdu p) = need_of_kind p.kind
 need_of (bodies.Bulk p) = Read

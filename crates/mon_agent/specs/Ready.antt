@@ -33,6 +33,7 @@ pub record HasRoom (a : Assigning) : Type 0 where
   pub empty : a.room.items ≡ []
   pub room : length (written_message a.response) ≤ vec_capacity a.room
 
+-- there is room for all that is about to be done
 abbrev pub IsRoomy : Ready → Type 0
 IsRoomy (Answer reply) = Unit {0}
 IsRoomy (Assign a) = HasRoom a

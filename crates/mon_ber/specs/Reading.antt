@@ -11,6 +11,7 @@ use Rattle.mon_ber.specs.Grammar.{kind_of}
 
 -- a step, and what follows it unless it failed
 infixl 10 ◌>>=◌
+-- a step, and what follows it unless it failed
 abbrev pub ◌>>=◌ : {A B E : Type 0} → Result A E → (A → Result B E) → Result B E
 (Ok x) >>= f = f x
 (Err e) >>= f = Err e

@@ -6,6 +6,7 @@ use Rattle.mon_mib.specs.declared.change.Change.{Change}
 use Rattle.mon_mib.specs.declared.change.Change.TheVariants as set
 use Rattle.mon_mib.specs.Held.{Held}
 
+-- whether two texts of the system group are the same one
 abbrev pub same_text : SysText → SysText → Bool
 same_text Contact Contact = true
 same_text Contact SystemName = false

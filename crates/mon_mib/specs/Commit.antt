@@ -67,6 +67,7 @@ module _ {D : Type 0} (held : D → Held) (refuses : D → Change → Type 0) wh
     pub failed : IsFailedAfter done steps before number
     pub holds : P done
 
+  -- what assigning gave, and what the device holds after it: every change, what it held before, or what could not be undone
   abbrev pub IsCommitted : List Step → Held → Held → Commit → Type 0
   IsCommitted steps before after Done = after ≡ changes steps before
   IsCommitted steps before after (CommitFailed failed) = IsStopped steps before failed (λ _. after ≡ before)

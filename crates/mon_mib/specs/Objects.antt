@@ -74,11 +74,13 @@ scalar_access SysName = ReadWrite
 scalar_access SysLocation = ReadWrite
 scalar_access other = ReadOnly
 
+-- what may be done with the variables of a column
 abbrev pub column_access : Column → MaxAccess
 column_access IfAdminStatus = ReadWrite
 column_access IfAlias = ReadWrite
 column_access other = ReadOnly
 
+-- what may be done with the variables of an object
 abbrev pub access_of : Object → MaxAccess
 access_of (served.Scalar s) = scalar_access s
 access_of (served.Column c) = column_access c
@@ -103,6 +105,7 @@ scalar_syntax SnmpEngineBoots = tag.Integer
 scalar_syntax SnmpEngineTime = tag.Integer
 scalar_syntax SnmpEngineMaxMessageSize = tag.Integer
 
+-- the tag of the values of a column
 abbrev pub column_syntax : Column → Tag
 column_syntax IfIndex = tag.Integer
 column_syntax IfDescr = tag.OctetString
@@ -131,6 +134,7 @@ column_syntax IfHighSpeed = tag.Gauge32
 column_syntax IfAlias = tag.OctetString
 column_syntax IfCounterDiscontinuityTime = tag.TimeTicks
 
+-- the tag of the values of an object
 abbrev pub syntax_of : Object → Tag
 syntax_of (served.Scalar s) = scalar_syntax s
 syntax_of (served.Column c) = column_syntax c

@@ -77,6 +77,7 @@ pub record IsFirstRefused (k : Known) (sees : List ℕ → Type 0) (bindings : L
   pub refused : IsRefused k sees binding status
   pub before : All (IsAccepted k sees) (take place bindings)
 
+-- the fault of a Set: out of memory, or the first refusal
 abbrev pub IsSetFault : Known → (List ℕ → Type 0) → List Binding → SetFault → Type 0
 IsSetFault k sees bindings OutOfMemory = Unit {0}
 IsSetFault k sees bindings (Refused status index) = IsFirstRefused k sees bindings status index

@@ -77,6 +77,7 @@ pub record IsMade (k : Known) (o : Object) (rest : List ℕ) (v : Value) (c : Ch
   pub there : Contains (instances k.held o) instance
   pub is : IsChange k o instance v c
 
+-- what one variable binding of a Set gives: its change, or by what ground it is refused
 abbrev pub IsTried : Known → Object → List ℕ → Value → Result Change BindingFault → Type 0
 IsTried k o rest v (Ok c) = IsMade k o rest v c
 IsTried k o rest v (Err OutOfMemory) = Unit {0}

@@ -19,5 +19,6 @@ module _ {D : Type 0} (held : D → Held) (refuses : D → Change → Type 0) (f
     pub failures : failed new ≡ one_failure (failed old)
     pub listed : after ≡ before ++ undo.index ∷ []
 
+  -- a change was undone, or it stands and is listed
   abbrev pub IsTaken : Step → D → D → List ℕ → List ℕ → Type 0
   IsTaken undo old new before after = IsBack undo old new before after ⊎ Stands undo old new before after

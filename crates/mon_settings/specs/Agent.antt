@@ -25,6 +25,7 @@ pub record Agent : Type 0 where
   pub policy : Lists
   pub interfaces : List Interface
 
+-- the settings as contracts compare them
 abbrev pub agent_view : AgentSettings → Agent
 agent_view s = record {
   listen = s.listen;
@@ -60,6 +61,7 @@ system_of t = do
     texts = record { contact = contact; name = name; location = location };
   })
 
+-- the keys of an agent's settings
 abbrev pub agent_keys : List Key
 agent_keys =
     key.Listen ∷ key.Limit ∷ key.Engine ∷ key.Boots ∷ key.Descr ∷ key.ObjectId ∷ key.Contact ∷ key.Name ∷ key.Location

@@ -24,14 +24,17 @@ growth_of t = do
   rate ← needed_at key.Rate long_in t
   Ok (record { start = start; rate = rate })
 
+-- a count at the start, and what each second adds
 unfoldable pub growth_at : Key → Members → Result Growth SettingsFault
 growth_at k t = needed_at k as_table t >>= growth_of
 
+-- the keys of an interface
 abbrev pub interface_keys : List Key
 interface_keys =
     key.Index ∷ key.Descr ∷ key.Type ∷ key.Mtu ∷ key.Speed ∷ key.Phys ∷ key.Name ∷ key.Alias
     ∷ key.InOctets ∷ key.InPackets ∷ key.OutOctets ∷ key.OutPackets ∷ []
 
+-- the interface of a table
 unfoldable pub interface_of : Members → Result Interface SettingsFault
 interface_of t = do
   known ← only interface_keys t
@@ -68,6 +71,7 @@ abbrev pub rise_from : ℕ → List Interface → Bool
 rise_from last [] = true
 rise_from last (p ∷ ps) = nat_lt last p.index && rise_from p.index ps
 
+-- the interfaces, if their indexes rise
 unfoldable pub rising : List Interface → Result (List Interface) SettingsFault
 rising ps = if rise_from 0 ps then Ok ps else Err (fault.BadValue key.Interface)
 

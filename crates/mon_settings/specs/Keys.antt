@@ -9,6 +9,7 @@ use Rattle.mon_settings.specs.Key.{key_name}
 
 -- one reading after another
 infixl 10 ◌>>=◌
+-- a step, and what follows it unless it failed
 abbrev pub ◌>>=◌ : {A B : Type 0} → Result A SettingsFault → (A → Result B SettingsFault) → Result B SettingsFault
 Err e >>= f = Err e
 Ok a >>= f = f a
@@ -23,6 +24,7 @@ abbrev pub needed : {A : Type 0} → Key → (Data → Option A) → Option Data
 needed k f None = Err (fault.Missing k)
 needed k f (Some d) = or_bad k (f d)
 
+-- what a key gives that has to be there
 abbrev pub needed_at : {A : Type 0} → Key → (Data → Option A) → Members → Result A SettingsFault
 needed_at k f t = needed k f (get_member (key_name k) t)
 
@@ -31,9 +33,11 @@ abbrev pub or_default : {A : Type 0} → Key → A → (Data → Option A) → O
 or_default k a f None = Ok a
 or_default k a f (Some d) = or_bad k (f d)
 
+-- what a key gives, or a default where it is missing
 abbrev pub default_at : {A : Type 0} → Key → A → (Data → Option A) → Members → Result A SettingsFault
 default_at k a f t = or_default k a f (get_member (key_name k) t)
 
+-- what a key gives, or nothing where it is missing
 abbrev pub optional_at : {A : Type 0} → Key → (Data → Option A) → Members → Result (Option A) SettingsFault
 optional_at k f t = default_at k None (λ d. option_map Some (f d)) t
 
@@ -47,6 +51,7 @@ abbrev pub has_only : List Key → Members → Bool
 has_only ks no_members = true
 has_only ks (member name d ms) = is_one_of ks name && has_only ks ms
 
+-- no key but these is there
 unfoldable pub only : List Key → Members → Result Unit SettingsFault
 only ks t = if has_only ks t then Ok tt else Err fault.UnknownKey
 

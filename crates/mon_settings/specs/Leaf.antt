@@ -22,6 +22,7 @@ abbrev pub bounded : ℕ → ℕ → ℤ → Option ℕ
 bounded least most (pos n) = if nat_le least n && nat_le n most then Some n else None
 bounded least most (negsuc n) = None
 
+-- a whole number from least to most
 abbrev pub number_in : ℕ → ℕ → Data → Option ℕ
 number_in least most d = option_and_then (bounded least most) (as_integer d)
 
@@ -42,6 +43,7 @@ abbrev pub ok_of : Result (List ℕ) FromHexError → Option (List ℕ)
 ok_of (Ok octets) = Some octets
 ok_of (Err e) = None
 
+-- the octets of a hex text, least to most of them
 abbrev pub hex_of : ℕ → ℕ → List ℕ → Option (List ℕ)
 hex_of least most text = option_and_then (sized least most) (ok_of (decode_of text))
 
@@ -66,6 +68,7 @@ numbers_in text = map (digits_value 10) (slice_split (λ c. c == 46) text)
 abbrev pub checked_oid : List ℕ → List ℕ → Option (List ℕ)
 checked_oid text parts = if is_oid parts && bytes_eq text (dotted parts) then Some parts else None
 
+-- the object identifier of a dotted text
 abbrev pub oid_of : List ℕ → Option (List ℕ)
 oid_of text = checked_oid text (numbers_in text)
 
@@ -89,9 +92,11 @@ addr_in d = option_and_then addr_of (as_str d)
 abbrev pub model_numbered : ℕ → Option SecurityModel
 model_numbered n = if n == 0 then Some model.Any else (if n == 2 then Some model.V2c else None)
 
+-- the security model of a number
 abbrev pub model_of : ℤ → Option SecurityModel
 model_of (pos n) = model_numbered n
 model_of (negsuc n) = None
 
+-- a security model
 abbrev pub model_in : Data → Option SecurityModel
 model_in d = option_and_then model_of (as_integer d)

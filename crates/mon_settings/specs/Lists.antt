@@ -14,6 +14,7 @@ count (item d ds) = 1 + count ds
 abbrev pub few : Items → Option Items
 few ds = if nat_le (count ds) 256 then Some ds else None
 
+-- a list of at most 256 entries
 abbrev pub list_in : Data → Option Items
 list_in d = option_and_then few (as_array d)
 

@@ -63,6 +63,7 @@ all_pairs r (x ∷ xs) = list_all (r x) xs && all_pairs r xs
 abbrev pub other_names : Community → Community → Bool
 other_names a b = not (bytes_eq a.name b.name)
 
+-- no community is given twice
 abbrev pub communities_differ : List Community → Bool
 communities_differ = all_pairs other_names
 
@@ -71,6 +72,7 @@ abbrev pub has_view : List ℕ → List Family → Bool
 has_view view [] = false
 has_view view (f ∷ fs) = bytes_eq f.view_name view || has_view view fs
 
+-- a view that is named has a family
 abbrev pub is_known : List Family → Option (List ℕ) → Bool
 is_known families None = true
 is_known families (Some view) = has_view view families
@@ -83,6 +85,7 @@ knows_views families entry = is_known families entry.read_view && is_known famil
 abbrev pub other_families : Family → Family → Bool
 other_families f g = not (bytes_eq f.view_name g.view_name && bytes_eq f.subtree g.subtree)
 
+-- no family is given twice
 abbrev pub families_differ : List Family → Bool
 families_differ = all_pairs other_families
 

@@ -140,7 +140,7 @@ conv_begins text is rest =
     (λ (none : is.0 ≡ []).
     let d = is.4.3 in
     let status = d.3 in
-    let w = word_of_again other_than_assign (codes "current" ∷ codes "deprecated" ∷ codes "obsolete" ∷ []) status.1 (refl, (refl, (refl, tt))) status.4 in
+    let w : (l : Lexeme) × (status.1 ≡ l ∷ []) × (other_than_assign l ≡ true) = (word status.4.0, status.4.1, refl) in
     let shape : text ≡ word (codes "STATUS") ∷ w.0 ∷ (d.1 ++ is.4.1) =
     is.2 ∙ ap (λ (k : List Lexeme). k ++ is.1) none ∙ is.4.2 ∙ ap (λ (k : List Lexeme). k ++ is.4.1) (d.2 ∙ ap (λ (k : List Lexeme). k ++ d.1) (status.2 ∙ ap (λ (k : List Lexeme). k ++ status.1) status.3 ∙ ap (λ (k : List Lexeme). word (codes "STATUS") ∷ k) w.1)) in
     ap (λ (k : List Lexeme). is_convention (word (codes "TEXTUAL-CONVENTION") ∷ (k ++ rest))) shape ∙ w.2)

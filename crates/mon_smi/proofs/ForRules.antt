@@ -6,8 +6,8 @@ use Rattle.std.proofs.lemmas.Bool.Decides.{nat_tests}
 use Rattle.mon_smi.specs.declared.kind.Kind.{Kind}
 use Rattle.mon_smi.specs.declared.kind.Kind.TheVariants.{Word, Number, Quoted, Hex, Binary, Assign, Range, LeftBrace, RightBrace, LeftParen, RightParen, LeftBracket, RightBracket, Comma, Semicolon, Dot, Bar}
 use Rattle.mon_smi.specs.declared.part.Part.{Part}
-use Rattle.mon_smi.specs.declared.part.Part.TheVariants.{Syntax, Text, Access, Status, Group}
-use Rattle.mon_smi.specs.Lexemes.{Lexeme, word, number, mark, code_of, same_text, is_word, is_mark, begins_capital, is_capital}
+use Rattle.mon_smi.specs.declared.part.Part.TheVariants.{Syntax, Text, Access, Status, Word, Group}
+use Rattle.mon_smi.specs.Lexemes.{Lexeme, word, number, mark, code_of, same_text, is_word, is_mark, begins_capital, is_capital, is_any_word}
 use Rattle.mon_smi.specs.Reading.{◌>>=◌, one, word_at, mark_at, begins, begins_word, nested_at, group_at, is_pair, is_sequence_of, type_name_at, maybe_group, type_at, is_access, is_status, part_at, clause_at, optional_at, index_at, syntax_at, described_at, object_type_at, convention_at}
 use Rattle.mon_smi.specs.Grammar.{◌▸◌, IsThis, IsWordOf, IsNested, IsGroup, IsTypeName, IsMaybeGroup, IsType, accesses, statuses, IsPart, IsClause, IsOptional, IsIndex, IsSyntax, IsDescribed, IsObjectType, IsConvention}
 
@@ -416,7 +416,13 @@ BehindPart Syntax rest = Follows rest
 BehindPart Text rest = Unit {0}
 BehindPart Access rest = Unit {0}
 BehindPart Status rest = Unit {0}
+BehindPart Word rest = Unit {0}
 BehindPart Group rest = Unit {0}
+
+any_word_is : (l : Lexeme) → is_any_word l ≡ true → IsPart Word (l ∷ [])
+any_word_is (word w) is = (w, refl)
+any_word_is (number d) is = absurd (cc)
+any_word_is (mark k) is = absurd (cc)
 
 part_takes : (part : Part) → Takes (IsPart part) (part_at part)
 unfolding part_at
@@ -424,6 +430,7 @@ part_takes Syntax = type_takes
 part_takes Text = mark_takes Quoted
 part_takes Access = one_takes is_access (IsWordOf accesses) among_access
 part_takes Status = one_takes is_status (IsWordOf statuses) among_status
+part_takes Word = one_takes is_any_word (IsPart Word) any_word_is
 part_takes Group = group_takes LeftBrace RightBrace
 
 part_again : (part : Part) → Again (IsPart part) (BehindPart part) (part_at part)
@@ -432,6 +439,7 @@ part_again Syntax = type_again
 part_again Text = mark_again Quoted
 part_again Access = one_again is_access (IsWordOf accesses) (λ text is. word_of_again is_access accesses text (refl, (refl, (refl, (refl, (refl, tt))))) is)
 part_again Status = one_again is_status (IsWordOf statuses) (λ text is. word_of_again is_status statuses text (refl, (refl, (refl, tt))) is)
+part_again Word = one_again is_any_word (IsPart Word) (λ text is. (word is.0, is.1, refl))
 part_again Group = group_again LeftBrace RightBrace refl
 
 pub clause_takes : (w : List ℕ) (part : Part) → Takes (IsClause w part) (clause_at w part)
@@ -539,20 +547,20 @@ syntax_again =
     (λ text rest is follows. (clause_leads (codes "MAX-ACCESS") (codes "UNITS") Access text rest refl is, tt)))
     units_follow
 
-described_takes : Takes IsDescribed described_at
+described_takes : (status : Part) → Takes (IsDescribed status) (described_at status)
 unfolding described_at
-described_takes =
-    seq_takes (IsClause (codes "STATUS") Status) (IsClause (codes "DESCRIPTION") Text ▸ IsOptional (codes "REFERENCE") Text) (clause_at (codes "STATUS") Status) (λ k. clause_at (codes "DESCRIPTION") Text k >>= optional_at (codes "REFERENCE") Text)
-    (clause_takes (codes "STATUS") Status)
+described_takes status =
+    seq_takes (IsClause (codes "STATUS") status) (IsClause (codes "DESCRIPTION") Text ▸ IsOptional (codes "REFERENCE") Text) (clause_at (codes "STATUS") status) (λ k. clause_at (codes "DESCRIPTION") Text k >>= optional_at (codes "REFERENCE") Text)
+    (clause_takes (codes "STATUS") status)
     (seq_takes (IsClause (codes "DESCRIPTION") Text) (IsOptional (codes "REFERENCE") Text) (clause_at (codes "DESCRIPTION") Text) (optional_at (codes "REFERENCE") Text) (clause_takes (codes "DESCRIPTION") Text) (optional_takes (codes "REFERENCE") Text))
 
-described_again : Again IsDescribed (BehindOptional (codes "REFERENCE") Text) described_at
+described_again : (status : Part) → ((rest : List Lexeme) → BehindPart status rest) → Again (IsDescribed status) (BehindOptional (codes "REFERENCE") Text) (described_at status)
 unfolding described_at
-described_again =
-    seq_again (IsClause (codes "STATUS") Status) (IsClause (codes "DESCRIPTION") Text ▸ IsOptional (codes "REFERENCE") Text) Any (BehindOptional (codes "REFERENCE") Text) (clause_at (codes "STATUS") Status) (λ k. clause_at (codes "DESCRIPTION") Text k >>= optional_at (codes "REFERENCE") Text)
-    (clause_again (codes "STATUS") Status)
+described_again status anywhere =
+    seq_again (IsClause (codes "STATUS") status) (IsClause (codes "DESCRIPTION") Text ▸ IsOptional (codes "REFERENCE") Text) (BehindPart status) (BehindOptional (codes "REFERENCE") Text) (clause_at (codes "STATUS") status) (λ k. clause_at (codes "DESCRIPTION") Text k >>= optional_at (codes "REFERENCE") Text)
+    (clause_again (codes "STATUS") status)
     (seq_again (IsClause (codes "DESCRIPTION") Text) (IsOptional (codes "REFERENCE") Text) Any (BehindOptional (codes "REFERENCE") Text) (clause_at (codes "DESCRIPTION") Text) (optional_at (codes "REFERENCE") Text) (clause_again (codes "DESCRIPTION") Text) (optional_again (codes "REFERENCE") Text) (λ text rest is follows. tt))
-    (λ text rest is follows. tt)
+    (λ text rest is follows. anywhere (text ++ rest))
 
 -- ::= follows
 abbrev pub BeginsAssign : List Lexeme → Type 0
@@ -564,10 +572,10 @@ no_word_there w rest is = ap (begins_word w) is.1
 pub object_type_takes : Takes IsObjectType object_type_at
 unfolding object_type_at
 object_type_takes =
-    seq_takes IsSyntax (IsDescribed ▸ (IsIndex ▸ IsOptional (codes "DEFVAL") Group)) syntax_at (λ k. described_at k >>= λ m. index_at m >>= optional_at (codes "DEFVAL") Group)
+    seq_takes IsSyntax (IsDescribed Status ▸ (IsIndex ▸ IsOptional (codes "DEFVAL") Group)) syntax_at (λ k. described_at Status k >>= λ m. index_at m >>= optional_at (codes "DEFVAL") Group)
     syntax_takes
-    (seq_takes IsDescribed (IsIndex ▸ IsOptional (codes "DEFVAL") Group) described_at (λ m. index_at m >>= optional_at (codes "DEFVAL") Group)
-    described_takes
+    (seq_takes (IsDescribed Status) (IsIndex ▸ IsOptional (codes "DEFVAL") Group) (described_at Status) (λ m. index_at m >>= optional_at (codes "DEFVAL") Group)
+    (described_takes Status)
     (seq_takes IsIndex (IsOptional (codes "DEFVAL") Group) index_at (optional_at (codes "DEFVAL") Group) index_takes (optional_takes (codes "DEFVAL") Group)))
 
 rows_lead : (text rest : List Lexeme) → (IsIndex ▸ IsOptional (codes "DEFVAL") Group) text → BeginsAssign rest → BehindOptional (codes "REFERENCE") Text (text ++ rest)
@@ -579,10 +587,10 @@ rows_lead text rest is follows =
 pub object_type_again : Again IsObjectType BeginsAssign object_type_at
 unfolding object_type_at
 object_type_again =
-    seq_again IsSyntax (IsDescribed ▸ (IsIndex ▸ IsOptional (codes "DEFVAL") Group)) Any BeginsAssign syntax_at (λ k. described_at k >>= λ m. index_at m >>= optional_at (codes "DEFVAL") Group)
+    seq_again IsSyntax (IsDescribed Status ▸ (IsIndex ▸ IsOptional (codes "DEFVAL") Group)) Any BeginsAssign syntax_at (λ k. described_at Status k >>= λ m. index_at m >>= optional_at (codes "DEFVAL") Group)
     syntax_again
-    (seq_again IsDescribed (IsIndex ▸ IsOptional (codes "DEFVAL") Group) (BehindOptional (codes "REFERENCE") Text) BeginsAssign described_at (λ m. index_at m >>= optional_at (codes "DEFVAL") Group)
-    described_again
+    (seq_again (IsDescribed Status) (IsIndex ▸ IsOptional (codes "DEFVAL") Group) (BehindOptional (codes "REFERENCE") Text) BeginsAssign (described_at Status) (λ m. index_at m >>= optional_at (codes "DEFVAL") Group)
+    (described_again Status (λ rest. tt))
     (seq_again IsIndex (IsOptional (codes "DEFVAL") Group) BehindIndex BeginsAssign index_at (optional_at (codes "DEFVAL") Group) index_again
     (λ text rest is follows. optional_again (codes "DEFVAL") Group text rest is (no_word_there (codes "DEFVAL") rest follows, tt))
     (λ text rest is follows. (optional_leads (codes "DEFVAL") (codes "AUGMENTS") Group text rest refl is (no_word_there (codes "AUGMENTS") rest follows), optional_leads (codes "DEFVAL") (codes "INDEX") Group text rest refl is (no_word_there (codes "INDEX") rest follows))))
@@ -592,24 +600,24 @@ object_type_again =
 pub convention_takes : Takes IsConvention convention_at
 unfolding convention_at
 convention_takes =
-    seq_takes (IsOptional (codes "DISPLAY-HINT") Text) (IsDescribed ▸ IsClause (codes "SYNTAX") Syntax) (optional_at (codes "DISPLAY-HINT") Text) (λ k. described_at k >>= clause_at (codes "SYNTAX") Syntax)
+    seq_takes (IsOptional (codes "DISPLAY-HINT") Text) (IsDescribed Word ▸ IsClause (codes "SYNTAX") Syntax) (optional_at (codes "DISPLAY-HINT") Text) (λ k. described_at Word k >>= clause_at (codes "SYNTAX") Syntax)
     (optional_takes (codes "DISPLAY-HINT") Text)
-    (seq_takes IsDescribed (IsClause (codes "SYNTAX") Syntax) described_at (clause_at (codes "SYNTAX") Syntax) described_takes (clause_takes (codes "SYNTAX") Syntax))
+    (seq_takes (IsDescribed Word) (IsClause (codes "SYNTAX") Syntax) (described_at Word) (clause_at (codes "SYNTAX") Syntax) (described_takes Word) (clause_takes (codes "SYNTAX") Syntax))
 
 -- its clauses begin with STATUS
-pub described_begins : (text : List Lexeme) → IsDescribed text → (v : List ℕ) (rest : List Lexeme) → is_word v (word (codes "STATUS")) ≡ false → begins_word v (text ++ rest) ≡ false
+pub described_begins : (text : List Lexeme) → IsDescribed Word text → (v : List ℕ) (rest : List Lexeme) → is_word v (word (codes "STATUS")) ≡ false → begins_word v (text ++ rest) ≡ false
 described_begins text is v rest apart =
-    ap (λ (k : List Lexeme). begins_word v (k ++ rest)) is.2 ∙ ap (begins_word v) (append_assoc is.0 is.1 rest) ∙ clause_leads (codes "STATUS") v Status is.0 (is.1 ++ rest) apart is.3
+    ap (λ (k : List Lexeme). begins_word v (k ++ rest)) is.2 ∙ ap (begins_word v) (append_assoc is.0 is.1 rest) ∙ clause_leads (codes "STATUS") v Word is.0 (is.1 ++ rest) apart is.3
 
-hint_leads : (text rest : List Lexeme) → (IsDescribed ▸ IsClause (codes "SYNTAX") Syntax) text → Follows rest → BehindOptional (codes "DISPLAY-HINT") Text (text ++ rest)
+hint_leads : (text rest : List Lexeme) → (IsDescribed Word ▸ IsClause (codes "SYNTAX") Syntax) text → Follows rest → BehindOptional (codes "DISPLAY-HINT") Text (text ++ rest)
 hint_leads text rest is follows =
     (ap (λ (k : List Lexeme). begins_word (codes "DISPLAY-HINT") (k ++ rest)) is.2 ∙ ap (begins_word (codes "DISPLAY-HINT")) (append_assoc is.0 is.1 rest) ∙ described_begins is.0 is.3 (codes "DISPLAY-HINT") (is.1 ++ rest) refl, tt)
 
 pub convention_again : Again IsConvention Follows convention_at
 unfolding convention_at
 convention_again =
-    seq_again (IsOptional (codes "DISPLAY-HINT") Text) (IsDescribed ▸ IsClause (codes "SYNTAX") Syntax) (BehindOptional (codes "DISPLAY-HINT") Text) Follows (optional_at (codes "DISPLAY-HINT") Text) (λ k. described_at k >>= clause_at (codes "SYNTAX") Syntax)
+    seq_again (IsOptional (codes "DISPLAY-HINT") Text) (IsDescribed Word ▸ IsClause (codes "SYNTAX") Syntax) (BehindOptional (codes "DISPLAY-HINT") Text) Follows (optional_at (codes "DISPLAY-HINT") Text) (λ k. described_at Word k >>= clause_at (codes "SYNTAX") Syntax)
     (optional_again (codes "DISPLAY-HINT") Text)
-    (seq_again IsDescribed (IsClause (codes "SYNTAX") Syntax) (BehindOptional (codes "REFERENCE") Text) Follows described_at (clause_at (codes "SYNTAX") Syntax) described_again (clause_again (codes "SYNTAX") Syntax)
+    (seq_again (IsDescribed Word) (IsClause (codes "SYNTAX") Syntax) (BehindOptional (codes "REFERENCE") Text) Follows (described_at Word) (clause_at (codes "SYNTAX") Syntax) (described_again Word (λ rest. tt)) (clause_again (codes "SYNTAX") Syntax)
     (λ text rest is follows. (clause_leads (codes "SYNTAX") (codes "REFERENCE") Syntax text rest refl is, tt)))
     hint_leads

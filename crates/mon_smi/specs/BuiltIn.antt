@@ -6,6 +6,7 @@ use Rattle.mon_smi.specs.declared.definition.Definition.{Definition}
 abbrev pub rooted : List ℕ → List ℕ → Definition
 rooted word numbers = record { name = word; parent = None; numbers = numbers }
 
+-- the names that are known without a module (RFC 2578 section 2, RFC 3411 section 5)
 abbrev pub built_in : List Definition
 built_in =
     rooted (codes "iso") (1 ∷ [])

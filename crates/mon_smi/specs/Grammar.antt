@@ -4,7 +4,7 @@ use Rattle.std.specs.List.{flat_map}
 use Rattle.mon_smi.specs.declared.kind.Kind.{Kind}
 use Rattle.mon_smi.specs.declared.kind.Kind.TheVariants.{Quoted, Assign, LeftBrace, RightBrace, LeftParen, RightParen, Semicolon}
 use Rattle.mon_smi.specs.declared.part.Part.{Part}
-use Rattle.mon_smi.specs.declared.part.Part.TheVariants.{Syntax, Text, Access, Status, Group}
+use Rattle.mon_smi.specs.declared.part.Part.TheVariants.{Syntax, Text, Access, Status, Word, Group}
 use Rattle.mon_smi.specs.declared.token.Token.{Token}
 use Rattle.mon_smi.specs.declared.definition.Definition.{Definition}
 use Rattle.mon_smi.specs.Tokens.{AreDigits, AreTokens}
@@ -12,6 +12,7 @@ use Rattle.mon_smi.specs.Lexemes.{Lexeme, word, number, mark, lexemes, begins_sm
 
 -- one rule, and then the other
 infixr 6 ◌▸◌
+-- the one, then the other
 abbrev pub ◌▸◌ : (List Lexeme → Type 0) → (List Lexeme → Type 0) → List Lexeme → Type 0
 A ▸ B = λ ls. (front back : List Lexeme) × (ls ≡ front ++ back) × A front × B back
 
@@ -37,9 +38,11 @@ IsNested left right depth (l ∷ ls) =
     ⊎ (((before : ℕ) × (l ≡ mark right) × (depth ≡ suc before) × IsNested left right before ls)
     ⊎ ((l ≢ mark left) × (l ≢ mark right) × IsNested left right depth ls))
 
+-- a balanced group between these two marks
 abbrev pub IsGroup : Kind → Kind → List Lexeme → Type 0
 IsGroup left right ls = (inner : List Lexeme) × (ls ≡ mark left ∷ inner ++ mark right ∷ []) × IsNested left right 0 inner
 
+-- the name of a type: two words, SEQUENCE OF a name, or one word with a capital letter first
 abbrev pub IsTypeName : List Lexeme → Type 0
 IsTypeName ls = (ls ≡ word (codes "OCTET") ∷ word (codes "STRING") ∷ [])
     ⊎ ((ls ≡ word (codes "OBJECT") ∷ word (codes "IDENTIFIER") ∷ [])
@@ -54,9 +57,11 @@ IsMaybeGroup ls = (ls ≡ []) ⊎ (IsGroup LeftBrace RightBrace ls ⊎ IsGroup L
 abbrev pub IsType : List Lexeme → Type 0
 IsType = IsTypeName ▸ IsMaybeGroup
 
+-- the words of MAX-ACCESS (RFC 2578 section 7.3)
 abbrev pub accesses : List (List ℕ)
 accesses = codes "not-accessible" ∷ codes "accessible-for-notify" ∷ codes "read-only" ∷ codes "read-write" ∷ codes "read-create" ∷ []
 
+-- the words of STATUS (RFC 2578 section 7.4)
 abbrev pub statuses : List (List ℕ)
 statuses = codes "current" ∷ codes "deprecated" ∷ codes "obsolete" ∷ []
 
@@ -66,8 +71,10 @@ IsPart Syntax ls = IsType ls
 IsPart Text ls = IsThis (mark Quoted) ls
 IsPart Access ls = IsWordOf accesses ls
 IsPart Status ls = IsWordOf statuses ls
+IsPart Word ls = (text : List ℕ) × IsThis (word text) ls
 IsPart Group ls = IsGroup LeftBrace RightBrace ls
 
+-- a keyword and what stands after it
 abbrev pub IsClause : List ℕ → Part → List Lexeme → Type 0
 IsClause keyword part = IsThis (word keyword) ▸ IsPart part
 
@@ -75,6 +82,7 @@ IsClause keyword part = IsThis (word keyword) ▸ IsPart part
 abbrev pub IsOptional : List ℕ → Part → List Lexeme → Type 0
 IsOptional keyword part ls = (ls ≡ []) ⊎ IsClause keyword part ls
 
+-- AUGMENTS with its group, INDEX with its group, or nothing
 abbrev pub IsIndex : List Lexeme → Type 0
 IsIndex ls = IsClause (codes "AUGMENTS") Group ls ⊎ IsOptional (codes "INDEX") Group ls
 
@@ -82,17 +90,17 @@ IsIndex ls = IsClause (codes "AUGMENTS") Group ls ⊎ IsOptional (codes "INDEX")
 abbrev pub IsSyntax : List Lexeme → Type 0
 IsSyntax = IsClause (codes "SYNTAX") Syntax ▸ (IsOptional (codes "UNITS") Text ▸ IsClause (codes "MAX-ACCESS") Access)
 
--- the status and the texts of a definition
-abbrev pub IsDescribed : List Lexeme → Type 0
-IsDescribed = IsClause (codes "STATUS") Status ▸ (IsClause (codes "DESCRIPTION") Text ▸ IsOptional (codes "REFERENCE") Text)
+-- the status, which is of this form, and the texts of a definition
+abbrev pub IsDescribed : Part → List Lexeme → Type 0
+IsDescribed status = IsClause (codes "STATUS") status ▸ (IsClause (codes "DESCRIPTION") Text ▸ IsOptional (codes "REFERENCE") Text)
 
 -- the clauses of an OBJECT-TYPE
 abbrev pub IsObjectType : List Lexeme → Type 0
-IsObjectType = IsSyntax ▸ (IsDescribed ▸ (IsIndex ▸ IsOptional (codes "DEFVAL") Group))
+IsObjectType = IsSyntax ▸ (IsDescribed Status ▸ (IsIndex ▸ IsOptional (codes "DEFVAL") Group))
 
--- the clauses of a TEXTUAL-CONVENTION
+-- the clauses of a TEXTUAL-CONVENTION; its status is any word
 abbrev pub IsConvention : List Lexeme → Type 0
-IsConvention = IsOptional (codes "DISPLAY-HINT") Text ▸ (IsDescribed ▸ IsClause (codes "SYNTAX") Syntax)
+IsConvention = IsOptional (codes "DISPLAY-HINT") Text ▸ (IsDescribed Word ▸ IsClause (codes "SYNTAX") Syntax)
 
 -- the number that digits behind another one give
 abbrev pub spelled_from : ℕ → List ℕ → ℕ

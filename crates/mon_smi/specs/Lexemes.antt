@@ -46,6 +46,7 @@ pub record IsTokenOf (text : List ℕ) (t : Token) : Type 0 where
   pub within : t.span.end ≤ length text
   pub spelled : IsSpelled t.kind (take (t.span.end - t.span.start) (drop t.span.start text))
 
+-- all of these are tokens of the text
 abbrev pub AreTokensOf : List ℕ → List Token → Type 0
 AreTokensOf text [] = Unit {0}
 AreTokensOf text (t ∷ ts) = IsTokenOf text t × AreTokensOf text ts
@@ -70,17 +71,20 @@ code_of Semicolon = 14
 code_of Dot = 15
 code_of Bar = 16
 
+-- whether two texts are the same
 abbrev pub same_text : List ℕ → List ℕ → Bool
 same_text [] [] = true
 same_text [] (b ∷ bs) = false
 same_text (a ∷ xs) [] = false
 same_text (a ∷ xs) (b ∷ bs) = a == b && same_text xs bs
 
+-- whether a token is this word
 abbrev pub is_word : List ℕ → Lexeme → Bool
 is_word w (word v) = same_text v w
 is_word w (number v) = false
 is_word w (mark k) = false
 
+-- whether a token is this mark
 abbrev pub is_mark : Kind → Lexeme → Bool
 is_mark k (word v) = false
 is_mark k (number v) = false
@@ -102,9 +106,17 @@ digits_of (mark k) = None
 abbrev pub begins_small : List ℕ → Bool
 begins_small w = is_ascii_lowercase (slice_index w 0)
 
+-- whether a word begins with a capital letter
 abbrev pub begins_capital : List ℕ → Bool
 begins_capital w = is_ascii_uppercase (slice_index w 0)
 
+-- whether a token is a word
+abbrev pub is_any_word : Lexeme → Bool
+is_any_word (word w) = true
+is_any_word (number d) = false
+is_any_word (mark k) = false
+
+-- whether a token is a word with a capital letter first
 abbrev pub is_capital : Lexeme → Bool
 is_capital (word w) = begins_capital w
 is_capital (number d) = false

@@ -25,6 +25,7 @@ abbrev pub HasTwice : List ℕ → Span → Type 0
 HasTwice text span = (name : List ℕ) × (defs : List Definition) × (i : ℕ) × (d : Definition)
     × Derives text name defs × IsAgain defs i d × BeginsAt text span d
 
+-- why a text is no module: it is spelled as none, or a value name stands in it twice
 abbrev pub IsFaultOfModule : TextFault → List ℕ → Type 0
 IsFaultOfModule OutOfMemory text = Unit {0}
 IsFaultOfModule Unclosed text = IsNoModule text

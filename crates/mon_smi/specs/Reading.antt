@@ -7,11 +7,12 @@ use Rattle.mon_smi.specs.declared.kind.Kind.{Kind}
 use Rattle.mon_smi.specs.declared.kind.Kind.TheVariants.{Quoted, Assign, LeftBrace, RightBrace, LeftParen, RightParen, Semicolon}
 use Rattle.mon_smi.specs.declared.definition.Definition.{Definition}
 use Rattle.mon_smi.specs.declared.part.Part.{Part}
-use Rattle.mon_smi.specs.declared.part.Part.TheVariants.{Syntax, Text, Access, Status, Group}
-use Rattle.mon_smi.specs.Lexemes.{Lexeme, is_word, is_mark, word_of, digits_of, begins_small, begins_capital, is_capital}
+use Rattle.mon_smi.specs.declared.part.Part.TheVariants.{Syntax, Text, Access, Status, Word, Group}
+use Rattle.mon_smi.specs.Lexemes.{Lexeme, is_word, is_mark, word_of, digits_of, begins_small, begins_capital, is_capital, is_any_word}
 
 -- a step, and what follows it unless it failed
 infixl 10 ◌>>=◌
+-- a step, and what follows it unless it failed
 abbrev pub ◌>>=◌ : {A B : Type 0} → Option A → (A → Option B) → Option B
 (Some x) >>= f = f x
 None >>= f = None
@@ -65,6 +66,7 @@ nested_at left right depth (l ∷ ls) =
     if is_mark left l then nested_at left right (suc depth) ls else
     (if is_mark right l then (if depth == 0 then Some ls else nested_at left right (depth - 1) ls) else nested_at left right depth ls)
 
+-- a balanced group, and what follows it
 unfoldable pub group_at : Kind → Kind → List Lexeme → Option (List Lexeme)
 group_at left right ls = do
   rest ← mark_at left ls
@@ -76,23 +78,27 @@ is_pair v w [] = false
 is_pair v w (a ∷ []) = false
 is_pair v w (a ∷ b ∷ ls) = is_word v a && (is_word w b && not (begins Assign ls))
 
+-- SEQUENCE OF a name comes next
 abbrev pub is_sequence_of : List Lexeme → Bool
 is_sequence_of [] = false
 is_sequence_of (a ∷ []) = false
 is_sequence_of (a ∷ b ∷ []) = false
 is_sequence_of (a ∷ b ∷ c ∷ ls) = is_word (codes "SEQUENCE") a && (is_word (codes "OF") b && is_capital c)
 
+-- a type's name, and what follows it
 unfoldable pub type_name_at : List Lexeme → Option (List Lexeme)
 type_name_at ls =
     if is_pair (codes "OCTET") (codes "STRING") ls then Some (drop 2 ls) else
     (if is_pair (codes "OBJECT") (codes "IDENTIFIER") ls then Some (drop 2 ls) else
     (if is_sequence_of ls then Some (drop 3 ls) else one is_capital ls))
 
+-- a group in braces or parentheses, if one comes next
 unfoldable pub maybe_group : List Lexeme → Option (List Lexeme)
 maybe_group ls =
     if begins LeftBrace ls then group_at LeftBrace RightBrace ls else
     (if begins LeftParen ls then group_at LeftParen RightParen ls else Some ls)
 
+-- a type, and what follows it
 unfoldable pub type_at : List Lexeme → Option (List Lexeme)
 type_at ls = do
   rest ← type_name_at ls
@@ -100,53 +106,64 @@ type_at ls = do
 
 -- ---- clauses
 
+-- a word of MAX-ACCESS
 abbrev pub is_access : Lexeme → Bool
 is_access l = is_word (codes "not-accessible") l || (is_word (codes "accessible-for-notify") l || (is_word (codes "read-only") l || (is_word (codes "read-write") l || is_word (codes "read-create") l)))
 
+-- a word of STATUS
 abbrev pub is_status : Lexeme → Bool
 is_status l = is_word (codes "current") l || (is_word (codes "deprecated") l || is_word (codes "obsolete") l)
 
+-- what stands after the keyword of a clause
 unfoldable pub part_at : Part → List Lexeme → Option (List Lexeme)
 part_at Syntax ls = type_at ls
 part_at Text ls = mark_at Quoted ls
 part_at Access ls = one is_access ls
 part_at Status ls = one is_status ls
+part_at Word ls = one is_any_word ls
 part_at Group ls = group_at LeftBrace RightBrace ls
 
+-- a keyword with what belongs to it
 unfoldable pub clause_at : List ℕ → Part → List Lexeme → Option (List Lexeme)
 clause_at keyword part ls = do
   rest ← word_at keyword ls
   part_at part rest
 
+-- a clause, if its keyword comes next
 unfoldable pub optional_at : List ℕ → Part → List Lexeme → Option (List Lexeme)
 optional_at keyword part ls = if begins_word keyword ls then clause_at keyword part ls else Some ls
 
+-- AUGMENTS or INDEX with its group, if one of them comes next
 unfoldable pub index_at : List Lexeme → Option (List Lexeme)
 index_at ls = if begins_word (codes "AUGMENTS") ls then clause_at (codes "AUGMENTS") Group ls else optional_at (codes "INDEX") Group ls
 
+-- the type, the units and the access of an object
 unfoldable pub syntax_at : List Lexeme → Option (List Lexeme)
 syntax_at ls = do
   syntax ← clause_at (codes "SYNTAX") Syntax ls
   units ← optional_at (codes "UNITS") Text syntax
   clause_at (codes "MAX-ACCESS") Access units
 
-unfoldable pub described_at : List Lexeme → Option (List Lexeme)
-described_at ls = do
-  status ← clause_at (codes "STATUS") Status ls
+-- the status, the description and the reference
+unfoldable pub described_at : Part → List Lexeme → Option (List Lexeme)
+described_at part ls = do
+  status ← clause_at (codes "STATUS") part ls
   description ← clause_at (codes "DESCRIPTION") Text status
   optional_at (codes "REFERENCE") Text description
 
+-- all clauses of an OBJECT-TYPE
 unfoldable pub object_type_at : List Lexeme → Option (List Lexeme)
 object_type_at ls = do
   syntax ← syntax_at ls
-  described ← described_at syntax
+  described ← described_at Status syntax
   index ← index_at described
   optional_at (codes "DEFVAL") Group index
 
+-- all clauses of a TEXTUAL-CONVENTION
 unfoldable pub convention_at : List Lexeme → Option (List Lexeme)
 convention_at ls = do
   hint ← optional_at (codes "DISPLAY-HINT") Text ls
-  described ← described_at hint
+  described ← described_at Word hint
   clause_at (codes "SYNTAX") Syntax described
 
 -- ---- one after the other
@@ -175,6 +192,7 @@ abbrev pub number_of : List ℕ → Option ℕ
 number_of [] = None
 number_of (b ∷ bs) = number_from 0 (b ∷ bs)
 
+-- a number that is a sub-identifier
 unfoldable pub sub_at : List Lexeme → Option (ℕ × List Lexeme)
 sub_at [] = None
 sub_at (l ∷ ls) = do
@@ -182,6 +200,7 @@ sub_at (l ∷ ls) = do
   n ← number_of digits
   Some (n, ls)
 
+-- a sub-identifier in parentheses
 unfoldable pub in_parens_at : List Lexeme → Option (ℕ × List Lexeme)
 in_parens_at ls = do
   inner ← mark_at LeftParen ls
@@ -189,6 +208,7 @@ in_parens_at ls = do
   rest ← mark_at RightParen n.1
   Some (n.0, rest)
 
+-- a component: a number, or a word with a number in parentheses
 unfoldable pub component_at : List Lexeme → Option (ℕ × List Lexeme)
 component_at ls = elim (name_at ls) [ Some x ↦ in_parens_at x.1 | None ↦ sub_at ls ]
 
@@ -201,12 +221,15 @@ abbrev pub enough : Option (List ℕ) → List ℕ → Bool
 enough None numbers = nat_le 2 (length numbers)
 enough (Some w) numbers = nat_le 1 (length numbers)
 
+-- a list of one
 abbrev pub single : ℕ → List ℕ
 single n = n ∷ []
 
+-- components up to the closing brace
 unfoldable pub numbers_at : List Lexeme → Option (List ℕ × List Lexeme)
 numbers_at ls = many component_at single (begins RightBrace) (length ls) ls
 
+-- a value in braces: the parent, if it is a word, and the numbers
 unfoldable pub value_at : List Lexeme → Option ((Option (List ℕ) × List ℕ) × List Lexeme)
 value_at ls = do
   inner ← mark_at LeftBrace ls
@@ -215,6 +238,7 @@ value_at ls = do
 
 -- ---- assignments
 
+-- the keyword of a macro that is read over to its value
 abbrev pub is_macro : Lexeme → Bool
 is_macro l = is_word (codes "MODULE-IDENTITY") l || (is_word (codes "OBJECT-IDENTITY") l || (is_word (codes "NOTIFICATION-TYPE") l || (is_word (codes "OBJECT-GROUP") l
     || (is_word (codes "NOTIFICATION-GROUP") l || (is_word (codes "MODULE-COMPLIANCE") l || is_word (codes "AGENT-CAPABILITIES") l)))))
@@ -224,21 +248,25 @@ abbrev pub up_to : Kind → List Lexeme → Option (List Lexeme)
 up_to kind [] = None
 up_to kind (l ∷ ls) = if is_mark kind l then Some (l ∷ ls) else up_to kind ls
 
+-- OBJECT IDENTIFIER
 unfoldable pub identifier_at : List Lexeme → Option (List Lexeme)
 identifier_at ls = do
   rest ← word_at (codes "OBJECT") ls
   word_at (codes "IDENTIFIER") rest
 
+-- OBJECT-TYPE with its clauses
 unfoldable pub object_at : List Lexeme → Option (List Lexeme)
 object_at ls = do
   rest ← word_at (codes "OBJECT-TYPE") ls
   object_type_at rest
 
+-- the keyword of a macro, and all up to its value
 unfoldable pub macro_at : List Lexeme → Option (List Lexeme)
 macro_at ls = do
   rest ← one is_macro ls
   up_to Assign rest
 
+-- what stands between a value's name and its value
 unfoldable pub head_at : List Lexeme → Option (List Lexeme)
 head_at ls = if begins_word (codes "OBJECT") ls then identifier_at ls else (if begins_word (codes "OBJECT-TYPE") ls then object_at ls else macro_at ls)
 
@@ -256,6 +284,7 @@ is_convention [] = false
 is_convention (a ∷ []) = false
 is_convention (a ∷ b ∷ ls) = is_word (codes "TEXTUAL-CONVENTION") a && ((is_word (codes "DISPLAY-HINT") b || is_word (codes "STATUS") b) && not (begins Assign ls))
 
+-- TEXTUAL-CONVENTION with its clauses
 unfoldable pub textual_at : List Lexeme → Option (List Lexeme)
 textual_at ls = do
   rest ← word_at (codes "TEXTUAL-CONVENTION") ls
@@ -267,17 +296,21 @@ type_body_at ls = do
   rest ← mark_at Assign ls
   if is_convention rest then textual_at rest else type_at rest
 
+-- an assignment that defines a value
 abbrev pub assigned : Definition × List Lexeme → Option Definition × List Lexeme
 assigned d = (Some d.0, d.1)
 
+-- an assignment that defines no value
 abbrev pub passed_over : List Lexeme → Option Definition × List Lexeme
 passed_over rest = (None, rest)
 
+-- what a name is assigned: a small letter first is a value, a capital one a type
 unfoldable pub assignment_of : List ℕ → List Lexeme → Option (Option Definition × List Lexeme)
 assignment_of name ls =
     if begins_small name then (definition_at name ls >>= λ d. Some (assigned d)) else
     (if begins_capital name then (type_body_at ls >>= λ rest. Some (passed_over rest)) else None)
 
+-- an assignment, and what follows it
 unfoldable pub assignment_at : List Lexeme → Option (Option Definition × List Lexeme)
 assignment_at ls = do
   name ← name_at ls
@@ -291,19 +324,23 @@ is_end [] = false
 is_end (l ∷ []) = is_word (codes "END") l
 is_end (l ∷ m ∷ ls) = false
 
+-- imports up to their semicolon
 unfoldable pub imported_at : List Lexeme → Option (List Lexeme)
 imported_at ls = do
   rest ← up_to Semicolon ls
   mark_at Semicolon rest
 
+-- the import clause, if it comes next
 unfoldable pub imports_at : List Lexeme → Option (List Lexeme)
 imports_at ls = if begins_word (codes "IMPORTS") ls then imported_at ls else Some ls
 
+-- assignments up to END
 unfoldable pub definitions_at : List Lexeme → Option (List Definition)
 definitions_at ls = do
   all ← many assignment_at option_to_list is_end (length ls) ls
   Some all.0
 
+-- what stands after a module's name
 unfoldable pub body_at : List Lexeme → Option (List Definition)
 body_at ls = do
   defined ← word_at (codes "DEFINITIONS") ls
@@ -312,6 +349,7 @@ body_at ls = do
   rest ← imports_at begun
   definitions_at rest
 
+-- a whole module: its name and its definitions
 unfoldable pub module_at : List Lexeme → Option (List ℕ × List Definition)
 module_at ls = do
   name ← name_at ls

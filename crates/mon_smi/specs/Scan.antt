@@ -34,9 +34,11 @@ abbrev pub remark_at : List ℕ → ℕ
 remark_at [] = 0
 remark_at (b ∷ bs) = if b == 10 || (b == 45 && slice_index bs 0 == 45) then 0 else suc (remark_at bs)
 
+-- a token of this kind and length
 abbrev pub token : Kind → ℕ → Option Piece
 token kind n = Some (record { kind = Some kind; len = n })
 
+-- so many bytes of space or comment
 abbrev pub passed : ℕ → Option Piece
 passed n = Some (record { kind = None; len = n })
 
@@ -57,6 +59,7 @@ abbrev pub hyphen_at : List ℕ → Option Piece
 hyphen_at text =
     if slice_index text 0 == 45 then passed (suc (comment_at text)) else signed (run_at is_ascii_digit text)
 
+-- a quoted string, if it is closed
 abbrev pub quoted_at : List ℕ → Option Piece
 quoted_at text = elim (closes_at text) [ Some n ↦ token Quoted (suc n) | None ↦ None ]
 
@@ -70,15 +73,19 @@ closed_bits digits bits (b ∷ letter ∷ rest) =
     (if (letter == 98 || letter == 66) && bits == digits then token Binary (suc (suc (suc digits))) else None))
     else None
 
+-- hex or binary digits between single quotes
 abbrev pub bits_at : List ℕ → Option Piece
 bits_at text = closed_bits (run_at is_ascii_hexdigit text) (run_at is_bit text) (drop (run_at is_ascii_hexdigit text) text)
 
+-- the mark of an assignment
 abbrev pub assign_at : List ℕ → Option Piece
 assign_at text = if slice_index text 0 == 58 && slice_index text 1 == 61 then token Assign 3 else None
 
+-- a range, or one dot
 abbrev pub dot_at : List ℕ → Option Piece
 dot_at text = if slice_index text 0 == 46 then token Range 2 else token Dot 1
 
+-- a mark of one byte
 abbrev pub mark_at : ℕ → Option Piece
 mark_at b =
     if b == 123 then token LeftBrace 1 else

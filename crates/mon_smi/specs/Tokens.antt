@@ -15,6 +15,7 @@ abbrev pub AreAll : (ℕ → Bool) → List ℕ → Type 0
 AreAll test [] = Unit {0}
 AreAll test (b ∷ bs) = IsTrue (test b) × AreAll test bs
 
+-- at least one digit, and nothing else
 abbrev pub AreDigits : List ℕ → Type 0
 AreDigits digits = (0 < length digits) × AreAll is_ascii_digit digits
 
@@ -36,6 +37,7 @@ IsBits is_digit small capital text = (digits : List ℕ) × (letter : ℕ)
     × (text ≡ 39 ∷ digits ++ 39 ∷ letter ∷ []) × AreAll is_digit digits
     × ((letter ≡ small) ⊎ (letter ≡ capital))
 
+-- the digit 0 or 1
 abbrev pub is_bit : ℕ → Bool
 is_bit b = b == 48 || b == 49
 
@@ -69,6 +71,7 @@ pub record IsLongest (kind : Kind) (n : ℕ) (text : List ℕ) : Type 0 where
 abbrev pub is_space : ℕ → Bool
 is_space b = b == 32 || (nat_le 9 b && nat_le b 13)
 
+-- a hyphen
 abbrev pub is_hyphen : ℕ → Bool
 is_hyphen b = b == 45
 
@@ -108,6 +111,7 @@ abbrev pub IsPassed : ℕ → List ℕ → Type 0
 IsPassed n text = (n ≤ length text)
     × (((b : ℕ) × (take n text ≡ b ∷ []) × IsTrue (is_space b)) ⊎ IsComment (take n text) (drop n text))
 
+-- the longest token of this kind, or with no kind space or a comment, has so many bytes
 abbrev pub IsPieceOf : Option Kind → ℕ → List ℕ → Type 0
 IsPieceOf None n text = IsPassed n text
 IsPieceOf (Some kind) n text = IsLongest kind n text

@@ -3,7 +3,7 @@
 ghost use Rattle.std.specs.Prelude.{◌≡◌, ◌≤◌, ◌-◌, length, take, drop, IfOk};
 ghost use Rattle.std.specs.Str.{IsUtf8};
 ghost use Rattle.std.specs.Option.{option_map};
-ghost use Rattle.mon_smi.specs.Lexemes.{IsTokenOf, AreTokensOf, lexeme_at, lexemes, code_of, same_text, is_word, is_mark, word_of, digits_of, begins_small, begins_capital, is_capital};
+ghost use Rattle.mon_smi.specs.Lexemes.{IsTokenOf, AreTokensOf, lexeme_at, lexemes, code_of, same_text, is_word, is_mark, word_of, digits_of, begins_small, begins_capital, is_any_word, is_capital};
 
 use crate::kind::Kind;
 use crate::scan::byte_at;
@@ -141,6 +141,13 @@ impl<'a> Lexeme<'a> {
             Kind::Number => Some(self.text),
             _ => None,
         }
+    }
+
+    /// Whether it is a word.
+    pub fn is_any_word(&self) -> bool
+        ensures { result ≡ is_any_word self.now }
+    {
+        matches!(self.kind, Kind::Word)
     }
 
     /// Whether it is a word with a capital first letter.

@@ -1,4 +1,4 @@
-//! What stands behind the keyword of a clause.
+//! What stands after the keyword of a clause.
 
 /// What a clause of an OBJECT-TYPE or a TEXTUAL-CONVENTION says (RFC 2578 section 7, RFC 2579 section 3).
 #[derive(Clone, Copy)]
@@ -11,6 +11,8 @@ pub enum Part {
     Access,
     /// Whether the definition is current.
     Status,
+    /// A word, whatever it says.
+    Word,
     /// Tokens between braces.
     Group,
 }

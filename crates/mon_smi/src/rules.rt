@@ -2,7 +2,7 @@
 
 ghost use Rattle.std.specs.Prelude.{◌≡◌, ◌≤◌, ◌-◌, length, drop};
 ghost use Rattle.mon_smi.specs.Reading.{Gives, word_at, mark_at, begins, begins_word, one, nested_at, group_at, is_pair, is_sequence_of, type_name_at, maybe_group, type_at, is_access, is_status, part_at, clause_at, optional_at, index_at, syntax_at, described_at, object_type_at, convention_at};
-ghost use Rattle.mon_smi.specs.Lexemes.{is_capital};
+ghost use Rattle.mon_smi.specs.Lexemes.{is_capital, is_any_word};
 
 use crate::kind::Kind;
 use crate::lexeme::Lexeme;
@@ -217,7 +217,20 @@ fn status_at<'a, 's>(ls: &'a [Lexeme<'s>]) -> Result<&'a [Lexeme<'s>], TextFault
     Err(TextFault::Unexpected(first.span()))
 }
 
-/// What a clause says behind its keyword.
+/// A word.
+fn any_word_at<'a, 's>(ls: &'a [Lexeme<'s>]) -> Result<&'a [Lexeme<'s>], TextFault>
+    ensures { Gives (λ rest. rest.now) result (one is_any_word ls.now) }
+{
+    let [first, rest @ ..] = ls else {
+        return Err(TextFault::Unclosed);
+    };
+    if first.is_any_word() {
+        return Ok(rest);
+    }
+    Err(TextFault::Unexpected(first.span()))
+}
+
+/// What a clause says after its keyword.
 #[tactic(auto, unfolding(crate::specs::Reading::part_at))]
 fn part_at<'a, 's>(part: Part, ls: &'a [Lexeme<'s>]) -> Result<&'a [Lexeme<'s>], TextFault>
     ensures { Gives (λ rest. rest.now) result (part_at part ls.now) }
@@ -227,6 +240,7 @@ fn part_at<'a, 's>(part: Part, ls: &'a [Lexeme<'s>]) -> Result<&'a [Lexeme<'s>],
         Part::Text => mark_at(Kind::Quoted, ls),
         Part::Access => access_at(ls),
         Part::Status => status_at(ls),
+        Part::Word => any_word_at(ls),
         Part::Group => group_at(Kind::LeftBrace, Kind::RightBrace, ls),
     }
 }
@@ -280,12 +294,12 @@ fn syntax_at<'a, 's>(ls: &'a [Lexeme<'s>]) -> Result<&'a [Lexeme<'s>], TextFault
     clause_at("MAX-ACCESS", Part::Access, rest)
 }
 
-/// The status and the texts of a definition.
+/// The status and the texts of a definition; which words its status may be, `status` says.
 #[tactic(auto, unfolding(crate::specs::Reading::described_at))]
-fn described_at<'a, 's>(ls: &'a [Lexeme<'s>]) -> Result<&'a [Lexeme<'s>], TextFault>
-    ensures { Gives (λ rest. rest.now) result (described_at ls.now) }
+fn described_at<'a, 's>(status: Part, ls: &'a [Lexeme<'s>]) -> Result<&'a [Lexeme<'s>], TextFault>
+    ensures { Gives (λ rest. rest.now) result (described_at status ls.now) }
 {
-    let rest = clause_at("STATUS", Part::Status, ls)?;
+    let rest = clause_at("STATUS", status, ls)?;
     let rest = clause_at("DESCRIPTION", Part::Text, rest)?;
     optional_at("REFERENCE", Part::Text, rest)
 }
@@ -296,7 +310,7 @@ pub fn object_type_at<'a, 's>(ls: &'a [Lexeme<'s>]) -> Result<&'a [Lexeme<'s>], 
     ensures { Gives (λ rest. rest.now) result (object_type_at ls.now) }
 {
     let rest = syntax_at(ls)?;
-    let rest = described_at(rest)?;
+    let rest = described_at(Part::Status, rest)?;
     let rest = index_at(rest)?;
     optional_at("DEFVAL", Part::Group, rest)
 }
@@ -307,6 +321,6 @@ pub fn convention_at<'a, 's>(ls: &'a [Lexeme<'s>]) -> Result<&'a [Lexeme<'s>], T
     ensures { Gives (λ rest. rest.now) result (convention_at ls.now) }
 {
     let rest = optional_at("DISPLAY-HINT", Part::Text, ls)?;
-    let rest = described_at(rest)?;
+    let rest = described_at(Part::Word, rest)?;
     clause_at("SYNTAX", Part::Syntax, rest)
 }

@@ -22,6 +22,7 @@ granted (Err e) = Err e
 
 -- the next step, where the one before gave a value
 infixl 10 ◌>>=◌
+-- a step, and what follows it unless it failed
 abbrev pub ◌>>=◌ : {A B E : Type 0} → Result A E → (A → Result B E) → Result B E
 (Ok x) >>= f = f x
 (Err e) >>= f = Err e

@@ -9,7 +9,7 @@ use std::alloc::Global;
 
 /// What the agent does in turn about the datagrams of a text, one in each line in hex digits: a line for each, its reply in hex
 /// digits, or why there is none. Lines that are empty or begin with # are passed over, and one that is no hex is no datagram.
-/// Each datagram comes so many times, and what is done about its last coming is told.
+/// Each datagram comes as many times as that says, and what is done about its last coming is told.
 pub fn answers<D: Device + Drop>(
     alloc: Global,
     agent: &mut Agent<D>,
@@ -34,7 +34,7 @@ pub fn answers<D: Device + Drop>(
     Ok(told)
 }
 
-/// What the agent does about a datagram where it comes for the last of so many times.
+/// What the agent does about a datagram where it comes for the last time.
 fn last_reply<D: Device + Drop>(
     alloc: Global,
     agent: &mut Agent<D>,

@@ -223,7 +223,7 @@ fn repeats(words: &ArgMatches<'_>) -> Repeats {
     }
 }
 
-/// Serves the agent of the settings, so many datagrams. Want of memory for one of them is told, and leaves the agent as it was.
+/// Serves the agent of the settings, as many datagrams as `count` says. Where memory runs out for one of them that is told, and the agent stays as it was.
 fn agent<R: Clock + Files + Net + Eprint + AllocGlobal>(
     rt: &R,
     words: &ArgMatches<'_>,

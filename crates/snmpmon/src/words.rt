@@ -28,7 +28,7 @@ its number and the reason, and changes nothing:
   3 BadMessage        no SNMPv2c message
   4 NotAResponse      a message, and no response
   5 AgentError        a response with an error status
-  6 BadStamp          no engine id, boots and time in front
+  6 BadStamp          no engine id, boots and time at the front
   7 TooManyInstances  more than 256 instances in all
 
 A sample is printed as BOOTS TIME MARK KIND VALUE, the oldest first.
@@ -62,7 +62,7 @@ const NEXT: &str = "Asks an agent for the variables after names (GetNextRequest)
 
 const NEXT_MORE: &str =
     "Sends a GetNextRequest for the NAMEs to the agent at ADDRESS, and prints for each the first variable after it, as
-`get` does. Behind the agent's last variable that is endOfMibView.
+`get` does. After the agent's last variable that is endOfMibView.
 
 Example: snmpmon next 127.0.0.1:161 public 1.3";
 
@@ -71,7 +71,7 @@ const ADDRESS: &str = "The agent's address, a.b.c.d:port";
 const COMMUNITY: &str = "The community, 1 to 512 octets";
 
 const NAME: &str =
-    "A name, in numbers as 1.3.6.1.2.1.1.5.0, or behind a built-in name as mib-2.1.5.0";
+    "A name, in numbers as 1.3.6.1.2.1.1.5.0, or after a built-in name as mib-2.1.5.0";
 
 fn needed<'a>(alloc: Global, id: &'a str, help: &'a str) -> Arg<'a> {
     Arg::new(alloc, id).required(true).help(help)
@@ -130,7 +130,7 @@ const WALK_MORE: &str =
     "Asks the agent at ADDRESS for the variable after NAME, then for the one after that, and so on, and prints each as `get`
 does. It ends at the first variable that is not under NAME, at the agent's last one, or after 65536 requests.
 
-An agent whose names do not increase ends it with 5 NotIncreasing, behind what was printed so far.
+An agent whose names do not increase ends it with 5 NotIncreasing, after what was printed so far.
 
 Example: snmpmon walk 127.0.0.1:161 public mib-2.2";
 
@@ -159,7 +159,7 @@ KIND says how VALUE is read:
   counter32, gauge32, timeticks  a decimal number, 0 to 4294967295
   counter64                      a decimal number, 0 to 18446744073709551615
 
-A decimal number is digits alone, spare zeros allowed, for an integer also with - before them. Any other text ends the command
+A decimal number is digits alone, leading zeros allowed, for an integer also with - before them. Any other text ends the command
 with 8 BadText before anything is sent. A VALUE that begins with - stands after --.
 
 Examples: snmpmon set 127.0.0.1:161 private mib-2.1.5.0 string r2
@@ -183,7 +183,7 @@ const AGENT: &str = "Serves an agent over a simulated device";
 
 const AGENT_MORE: &str =
     "Reads SETTINGS, a TOML file (examples/agent.toml explains each key), listens at the address in it, says on standard
-error where, and answers so many datagrams: Get, GetNext, GetBulk and Set requests of the communities in the settings.
+error where, and answers as many datagrams as --count says: Get, GetNext, GetBulk and Set requests of the communities in the settings.
 
 A fault in SETTINGS ends the command before it listens, with one line as `snmpmon: mon_settings 4 BadValue`. A datagram for which
 memory runs out is not answered and changes nothing: the line `snmpmon: mon_app 1 OutOfMemory` tells, and the agent goes on.
