@@ -17,6 +17,6 @@ pub mod writing;
 pub use fault::BerFault;
 pub use octets::Octets;
 pub use reading::read_value;
-pub use tag::Tag;
+pub use tag::{INTEGER, OBJECT_IDENTIFIER, OCTET_STRING, SEQUENCE, Tag};
 pub use value::Value;
 pub use writing::{size_of, write_value};

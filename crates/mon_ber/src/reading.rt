@@ -12,7 +12,7 @@ use crate::fault::BerFault;
 use crate::name::name_of;
 use crate::number::{integer_of, u32_of, u64_of};
 use crate::octets::Octets;
-use crate::tag::Tag;
+use crate::tag::{INTEGER, OBJECT_IDENTIFIER, Tag};
 use crate::value::Value;
 use mon_oid::Oid;
 use std::alloc::Global;
@@ -100,7 +100,7 @@ pub fn integer_at(bytes: &[u8]) -> Result<(i32, &[u8]), BerFault>
     ensures shorter { IfOk result (λ x. length x.1.now < length bytes.now) }
     ensures no_memory { result ≢ Err BerFault.OutOfMemory }
 {
-    let (contents, rest) = element_at(0x02, bytes)?;
+    let (contents, rest) = element_at(INTEGER, bytes)?;
     Ok((integer_of(contents)?, rest))
 }
 
@@ -111,6 +111,6 @@ pub fn name_at(alloc: Global, bytes: &[u8]) -> Result<(Oid, &[u8]), BerFault>
     ensures inline { (parts rest : List ℕ) → name_at bytes.now ≡ Ok (parts, rest) → length parts ≤ 16 → IsOk result }
     ensures shorter { IfOk result (λ x. length x.1.now < length bytes.now) }
 {
-    let (contents, rest) = element_at(0x06, bytes)?;
+    let (contents, rest) = element_at(OBJECT_IDENTIFIER, bytes)?;
     Ok((name_of(alloc, contents)?, rest))
 }

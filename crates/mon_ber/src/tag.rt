@@ -5,6 +5,18 @@ ghost use Rattle.mon_ber.specs.Grammar.{octet_of, kind_of, tag_of};
 
 use crate::value::Value;
 
+/// The tag of an INTEGER (X.690 8.3).
+pub const INTEGER: u8 = 0x02;
+
+/// The tag of an OCTET STRING (X.690 8.7).
+pub const OCTET_STRING: u8 = 0x04;
+
+/// The tag of an OBJECT IDENTIFIER (X.690 8.19).
+pub const OBJECT_IDENTIFIER: u8 = 0x06;
+
+/// The tag of a SEQUENCE, whose contents are elements (X.690 8.9).
+pub const SEQUENCE: u8 = 0x30;
+
 /// The kinds of values, each with a tag of its own.
 #[derive(Clone, Copy, Debug, PartialEq, Eq)]
 pub enum Tag {

@@ -11,7 +11,7 @@ ghost use Rattle.mon_ber.specs.Grammar.{octet_of, tag_of};
 ghost use Rattle.mon_ber.specs.Writing.{width, number_octets, digit, base128, name_octets, contents_of, size_for, counted, length_width, length_octets, element, written, HasLength};
 
 use crate::fault::BerFault;
-use crate::tag::Tag;
+use crate::tag::{INTEGER, OBJECT_IDENTIFIER, OCTET_STRING, Tag};
 use crate::value::Value;
 use mon_oid::Oid;
 use std::alloc::Global;
@@ -286,7 +286,7 @@ pub fn put_integer(out: &mut Vec<u8>, number: i32)
     ensures len { vec_len out.new ≡ vec_len out.old + length (written (Integer number)) }
     ensures capacity { vec_capacity out.old ≤ vec_capacity out.new }
 {
-    put_header(out, 0x02, number_len(i128::from(number)));
+    put_header(out, INTEGER, number_len(i128::from(number)));
     put_number(out, i128::from(number));
 }
 
@@ -299,7 +299,7 @@ pub fn put_octets(out: &mut Vec<u8>, octets: &[u8])
     ensures len { vec_len out.new ≡ vec_len out.old + length (written (OctetString octets.now)) }
     ensures capacity { vec_capacity out.old ≤ vec_capacity out.new }
 {
-    put_header(out, 0x04, octets.len());
+    put_header(out, OCTET_STRING, octets.len());
     put_slice(out, octets);
 }
 
@@ -320,7 +320,7 @@ pub fn put_object_identifier(out: &mut Vec<u8>, name: &Oid)
     ensures len { vec_len out.new ≡ vec_len out.old + length (written (Name name.now)) }
     ensures capacity { vec_capacity out.old ≤ vec_capacity out.new }
 {
-    put_header(out, 0x06, name_len(name.parts()));
+    put_header(out, OBJECT_IDENTIFIER, name_len(name.parts()));
     put_name(out, name.parts());
 }
 

@@ -9,9 +9,9 @@ ghost use Rattle.mon_pdu.specs.Reading.{Gives, binding_at, ended, list_at, body_
 
 use crate::fault::PduFault;
 use crate::message::{Binding, Bindings, Body, Bulk, Message, Pdu, PduKind};
-use mon_ber::Octets;
 use mon_ber::element::{contents_at, element_at};
 use mon_ber::reading::{integer_at, name_at, value_at};
+use mon_ber::{OCTET_STRING, Octets, SEQUENCE};
 use std::alloc::Global;
 
 /// All of the contents were used up.
@@ -30,7 +30,7 @@ fn binding_at(alloc: Global, bytes: &[u8]) -> Result<(Binding, &[u8]), PduFault>
     ensures gives { Gives (λ x. (x.0, x.1.now)) result (binding_at bytes.now) }
     ensures shorter { IfOk result (λ x. length x.1.now < length bytes.now) }
 {
-    let (contents, after) = element_at(0x30, bytes)?;
+    let (contents, after) = element_at(SEQUENCE, bytes)?;
     let (name, rest) = name_at(alloc, contents)?;
     let (value, rest) = value_at(alloc, rest)?;
     ended(rest)?;
@@ -56,7 +56,7 @@ fn all_bindings(alloc: Global, contents: &[u8]) -> Result<Vec<Binding>, PduFault
 fn list_at(alloc: Global, bytes: &[u8]) -> Result<(Bindings, &[u8]), PduFault>
     ensures { Gives (λ x. (x.0, x.1.now)) result (list_at bytes.now) }
 {
-    let (contents, after) = element_at(0x30, bytes)?;
+    let (contents, after) = element_at(SEQUENCE, bytes)?;
     let bindings = all_bindings(alloc, contents)?;
     Ok((Bindings::new(bindings), after))
 }
@@ -125,7 +125,7 @@ fn message_of(alloc: Global, contents: &[u8]) -> Result<Message, PduFault>
     if version != 1 {
         return Err(PduFault::BadVersion(version));
     }
-    let (community, rest) = element_at(0x04, rest)?;
+    let (community, rest) = element_at(OCTET_STRING, rest)?;
     let community = Octets::from_slice(alloc, community)?;
     let (body, rest) = body_at(alloc, rest)?;
     ended(rest)?;
@@ -138,7 +138,7 @@ fn message_at(alloc: Global, bytes: &[u8]) -> Result<Message, PduFault>
     ensures gives { Gives (λ m. m) result (message_at bytes.now) }
     ensures version { (v : ℤ) → message_at bytes.now ≡ Err (PduFault.BadVersion v) → result ≢ Err PduFault.OutOfMemory }
 {
-    let (contents, _) = element_at(0x30, bytes)?;
+    let (contents, _) = element_at(SEQUENCE, bytes)?;
     message_of(alloc, contents)
 }
 

@@ -13,11 +13,11 @@ ghost use Rattle.mon_pdu.specs.Writing.{HasLength, binding_contents, written_bin
 
 use crate::fault::PduFault;
 use crate::message::{Binding, Body, Message};
-use mon_ber::Value;
 use mon_ber::writing::{
     LIMIT, element_len, element_size, integer_size, name_size, put_header, put_integer,
     put_object_identifier, put_octets, put_value, value_size,
 };
+use mon_ber::{SEQUENCE, Value};
 use std::alloc::Global;
 
 /// An address has four octets.
@@ -212,7 +212,7 @@ fn put_binding(out: &mut Vec<u8>, binding: &Binding)
     ensures len { vec_len out.new ≡ vec_len out.old + length (written_binding binding.now) }
     ensures capacity { vec_capacity out.old ≤ vec_capacity out.new }
 {
-    put_header(out, 0x30, binding_len(binding));
+    put_header(out, SEQUENCE, binding_len(binding));
     put_object_identifier(out, &binding.name);
     put_value(out, &binding.value);
 }
@@ -238,7 +238,7 @@ fn put_list(out: &mut Vec<u8>, bindings: &[Binding], len: usize)
     ensures len { vec_len out.new ≡ vec_len out.old + length (written_list bindings.now) }
     ensures capacity { vec_capacity out.old ≤ vec_capacity out.new }
 {
-    put_header(out, 0x30, len);
+    put_header(out, SEQUENCE, len);
     put_bindings(out, bindings);
 }
 
@@ -268,7 +268,7 @@ fn put_message(out: &mut Vec<u8>, message: &Message, lengths: Lengths)
     ensures len { vec_len out.new ≡ vec_len out.old + length (written_message message.now) }
     ensures capacity { vec_capacity out.old ≤ vec_capacity out.new }
 {
-    put_header(out, 0x30, lengths.message);
+    put_header(out, SEQUENCE, lengths.message);
     put_integer(out, 1);
     put_octets(out, message.community.as_slice());
     put_body(out, &message.body, lengths);

@@ -40,7 +40,7 @@ fn macro_name_at<'a, 's>(ls: &'a [Lexeme<'s>]) -> Result<&'a [Lexeme<'s>], TextF
 }
 
 /// The first such mark, and what follows it.
-pub fn up_to<'a, 's>(kind: Kind, ls: &'a [Lexeme<'s>]) -> Result<&'a [Lexeme<'s>], TextFault>
+pub(crate) fn up_to<'a, 's>(kind: Kind, ls: &'a [Lexeme<'s>]) -> Result<&'a [Lexeme<'s>], TextFault>
     ensures { Gives (λ rest. rest.now) result (up_to kind ls.now) }
 {
     let mut rest = ls;
@@ -178,7 +178,7 @@ fn assignment_of<'a, 's>(
 
 /// An assignment, and what follows it.
 #[tactic(auto, unfolding(crate::specs::Reading::assignment_at))]
-pub fn assignment_at<'a, 's>(
+pub(crate) fn assignment_at<'a, 's>(
     alloc: Global,
     ls: &'a [Lexeme<'s>],
 ) -> Result<(Option<Definition>, &'a [Lexeme<'s>]), TextFault>

@@ -28,7 +28,7 @@ const BUILT_IN: [(&str, &[u32]); 17] = [
 ];
 
 /// The definitions of the built-in names.
-pub fn built_in(alloc: Global) -> Result<Vec<Definition>, AllocError>
+pub(crate) fn built_in(alloc: Global) -> Result<Vec<Definition>, AllocError>
     ensures { IfOk result (λ v. v.items ≡ built_in) }
 {
     definitions(alloc, &BUILT_IN)

@@ -64,7 +64,7 @@ fn joined(alloc: Global, mut chain: Vec<&Definition>, rest: &[u32]) -> Result<Ve
 }
 
 /// What a word with numbers behind it stands for.
-pub fn identifier_of(
+pub(crate) fn identifier_of(
     alloc: Global,
     places: &BTreeMap<String, usize>,
     defs: &[Definition],

@@ -13,7 +13,7 @@ use std::marker::Model;
 
 /// A token of a text, with its text where it is a word or a number.
 #[derive(Drop)]
-pub struct Lexeme<'a> {
+pub(crate) struct Lexeme<'a> {
     kind: Kind,
     text: &'a str,
     span: Span,
@@ -66,7 +66,7 @@ fn lexeme_at(text: &[u8], token: Token) -> Lexeme
 }
 
 /// These tokens with their texts.
-pub fn lexemes<'a>(
+pub(crate) fn lexemes<'a>(
     alloc: Global,
     text: &'a [u8],
     tokens: &[Token],
@@ -162,14 +162,14 @@ impl<'a> Lexeme<'a> {
 }
 
 /// Whether the first letter is small.
-pub fn begins_small(word: &str) -> bool
+pub(crate) fn begins_small(word: &str) -> bool
     ensures { result ≡ begins_small word.now }
 {
     byte_at(word.as_bytes(), 0).is_ascii_lowercase()
 }
 
 /// Whether the first letter is a capital.
-pub fn begins_capital(word: &str) -> bool
+pub(crate) fn begins_capital(word: &str) -> bool
     ensures { result ≡ begins_capital word.now }
 {
     byte_at(word.as_bytes(), 0).is_ascii_uppercase()

@@ -15,7 +15,7 @@ use std::cmp::Ordering;
 use std::collections::BTreeMap;
 
 /// The nearest name and the rest of the identifier with dots, or all of it with dots.
-pub fn name_of(
+pub(crate) fn name_of(
     alloc: Global,
     places: &BTreeMap<String, usize>,
     defs: &[Definition],

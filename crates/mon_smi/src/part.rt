@@ -2,7 +2,7 @@
 
 /// What a clause of an OBJECT-TYPE or a TEXTUAL-CONVENTION says (RFC 2578 section 7, RFC 2579 section 3).
 #[derive(Clone, Copy)]
-pub enum Part {
+pub(crate) enum Part {
     /// A type.
     Syntax,
     /// A quoted string.

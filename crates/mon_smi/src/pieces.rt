@@ -135,7 +135,7 @@ fn is_space(byte: u8) -> bool
 
 /// The token, space or comment at the front.
 #[tactic(auto, unfolding(crate::specs::Scan::piece_at))]
-pub fn piece_at(text: &[u8]) -> Option<Piece>
+pub(crate) fn piece_at(text: &[u8]) -> Option<Piece>
     ensures { result ≡ piece_at text.now }
 {
     let [first, rest @ ..] = text else {

@@ -10,7 +10,7 @@ use std::alloc::{AllocError, Global};
 use std::collections::BTreeMap;
 
 /// The place of the first definition whose name an earlier one has.
-pub fn first_twice(alloc: Global, defs: &[Definition]) -> Result<Option<usize>, AllocError>
+pub(crate) fn first_twice(alloc: Global, defs: &[Definition]) -> Result<Option<usize>, AllocError>
     ensures some { IfOk result (λ found. IfSome found (λ i. (d : AnyDefinition) × IsAgain defs.now i d)) }
     ensures none { IfOk result (λ found. IfNone found (AreDistinct defs.now)) }
 {
@@ -24,7 +24,7 @@ pub fn first_twice(alloc: Global, defs: &[Definition]) -> Result<Option<usize>, 
 }
 
 /// Adds the places of these definitions behind those that are known.
-pub fn add_places(
+pub(crate) fn add_places(
     alloc: Global,
     places: &mut BTreeMap<String, usize>,
     known: &[Definition],
@@ -43,7 +43,11 @@ pub fn add_places(
 }
 
 /// Where the name is defined.
-pub fn position(places: &BTreeMap<String, usize>, defs: &[Definition], name: &str) -> Option<usize>
+pub(crate) fn position(
+    places: &BTreeMap<String, usize>,
+    defs: &[Definition],
+    name: &str,
+) -> Option<usize>
     requires { AreFound places.now defs.now }
     ensures found { IfSome result (λ i. (d : AnyDefinition) × IsAt defs.now i d × (d.name ≡ name.now)) }
     ensures none { IfNone result (IsUndefined defs.now name.now) }
@@ -61,7 +65,7 @@ pub fn position(places: &BTreeMap<String, usize>, defs: &[Definition], name: &st
 }
 
 /// Whether the name is defined.
-pub fn is_defined(places: &BTreeMap<String, usize>, defs: &[Definition], name: &str) -> bool
+pub(crate) fn is_defined(places: &BTreeMap<String, usize>, defs: &[Definition], name: &str) -> bool
     requires { AreFound places.now defs.now }
     ensures defined { result ≡ true → (d : AnyDefinition) × IsOneOf defs.now d × (d.name ≡ name.now) }
     ensures undefined { result ≡ false → IsUndefined defs.now name.now }

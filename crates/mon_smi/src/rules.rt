@@ -10,7 +10,7 @@ use crate::part::Part;
 use crate::text_fault::TextFault;
 
 /// So many tokens at the end.
-pub fn last<'a, 's>(ls: &'a [Lexeme<'s>], left: usize) -> &'a [Lexeme<'s>]
+pub(crate) fn last<'a, 's>(ls: &'a [Lexeme<'s>], left: usize) -> &'a [Lexeme<'s>]
     requires { left ≤ length ls.now }
     ensures { result.now ≡ drop (length ls.now - left) ls.now }
 {
@@ -18,7 +18,10 @@ pub fn last<'a, 's>(ls: &'a [Lexeme<'s>], left: usize) -> &'a [Lexeme<'s>]
 }
 
 /// This word, and what follows it.
-pub fn word_at<'a, 's>(word: &str, ls: &'a [Lexeme<'s>]) -> Result<&'a [Lexeme<'s>], TextFault>
+pub(crate) fn word_at<'a, 's>(
+    word: &str,
+    ls: &'a [Lexeme<'s>],
+) -> Result<&'a [Lexeme<'s>], TextFault>
     ensures { Gives (λ rest. rest.now) result (word_at word.now ls.now) }
 {
     let [first, rest @ ..] = ls else {
@@ -31,7 +34,10 @@ pub fn word_at<'a, 's>(word: &str, ls: &'a [Lexeme<'s>]) -> Result<&'a [Lexeme<'
 }
 
 /// This mark, and what follows it.
-pub fn mark_at<'a, 's>(kind: Kind, ls: &'a [Lexeme<'s>]) -> Result<&'a [Lexeme<'s>], TextFault>
+pub(crate) fn mark_at<'a, 's>(
+    kind: Kind,
+    ls: &'a [Lexeme<'s>],
+) -> Result<&'a [Lexeme<'s>], TextFault>
     ensures { Gives (λ rest. rest.now) result (mark_at kind ls.now) }
 {
     let [first, rest @ ..] = ls else {
@@ -44,7 +50,7 @@ pub fn mark_at<'a, 's>(kind: Kind, ls: &'a [Lexeme<'s>]) -> Result<&'a [Lexeme<'
 }
 
 /// Whether this mark comes next.
-pub fn begins(kind: Kind, ls: &[Lexeme]) -> bool
+pub(crate) fn begins(kind: Kind, ls: &[Lexeme]) -> bool
     ensures { result ≡ begins kind ls.now }
 {
     let [first, ..] = ls else {
@@ -54,7 +60,7 @@ pub fn begins(kind: Kind, ls: &[Lexeme]) -> bool
 }
 
 /// Whether this word comes next.
-pub fn begins_word(word: &str, ls: &[Lexeme]) -> bool
+pub(crate) fn begins_word(word: &str, ls: &[Lexeme]) -> bool
     ensures { result ≡ begins_word word.now ls.now }
 {
     let [first, ..] = ls else {
@@ -166,7 +172,7 @@ fn maybe_group<'a, 's>(ls: &'a [Lexeme<'s>]) -> Result<&'a [Lexeme<'s>], TextFau
 
 /// A type.
 #[tactic(auto, unfolding(crate::specs::Reading::type_at))]
-pub fn type_at<'a, 's>(ls: &'a [Lexeme<'s>]) -> Result<&'a [Lexeme<'s>], TextFault>
+pub(crate) fn type_at<'a, 's>(ls: &'a [Lexeme<'s>]) -> Result<&'a [Lexeme<'s>], TextFault>
     ensures { Gives (λ rest. rest.now) result (type_at ls.now) }
 {
     let rest = type_name_at(ls)?;
@@ -306,7 +312,7 @@ fn described_at<'a, 's>(status: Part, ls: &'a [Lexeme<'s>]) -> Result<&'a [Lexem
 
 /// The clauses of an OBJECT-TYPE (RFC 2578 section 7).
 #[tactic(auto, unfolding(crate::specs::Reading::object_type_at))]
-pub fn object_type_at<'a, 's>(ls: &'a [Lexeme<'s>]) -> Result<&'a [Lexeme<'s>], TextFault>
+pub(crate) fn object_type_at<'a, 's>(ls: &'a [Lexeme<'s>]) -> Result<&'a [Lexeme<'s>], TextFault>
     ensures { Gives (λ rest. rest.now) result (object_type_at ls.now) }
 {
     let rest = syntax_at(ls)?;
@@ -317,7 +323,7 @@ pub fn object_type_at<'a, 's>(ls: &'a [Lexeme<'s>]) -> Result<&'a [Lexeme<'s>], 
 
 /// The clauses of a TEXTUAL-CONVENTION (RFC 2579 section 3).
 #[tactic(auto, unfolding(crate::specs::Reading::convention_at))]
-pub fn convention_at<'a, 's>(ls: &'a [Lexeme<'s>]) -> Result<&'a [Lexeme<'s>], TextFault>
+pub(crate) fn convention_at<'a, 's>(ls: &'a [Lexeme<'s>]) -> Result<&'a [Lexeme<'s>], TextFault>
     ensures { Gives (λ rest. rest.now) result (convention_at ls.now) }
 {
     let rest = optional_at("DISPLAY-HINT", Part::Text, ls)?;

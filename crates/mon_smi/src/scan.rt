@@ -25,7 +25,7 @@ fn goes_on(text: &[u8], i: usize) -> bool
 }
 
 /// The length of the longest word at the front.
-pub fn word_len(text: &[u8]) -> usize
+pub(crate) fn word_len(text: &[u8]) -> usize
     requires { IsTrue (is_ascii_alphabetic (slice_index text.now 0)) }
     ensures within { result ≤ length text.now }
     ensures word { IsWord (take result text.now) }
@@ -40,7 +40,7 @@ pub fn word_len(text: &[u8]) -> usize
 }
 
 /// The byte at this place, or 0 behind the end.
-pub fn byte_at(text: &[u8], i: usize) -> u8
+pub(crate) fn byte_at(text: &[u8], i: usize) -> u8
     ensures { result ≡ slice_index text.now i }
 {
     if i < text.len() {
@@ -50,7 +50,7 @@ pub fn byte_at(text: &[u8], i: usize) -> u8
 }
 
 /// What stands behind so many bytes.
-pub fn behind(text: &[u8], n: usize) -> &[u8]
+pub(crate) fn behind(text: &[u8], n: usize) -> &[u8]
     requires { n ≤ length text.now }
     ensures { result.now ≡ drop n text.now }
 {
@@ -58,7 +58,7 @@ pub fn behind(text: &[u8], n: usize) -> &[u8]
 }
 
 /// The number of digits at the front.
-pub fn digits_len(text: &[u8]) -> usize
+pub(crate) fn digits_len(text: &[u8]) -> usize
     ensures within { result ≤ length text.now }
     ensures exact { result ≡ run_at is_ascii_digit text.now }
 {
@@ -75,7 +75,7 @@ pub fn digits_len(text: &[u8]) -> usize
 }
 
 /// The number of hex digits at the front.
-pub fn hex_digits_len(text: &[u8]) -> usize
+pub(crate) fn hex_digits_len(text: &[u8]) -> usize
     ensures within { result ≤ length text.now }
     ensures exact { result ≡ run_at is_ascii_hexdigit text.now }
 {
@@ -92,7 +92,7 @@ pub fn hex_digits_len(text: &[u8]) -> usize
 }
 
 /// The number of binary digits at the front.
-pub fn bits_len(text: &[u8]) -> usize
+pub(crate) fn bits_len(text: &[u8]) -> usize
     ensures within { result ≤ length text.now }
     ensures exact { result ≡ run_at is_bit text.now }
 {
@@ -152,7 +152,7 @@ fn ending_len(text: &[u8]) -> usize
 }
 
 /// The length of a comment behind its first hyphen.
-pub fn comment_len(text: &[u8]) -> usize
+pub(crate) fn comment_len(text: &[u8]) -> usize
     ensures within { result ≤ length text.now }
     ensures exact { result ≡ comment_at text.now }
 {
@@ -162,7 +162,7 @@ pub fn comment_len(text: &[u8]) -> usize
 
 /// The length of the longest string behind its opening quote, with its closing one, or none where
 /// the text ends first.
-pub fn closing_len(text: &[u8]) -> Option<usize>
+pub(crate) fn closing_len(text: &[u8]) -> Option<usize>
     ensures within { IfSome result (λ n. n ≤ length text.now) }
     ensures exact { result ≡ closes_at text.now }
 {

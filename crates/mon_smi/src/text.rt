@@ -6,7 +6,7 @@ ghost use Rattle.mon_smi.specs.Words.{IsWord};
 use crate::scan::word_len;
 
 /// Whether the text is one word.
-pub fn is_word(text: &str) -> bool
+pub(crate) fn is_word(text: &str) -> bool
     ensures { IsTrue result ↔ IsWord text.now }
 {
     let bytes = text.as_bytes();

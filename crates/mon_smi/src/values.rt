@@ -11,7 +11,7 @@ use crate::text_fault::TextFault;
 use std::alloc::Global;
 
 /// A word, and what follows it.
-pub fn name_at<'a, 's>(ls: &'a [Lexeme<'s>]) -> Option<(&'a str, &'a [Lexeme<'s>])>
+pub(crate) fn name_at<'a, 's>(ls: &'a [Lexeme<'s>]) -> Option<(&'a str, &'a [Lexeme<'s>])>
     ensures { option_map (λ x. (x.0.now, x.1.now)) result ≡ name_at ls.now }
 {
     let [first, rest @ ..] = ls else {
@@ -126,14 +126,14 @@ fn enough(parent: Option<&str>, numbers: &[u32]) -> bool
 
 /// The parent and the sub-identifiers of a value.
 #[derive(Drop)]
-pub struct Value<'a> {
+pub(crate) struct Value<'a> {
     pub parent: Option<&'a str>,
     pub numbers: Vec<u32>,
 }
 
 /// The value of an object identifier (RFC 2578 section 3.1), and what follows it.
 #[tactic(auto, unfolding(crate::specs::Reading::value_at))]
-pub fn value_at<'a, 's>(
+pub(crate) fn value_at<'a, 's>(
     alloc: Global,
     ls: &'a [Lexeme<'s>],
 ) -> Result<(Value<'a>, &'a [Lexeme<'s>]), TextFault>

@@ -38,7 +38,7 @@ BUGS = {
     ),
     "integer_from_counter": (
         "src/reading.rt",
-        "element_at(0x02, bytes)?",
+        "element_at(INTEGER, bytes)?",
         "element_at(0x41, bytes)?",
     ),
     "integer_of_4_octets": (
@@ -48,7 +48,7 @@ BUGS = {
     ),
     "integer_written_as_counter": (
         "src/writing.rt",
-        "put_header(out, 0x02, number_len(i128::from(number)));",
+        "put_header(out, INTEGER, number_len(i128::from(number)));",
         "put_header(out, 0x41, number_len(i128::from(number)));",
     ),
     "into_empty_vec": (
@@ -78,7 +78,7 @@ BUGS = {
     ),
     "name_from_octet_string": (
         "src/reading.rt",
-        "element_at(0x06, bytes)?",
+        "element_at(OBJECT_IDENTIFIER, bytes)?",
         "element_at(0x04, bytes)?",
     ),
     "name_of_one_octet_a_part": (
@@ -88,7 +88,7 @@ BUGS = {
     ),
     "name_written_as_relative": (
         "src/writing.rt",
-        "put_header(out, 0x06, name_len(name.parts()));",
+        "put_header(out, OBJECT_IDENTIFIER, name_len(name.parts()));",
         "put_header(out, 0x0d, name_len(name.parts()));",
     ),
     "names_bad_tag_bad_length": (
@@ -118,7 +118,7 @@ BUGS = {
     ),
     "octets_written_as_opaque": (
         "src/writing.rt",
-        "put_header(out, 0x04, octets.len());",
+        "put_header(out, OCTET_STRING, octets.len());",
         "put_header(out, 0x44, octets.len());",
     ),
     "part_above_32_bits": (

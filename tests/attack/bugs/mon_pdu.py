@@ -93,7 +93,7 @@ BUGS = {
     ),
     "looks_for_a_set_tag": (
         "src/reading.rt",
-        "    let (contents, after) = element_at(0x30, bytes)?;\n    let (name, rest)",
+        "    let (contents, after) = element_at(SEQUENCE, bytes)?;\n    let (name, rest)",
         "    let (contents, after) = element_at(0x31, bytes)?;\n    let (name, rest)",
     ),
     "reads_get_next_as_get": (
