@@ -34,6 +34,7 @@ struct Asked {
 }
 
 /// What the insertions answered.
+#[derive(Drop)]
 struct Tally {
     added: u64,
     known: u64,
@@ -49,7 +50,7 @@ fn main(rt: HostRuntime) -> ExitCode {
 }
 
 fn run<R: Env + Print + AllocGlobal>(rt: &R) -> Option<()> {
-    let asked = asked(rt)?;
+    let asked = words_of(rt)?;
     if asked.share < 1 || asked.share > SIZE {
         return None;
     }
@@ -61,9 +62,9 @@ fn run<R: Env + Print + AllocGlobal>(rt: &R) -> Option<()> {
 }
 
 /// The three words.
-fn asked<R: Env + AllocGlobal>(rt: &R) -> Option<Asked> {
+fn words_of<R: Env + AllocGlobal>(rt: &R) -> Option<Asked> {
     let words: Vec<String> = env::args(rt).ok()?.collect(rt.alloc()).ok()?;
-    let order = order(words.get(1)?.as_str())?;
+    let order = order_of(words.get(1)?.as_str())?;
     let share = words.get(2)?.as_str().parse().ok()?;
     let times = words.get(3)?.as_str().parse().ok()?;
     Some(Asked {
@@ -73,7 +74,7 @@ fn asked<R: Env + AllocGlobal>(rt: &R) -> Option<Asked> {
     })
 }
 
-fn order(word: &str) -> Option<Order> {
+fn order_of(word: &str) -> Option<Order> {
     match word {
         "rising" => Some(Order::Rising),
         "falling" => Some(Order::Falling),
