@@ -113,8 +113,11 @@ impl Sample {
         let _ = &self.boots;
         let _ = &other.boots;
         let boots = self.boots.cmp(&other.boots);
-        boots
-            .then(self.time.cmp(&other.time))
+        let stamp = boots.then(self.time.cmp(&other.time));
+        if stamp.is_ne() {
+            return stamp;
+        }
+        stamp
             .then(self.mark.cmp(&other.mark))
             .then(self.kind.tag().cmp(&other.kind.tag()))
             .then(self.value.cmp(&other.value))
