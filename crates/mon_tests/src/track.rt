@@ -57,10 +57,18 @@ fn mends_totals(rt: HostRuntime) -> Result<(), Fail> {
         (first, added(0, None), totals(0, 0, 0)),
         (counter(3, 120, 0, 60), added(1, None), totals(50, 20, 1)),
         (second, added(1, None), totals(50, 20, 2)),
-        (counter(3, 115, 0, 40), added(1, Some(first)), totals(30, 10, 2)),
+        (
+            counter(3, 115, 0, 40),
+            added(1, Some(first)),
+            totals(30, 10, 2),
+        ),
         (third, added(0, Some(second)), totals(25, 10, 2)),
         (counter(3, 105, 0, 20), Inserted::TooOld, totals(25, 10, 2)),
-        (counter(3, 118, 500, 50), added(1, Some(third)), totals(0, 0, 0)),
+        (
+            counter(3, 118, 500, 50),
+            added(1, Some(third)),
+            totals(0, 0, 0),
+        ),
     ];
     for (sample, told, sums) in steps {
         assert_eq!(rt; insert(&mut track, sample), told);
@@ -82,7 +90,12 @@ fn shared(rt: &HostRuntime) -> Result<Track, Fail> {
 #[test]
 fn keeps_a_share_of_each_boots_number(rt: HostRuntime) -> Result<(), Fail> {
     let mut track = shared(&rt)?;
-    let kept = [ticking(3, 110), ticking(3, 120), ticking(4, 20), ticking(4, 30)];
+    let kept = [
+        ticking(3, 110),
+        ticking(3, 120),
+        ticking(4, 20),
+        ticking(4, 30),
+    ];
     assert_eq!(rt; track.items(), kept.as_slice());
     let steps = [
         (ticking(5, 5), added(3, Some(ticking(3, 110)))),
@@ -103,8 +116,20 @@ fn keeps_a_share_of_each_boots_number(rt: HostRuntime) -> Result<(), Fail> {
 #[test]
 fn keeps_the_same_in_any_order(rt: HostRuntime) -> Result<(), Fail> {
     let late = [ticking(5, 5), ticking(3, 130), ticking(4, 25)];
-    let kept = [ticking(3, 130), ticking(4, 25), ticking(4, 30), ticking(5, 5)];
-    for order in [[0, 1, 2], [0, 2, 1], [1, 0, 2], [1, 2, 0], [2, 0, 1], [2, 1, 0]] {
+    let kept = [
+        ticking(3, 130),
+        ticking(4, 25),
+        ticking(4, 30),
+        ticking(5, 5),
+    ];
+    for order in [
+        [0, 1, 2],
+        [0, 2, 1],
+        [1, 0, 2],
+        [1, 2, 0],
+        [2, 0, 1],
+        [2, 1, 0],
+    ] {
         let mut track = shared(&rt)?;
         for place in order {
             if place < 3 {
@@ -169,7 +194,13 @@ fn reads_negative_values(rt: HostRuntime) -> Result<(), Fail> {
         panic!(rt; "the thresholds make a rule");
     };
     let raised = |time| AlarmState::Raised { boots: 3, time };
-    let samples = [integer(1, -30), integer(2, -5), integer(3, -19), integer(4, -20), integer(5, -6)];
+    let samples = [
+        integer(1, -30),
+        integer(2, -5),
+        integer(3, -19),
+        integer(4, -20),
+        integer(5, -6),
+    ];
     assert_eq!(rt; state(&rule, &samples[..3]), raised(2));
     assert_eq!(rt; state(&rule, &samples[..4]), AlarmState::Clear);
     assert_eq!(rt; state(&rule, &samples), AlarmState::Clear);

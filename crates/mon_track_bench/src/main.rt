@@ -57,8 +57,16 @@ fn run<R: Env + Print + AllocGlobal>(rt: &R) -> Option<()> {
     let mut track = Track::new(rt.alloc(), SIZE, asked.share).ok()?;
     let tally = inserted(&mut track, asked);
     let totals = track.totals();
-    println!(rt; "{} added, {} known, {} too old, {}", tally.added, tally.known, tally.too_old, tally.places).ok()?;
-    println!(rt; "{} in {} s, {} pairs", totals.delta, totals.span, totals.pairs).ok()
+    println!(rt;
+        "{} added, {} known, {} too old, {}",
+        tally.added, tally.known, tally.too_old, tally.places
+    )
+    .ok()?;
+    println!(rt;
+        "{} in {} s, {} pairs",
+        totals.delta, totals.span, totals.pairs
+    )
+    .ok()
 }
 
 /// The three words.
@@ -93,7 +101,9 @@ fn inserted(track: &mut Track, asked: Asked) -> Tally {
     };
     let mut random: u64 = 1;
     for turn in 0..asked.times {
-        random = random.wrapping_mul(6364136223846793005).wrapping_add(1442695040888963407);
+        random = random
+            .wrapping_mul(6364136223846793005)
+            .wrapping_add(1442695040888963407);
         let second = second(asked, turn, random);
         match track.insert(sample(second)) {
             Inserted::Added { at, .. } => {

@@ -15,7 +15,7 @@ use Rattle.std.proofs.lemmas.List.{take-append-drop, get_or-drop}
 use Rattle.std.proofs.lemmas.List.Elements.{filter-append}
 use Rattle.std.proofs.lemmas.List.Edits.{length-insert, get_or-insert_at, get_or-insert_above}
 use Rattle.std.proofs.lemmas.Map.Keys.{Less-from_sorted}
-use Rattle.mon_window.specs.Leaving.{part, IsLeaving}
+use Rattle.mon_window.specs.Leaving.{part, HasRoom, IsLeaving}
 use Rattle.mon_window.specs.Place.{IsPlace}
 use Rattle.mon_window.proofs.Kept.{sorted-placed}
 
@@ -50,6 +50,27 @@ module _ {K : Type 0} (epoch : K → ℕ) (e : ℕ) where
   part-few (x ∷ xs) =
       let rest = part-few xs in
       elim (nat_eq (epoch x) e) as (λ t. length (cond t (x ∷ part epoch e xs) (part epoch e xs)) ≤ suc (length xs)) [ true ↦ omega arith | false ↦ omega arith ]
+
+  -- where all are of the epoch, the first is
+  first_of_all : (xs : List K) (d : K) → length xs ≤ length (part epoch e xs) → 0 < length xs → epoch (get_or xs 0 d) ≡ e
+  first_of_all [] d all some = absurd (omega arith)
+  first_of_all (x ∷ xs) d all some = elim (cases_eq (epoch x) e) [
+    | inl is ↦ is
+    | inr ne ↦
+        let few = part-few xs in
+        let none : length (part epoch e (x ∷ xs)) ≡ length (part epoch e xs) = ap (λ t. length (cond t (x ∷ part epoch e xs) (part epoch e xs))) (ne_eqb (epoch x) e ne) in
+        absurd (omega arith)
+  ]
+
+  -- a share of no less than the size
+  pub whole_room : (n m : ℕ) (xs : List K) → n ≤ m → length xs < n → HasRoom epoch n m e xs
+  whole_room n m xs whole few = let part_few = part-few xs in record { share = omega arith; few = few }
+
+  pub whole_leaves : (n m : ℕ) (xs : List K) (at : ℕ) → n ≤ m → length xs ≤ n → n ≤ length xs → at ≤ length xs → IsLeaving epoch n m e xs at 0
+  whole_leaves n m xs at whole few full within = elim (cases_lt (length (part epoch e xs)) m) [
+    | inl short ↦ inr (short, full, refl)
+    | inr taken ↦ inl (taken, record { within = omega arith; alone = refl; here = λ d later. first_of_all xs d (omega arith) (omega arith) })
+  ]
 
   module _ {R : K → K → Ordering} (mono : (x y : K) → R x y ≡ Less → epoch x ≤ epoch y) where
     all_later : (x : K) (xs : List K) → e < epoch x → AllByRecursion (λ y. R x y ≡ Less) xs → AllByRecursion (λ y. e < epoch y) xs
@@ -127,19 +148,22 @@ module _ {K : Type 0} (epoch : K → ℕ) (e : ℕ) where
 
       -- a full share: the first of the epoch leaves as a key of the epoch joins
       pub first_leaves : (o : IsTotalOrder R) (same : IsAntisymmetric R) (n m : ℕ) (x : K) (at : ℕ) → IsPlace R xs x at → epoch x ≡ e → 1 ≤ m → m ≤ length (part epoch e xs) → IsLeaving epoch n m e xs at first
-      first_leaves o same n m x at p is some full = inl (full, record {
-        within = elim (cases_lt at first) [
-          | inl passed ↦
-              let placed = sorted-placed o same x xs at s p in
-              let less = Less-from_sorted R (insert xs at x) at (at + 1) x placed (omega arith) (omega (arith, length-insert xs at x p.within)) in
-              let up = mono x (get_or xs at x) ((λ i. R (sym (get_or-insert_at xs at x x p.within) i) (sym (get_or-insert_above xs at x x at (omega arith) p.within) i)) ∙ less) in
-              let low = before at x (omega arith) passed in
-              absurd (omega arith)
-          | inr within ↦ within
-        ];
-        alone = none_before xs first before;
-        here = λ d out. let itself : first + 0 ≡ first = omega arith in subst (λ k. epoch (get_or xs k d) ≡ e) itself (stands 0 d (omega arith));
-      })
+      first_leaves o same n m x at p is some full = inl (
+        full,
+        record {
+          within = elim (cases_lt at first) [
+            | inl passed ↦
+                let placed = sorted-placed o same x xs at s p in
+                let less = Less-from_sorted R (insert xs at x) at (at + 1) x placed (omega arith) (omega (arith, length-insert xs at x p.within)) in
+                let up = mono x (get_or xs at x) ((λ i. R (sym (get_or-insert_at xs at x x p.within) i) (sym (get_or-insert_above xs at x x at (omega arith) p.within) i)) ∙ less) in
+                let low = before at x (omega arith) passed in
+                absurd (omega arith)
+            | inr within ↦ within
+          ];
+          alone = none_before xs first before;
+          here = λ d out. let itself : first + 0 ≡ first = omega arith in subst (λ k. epoch (get_or xs k d) ≡ e) itself (stands 0 d (omega arith));
+        },
+      )
 
 -- of rising keys the epochs don't fall
 pub epochs-rise : {K : Type 0} {R : K → K → Ordering} (epoch : K → ℕ) → ((x y : K) → R x y ≡ Less → epoch x ≤ epoch y) → (xs : List K) → IsStrictlySortedBy R xs → IsNonDecreasingBy epoch xs

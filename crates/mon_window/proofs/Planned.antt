@@ -151,10 +151,10 @@ module _ (n m x : ℕ) (xs : List ℕ) (w : Window) (view : window n m xs ≡ w)
           place = ap (λ ys. slice_get ys (at - 1)) new_list ∙ place-moved nat_cmp_total nat_cmp-IsAntisymmetric boots_of n m x xs at s stands f out leaves j.before;
           displaced = (
             ap (λ ys. set.insert (set.from_list {R = nat_cmp} ys) d) is
-            ∙ insert-moved nat_cmp_total nat_cmp-IsAntisymmetric boots_of n m x xs at s stands f out leaves j.before d was
-            ∙ ap (λ (v : Window). set.insert v.items x) view,
+                ∙ insert-moved nat_cmp_total nat_cmp-IsAntisymmetric boots_of n m x xs at s stands f out leaves j.before d was
+                ∙ ap (λ (v : Window). set.insert v.items x) view,
             ap (λ ys. set.contains (set.from_list {R = nat_cmp} ys) d) is
-            ∙ left-moved nat_cmp_total nat_cmp-IsAntisymmetric boots_of n m x xs at s stands f out leaves j.before d was,
+                ∙ left-moved nat_cmp_total nat_cmp-IsAntisymmetric boots_of n m x xs at s stands f out leaves j.before d was,
           );
         }
 

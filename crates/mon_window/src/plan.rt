@@ -32,15 +32,31 @@ pub(crate) fn leaving(
 ) -> Option<usize>
     requires positive { 1 ≤ share }
     requires sorted { IsStrictlySortedBy nat_cmp items.now }
+    requires few { length items.now ≤ size }
     requires place { IsPlace nat_cmp items.now sample.now at }
     ensures none { IfNone result (HasRoom boots_of size share (boots_of sample.now) items.now) }
     ensures some { IfSome result (IsLeaving boots_of size share (boots_of sample.now) items.now at) }
 {
     let boots = sample.boots();
+    if share >= size {
+        return oldest(items, size, share, boots, at);
+    }
     let first = first_of(items, boots);
     if has_share(items, share, first, boots) {
         return Some(first);
     }
+    if items.len() >= size { Some(0) } else { None }
+}
+
+/// The same where the share is no less than the size: it is taken only where all the items are of these boots, so the
+/// oldest of these is the oldest of all.
+fn oldest(items: &[Sample], size: usize, share: usize, boots: u32, at: usize) -> Option<usize>
+    requires whole { size ≤ share }
+    requires few { length items.now ≤ size }
+    requires place { at ≤ length items.now }
+    ensures none { IfNone result (HasRoom boots_of size share boots items.now) }
+    ensures some { IfSome result (IsLeaving boots_of size share boots items.now at) }
+{
     if items.len() >= size { Some(0) } else { None }
 }
 

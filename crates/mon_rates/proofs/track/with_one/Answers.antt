@@ -1,4 +1,4 @@
-use Rattle.std.proofs.Common.{◌≡◌, ◌+◌, ◌≤◌, ◌<◌, ℕ, List, length, sym, ap, ◌∙◌, arith}
+use Rattle.std.proofs.Common.{sym, ap, ◌∙◌, arith}
 use Rattle.std.specs.List.{insert}
 use Rattle.mon_rates.specs.Totals.{totals, plus}
 use Rattle.mon_rates.specs.declared.totals.Totals.{Totals}

@@ -1,8 +1,7 @@
-use Rattle.std.proofs.Common.{◌≡◌, ◌+◌, ◌≤◌, ◌<◌, ℕ, List, length, sym, ap, ◌∙◌, arith}
-use Rattle.std.specs.List.{insert}
+use Rattle.std.proofs.Common.{◌≡◌, ap, ◌∙◌, arith}
 use Rattle.mon_rates.specs.Totals.{totals, plus}
 use Rattle.mon_rates.specs.declared.totals.Totals.{Totals}
-use Rattle.mon_rates.proofs.Mending.{cancel, totals-bound, totals-inserted}
+use Rattle.mon_rates.proofs.Mending.{cancel, totals-inserted}
 use Rattle.mon_rates.proofs.track.without_one.Goals as goal
 
 pub plus-requires-clause-delta : goal.plus-requires-clause-delta

@@ -9,8 +9,7 @@ pub returns-then-items-first : goal.returns-then-items-first
 returns-then-items-first c =
     let xs = c.args.items.now in
     let last = c.index-items-first.result in
-    let is : c.boots.result ≡ boots_of (get_or xs (c.args.first + (c.args.share - 1)) last) = c.boots.ensures.boots ∙ ap boots_of c.index-items-first.is in
-    (
+    let is : c.boots.result ≡ boots_of (get_or xs (c.args.first + (c.args.share - 1)) last) = c.boots.ensures.boots ∙ ap boots_of c.index-items-first.is in (
       (λ h. share_shown boots_of c.args.boots boots_rise xs c.requires.sorted c.args.first c.requires.bound c.requires.before c.requires.after c.args.share last c.requires.positive c.if-items-first.true (sym is ∙ eqb-true _ _ h)),
       (λ full. eq-eqb _ _ (is ∙ share_stands boots_of c.args.boots boots_rise xs c.requires.sorted c.args.first c.requires.bound c.requires.before c.requires.after c.args.share last c.requires.positive full)),
     )

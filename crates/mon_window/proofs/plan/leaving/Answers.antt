@@ -15,4 +15,4 @@ returns-then-has_share-clause-some c =
     let full : c.args.share ≤ length (part boots_of c.boots-boots.result xs) = c.if-has_share.ensures.0 refl in
     subst (λ e. IsLeaving boots_of c.args.size c.args.share e xs c.args.at found.result) is
     (first_leaves boots_of c.boots-boots.result boots_rise xs c.requires.sorted found.result found.ensures.bound found.ensures.before found.ensures.after
-      nat_cmp_total nat_cmp-IsAntisymmetric c.args.size c.args.share x c.args.at c.requires.place (sym is) c.requires.positive full)
+    nat_cmp_total nat_cmp-IsAntisymmetric c.args.size c.args.share x c.args.at c.requires.place (sym is) c.requires.positive full)

@@ -72,7 +72,7 @@ returns-in-Joins-clause-done c =
     let j : IsJoining c.args.self.now c.args.sample c.in-Joins.at = subst (IsPlan c.args.self.now c.args.sample) c.in-Joins.is c.requires in
     let xs = c.self.inside.items.items in
     let is : c.insert.new.self.items ≡ insert xs c.in-Joins.at c.args.sample = c.insert.ensures.items ∙ ap (λ r. cond (is_ok r) (insert xs c.in-Joins.at c.args.sample) xs) c.unwrap.ensures in
-    subst (λ p. IsDone c.args.sample p (Added c.in-Joins.at None) (rising c.args.self.now.items) (rising (set.from_list {R = nat_cmp} c.insert.new.self.items))) (sym c.in-Joins.is) (record { place = tt; items = joined-done c.self.inside.size c.self.inside.share c.args.sample c.self.inside.items.items c.args.self.now c.self.view_is c.self.invariant.rising c.self.invariant.fits c.in-Joins.at j c.insert.new.self.items is; })
+    subst (λ p. IsDone c.args.sample p (Added c.in-Joins.at None) (rising c.args.self.now.items) (rising (set.from_list {R = nat_cmp} c.insert.new.self.items))) (sym c.in-Joins.is) (record { place = tt; items = joined-done c.self.inside.size c.self.inside.share c.args.sample c.self.inside.items.items c.args.self.now c.self.view_is c.self.invariant.rising c.self.invariant.fits c.in-Joins.at j c.insert.new.self.items is })
 
 -- ---- another leaves
 pub remove-dropped-requires : goal.remove-dropped-requires
@@ -146,12 +146,12 @@ returns-in-Replaces-clause-done c =
     let is : c.insert-in-Replaces.new.self.items ≡ insert (remove c.self.inside.items.items c.in-Replaces.out) (c.in-Replaces.at - 1) c.args.sample =
     c.insert-in-Replaces.ensures.items ∙ ap (λ r. cond (is_ok r) (insert removed (c.in-Replaces.at - 1) c.args.sample) removed) c.unwrap-in-Replaces.ensures
     ∙ ap (λ ys. insert ys (c.in-Replaces.at - 1) c.args.sample) c.remove-dropped.ensures.items in
-    subst (λ p. IsDone c.args.sample p (Added (c.in-Replaces.at - 1) (Some c.remove-dropped.result)) (rising c.args.self.now.items) (rising (set.from_list {R = nat_cmp} c.insert-in-Replaces.new.self.items))) (sym c.in-Replaces.is) (let done = replaced-done c.self.inside.size c.self.inside.share c.args.sample c.self.inside.items.items c.args.self.now c.self.view_is c.self.invariant.rising c.self.invariant.fits c.in-Replaces.at c.in-Replaces.out j c.insert-in-Replaces.new.self.items is c.remove-dropped.result c.remove-dropped.ensures.value in record { place = done.0; items = done.1; })
+    subst (λ p. IsDone c.args.sample p (Added (c.in-Replaces.at - 1) (Some c.remove-dropped.result)) (rising c.args.self.now.items) (rising (set.from_list {R = nat_cmp} c.insert-in-Replaces.new.self.items))) (sym c.in-Replaces.is) (let done = replaced-done c.self.inside.size c.self.inside.share c.args.sample c.self.inside.items.items c.args.self.now c.self.view_is c.self.invariant.rising c.self.invariant.fits c.in-Replaces.at c.in-Replaces.out j c.insert-in-Replaces.new.self.items is c.remove-dropped.result c.remove-dropped.ensures.value in record { place = done.0; items = done.1 })
 
 pub returns-in-Known-clause-done : goal.returns-in-Known-clause-done
 returns-in-Known-clause-done c =
-    subst (λ p. IsDone c.args.sample p Known (rising c.args.self.now.items) (rising c.args.self.now.items)) (sym c.in-Known.is) (record { place = tt; items = refl; })
+    subst (λ p. IsDone c.args.sample p Known (rising c.args.self.now.items) (rising c.args.self.now.items)) (sym c.in-Known.is) (record { place = tt; items = refl })
 
 pub returns-in-TooOld-clause-done : goal.returns-in-TooOld-clause-done
 returns-in-TooOld-clause-done c =
-    subst (λ p. IsDone c.args.sample p TooOld (rising c.args.self.now.items) (rising c.args.self.now.items)) (sym c.in-TooOld.is) (record { place = tt; items = refl; })
+    subst (λ p. IsDone c.args.sample p TooOld (rising c.args.self.now.items) (rising c.args.self.now.items)) (sym c.in-TooOld.is) (record { place = tt; items = refl })
