@@ -59,7 +59,7 @@ impl Totals {
 }
 
 enum Inserted {
-    Added { at: usize, dropped: Option<Sample> },
+    Added { at: usize, #[allow(dead_code)] dropped: Option<Sample> },
     Known,
     TooOld,
 }
