@@ -1,5 +1,5 @@
 -- Where the keys of an epoch stand among rising keys, if a greater key is of the same epoch or a later one.
-use Rattle.std.proofs.Common.{◌≡◌, ℕ, zero, suc, ◌+◌, ◌-◌, ◌/◌, ◌^◌, ◌≤◌, ◌<◌, cond, inl, inr, List, [], ◌∷◌, ◌++◌, length, take, drop, get_or, refl, sym, ap, ◌∙◌, subst, arith, true, false, length-drop}
+use Rattle.std.proofs.Common.{◌≡◌, ℕ, zero, suc, ◌+◌, ◌-◌, ◌/◌, ◌^◌, ◌≤◌, ◌<◌, cond, inl, inr, List, [], ◌∷◌, ◌++◌, length, take, drop, get_or, refl, sym, ap, ◌∙◌, subst, arith, true, false, length-append, length-drop}
 use Rattle.std.specs.Prelude.{nat_eq}
 use Rattle.std.specs.declared.cmp.Ordering.{Ordering}
 use Rattle.std.specs.declared.cmp.Ordering.TheVariants.{Less}
@@ -11,11 +11,11 @@ use Rattle.std.specs.FinSet.{IsAntisymmetric}
 use Rattle.std.specs.List.{AllByRecursion, AllWithin, insert}
 use Rattle.std.specs.List.Sorted.{IsStrictlySortedBy, IsNonDecreasingBy}
 use Rattle.std.proofs.lemmas.Bool.{eq-eqb, cases_eq, cases_lt, ne_eqb}
-use Rattle.std.proofs.lemmas.List.{take-append-drop, get_or-drop}
+use Rattle.std.proofs.lemmas.List.{take-append-drop, take-take, length-take, get_or-drop, get_or_default}
 use Rattle.std.proofs.lemmas.List.Elements.{filter-append}
-use Rattle.std.proofs.lemmas.List.Edits.{length-insert, get_or-insert_at, get_or-insert_above}
+use Rattle.std.proofs.lemmas.List.Edits.{length-insert, get_or-insert_below, get_or-insert_at, get_or-insert_above}
 use Rattle.std.proofs.lemmas.Map.Keys.{Less-from_sorted}
-use Rattle.mon_window.specs.Leaving.{part, HasRoom, IsLeaving}
+use Rattle.mon_window.specs.Leaving.{part, Fits, HasRoom, IsLeaving}
 use Rattle.mon_window.specs.Place.{IsPlace}
 use Rattle.mon_window.proofs.Kept.{sorted-placed}
 
@@ -71,6 +71,30 @@ module _ {K : Type 0} (epoch : K → ℕ) (e : ℕ) where
     | inl short ↦ inr (short, full, refl)
     | inr taken ↦ inl (taken, record { within = omega arith; alone = refl; here = λ d later. first_of_all xs d (omega arith) (omega arith) })
   ]
+
+  part-more : (x : K) (xs : List K) → length (part epoch e xs) ≤ length (part epoch e (x ∷ xs))
+  part-more x xs = elim (nat_eq (epoch x) e) as (λ t. length (part epoch e xs) ≤ length (cond t (x ∷ part epoch e xs) (part epoch e xs))) [ true ↦ omega arith | false ↦ omega arith ]
+
+  -- as many as stand side by side are there at least
+  run_counted : (xs : List K) (i j : ℕ) → i ≤ j → j ≤ length xs → AllWithin (λ y. epoch y ≡ e) xs i j → j - i ≤ length (part epoch e xs)
+  run_counted [] i j order within a = omega arith
+  run_counted (x ∷ xs) i zero order within a = omega arith
+  run_counted (x ∷ xs) zero (suc j) order within a =
+      let first : epoch x ≡ e = a 0 x (omega arith) (omega arith) in
+      let long = part-first x xs first in
+      let rest = run_counted xs 0 j (omega arith) (omega arith) (λ k d low high. a (suc k) d (omega arith) (omega arith)) in
+      omega arith
+  run_counted (x ∷ xs) (suc i) (suc j) order within a =
+      let rest = run_counted xs i j (omega arith) (omega arith) (λ k d low high. a (suc k) d (omega arith) (omega arith)) in
+      let more = part-more x xs in
+      omega arith
+
+  -- none of the epoch stands where the later ones begin
+  none_after : (xs : List K) → AllWithin (λ y. e < epoch y) xs 0 (length xs) → part epoch e xs ≡ []
+  none_after [] a = refl
+  none_after (x ∷ xs) a =
+      let first : e < epoch x = a 0 x (omega arith) (omega arith) in
+      ap (λ t. cond t (x ∷ part epoch e xs) (part epoch e xs)) (ne_eqb (epoch x) e (omega arith)) ∙ none_after xs (λ k d low high. a (suc k) d (omega arith) (omega arith))
 
   module _ {R : K → K → Ordering} (mono : (x y : K) → R x y ≡ Less → epoch x ≤ epoch y) where
     all_later : (x : K) (xs : List K) → e < epoch x → AllByRecursion (λ y. R x y ≡ Less) xs → AllByRecursion (λ y. e < epoch y) xs
@@ -164,6 +188,103 @@ module _ {K : Type 0} (epoch : K → ℕ) (e : ℕ) where
           here = λ d out. let itself : first + 0 ≡ first = omega arith in subst (λ k. epoch (get_or xs k d) ≡ e) itself (stands 0 d (omega arith));
         },
       )
+
+-- ---- where a key of an epoch comes, and how many of the epoch stand before it
+module _ {K : Type 0} {R : K → K → Ordering} (o : IsTotalOrder R) (same : IsAntisymmetric R) (epoch : K → ℕ) (mono : (x y : K) → R x y ≡ Less → epoch x ≤ epoch y)
+    (x : K) (xs : List K) (at : ℕ) (s : IsStrictlySortedBy R xs) (p : IsPlace R xs x at) where
+  at_within : at ≤ length xs
+  at_within = p.within
+
+  rises : (i j : ℕ) (d : K) → i ≤ j → j < length xs → epoch (get_or xs i d) ≤ epoch (get_or xs j d)
+  rises i j d order within = elim (cases_eq i j) [
+    | inl is ↦ let e : epoch (get_or xs i d) ≡ epoch (get_or xs j d) = ap (λ k. epoch (get_or xs k d)) is in omega arith
+    | inr ne ↦ mono _ _ (Less-from_sorted R xs i j d s (let other = ne in omega arith) within)
+  ]
+
+  -- what stands before it is of its epoch or an earlier one, and what stands after it of its epoch or a later one
+  earlier : (k : ℕ) (d : K) → k < at → epoch (get_or xs k d) ≤ epoch x
+  earlier k d before =
+      let less = Less-from_sorted R (insert xs at x) k at d (sorted-placed o same x xs at s p) before (omega (arith, length-insert xs at x p.within, at_within)) in
+      mono (get_or xs k d) x ((λ i. R (sym (get_or-insert_below xs at x d k before p.within) i) (sym (get_or-insert_at xs at x d p.within) i)) ∙ less)
+
+  later : (k : ℕ) (d : K) → at ≤ k → k < length xs → epoch x ≤ epoch (get_or xs k d)
+  later k d after within =
+      let less = Less-from_sorted R (insert xs at x) at (k + 1) d (sorted-placed o same x xs at s p) (omega arith) (omega (arith, length-insert xs at x p.within)) in
+      mono x (get_or xs k d) ((λ i. R (sym (get_or-insert_at xs at x d p.within) i) (sym (get_or-insert_above xs at x d k after p.within) i)) ∙ less)
+
+  module _ (n m : ℕ) (some : 1 ≤ m) (fits : Fits epoch n m xs) where
+    -- a whole share stands before it
+    pub share_before : (d : K) → m ≤ at → epoch (get_or xs (at - m) d) ≡ epoch x → IsLeaving epoch n m (epoch x) xs at (at - m)
+    share_before d enough is =
+        first_leaves epoch (epoch x) mono xs s (at - m) (omega (arith, at_within)) before after o same n m x at p refl some
+        (let run = run_counted epoch (epoch x) xs (at - m) at (omega arith) at_within (λ k c low high. of_it k c low high) in omega arith)
+      where
+        start : (c : K) → epoch (get_or xs (at - m) c) ≡ epoch x
+        start c = ap epoch (get_or_default xs (at - m) c d (omega (arith, at_within))) ∙ is
+
+        of_it : (k : ℕ) (c : K) → at - m ≤ k → k < at → epoch (get_or xs k c) ≡ epoch x
+        of_it k c low high =
+            let up = rises (at - m) k c low (omega (arith, at_within)) in
+            let down = earlier k c high in
+            let first = start c in
+            omega arith
+
+        before : AllWithin (λ y. epoch y < epoch x) xs 0 (at - m)
+        before k c low high = elim (cases_lt (epoch (get_or xs k c)) (epoch x)) [
+          | inl less ↦ less
+          | inr not_less ↦
+              let run = run_counted epoch (epoch x) xs k at (omega arith) at_within (λ j b from to.
+              let up = rises k j b from (omega (arith, at_within)) in
+              let down = earlier j b to in
+              let first : epoch (get_or xs k b) ≡ epoch (get_or xs k c) = ap epoch (get_or_default xs k b c (omega (arith, at_within))) in
+              omega arith) in
+              let most = fits.shares (epoch x) in
+              absurd (omega arith)
+        ]
+
+        after : AllWithin (λ y. epoch x ≤ epoch y) xs (at - m) (length xs)
+        after k c low high = let up = rises (at - m) k c low high in let first = start c in omega arith
+
+    -- nothing of the epoch stands after it, and no whole share before it
+    pub no_share_before : (d : K) → (m ≤ at → epoch (get_or xs (at - m) d) ≡ epoch x → ⊥) → (at < length xs → epoch (get_or xs at d) ≡ epoch x → ⊥) → length (part epoch (epoch x) xs) < m
+    no_share_before d not_before not_after =
+        let none : length (part epoch (epoch x) (drop at xs)) ≡ 0 = ap length nothing in
+        let split : length (part epoch (epoch x) xs) ≡ length (part epoch (epoch x) (take at xs)) + length (part epoch (epoch x) (drop at xs)) =
+        ap (λ ys. length (part epoch (epoch x) ys)) (sym (take-append-drop at xs)) ∙ ap length (filter-append (λ y. nat_eq (epoch y) (epoch x)) (take at xs) (drop at xs))
+        ∙ length-append (part epoch (epoch x) (take at xs)) (part epoch (epoch x) (drop at xs)) in
+        let few = part-few epoch (epoch x) (take at xs) in
+        elim (cases_lt at m) [
+          | inl short ↦ omega (arith, split, none, length-take at xs)
+          | inr enough ↦
+              let rest = part-few epoch (epoch x) (drop (at - m + 1) (take at xs)) in
+              let cut : length (part epoch (epoch x) (take at xs)) ≡ length (part epoch (epoch x) (drop (at - m + 1) (take at xs))) =
+              ap (λ ys. length (part epoch (epoch x) ys)) (sym (take-append-drop (at - m + 1) (take at xs)))
+              ∙ ap length (filter-append (λ y. nat_eq (epoch y) (epoch x)) (take (at - m + 1) (take at xs)) (drop (at - m + 1) (take at xs)))
+              ∙ ap (λ ys. length (part epoch (epoch x) ys ++ part epoch (epoch x) (drop (at - m + 1) (take at xs)))) (take-take (at - m + 1) at xs (omega arith))
+              ∙ ap (λ ys. length (ys ++ part epoch (epoch x) (drop (at - m + 1) (take at xs)))) (none_before epoch (epoch x) xs (at - m + 1) (front enough)) in
+              omega (arith, split, none, cut, length-drop (at - m + 1) (take at xs), length-take at xs, at_within)
+        ]
+      where
+        nothing : part epoch (epoch x) (drop at xs) ≡ []
+        nothing = none_after epoch (epoch x) (drop at xs) (λ k c low high.
+            let within : at + k < length xs = omega (arith, length-drop at xs) in
+            let first : epoch (get_or xs at c) ≡ epoch (get_or xs at d) = ap epoch (get_or_default xs at c d (omega arith)) in
+            let up = rises at (at + k) c (omega arith) within in
+            let low_end = later at c (omega arith) (omega arith) in
+            elim (cases_eq (epoch (get_or xs at c)) (epoch x)) [
+              | inl is ↦ absurd (not_after (omega arith) (sym first ∙ is))
+              | inr ne ↦ let other = ne in subst (λ y. epoch x < epoch y) (sym (get_or-drop at xs k c)) (omega arith)
+            ])
+
+        front : m ≤ at → AllWithin (λ y. epoch y < epoch x) xs 0 (at - m + 1)
+        front enough k c low high =
+            let up = rises k (at - m) c (omega arith) (omega (arith, at_within)) in
+            let down = earlier (at - m) c (omega arith) in
+            let first : epoch (get_or xs (at - m) c) ≡ epoch (get_or xs (at - m) d) = ap epoch (get_or_default xs (at - m) c d (omega (arith, at_within))) in
+            elim (cases_eq (epoch (get_or xs (at - m) c)) (epoch x)) [
+              | inl is ↦ absurd (not_before enough (sym first ∙ is))
+              | inr ne ↦ let other = ne in omega arith
+            ]
 
 -- of rising keys the epochs don't fall
 pub epochs-rise : {K : Type 0} {R : K → K → Ordering} (epoch : K → ℕ) → ((x y : K) → R x y ≡ Less → epoch x ≤ epoch y) → (xs : List K) → IsStrictlySortedBy R xs → IsNonDecreasingBy epoch xs

@@ -3,7 +3,7 @@ ghost use Rattle.std.specs.List.{AllWithin};
 ghost use Rattle.std.specs.List.Sorted.{IsStrictlySortedBy};
 ghost use Rattle.std.specs.Ordering.{nat_cmp};
 ghost use Rattle.mon_sample.specs.Key.{boots_of};
-ghost use Rattle.mon_window.specs.Leaving.{part, HasRoom, IsLeaving};
+ghost use Rattle.mon_window.specs.Leaving.{part, Fits, HasRoom, IsLeaving};
 ghost use Rattle.mon_window.specs.Place.{IsPlace};
 
 use mon_sample::Sample;
@@ -32,7 +32,7 @@ pub(crate) fn leaving(
 ) -> Option<usize>
     requires positive { 1 ≤ share }
     requires sorted { IsStrictlySortedBy nat_cmp items.now }
-    requires few { length items.now ≤ size }
+    requires fits { Fits boots_of size share items.now }
     requires place { IsPlace nat_cmp items.now sample.now at }
     ensures none { IfNone result (HasRoom boots_of size share (boots_of sample.now) items.now) }
     ensures some { IfSome result (IsLeaving boots_of size share (boots_of sample.now) items.now at) }
@@ -41,11 +41,41 @@ pub(crate) fn leaving(
     if share >= size {
         return oldest(items, size, share, boots, at);
     }
-    let first = first_of(items, boots);
-    if has_share(items, share, first, boots) {
+    if let Some(first) = whole_share(items, size, share, sample, at) {
         return Some(first);
     }
     if items.len() >= size { Some(0) } else { None }
+}
+
+/// Where the samples of the sample's boots number begin, if `share` of them are there. They are searched for only where the
+/// sample's place is not at their end.
+fn whole_share(
+    items: &[Sample],
+    size: usize,
+    share: usize,
+    sample: &Sample,
+    at: usize,
+) -> Option<usize>
+    requires positive { 1 ≤ share }
+    requires sorted { IsStrictlySortedBy nat_cmp items.now }
+    requires fits { Fits boots_of size share items.now }
+    requires place { IsPlace nat_cmp items.now sample.now at }
+    ensures none { IfNone result (length (part boots_of (boots_of sample.now) items.now) < share) }
+    ensures some { IfSome result (IsLeaving boots_of size share (boots_of sample.now) items.now at) }
+{
+    let boots = sample.boots();
+    if at >= share && items[at - share].boots() == boots {
+        return Some(at - share);
+    }
+    if at == items.len() || items[at].boots() != boots {
+        return None;
+    }
+    let first = first_of(items, boots);
+    if has_share(items, share, first, boots) {
+        Some(first)
+    } else {
+        None
+    }
 }
 
 /// The same where the share is no less than the size: it is taken only where all the items are of these boots, so the
