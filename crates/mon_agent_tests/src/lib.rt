@@ -8,6 +8,8 @@ mod agent;
 #[cfg(test)]
 mod client;
 #[cfg(test)]
+mod counting;
+#[cfg(test)]
 mod mib;
 #[cfg(test)]
 mod settings;

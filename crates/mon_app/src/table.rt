@@ -145,7 +145,7 @@ fn first_row(
     ensures instance { IfOk result (λ row. row.instance ≡ named engine.now name.now) }
     ensures window { IfOk result (λ row. row.window ≡ first_window size sample) }
 {
-    let mut window = Window::new(alloc, size)?;
+    let mut window = Window::new(alloc, size, size)?;
     window.insert(sample);
     let instance = Instance {
         engine: engine.try_clone(alloc)?,

@@ -1,4 +1,4 @@
-ghost use Rattle.std.specs.Prelude.{ℕ, ◌≡◌, ◌<◌, ◌^◌, ◌↔◌, IfOk, IsTrue};
+ghost use Rattle.std.specs.Prelude.{ℕ, ◌≡◌, ◌<◌, ◌+◌, ◌*◌, ◌^◌, ◌↔◌, IfOk, IsTrue};
 ghost use Rattle.std.specs.Ordering.{nat_cmp};
 ghost use Rattle.std.specs.Cmp.Lexicographic.{slice_cmp};
 ghost use Rattle.mon_sample.specs.Kind.{holds, kind_tag, number_of};
@@ -112,9 +112,12 @@ impl Sample {
     {
         let _ = &self.boots;
         let _ = &other.boots;
-        let boots = self.boots.cmp(&other.boots);
-        boots
-            .then(self.time.cmp(&other.time))
+        let own = stamp(self.boots, self.time);
+        let order = own.cmp(&stamp(other.boots, other.time));
+        if order.is_ne() {
+            return order;
+        }
+        order
             .then(self.mark.cmp(&other.mark))
             .then(self.kind.tag().cmp(&other.kind.tag()))
             .then(self.value.cmp(&other.value))
@@ -160,6 +163,13 @@ impl Sample {
             value: parts.value,
         })
     }
+}
+
+/// Boots and time as one number, in the same order.
+fn stamp(boots: u32, time: u32) -> u64
+    ensures { result ≡ boots * 2 ^ 32 + time }
+{
+    (u64::from(boots) << 32) + u64::from(time)
 }
 
 /// The numbers in a record, whatever they are.

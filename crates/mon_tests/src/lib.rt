@@ -16,4 +16,6 @@ mod sample;
 #[cfg(test)]
 mod smi;
 #[cfg(test)]
+mod track;
+#[cfg(test)]
 mod window;

@@ -16,9 +16,9 @@ fn insert(window: &mut Window, sample: Sample) -> Inserted {
     window.insert(sample)
 }
 
-/// `join`, where the sizes are equal.
+/// `join`, where the sizes and shares are equal.
 fn join(window: &mut Window, other: &Window) -> bool {
-    if window.size() != other.size() {
+    if window.size() != other.size() || window.share() != other.share() {
         return false;
     }
     window.join(other);
@@ -27,7 +27,7 @@ fn join(window: &mut Window, other: &Window) -> bool {
 
 #[test]
 fn keeps_the_greatest(rt: HostRuntime) -> Result<(), Fail> {
-    let mut window = Window::new(rt.alloc(), 2)?;
+    let mut window = Window::new(rt.alloc(), 2, 2)?;
     let (early, middle, late) = (counter(100, 7), counter(105, 8), counter(110, 9));
     let added = |at, dropped| Inserted::Added { at, dropped };
     let steps = [
@@ -47,8 +47,8 @@ fn keeps_the_greatest(rt: HostRuntime) -> Result<(), Fail> {
 
 #[test]
 fn joins(rt: HostRuntime) -> Result<(), Fail> {
-    let mut window = Window::new(rt.alloc(), 2)?;
-    let mut other = Window::new(rt.alloc(), 2)?;
+    let mut window = Window::new(rt.alloc(), 2, 2)?;
+    let mut other = Window::new(rt.alloc(), 2, 2)?;
     insert(&mut window, counter(100, 3));
     insert(&mut other, counter(100, 1));
     insert(&mut other, counter(100, 2));

@@ -1,0 +1,133 @@
+//! Inserts samples into one track of 64, in rising, falling or mixed order, so that bench/track can time it.
+//!
+//! usage: mon_track_bench ORDER SHARE TIMES: ORDER is `rising`, `falling` or `mixed`, SHARE is 1 to 64. Prints how many
+//! samples were added, known and too old, the sum of the places of those added, and the totals.
+#![tactic(auto)]
+
+use mon_rates::Track;
+use mon_sample::{Kind, Sample};
+use mon_window::Inserted;
+use std::env;
+use std::process::ExitCode;
+use std::rt::Env;
+
+/// How many samples the track holds.
+const SIZE: usize = 64;
+
+/// The agent restarts after so many seconds.
+const LIFE: u32 = 48;
+
+/// In which order the samples come.
+#[derive(Clone, Copy)]
+enum Order {
+    Rising,
+    Falling,
+    Mixed,
+}
+
+/// What the words ask for.
+#[derive(Clone, Copy)]
+struct Asked {
+    order: Order,
+    share: usize,
+    times: u32,
+}
+
+/// What the insertions answered.
+#[derive(Drop)]
+struct Tally {
+    added: u64,
+    known: u64,
+    too_old: u64,
+    places: u64,
+}
+
+fn main(rt: HostRuntime) -> ExitCode {
+    match run(&rt) {
+        Some(()) => ExitCode::SUCCESS,
+        None => ExitCode::FAILURE,
+    }
+}
+
+fn run<R: Env + Print + AllocGlobal>(rt: &R) -> Option<()> {
+    let asked = words_of(rt)?;
+    if asked.share < 1 || asked.share > SIZE {
+        return None;
+    }
+    let mut track = Track::new(rt.alloc(), SIZE, asked.share).ok()?;
+    let tally = inserted(&mut track, asked);
+    let totals = track.totals();
+    println!(rt;
+        "{} added, {} known, {} too old, {}",
+        tally.added, tally.known, tally.too_old, tally.places
+    )
+    .ok()?;
+    println!(rt;
+        "{} in {} s, {} pairs",
+        totals.delta, totals.span, totals.pairs
+    )
+    .ok()
+}
+
+/// The three words.
+fn words_of<R: Env + AllocGlobal>(rt: &R) -> Option<Asked> {
+    let words: Vec<String> = env::args(rt).ok()?.collect(rt.alloc()).ok()?;
+    let order = order_of(words.get(1)?.as_str())?;
+    let share = words.get(2)?.as_str().parse().ok()?;
+    let times = words.get(3)?.as_str().parse().ok()?;
+    Some(Asked {
+        order,
+        share,
+        times,
+    })
+}
+
+fn order_of(word: &str) -> Option<Order> {
+    match word {
+        "rising" => Some(Order::Rising),
+        "falling" => Some(Order::Falling),
+        "mixed" => Some(Order::Mixed),
+        _ => None,
+    }
+}
+
+/// Inserts them all.
+fn inserted(track: &mut Track, asked: Asked) -> Tally {
+    let mut tally = Tally {
+        added: 0,
+        known: 0,
+        too_old: 0,
+        places: 0,
+    };
+    let mut random: u64 = 1;
+    for turn in 0..asked.times {
+        random = random
+            .wrapping_mul(6364136223846793005)
+            .wrapping_add(1442695040888963407);
+        let second = second(asked, turn, random);
+        match track.insert(sample(second)) {
+            Inserted::Added { at, .. } => {
+                tally.added = tally.added.wrapping_add(1);
+                tally.places = tally.places.wrapping_add(at as u64);
+            }
+            Inserted::Known => tally.known = tally.known.wrapping_add(1),
+            Inserted::TooOld => tally.too_old = tally.too_old.wrapping_add(1),
+        }
+    }
+    tally
+}
+
+/// The second at which the sample of this turn was taken: in mixed order up to 63 seconds early.
+fn second(asked: Asked, turn: u32, random: u64) -> u32 {
+    match asked.order {
+        Order::Rising => turn,
+        Order::Falling => asked.times.wrapping_sub(turn),
+        Order::Mixed => turn.wrapping_add((random >> 58) as u32),
+    }
+}
+
+/// The sample of a second: a counter that rises by 3 a second.
+fn sample(second: u32) -> Sample {
+    let value = u64::from(second.wrapping_mul(3));
+    Sample::new(second / LIFE, second % LIFE, 0, Kind::Counter32, value)
+}
