@@ -4,7 +4,7 @@ use Rattle.std.specs.Prelude.{◌⊎◌, All, IfNone, IfOk, IfSome, IsErrAnd, Is
 use Rattle.std.proofs.lemmas.List.Elements.{All-append, All-cons, All-nil}
 use Rattle.std.specs.declared.alloc.AllocError.{AllocError}
 use Rattle.mon_edge.specs.Told.{GoesOnBy, extended}
-use Rattle.mon_edge.proofs.Promised.{extended_by_none, extended_twice}
+use Rattle.mon_edge.proofs.Promised.{extended_by_none, extended_on}
 use Rattle.mon_pdu.specs.declared.fault.PduFault.{PduFault}
 use Rattle.mon_pdu.specs.declared.fault.PduFault.TheVariants as pdu
 use Rattle.mon_pdu.specs.declared.message.Message.{Message}
@@ -83,16 +83,13 @@ pub nothing_heard : (q : Asked) (told : Log) → AreHeard q 0 told told
 nothing_heard q told = record { strange = []; none = All-nil (IsStrange q); count = refl; told = sym (extended_by_none told) }
 
 -- one thing more
-joined : (before between after : Log) (some : List AtWire) (e : AtWire) → between ≡ extended before some → after ≡ extended between (e ∷ []) → after ≡ extended before (some ++ e ∷ [])
-joined before between after some e first then = then ∙ (ap (λ t. extended t (e ∷ [])) first ∙ extended_twice before some (e ∷ []))
-
 pub one_heard : (q : Asked) (n : ℕ) (before between after : Log) (e : AtWire) → AreHeard q n before between → IsStrange q e
     → after ≡ extended between (e ∷ []) → AreHeard q (n + 1) before after
 one_heard q n before between after e heard strange told = record {
   strange = heard.strange ++ e ∷ [];
   none = All-append (IsStrange q) heard.strange (e ∷ []) heard.none (All-cons (IsStrange q) e [] strange (All-nil (IsStrange q)));
   count = length-append heard.strange (e ∷ []) ∙ ap (λ (k : ℕ). k + 1) heard.count;
-  told = joined before between after heard.strange e heard.told told;
+  told = extended_on before between after heard.strange (e ∷ []) heard.told told;
 }
 
 -- the wait's end
@@ -101,7 +98,7 @@ pub quiet : (q : Asked) (n : ℕ) (before between after : Log) → AreHeard q n 
 quiet q n before between after heard few told = record {
   more = heard.strange ++ Quiet ∷ [];
   holds = record { strange = heard.strange; none = heard.none; ended = inl (omega (arith, heard.count), refl) };
-  told = joined before between after heard.strange Quiet heard.told told;
+  told = extended_on before between after heard.strange (Quiet ∷ []) heard.told told;
 }
 
 pub too_many : (q : Asked) (before after : Log) → AreHeard q 65 before after → GoesOnBy (λ log. IsWait q log (Ok None)) before after
@@ -117,7 +114,7 @@ pub reply_heard : (q : Asked) (n : ℕ) (before between after : Log) (octets : L
 reply_heard q n before between after octets m heard few holds told = record {
   more = heard.strange ++ Heard octets ∷ [];
   holds = record { strange = heard.strange; passed_over = (heard.none, omega (arith, heard.count)); octets = octets; heard_is = refl; reply = holds };
-  told = joined before between after heard.strange (Heard octets) heard.told told;
+  told = extended_on before between after heard.strange (Heard octets ∷ []) heard.told told;
 }
 
 -- no memory for the message
@@ -126,7 +123,7 @@ pub no_room : (q : Asked) (n : ℕ) (before between after : Log) (octets : List 
 no_room q n before between after octets heard few told = record {
   more = heard.strange ++ Heard octets ∷ [];
   holds = record { strange = heard.strange; passed_over = (heard.none, omega (arith, heard.count)); octets = octets; heard_is = refl };
-  told = joined before between after heard.strange (Heard octets) heard.told told;
+  told = extended_on before between after heard.strange (Heard octets ∷ []) heard.told told;
 }
 
 -- a wire that failed
@@ -149,8 +146,7 @@ nothing_sent q told = record { more = []; holds = refl; told = sym (extended_by_
 then_heard : (before between sent after : Log) (some heard : List AtWire) (octets : List ℕ) → between ≡ extended before some → sent ≡ extended between (Sent octets ∷ [])
     → after ≡ extended sent heard → after ≡ extended before (some ++ Sent octets ∷ heard)
 then_heard before between sent after some heard octets first second third =
-    third ∙ (ap (λ t. extended t heard) second ∙ (extended_twice between (Sent octets ∷ []) heard
-    ∙ (ap (λ t. extended t (Sent octets ∷ heard)) first ∙ extended_twice before some (Sent octets ∷ heard))))
+    extended_on before between after some (Sent octets ∷ heard) first (extended_on between sent after (Sent octets ∷ []) heard second third)
 
 pub one_sent : (q : Asked) (n : ℕ) (before between sent after : Log) (octets : List ℕ) → AreSent q n before between → octets ≡ request_octets q
     → sent ≡ extended between (Sent octets ∷ []) → GoesOnBy (λ log. IsWait q log (Ok None)) sent after → AreSent q (n + 1) before after

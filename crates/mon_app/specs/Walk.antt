@@ -9,6 +9,8 @@ use Rattle.mon_pdu.specs.declared.message.Binding.{Binding}
 use Rattle.mon_app.specs.declared.fault.AppFault.{AppFault}
 use Rattle.mon_app.specs.declared.fault.AppFault.TheVariants.{OutOfMemory, NotIncreasing}
 use Rattle.mon_app.specs.declared.question.Asking.TheVariants.{GetNext}
+use Rattle.mon_app.specs.declared.walking.Step.{Step}
+use Rattle.mon_app.specs.declared.walking.Step.TheVariants.{On, Past, Back}
 use Rattle.mon_app.specs.AtWire.{AtWire}
 use Rattle.mon_app.specs.Printed.{IsAnswered, binding_line}
 use Rattle.mon_app.specs.Question.{Asked}
@@ -34,14 +36,20 @@ IsUnder start b = (b.value ≢ EndOfMibView) × IsPrefix start b.name
 abbrev pub Exceeds : List ℕ → Binding → Type 0
 Exceeds last b = slice_cmp nat_cmp last b.name ≡ Less
 
+-- what a walk does about a variable binding that answers
+abbrev pub IsStep : List ℕ → List ℕ → Binding → Step → Type 0
+IsStep start last b On = IsUnder start b × Exceeds last b
+IsStep start last b Past = IsPast start b
+IsStep start last b Back = IsUnder start b × ¬ (Exceeds last b)
+
 -- A turn of a walk, with the text before and after it: the line of one more variable, whose name is given; none at the walk's
 -- end; or a fault. Where memory runs out nothing is said of the text.
 abbrev pub IsTurn : Asked → List ℕ → List ℕ → List ℕ → List ℕ → List AtWire → Result (Option (List ℕ)) AppFault → Type 0
 IsTurn q start last before after log (Ok (Some name)) =
-    (b : Binding) × IsNext q log (Ok b) × IsUnder start b × Exceeds last b × (name ≡ b.name) × (after ≡ before ++ binding_line b)
-IsTurn q start last before after log (Ok None) = (b : Binding) × IsNext q log (Ok b) × IsPast start b × (after ≡ before)
+    (b : Binding) × IsNext q log (Ok b) × IsStep start last b On × (name ≡ b.name) × (after ≡ before ++ binding_line b)
+IsTurn q start last before after log (Ok None) = (b : Binding) × IsNext q log (Ok b) × IsStep start last b Past × (after ≡ before)
 IsTurn q start last before after log (Err OutOfMemory) = (answer : Result Binding AppFault) × IsNext q log answer
-IsTurn q start last before after log (Err NotIncreasing) = (b : Binding) × IsNext q log (Ok b) × IsUnder start b × ¬ (Exceeds last b) × (after ≡ before)
+IsTurn q start last before after log (Err NotIncreasing) = (b : Binding) × IsNext q log (Ok b) × IsStep start last b Back × (after ≡ before)
 IsTurn q start last before after log (Err other) = IsNext q log (Err other) × (after ≡ before)
 
 -- After so many turns, each with one more line: what happened at the wire, the text, and the last name. The first question is
@@ -67,5 +75,5 @@ pub record IsWalk {A : Type 0} (community start before after : List ℕ) (log : 
   pub others : List AtWire
   pub log_is : log ≡ earlier ++ others
   pub ended : ((turns < 65536) × IsTurn (question_after community turns last) start last text after others (last_answer result))
-      ⊎ ((turns ≡ 65536) × (others ≡ []) × (after ≡ text) × IsOk result)
-      ⊎ ((log ≡ []) × (result ≡ Err OutOfMemory))
+      ⊎ (((turns ≡ 65536) × (others ≡ []) × (after ≡ text) × IsOk result)
+      ⊎ ((log ≡ []) × (result ≡ Err OutOfMemory)))

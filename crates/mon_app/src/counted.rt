@@ -11,7 +11,7 @@ use std::io;
 use std::io::{ErrorKind, Read};
 
 /// How a reader was read. Each count stays at its greatest, 2^64 - 1.
-#[derive(Clone, Copy, Debug, PartialEq, Eq)]
+#[derive(Clone, Copy, Debug)]
 pub struct Reads {
     /// How often.
     pub reads: u64,

@@ -1,9 +1,9 @@
 //! Walking through the variables under a name.
 
-ghost use Rattle.std.specs.Prelude.{◌≡◌, ◌<◌, string_bytes};
+ghost use Rattle.std.specs.Prelude.{◌≡◌, ◌<◌, ◌↔◌, IsTrue, string_bytes};
 ghost use Rattle.mon_edge.specs.Told.{GoesOnBy};
 ghost use Rattle.mon_app.specs.AtWire.{socket_failures};
-ghost use Rattle.mon_app.specs.Walk.{IsNext, IsTurn, IsWalk, question_after};
+ghost use Rattle.mon_app.specs.Walk.{IsNext, IsStep, IsTurn, IsWalk, question_after};
 
 use crate::client::answers;
 use crate::fault::AppFault;
@@ -61,22 +61,52 @@ fn walk_on<W: Wire>(
     ensures failures { W.failures wire.new ≡ socket_failures result (W.failures wire.old) }
 {
     let found = after(alloc, wire, community, last, request_id)?;
-    if matches!(found.value, Value::EndOfMibView) || !start.is_prefix_of(&found.name) {
-        return Ok(None);
+    match step_of(start, last, &found) {
+        Step::Past => Ok(None),
+        Step::Back => Err(AppFault::NotIncreasing),
+        Step::On => {
+            put_binding(alloc, text, &found)?;
+            Ok(Some(found.name))
+        }
     }
-    if !last.compare(&found.name).is_lt() {
-        return Err(AppFault::NotIncreasing);
+}
+
+/// What a walk does about a variable binding that answers.
+enum Step {
+    /// It goes on from it.
+    On,
+    /// It ends, since there is no further variable under the start.
+    Past,
+    /// It fails, since the name does not exceed the last one.
+    Back,
+}
+
+/// What a walk does about the variable binding that answers after the last name.
+fn step_of(start: &Oid, last: &Oid, found: &Binding) -> Step
+    ensures { IsStep start.now last.now found.now result }
+{
+    if is_end(&found.value) || !start.is_prefix_of(&found.name) {
+        return Step::Past;
     }
-    put_binding(alloc, text, &found)?;
-    Ok(Some(found.name))
+    if last.compare(&found.name).is_lt() {
+        return Step::On;
+    }
+    Step::Back
+}
+
+/// Whether there is no further variable.
+fn is_end(value: &Value) -> bool
+    ensures { IsTrue result ↔ (value.now ≡ Value.EndOfMibView) }
+{
+    matches!(value, Value::EndOfMibView)
 }
 
 /// The variable after a name, or the name with endOfMibView.
-fn after<W: Wire>(
+fn after<'a, W: Wire>(
     alloc: Global,
     wire: &mut W,
-    community: &[u8],
-    name: &Oid,
+    community: &'a [u8],
+    name: &'a Oid,
     request_id: u32,
 ) -> Result<Binding, AppFault>
     requires { request_id < 65536 }
