@@ -1,8 +1,15 @@
 //! The client commands over a wire in memory.
 
+ghost use Rattle.std.specs.Prelude.{◌≡◌, ◌≤◌, ◌++◌, ◌∷◌, [], IfOk, IfSome, OnErr, OnOk, length, map};
+ghost use Rattle.mon_app.specs.AtWire.{Heard as HeardAtWire, IsWithin, Sent, hearing};
+ghost use Rattle.mon_agent_tests.specs.Log.{at_wire};
+
 use crate::small_agent::question;
-use mon_app::{AppFault, Asking, Heard, Repeats, Wire, answer_text, request};
+use mon_app::{
+    AppFault, Asking, Heard, Repeats, SocketFault, Wire, answer_text, request,
+};
 use mon_ber::{Octets, Value};
+use mon_edge::failed_after;
 use mon_oid::Oid;
 use mon_pdu::write_message;
 use std::alloc::{AllocError, Global};
@@ -23,40 +30,140 @@ const GET_BULK: &str =
 const SET: &str =
     "302702010104067075626C6963A31A020107020100020100300F300D06082B06010201010500040178";
 
+/// The Get in the community `public!`.
+const OTHER_REQUEST: &str =
+    "302702010104077075626C696321A019020107020100020100300E300C06082B060102010105000500";
+
 const REPLY: &str =
     "302802010104067075626C6963A21B0201070201000201003010300E06082B0601020101050004027231";
 
-/// What a wire hears, in turn: each time something else, and then its datagrams.
+/// What happened at the wire.
+#[derive(Drop)]
+enum Event {
+    Sent(Vec<u8>),
+    Heard(Vec<u8>),
+    Other,
+    Quiet,
+}
+
+/// What a wire hears, in turn: each time something else, and then its datagrams. It writes down what happened.
 #[derive(Drop)]
 struct Memory {
+    alloc: Global,
     heard: Vec<Vec<u8>>,
     turn: usize,
     other: bool,
+    log: Vec<Event>,
+    failures: u64,
+}
+
+impl Memory {
+    fn new(alloc: Global, heard: Vec<Vec<u8>>) -> Self {
+        Memory {
+            alloc,
+            heard,
+            turn: 0,
+            other: false,
+            log: Vec::new(alloc),
+            failures: 0,
+        }
+    }
+
+    /// Writes down what happened. It fails where there is no room for it.
+    fn note(&mut self, event: Event) -> Result<(), SocketFault>
+        ensures noted { OnOk result (self.new.log.items ≡ self.old.log.items ++ event ∷ []) }
+        ensures same { OnErr result (self.new.log.items ≡ self.old.log.items) }
+        ensures failures { self.new.failures ≡ self.old.failures }
+    {
+        self.log.push(event).map_err(|_| SocketFault)
+    }
+
+    fn note_sent(&mut self, octets: &[u8]) -> Result<(), SocketFault>
+        ensures noted { OnOk result (map at_wire self.new.log.items ≡ map at_wire self.old.log.items ++ Sent octets.now ∷ []) }
+        ensures same { OnErr result (self.new.log.items ≡ self.old.log.items) }
+        ensures failures { self.new.failures ≡ self.old.failures }
+    {
+        let Ok(octets) = Vec::from_slice(self.alloc, octets) else {
+            return Err(SocketFault);
+        };
+        self.note(Event::Sent(octets))
+    }
+
+    fn note_heard(&mut self, octets: &[u8]) -> Result<(), SocketFault>
+        ensures noted { OnOk result (map at_wire self.new.log.items ≡ map at_wire self.old.log.items ++ HeardAtWire octets.now ∷ []) }
+        ensures same { OnErr result (self.new.log.items ≡ self.old.log.items) }
+        ensures failures { self.new.failures ≡ self.old.failures }
+    {
+        let Ok(octets) = Vec::from_slice(self.alloc, octets) else {
+            return Err(SocketFault);
+        };
+        self.note(Event::Heard(octets))
+    }
+
+    /// The next datagram, at the front of the room.
+    fn next(&mut self, room: &mut [u8]) -> Option<usize>
+        ensures within { IfSome result (λ len. len ≤ length room.new) }
+        ensures log { self.new.log ≡ self.old.log }
+        ensures failures { self.new.failures ≡ self.old.failures }
+    {
+        let octets = self.heard.get(self.turn)?;
+        let front = room.get_mut(..octets.len())?;
+        front.copy_from_slice(octets.as_slice());
+        self.turn = self.turn.saturating_add(1);
+        Some(octets.len())
+    }
+
+    fn hear(&mut self, room: &mut [u8]) -> Result<Heard, SocketFault>
+        ensures told { map at_wire self.new.log.items ≡ map at_wire self.old.log.items ++ hearing room.new result }
+        ensures failures { self.new.failures ≡ self.old.failures }
+        ensures within { IfOk result (IsWithin (length room.new)) }
+    {
+        self.other = !self.other;
+        if self.other {
+            self.note(Event::Other)?;
+            return Ok(Heard::Other);
+        }
+        let Some(len) = self.next(room) else {
+            self.note(Event::Quiet)?;
+            return Ok(Heard::Quiet);
+        };
+        self.note_heard(&room[..len])?;
+        Ok(Heard::Datagram(len))
+    }
+
+    /// How often the octets were sent, if nothing else was.
+    fn sendings(&self, wanted: &[u8]) -> Option<usize> {
+        let mut count: usize = 0;
+        for event in &self.log {
+            if let Event::Sent(octets) = event {
+                if octets.as_slice() != wanted {
+                    return None;
+                }
+                count = count.saturating_add(1);
+            }
+        }
+        Some(count)
+    }
 }
 
 impl Wire for Memory {
-    ghost use Rattle.std.specs.Prelude.{None};
+    ghost use Rattle.std.specs.Prelude.{Some, map};
+    ghost use Rattle.mon_agent_tests.specs.Log.{at_wire};
 
-    ghost sends = { λ _. None };
+    ghost told = { λ w. Some (map at_wire w.log.items) };
 
-    fn send(&mut self, _octets: &[u8]) -> Result<(), AppFault> {
-        Ok(())
+    ghost failures = { λ w. w.failures };
+
+    fn send(&mut self, octets: &[u8]) -> Result<(), SocketFault> {
+        let sent = self.note_sent(octets);
+        self.failures = failed_after(self.failures, &sent);
+        sent
     }
 
-    fn receive(&mut self, room: &mut [u8]) -> Result<Heard, AppFault> {
-        self.other = !self.other;
-        if self.other {
-            return Ok(Heard::Other);
-        }
-        let Some(octets) = self.heard.get(self.turn) else {
-            return Ok(Heard::Quiet);
-        };
-        let Some(front) = room.get_mut(..octets.len()) else {
-            return Ok(Heard::Quiet);
-        };
-        front.copy_from_slice(octets.as_slice());
-        self.turn = self.turn.saturating_add(1);
-        Ok(Heard::Datagram(octets.len()))
+    fn receive(&mut self, room: &mut [u8]) -> Result<Heard, SocketFault> {
+        let heard = self.hear(room);
+        self.failures = failed_after(self.failures, &heard);
+        heard
     }
 }
 
@@ -66,14 +173,14 @@ fn octets(alloc: Global, text: &str) -> Result<Vec<u8>, AllocError> {
 
 /// The text that the wire's datagrams come to, for a Get of sysName.0.
 fn answered(alloc: Global, heard: Vec<Vec<u8>>, community: &[u8]) -> Result<String, AppFault> {
+    let mut wire = Memory::new(alloc, heard);
+    answered_by(alloc, &mut wire, community)
+}
+
+fn answered_by(alloc: Global, wire: &mut Memory, community: &[u8]) -> Result<String, AppFault> {
     let names = names(alloc)?;
     let question = question(Asking::Get, community, names.as_slice());
-    let mut wire = Memory {
-        heard,
-        turn: 0,
-        other: false,
-    };
-    answer_text(alloc, &mut wire, &question)
+    answer_text(alloc, wire, &question)
 }
 
 fn names(alloc: Global) -> Result<Vec<Oid>, AllocError> {
@@ -137,9 +244,10 @@ fn hears_no_reply(rt: HostRuntime) -> Result<(), Fail> {
     let alloc = rt.alloc();
     let mut heard = Vec::new(alloc);
     heard.push(octets(alloc, REPLY)?)?;
-    assert_eq!(rt;
-        answered(alloc, heard, b"private").err(),
-        Some(AppFault::Timeout)
-    );
+    let mut wire = Memory::new(alloc, heard);
+    let fault = answered_by(alloc, &mut wire, b"public!").err();
+    assert_eq!(rt; fault, Some(AppFault::Timeout));
+    let request = octets(alloc, OTHER_REQUEST)?;
+    assert_eq!(rt; wire.sendings(request.as_slice()), Some(3));
     Ok(())
 }

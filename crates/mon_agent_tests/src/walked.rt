@@ -1,7 +1,7 @@
 //! A walk through an agent whose names do not increase. Walks through others are in tests/live.expected.
 
 use crate::small_agent::oid;
-use mon_app::{AppFault, Heard, Wire, walk};
+use mon_app::{AppFault, Heard, SocketFault, Wire, walk};
 use mon_oid::Oid;
 use std::alloc::Global;
 use std::test::Fail;
@@ -18,9 +18,12 @@ const ID: usize = 17;
 impl Wire for Same {
     ghost use Rattle.std.specs.Prelude.{None};
 
-    ghost sends = { λ _. None };
+    ghost told = { λ _. None };
 
-    fn send(&mut self, octets: &[u8]) -> Result<(), AppFault> {
+    // It never fails.
+    ghost failures = { λ _. 0 };
+
+    fn send(&mut self, octets: &[u8]) -> Result<(), SocketFault> {
         if let Some(id) = octets.get(ID)
             && let Some(place) = self.reply.get_mut(ID)
         {
@@ -29,7 +32,7 @@ impl Wire for Same {
         Ok(())
     }
 
-    fn receive(&mut self, room: &mut [u8]) -> Result<Heard, AppFault> {
+    fn receive(&mut self, room: &mut [u8]) -> Result<Heard, SocketFault> {
         let Some(front) = room.get_mut(..self.reply.len()) else {
             return Ok(Heard::Quiet);
         };

@@ -1,3 +1,4 @@
+pub mod Askings
 pub mod Counting
 pub mod Lines
 pub mod Order

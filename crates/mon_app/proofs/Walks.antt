@@ -1,80 +1,163 @@
--- A walk, line by line.
-use Rattle.std.proofs.Common.{◌≡◌, ℕ, ◌+◌, ◌≤◌, arith, subst, List, [], ◌∷◌, ◌++◌, refl, sym, ap, ◌∙◌}
-use Rattle.std.specs.Prelude.{All, Option, Some, None}
-use Rattle.std.specs.List.{flat_map}
-use Rattle.std.specs.Ordering.{nat_cmp}
-use Rattle.std.specs.Cmp.Lexicographic.{slice_cmp}
-use Rattle.std.specs.declared.cmp.Ordering.TheVariants.{Less}
-use Rattle.std.proofs.lemmas.List.{append_assoc, append-nil}
-use Rattle.std.proofs.lemmas.Grind.{flat_map-append}
-use Rattle.std.proofs.lemmas.List.Elements.{All-append, All-cons, All-nil}
-use Rattle.mon_oid.specs.Oid.{IsPrefix}
+-- What is answered, and a walk, turn by turn.
+use Rattle.std.proofs.Common.{◌≡◌, ℕ, ℤ, pos, ◌+◌, ◌<◌, Bool, true, false, arith, List, [], ◌∷◌, ◌++◌, length, refl, sym, ap, ◌∙◌, subst, inl, inr, length-append, add-one}
+use Rattle.std.specs.Prelude.{◌⊎◌, ◌&&◌, ◌||◌, ◌==◌, not, if◌then◌else◌, Option, Some, None, Result, Ok, Err, IsOk}
+use Rattle.std.proofs.lemmas.Bool.Decides.{nat_tests}
+use Rattle.std.proofs.lemmas.List.{append-nil}
+use Rattle.mon_edge.specs.Told.{GoesOnBy, extended}
+use Rattle.mon_edge.proofs.Promised.{extended_by_none, extended_on}
 use Rattle.mon_pdu.specs.declared.message.Binding.{Binding}
-use Rattle.mon_app.specs.Counts.{GrowsByAtMost}
-use Rattle.mon_app.specs.Printed.{binding_line}
-use Rattle.mon_app.specs.Walk.{AreRising, IsLine, IsWalked}
+use Rattle.mon_pdu.specs.declared.message.Body.{Body}
+use Rattle.mon_pdu.specs.declared.message.Body.TheVariants as bodies
+use Rattle.mon_pdu.specs.declared.message.Message.{Message}
+use Rattle.mon_app.specs.declared.fault.AppFault.{AppFault}
+use Rattle.mon_app.specs.declared.fault.AppFault.TheVariants as faults
+use Rattle.mon_app.specs.declared.question.Asking.TheVariants.{GetNext}
+use Rattle.mon_app.specs.Asking.{IsAsked}
+use Rattle.mon_app.specs.AtWire.{AtWire}
+use Rattle.mon_app.specs.Printed.{IsAnswered, answer_of, bindings_in}
+use Rattle.mon_app.specs.Question.{Asked, is_reply}
+use Rattle.mon_app.specs.Reading.{is_zero}
+use Rattle.mon_app.specs.Walk.{HasWalked, IsNext, IsTurn, IsWalk, last_answer, question_after}
+use Rattle.mon_app.proofs.Askings.{Log}
 
--- the last name of these, or where there is none the one before
-abbrev pub last_name : List ℕ → List Binding → List ℕ
-last_name before [] = before
-last_name before (b ∷ bs) = last_name b.name bs
+-- of a reply without an error status each name is answered
+counted : (a z : Bool) (n : ℕ) → (a && (not z || (1 == n))) ≡ true → z ≡ true → n ≡ 1
+counted true true n reply fine = grind (arith, nat_tests)
+counted true false n reply fine = cc
+counted false true n reply fine = cc
+counted false false n reply fine = cc
 
--- so far was walked, and this is the last name
-pub record IsAt (start before now last : List ℕ) : Type 0 where
-  pub walked : IsWalked start before now
-  pub last_is : last ≡ last_name start walked.bindings
+chosen : (z : Bool) (bs others : List Binding) → Ok bs ≡ (if z then Ok others else Err faults.AgentStatus) → (z ≡ true) × (bs ≡ others)
+chosen true bs others is = (refl, cc)
+chosen false bs others is = cc
 
-pub begins : (start before last : List ℕ) → last ≡ start → IsAt start before before last
-begins start before last is = record {
-  walked = record { bindings = []; under = All-nil (λ b. IsPrefix start b.name); rising = tt; printed = sym (append-nil before) };
-  last_is = is;
-}
+unchosen : (z : Bool) (others : List Binding) → Err faults.NotIncreasing ≡ (if z then Ok others else Err faults.AgentStatus) → ⊥
+unchosen true others is = cc
+unchosen false others is = cc
 
-rises_more : (before : List ℕ) (bs : List Binding) (b : Binding) → AreRising before bs → slice_cmp nat_cmp (last_name before bs) b.name ≡ Less → AreRising before (bs ++ b ∷ [])
-rises_more before [] b rising less = (less, tt)
-rises_more before (x ∷ bs) b rising less = (rising.0, rises_more x.name bs b rising.1 less)
+-- a GetNext of one name is answered by one variable binding
+one_in : (community name from : List ℕ) (n : ℕ) (body : Body) (bindings : List Binding)
+    → is_reply (question_after community n name) (record { community = from; body = body }) ≡ true → Ok bindings ≡ bindings_in body → length bindings ≡ 1
+one_in community name from n (bodies.Bulk b) bindings reply given = cc
+one_in community name from n (bodies.Pdu p) bindings reply given =
+    let found = chosen (is_zero p.error_status) bindings p.bindings given in
+    ap length found.1 ∙ counted _ (is_zero p.error_status) (length p.bindings) reply found.0
 
-last_more : (before : List ℕ) (bs : List Binding) (b : Binding) → last_name before (bs ++ b ∷ []) ≡ b.name
-last_more before [] b = refl
-last_more before (x ∷ bs) b = last_more x.name bs b
-
-all_more : (P : Binding → Type 0) (bs : List Binding) (b : Binding) → All P bs → P b → All P (bs ++ b ∷ [])
-all_more P bs b all one = All-append P bs (b ∷ []) all (single P b one)
+pub one_answer : (community name : List ℕ) (n : ℕ) (log : List AtWire) (bindings : List Binding)
+    → IsAnswered (question_after community n name) log (Ok bindings) → length bindings ≡ 1
+one_answer community name n log bindings answered = by_asked answered.asked answered.asking answered.answer_is
   where
-    single : (P : Binding → Type 0) (b : Binding) → P b → All P (b ∷ [])
-    single P b one = All-cons P b [] one (All-nil P)
+    by_asked : (asked : Result Message AppFault) → IsAsked (question_after community n name) log asked → Ok bindings ≡ answer_of asked → length bindings ≡ 1
+    by_asked (Err fault) asking given = cc
+    by_asked (Ok m) asking given = one_in community name m.community n m.body bindings asking.wait.reply.1 given
 
-pub goes_on : (start before now last after name : List ℕ) → IsAt start before now last → IsLine start last now after name → IsAt start before after name
-goes_on start before now last after name at line =
-    let b : Binding = record { name = name; value = line.value } in
+-- a question of these parts is the one for the variable after the name
+pub asked_next : (community name : List ℕ) (names : List (List ℕ)) (id : ℤ) (n : ℕ) → id ≡ pos n → names ≡ name ∷ []
+    → (let q : Asked = record { asking = GetNext; request_id = id; community = community; names = names } in q) ≡ question_after community n name
+asked_next community name names id n is named =
+    let q : ℤ → List (List ℕ) → Asked = λ i ns. record { asking = GetNext; request_id = i; community = community; names = ns } in
+    ap (λ (i : ℤ). q i names) is ∙ ap (λ (ns : List (List ℕ)). q (pos n) ns) named
+
+-- a list of one element whose last is this
+pub one_of : (bs front : List Binding) (b : Binding) → length bs ≡ 1 → bs ≡ front ++ b ∷ [] → bs ≡ b ∷ []
+one_of bs [] b one is = is
+one_of bs (x ∷ front) b one is = absurd (omega (arith, one, ap length is, length-append (x ∷ front) (b ∷ [])))
+
+-- the last of one variable binding is the answer
+pub next_found : (community name : List ℕ) (n : ℕ) (before after : Log) (bindings front : List Binding) (b : Binding)
+    → GoesOnBy (λ log. IsAnswered (question_after community n name) log (Ok bindings)) before after → bindings ≡ front ++ b ∷ []
+    → GoesOnBy (λ log. IsNext (question_after community n name) log (Ok b)) before after
+next_found community name n before after bindings front b answered is =
+    let one = one_of bindings front b (one_answer community name n answered.more bindings answered.holds) is in
     record {
-      walked = record {
-        bindings = at.walked.bindings ++ b ∷ [];
-        under = all_more (λ b. IsPrefix start b.name) at.walked.bindings b at.walked.under line.under;
-        rising = rises_more start at.walked.bindings b at.walked.rising (ap (λ l. slice_cmp nat_cmp l name) (sym at.last_is) ∙ line.rising);
-        printed = line.printed ∙ (ap (λ l. l ++ binding_line b) at.walked.printed
-            ∙ (append_assoc before (flat_map binding_line at.walked.bindings) (binding_line b)
-            ∙ ap (λ l. before ++ l) (ap (λ l. flat_map binding_line at.walked.bindings ++ l) (sym (append-nil (binding_line b)))
-            ∙ sym (flat_map-append binding_line at.walked.bindings (b ∷ [])))));
-      };
-      last_is = sym (last_more start at.walked.bindings b);
+      more = answered.more;
+      holds = subst (λ (bs : List Binding). IsAnswered (question_after community n name) answered.more (Ok bs)) one answered.holds;
+      told = answered.told;
     }
 
--- the text stays while it is the same
-pub stays : (start before now later last : List ℕ) → IsAt start before now last → later ≡ now → IsWalked start before later
-stays start before now later last at same = subst (λ (t : List ℕ). IsWalked start before t) (sym same) at.walked
+pub never_none : (community name : List ℕ) (n : ℕ) (before after : Log) (bindings : List Binding)
+    → GoesOnBy (λ log. IsAnswered (question_after community n name) log (Ok bindings)) before after → bindings ≡ [] → ⊥
+never_none community name n before after bindings answered none =
+    let one = one_answer community name n answered.more bindings answered.holds in omega (arith, one, ap length none)
 
--- three more sendings
-pub sends_more : (k m : ℕ) (a b c : Option ℕ) → GrowsByAtMost k a b → GrowsByAtMost 3 b c → k + 3 ≤ m → GrowsByAtMost m a c
-sends_more k m None None c first then le = then
-sends_more k m None (Some n) c first then le = absurd (never first)
+of_body : (body : Body) → Err faults.NotIncreasing ≡ bindings_in body → ⊥
+of_body (bodies.Bulk b) is = cc
+of_body (bodies.Pdu p) is = unchosen (is_zero p.error_status) p.bindings is
+
+not_of_asking : (q : Asked) (log : List AtWire) → IsAnswered q log (Err faults.NotIncreasing) → ⊥
+not_of_asking q log answered = by_asked answered.asked answered.asking answered.answer_is
   where
-    never : {n : ℕ} → Some n ≡ None → ⊥
-    never e = cc
-sends_more k m (Some a) None c first then le = absurd first
-sends_more k m (Some a) (Some b) None first then le = absurd then
-sends_more k m (Some a) (Some b) (Some c) first then le = (omega (arith, first.0, then.0), omega (arith, first.1, then.1, le))
+    by_asked : (asked : Result Message AppFault) → IsAsked q log asked → Err faults.NotIncreasing ≡ answer_of asked → ⊥
+    by_asked (Ok m) asking given = of_body m.body given
+    by_asked (Err fault) asking given =
+        let same : fault ≡ faults.NotIncreasing = cc in subst (λ (f : AppFault). IsAsked q log (Err f)) same asking
 
-pub sends_none : (a : Option ℕ) → GrowsByAtMost 0 a a
-sends_none None = refl
-sends_none (Some n) = (omega arith, omega arith)
+-- a fault of the question is the turn's; a walk's own fault is none of asking
+pub fault_of_turn : (q : Asked) (start last text : List ℕ) (before after : Log) (fault : AppFault) → GoesOnBy (λ log. IsNext q log (Err fault)) before after
+    → GoesOnBy (λ log. IsTurn q start last text text log (Err fault)) before after
+fault_of_turn q start last text before after fault next = record { more = next.more; holds = by_cases fault next.more next.holds; told = next.told }
+  where
+    by_cases : (fault : AppFault) (log : List AtWire) → IsNext q log (Err fault) → IsTurn q start last text text log (Err fault)
+    by_cases faults.OutOfMemory log next = (Err faults.OutOfMemory, next)
+    by_cases faults.NotIncreasing log next = absurd (not_of_asking q log next)
+    by_cases faults.SocketFault log next = (next, refl)
+    by_cases faults.Timeout log next = (next, refl)
+    by_cases faults.FileFault log next = (next, refl)
+    by_cases faults.AgentStatus log next = (next, refl)
+    by_cases faults.BadText log next = (next, refl)
+
+-- so far was walked
+abbrev pub IsAt : List ℕ → List ℕ → List ℕ → ℕ → List ℕ → List ℕ → Log → Log → Type 0
+IsAt community start said n text last before after = GoesOnBy (λ log. HasWalked community start said n log text last) before after
+
+pub begins : (community start said last : List ℕ) (told : Log) → last ≡ start → IsAt community start said 0 said last told told
+begins community start said last told is = record { more = []; holds = (refl, refl, is); told = sym (extended_by_none told) }
+
+-- one turn more
+pub goes_on : (community start said text later last name : List ℕ) (n : ℕ) (before between after : Log) → IsAt community start said n text last before between
+    → GoesOnBy (λ log. IsTurn (question_after community n last) start last text later log (Ok (Some name))) between after
+    → IsAt community start said (n + 1) later name before after
+goes_on community start said text later last name n before between after at turn =
+    subst (λ (k : ℕ). IsAt community start said k later name before after) (sym (add-one n)) (record {
+      more = at.more ++ turn.more;
+      holds = (at.more, turn.more, text, last, at.holds, turn.holds, refl);
+      told = extended_on before between after at.more turn.more at.told turn.told;
+    })
+
+-- the last turn
+pub ends : {A : Type 0} → (community start said text later last : List ℕ) (n : ℕ) (before between after : Log) (result : Result A AppFault)
+    → IsAt community start said n text last before between → n < 65536
+    → GoesOnBy (λ log. IsTurn (question_after community n last) start last text later log (last_answer result)) between after
+    → GoesOnBy (λ log. IsWalk community start said later log result) before after
+ends community start said text later last n before between after result at few turn = record {
+  more = at.more ++ turn.more;
+  holds = record {
+    turns = n; earlier = at.more; text = text; last = last; walked = at.holds; others = turn.more; log_is = refl;
+    ended = inl (few, turn.holds);
+  };
+  told = extended_on before between after at.more turn.more at.told turn.told;
+}
+
+-- all the turns that a walk may take
+pub all_turns : {A : Type 0} → (community start said text last : List ℕ) (before after : Log) (result : Result A AppFault)
+    → IsAt community start said 65536 text last before after → IsOk result → GoesOnBy (λ log. IsWalk community start said text log result) before after
+all_turns community start said text last before after result at fine = record {
+  more = at.more;
+  holds = record {
+    turns = 65536; earlier = at.more; text = text; last = last; walked = at.holds; others = []; log_is = sym (append-nil at.more);
+    ended = inr (inl (refl, refl, refl, fine));
+  };
+  told = at.told;
+}
+
+-- no memory for the first turn
+pub no_turn : {A : Type 0} → (community start said text : List ℕ) (told : Log) (result : Result A AppFault) → result ≡ Err faults.OutOfMemory
+    → GoesOnBy (λ log. IsWalk community start said text log result) told told
+no_turn community start said text told result is = record {
+  more = [];
+  holds = record {
+    turns = 0; earlier = []; text = said; last = start; walked = (refl, refl, refl); others = []; log_is = refl;
+    ended = inr (inr (refl, is));
+  };
+  told = sym (extended_by_none told);
+}

@@ -1,7 +1,10 @@
 pub mod AppFault
-pub mod Counts
+pub mod Asking
+pub mod AtPort
+pub mod AtWire
 pub mod Find
 pub mod Gives
+pub mod Input
 pub mod Instance
 pub mod Line
 pub mod Meaning

@@ -1,5 +1,5 @@
 -- How variable bindings are printed: `NAME = KIND: VALUE`.
-use Rattle.std.specs.Prelude.{◌≡◌, ℕ, pos, IsTrue, Bool, List, [], ◌∷◌, ◌++◌, codes, decimal, nat_le, ◌==◌, ◌||◌, ◌&&◌, if◌then◌else◌}
+use Rattle.std.specs.Prelude.{◌≡◌, ℕ, Bool, List, [], ◌∷◌, ◌++◌, codes, decimal, nat_le, ◌==◌, ◌||◌, ◌&&◌, if◌then◌else◌, Result, Ok, Err}
 use Rattle.std.specs.Fmt.{signed_decimal}
 use Rattle.std.specs.List.{flat_map, list_all}
 use Rattle.hex.specs.Hex.{encode_lower}
@@ -10,7 +10,12 @@ use Rattle.mon_pdu.specs.declared.message.Binding.{Binding}
 use Rattle.mon_pdu.specs.declared.message.Body.{Body}
 use Rattle.mon_pdu.specs.declared.message.Body.TheVariants.{Pdu, Bulk}
 use Rattle.mon_pdu.specs.declared.message.Message.{Message}
-use Rattle.mon_app.specs.Question.{Asked, is_reply}
+use Rattle.mon_app.specs.declared.fault.AppFault.{AppFault}
+use Rattle.mon_app.specs.declared.fault.AppFault.TheVariants.{OutOfMemory, AgentStatus}
+use Rattle.mon_app.specs.Asking.{IsAsked}
+use Rattle.mon_app.specs.AtWire.{AtWire}
+use Rattle.mon_app.specs.Question.{Asked}
+use Rattle.mon_app.specs.Reading.{is_zero}
 
 -- the octet is a character of ASCII that is seen
 abbrev pub is_seen : ℕ → Bool
@@ -65,19 +70,31 @@ value_shown EndOfMibView = codes "endOfMibView"
 unfoldable pub binding_line : Binding → List ℕ
 binding_line b = dotted b.name ++ codes " = " ++ value_shown b.value ++ codes "\n"
 
--- a Response without an error has these bindings
-abbrev pub HasBindings : Body → List Binding → Type 0
-HasBindings (Pdu p) bindings = (p.error_status ≡ pos 0) × (p.bindings ≡ bindings)
-HasBindings (Bulk b) bindings = ⊥
+-- what a reply comes to: its variable bindings, or where it has an error status that fault
+abbrev pub bindings_in : Body → Result (List Binding) AppFault
+bindings_in (Pdu p) = if is_zero p.error_status then Ok p.bindings else Err AgentStatus
+bindings_in (Bulk b) = Err AgentStatus
 
--- These are the bindings of a reply to the question that has no error.
-pub record AreOfReply (q : Asked) (bindings : List Binding) : Type 0 where
-  pub message : Message
-  pub reply : IsTrue (is_reply q message)
-  pub fine : HasBindings message.body bindings
+-- what asking comes to, as variable bindings
+abbrev pub answer_of : Result Message AppFault → Result (List Binding) AppFault
+answer_of (Ok reply) = bindings_in reply.body
+answer_of (Err fault) = Err fault
 
--- The text is the bindings of such a reply, a line each.
-pub record IsAnswer (q : Asked) (text : List ℕ) : Type 0 where
-  pub bindings : List Binding
-  pub of_reply : AreOfReply q bindings
-  pub printed : text ≡ flat_map binding_line bindings
+-- The question was asked, this happened at the wire, and this is the answer.
+pub record IsAnswered (q : Asked) (log : List AtWire) (answer : Result (List Binding) AppFault) : Type 0 where
+  pub asked : Result Message AppFault
+  pub asking : IsAsked q log asked
+  pub answer_is : answer ≡ answer_of asked
+
+-- the text of an answer, a line for each variable binding, or its fault; unless memory runs out
+abbrev pub Prints : {T : Type 0} → (T → List ℕ) → Result (List Binding) AppFault → Result T AppFault → Type 0
+Prints bytes (Ok bindings) (Ok text) = bytes text ≡ flat_map binding_line bindings
+Prints bytes (Ok bindings) (Err fault) = fault ≡ OutOfMemory
+Prints bytes (Err fault) (Ok text) = ⊥
+Prints bytes (Err fault) (Err other) = other ≡ fault
+
+-- The question was asked, this happened at the wire, and the answer was printed so.
+pub record IsPrinted {T : Type 0} (bytes : T → List ℕ) (q : Asked) (log : List AtWire) (printed : Result T AppFault) : Type 0 where
+  pub answer : Result (List Binding) AppFault
+  pub answered : IsAnswered q log answer
+  pub text : Prints bytes answer printed

@@ -1,20 +1,23 @@
 //! Asking an agent over a wire.
 
-ghost use Rattle.std.specs.Prelude.{◌≡◌, IfOk, IfSome, IsTrue, length};
-ghost use Rattle.mon_app.specs.Counts.{GrowsBy, GrowsByAtMost};
+ghost use Rattle.std.specs.Prelude.{◌≡◌, ◌≢◌, true, false, IfOk, IfSome, IfNone, length};
+ghost use Rattle.mon_edge.specs.Told.{GoesOnBy};
+ghost use Rattle.mon_app.specs.Asking.{HoldsReply, HoldsNone, IsAsked, IsWait};
+ghost use Rattle.mon_app.specs.AtWire.{socket_failures};
 ghost use Rattle.mon_app.specs.Question.{asked_in, is_reply};
 
 use crate::fault::AppFault;
+use crate::input::zeros;
 use crate::question::{Question, is_reply, request};
 use crate::wire::{Heard, Wire};
-use mon_pdu::{Message, PduFault, read_message, write_message};
+use mon_pdu::{Message, PduFault, laws, read_message, write_message};
 use std::alloc::{AllocError, Global};
 
 /// How often a request is sent.
 const SENDS: u8 = 3;
 
-/// How many datagrams that are no reply are passed over after each sending.
-const STRANGE: u8 = 64;
+/// How much is heard after each sending: of what is no reply 64 are passed over, and the next one ends the wait.
+const HEARINGS: u8 = 65;
 
 /// The greatest datagram that UDP carries over IPv4, in octets.
 const GREATEST_DATAGRAM: usize = 65_507;
@@ -30,14 +33,15 @@ pub fn room(alloc: Global) -> Result<Vec<u8>, AllocError>
 /// the wire does, and passes over at most 64 datagrams that are no reply.
 ///
 /// # Errors
-/// `Timeout` where no reply came, `SocketFault` where the wire failed, `OutOfMemory`.
+/// `Timeout` where no reply came in three waits, `SocketFault` where the wire failed, `BadText` where the request needs 2^32
+/// octets or more, `OutOfMemory`.
 pub fn send_request<W: Wire>(
     alloc: Global,
     wire: &mut W,
     question: &Question<'_>,
 ) -> Result<Message, AppFault>
-    ensures sends { GrowsByAtMost 3 (W.sends wire.old) (W.sends wire.new) }
-    ensures reply { IfOk result (λ m. IsTrue (is_reply (asked_in question.now) m)) }
+    ensures asked { GoesOnBy (λ log. IsAsked (asked_in question.now) log result) (W.told wire.old) (W.told wire.new) }
+    ensures failures { W.failures wire.new ≡ socket_failures result (W.failures wire.old) }
 {
     let octets = write_message(alloc, &request(alloc, question)?)?;
     let mut room = room(alloc)?;
@@ -50,17 +54,20 @@ pub fn send_request<W: Wire>(
     Err(AppFault::Timeout)
 }
 
-/// The first reply that is heard in the wait that the last sending began; none where the wait ends, or after 64 other datagrams.
+/// The first reply that is heard in the wait that the last sending began; none where the wait ends, or after 64 others.
+///
+/// # Errors
+/// `SocketFault` where the wire failed, `OutOfMemory` where the message that was heard found no room.
 pub fn take_reply<W: Wire>(
     alloc: Global,
     wire: &mut W,
     question: &Question<'_>,
     room: &mut [u8],
 ) -> Result<Option<Message>, AppFault>
-    ensures sends { W.sends wire.new ≡ W.sends wire.old }
-    ensures reply { IfOk result (λ found. IfSome found (λ m. IsTrue (is_reply (asked_in question.now) m))) }
+    ensures heard { GoesOnBy (λ log. IsWait (asked_in question.now) log result) (W.told wire.old) (W.told wire.new) }
+    ensures failures { W.failures wire.new ≡ socket_failures result (W.failures wire.old) }
 {
-    for _ in 0..=STRANGE {
+    for _ in 0..HEARINGS {
         match wire.receive(room)? {
             Heard::Quiet => return Ok(None),
             Heard::Other => {}
@@ -80,18 +87,33 @@ fn reply_in(
     question: &Question<'_>,
     octets: &[u8],
 ) -> Result<Option<Message>, AllocError>
-    ensures { IfOk result (λ found. IfSome found (λ m. IsTrue (is_reply (asked_in question.now) m))) }
+    ensures found { IfOk result (λ found. IfSome found (HoldsReply (asked_in question.now) octets.now)) }
+    ensures none { IfOk result (λ found. IfNone found (HoldsNone (asked_in question.now) octets.now)) }
 {
+    laws::again();
     match read_message(alloc, octets) {
-        Ok(message) if is_reply(question, &message) => Ok(Some(message)),
-        Err(PduFault::OutOfMemory) => Err(AllocError),
-        _ => Ok(None),
+        Ok(message) => Ok(reply_of(question, message)),
+        Err(fault) => unread(fault),
     }
 }
 
-/// So many zeros.
-fn zeros(alloc: Global, len: usize) -> Result<Vec<u8>, AllocError>
-    ensures { IfOk result (λ zeros. length zeros.items ≡ len) }
+/// The message, where it replies.
+fn reply_of(question: &Question<'_>, message: Message) -> Option<Message>
+    ensures some { IfSome result (λ m. (m ≡ message) × (is_reply (asked_in question.now) message ≡ true)) }
+    ensures none { IfNone result (is_reply (asked_in question.now) message ≡ false) }
 {
-    vec![in alloc; 0u8; len]
+    if is_reply(question, &message) {
+        return Some(message);
+    }
+    None
+}
+
+/// A datagram that could not be read holds no reply, unless memory ran out.
+fn unread(fault: PduFault) -> Result<Option<Message>, AllocError>
+    ensures { IfOk result (λ found. (found ≡ None) × (fault ≢ PduFault.OutOfMemory)) }
+{
+    match fault {
+        PduFault::OutOfMemory => Err(AllocError),
+        _ => Ok(None),
+    }
 }

@@ -1,9 +1,10 @@
 //! The client commands: a question, its reply, and the text that is printed.
 
-ghost use Rattle.std.specs.Prelude.{IfOk, string_bytes};
+ghost use Rattle.std.specs.Prelude.{◌≡◌, string_bytes};
+ghost use Rattle.mon_edge.specs.Told.{GoesOnBy};
 ghost use Rattle.mon_pdu.specs.declared.message.Body.TheVariants as bodies;
-ghost use Rattle.mon_app.specs.Counts.{GrowsByAtMost};
-ghost use Rattle.mon_app.specs.Printed.{AreOfReply, HasBindings, IsAnswer};
+ghost use Rattle.mon_app.specs.AtWire.{socket_failures};
+ghost use Rattle.mon_app.specs.Printed.{IsAnswered, IsPrinted, bindings_in};
 ghost use Rattle.mon_app.specs.Question.{asked_in};
 
 use crate::asking::send_request;
@@ -17,14 +18,14 @@ use std::alloc::Global;
 /// Asks an agent, and gives its answer as text: a line for each variable binding of the reply.
 ///
 /// # Errors
-/// `Timeout` where no reply came, `AgentStatus` where the reply has an error status, `SocketFault`, `OutOfMemory`.
+/// `AgentStatus` where the reply has an error status; else as `send_request`.
 pub fn answer_text<W: Wire>(
     alloc: Global,
     wire: &mut W,
     question: &Question<'_>,
 ) -> Result<String, AppFault>
-    ensures sends { GrowsByAtMost 3 (W.sends wire.old) (W.sends wire.new) }
-    ensures answer { IfOk result (λ text. IsAnswer (asked_in question.now) (string_bytes text)) }
+    ensures answer { GoesOnBy (λ log. IsPrinted string_bytes (asked_in question.now) log result) (W.told wire.old) (W.told wire.new) }
+    ensures failures { W.failures wire.new ≡ socket_failures result (W.failures wire.old) }
 {
     let bindings = answers(alloc, wire, question)?;
     Ok(bindings_text(alloc, bindings.as_slice())?)
@@ -36,8 +37,8 @@ pub(crate) fn answers<W: Wire>(
     wire: &mut W,
     question: &Question<'_>,
 ) -> Result<Bindings, AppFault>
-    ensures sends { GrowsByAtMost 3 (W.sends wire.old) (W.sends wire.new) }
-    ensures answers { IfOk result (AreOfReply (asked_in question.now)) }
+    ensures answer { GoesOnBy (λ log. IsAnswered (asked_in question.now) log result) (W.told wire.old) (W.told wire.new) }
+    ensures failures { W.failures wire.new ≡ socket_failures result (W.failures wire.old) }
 {
     let Message { body, .. } = send_request(alloc, wire, question)?;
     match body {
@@ -48,7 +49,7 @@ pub(crate) fn answers<W: Wire>(
 
 /// The variable bindings of a response without an error.
 fn fine(pdu: Pdu) -> Result<Bindings, AppFault>
-    ensures { IfOk result (HasBindings (bodies.Pdu pdu)) }
+    ensures { result ≡ bindings_in (bodies.Pdu pdu) }
 {
     if pdu.error_status != 0 {
         return Err(AppFault::AgentStatus);

@@ -3,13 +3,17 @@
 ghost use Rattle.std.specs.Prelude.{◌≡◌};
 ghost use Rattle.mon_app.specs.AppFault.{number_of, name_of, of_stream, of_message};
 ghost use Rattle.std.specs.IoError.{error_kind};
-ghost use Rattle.mon_app.specs.declared.fault.AppFault.TheVariants.{OutOfMemory};
+ghost use Rattle.mon_app.specs.declared.fault.AppFault.TheVariants.{OutOfMemory, SocketFault as FaultOfSocket};
 
 use mon_agent::AgentFault;
 use mon_pdu::PduFault;
 use std::alloc::AllocError;
 use std::io;
 use thiserror::Error;
+
+/// A socket, or what stands for one, failed.
+#[derive(Clone, Copy, Debug, PartialEq, Eq)]
+pub struct SocketFault;
 
 /// Why a command of the program failed, where no crate below names a fault of its own.
 #[derive(Clone, Copy, Debug, PartialEq, Eq, Error)]
@@ -59,6 +63,14 @@ impl From<AllocError> for AppFault {
 
     fn from(_e: AllocError) -> AppFault {
         AppFault::OutOfMemory
+    }
+}
+
+impl From<SocketFault> for AppFault {
+    ghost from_gives = { λ _ e. e ≡ FaultOfSocket };
+
+    fn from(_e: SocketFault) -> AppFault {
+        AppFault::SocketFault
     }
 }
 

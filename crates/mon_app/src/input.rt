@@ -1,7 +1,9 @@
 //! Reading a whole input.
 
-ghost use Rattle.std.specs.Prelude.{◌≡◌, IfOk, IfSome, vec_len};
+ghost use Rattle.std.specs.Prelude.{◌≡◌, ◌<◌, ◌^◌, IfOk, IfErr, IfSome, length};
+ghost use Rattle.mon_app.specs.Input.{IsFaultOfInput};
 
+use crate::counted::Counted;
 use crate::fault::AppFault;
 use std::alloc::{AllocError, Global};
 use std::io;
@@ -14,8 +16,8 @@ const CHUNK: usize = 65_536;
 const READS: u32 = 1_048_576;
 
 /// So many zeros.
-fn zeros(alloc: Global, len: usize) -> Result<Vec<u8>, AllocError>
-    ensures { IfOk result (λ v. vec_len v ≡ len) }
+pub(crate) fn zeros(alloc: Global, len: usize) -> Result<Vec<u8>, AllocError>
+    ensures { IfOk result (λ v. length v.items ≡ len) }
 {
     vec![in alloc; 0u8; len]
 }
@@ -24,8 +26,10 @@ fn zeros(alloc: Global, len: usize) -> Result<Vec<u8>, AllocError>
 ///
 /// # Errors
 /// `FileFault` where a read fails, or where so many reads came to no end; `OutOfMemory` where the octets find no room.
-pub fn read_all<R: Read>(alloc: Global, reader: &mut R) -> Result<Vec<u8>, AppFault>
-    ensures { IfOk result (λ octets. IfSome (R.remaining reader.old) (λ all. octets.items ≡ all)) }
+pub fn read_all<R: Read>(alloc: Global, reader: &mut Counted<R>) -> Result<Vec<u8>, AppFault>
+    requires { reader.old.counts.reads < 2 ^ 63 }
+    ensures whole { IfOk result (λ octets. IfSome (R.remaining reader.old.reader) (λ all. octets.items ≡ all)) }
+    ensures fault { IfErr result (IsFaultOfInput reader.old.counts reader.new.counts) }
 {
     let mut chunk = zeros(alloc, CHUNK)?;
     let mut octets = Vec::new(alloc);

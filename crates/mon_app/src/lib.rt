@@ -5,6 +5,7 @@
 
 mod asking;
 mod client;
+mod counted;
 mod fault;
 mod input;
 mod instance;
@@ -27,7 +28,8 @@ mod wire;
 
 pub use asking::{room, send_request, take_reply};
 pub use client::answer_text;
-pub use fault::AppFault;
+pub use counted::{Counted, Reads};
+pub use fault::{AppFault, SocketFault};
 pub use input::read_all;
 pub use port::{Port, Received};
 pub use printed::bindings_text;

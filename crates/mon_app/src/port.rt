@@ -1,6 +1,6 @@
 //! A port that an agent listens at.
 
-use crate::fault::AppFault;
+use crate::fault::SocketFault;
 use mon_mib::Moment;
 
 /// A datagram that was received.
@@ -14,19 +14,26 @@ pub struct Received {
 
 /// A port that an agent listens at.
 pub trait Port {
-    ghost use Rattle.std.specs.Prelude.{◌≡◌, ◌≤◌, ℕ, Option, length, IfOk};
-    ghost use Rattle.mon_app.specs.Counts.{GrowsBy};
+    ghost use Rattle.std.specs.Prelude.{◌≡◌, ◌≤◌, ℕ, List, Option, length, IfOk};
+    ghost use Rattle.mon_edge.specs.Counts.{failed_after};
+    ghost use Rattle.mon_edge.specs.Told.{extended};
+    ghost use Rattle.mon_app.specs.AtPort.{AtPort, receiving, replying};
 
-    // How often something was sent, where the port tells that.
-    ghost sends: { Self → Option ℕ };
+    // What happened at it, in turn, where the port tells that.
+    ghost told: { Self → Option (List AtPort) };
+
+    // How often it failed, at most 2^64 - 1.
+    ghost failures: { Self → ℕ };
 
     /// Waits for a datagram, which is put into the room.
-    fn receive(&mut self, room: &mut [u8]) -> Result<Received, AppFault>
-        ensures sends { sends self.new ≡ sends self.old }
+    fn receive(&mut self, room: &mut [u8]) -> Result<Received, SocketFault>
+        ensures told { told self.new ≡ extended (told self.old) (receiving room.new result) }
+        ensures failures { failures self.new ≡ failed_after result (failures self.old) }
         ensures room { length room.new ≡ length room.old }
         ensures within { IfOk result (λ received. received.len ≤ length room.new) };
 
     /// Sends a datagram to where the last one came from.
-    fn reply(&mut self, octets: &[u8]) -> Result<(), AppFault>
-        ensures { GrowsBy 1 (sends self.old) (sends self.new) };
+    fn reply(&mut self, octets: &[u8]) -> Result<(), SocketFault>
+        ensures told { told self.new ≡ extended (told self.old) (replying octets.now result) }
+        ensures failures { failures self.new ≡ failed_after result (failures self.old) };
 }

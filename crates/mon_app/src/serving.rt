@@ -1,9 +1,9 @@
 //! Serving an agent at a port.
 
-ghost use Rattle.std.specs.Prelude.{◌≡◌, ◌⊎◌, OnOk, OnErr};
+ghost use Rattle.std.specs.Prelude.{◌≡◌, ◌⊎◌, Err, OnOk, OnErr, IfErr};
 ghost use Rattle.mon_mib.specs.Counters.{one_more};
-ghost use Rattle.mon_app.specs.Counts.{GrowsByAtMost};
-ghost use Rattle.mon_app.specs.Served.{IsServed};
+ghost use Rattle.mon_app.specs.AtWire.{socket_failures};
+ghost use Rattle.mon_app.specs.Served.{AnswersIt, IsLost, IsServed, IsUnanswered};
 
 use crate::fault::AppFault;
 use crate::port::Port;
@@ -14,30 +14,34 @@ use std::alloc::Global;
 /// Waits for a datagram and answers it: sends the agent's reply to where it came from, or nothing where the agent is silent.
 ///
 /// # Errors
-/// `OutOfMemory` where the agent could not answer, which then is as it was; a fault of the port, where what was received may
-/// have been answered and a Set assigned though its reply was not sent.
+/// `OutOfMemory` where the agent could not answer, which then is as it was; `SocketFault` where nothing could be received, and the
+/// agent is as it was, or where the reply could not be sent, though the agent answered and a Set may have been assigned.
 pub fn serve_one<P: Port, D: Device + Drop>(
     alloc: Global,
     port: &mut P,
     agent: &mut Agent<D>,
     room: &mut [u8],
 ) -> Result<(), AppFault>
-    // A served datagram counts as one message, and at most one is sent for it.
+    // A served datagram counts as one message.
     ensures counted { OnOk result (agent.new.mib.counters.in_packets ≡ one_more agent.old.mib.counters.in_packets) }
-    ensures sends { GrowsByAtMost 1 (P.sends port.old) (P.sends port.new) }
-    // What the answer to the datagram in the room makes of its counters and its device.
-    ensures served { OnOk result (IsServed D.held D.failed D.refuses agent.old.policy agent.old.mib.settings
-        agent.old.mib.counters agent.new.mib.counters agent.old.mib.device agent.new.mib.device room.new) }
-    // Where it fails the agent is as it was, or as that answer made it.
-    ensures fault { OnErr result ((agent.new ≡ agent.old) ⊎ IsServed D.held D.failed D.refuses agent.old.policy agent.old.mib.settings
-        agent.old.mib.counters agent.new.mib.counters agent.old.mib.device agent.new.mib.device room.new) }
+    // The agent's answer to the datagram that came, at the moment when it came, and what was sent for it.
+    ensures served { OnOk result (IsServed (AnswersIt D.held D.failed D.refuses agent.old.policy agent.old.mib.settings
+        agent.old.mib.counters agent.new.mib.counters agent.old.mib.device agent.new.mib.device) (P.told port.old) (P.told port.new)) }
+    // A want of memory changes nothing but that the datagram came.
+    ensures memory { result ≡ Err AppFault.OutOfMemory → (agent.new ≡ agent.old) × IsUnanswered (P.told port.old) (P.told port.new) }
+    // Where the port failed nothing came, or the reply was lost.
+    ensures socket { result ≡ Err AppFault.SocketFault → ((agent.new ≡ agent.old) × (P.told port.new ≡ P.told port.old))
+        ⊎ IsLost (AnswersIt D.held D.failed D.refuses agent.old.policy agent.old.mib.settings
+        agent.old.mib.counters agent.new.mib.counters agent.old.mib.device agent.new.mib.device) (P.told port.old) (P.told port.new) }
+    ensures fault { IfErr result (λ f. (f ≡ AppFault.OutOfMemory) ⊎ (f ≡ AppFault.SocketFault)) }
+    ensures failures { P.failures port.new ≡ socket_failures result (P.failures port.old) }
     // The agent's policy and settings stay.
     ensures policy { agent.new.policy ≡ agent.old.policy }
     ensures settings { agent.new.mib.settings ≡ agent.old.mib.settings }
 {
     let received = port.receive(room)?;
     match agent.answer(alloc, &room[..received.len], received.moment)? {
-        Reply::Send(octets) => port.reply(&octets),
+        Reply::Send(octets) => Ok(port.reply(&octets)?),
         Reply::Silent(_) => Ok(()),
     }
 }

@@ -1,7 +1,11 @@
 //! A wire over UDP and IPv4.
 
-use crate::fault::AppFault;
+ghost use Rattle.std.specs.Prelude.{◌≡◌, IfOk, length};
+ghost use Rattle.mon_app.specs.AtWire.{IsWithin};
+
+use crate::fault::{AppFault, SocketFault};
 use crate::wire::{Heard, Wire};
+use mon_edge::failed_after;
 use std::io;
 use std::net::{Net, SocketAddr, SocketAddrV4, UdpSocket};
 use std::rt::Clock;
@@ -18,6 +22,7 @@ pub struct SocketWire<'a, R: Clock> {
     socket: UdpSocket,
     agent: SocketAddr,
     began: Instant,
+    failures: u64,
 }
 
 impl<'a, R: Clock + Net> SocketWire<'a, R> {
@@ -33,26 +38,28 @@ impl<'a, R: Clock + Net> SocketWire<'a, R> {
             socket,
             agent: SocketAddr::V4(agent),
             began,
+            failures: 0,
         })
     }
 }
 
-impl<R: Clock> Wire for SocketWire<'_, R> {
-    ghost use Rattle.std.specs.Prelude.{None};
-
-    // Of a socket nothing is known.
-    ghost sends = { λ _. None };
-
-    fn send(&mut self, octets: &[u8]) -> Result<(), AppFault> {
-        self.began = Instant::now(self.rt).map_err(socket_fault)?;
+impl<R: Clock> SocketWire<'_, R> {
+    /// Begins a wait, and sends.
+    fn begin(&mut self, octets: &[u8]) -> Result<(), SocketFault>
+        ensures { self.new.failures ≡ self.old.failures }
+    {
+        self.began = Instant::now(self.rt).map_err(failed)?;
         self.socket
             .send_to(octets, self.agent)
-            .map_err(socket_fault)?;
+            .map_err(failed)?;
         Ok(())
     }
 
-    fn receive(&mut self, room: &mut [u8]) -> Result<Heard, AppFault> {
-        let now = Instant::now(self.rt).map_err(socket_fault)?;
+    /// Hears something in the rest of the wait.
+    fn hear(&self, room: &mut [u8]) -> Result<Heard, SocketFault>
+        ensures { IfOk result (IsWithin (length room.new)) }
+    {
+        let now = Instant::now(self.rt).map_err(failed)?;
         let passed = now.duration_since(self.began);
         let Some(rest) = Duration::from_millis(WAIT).checked_sub(passed) else {
             return Ok(Heard::Quiet);
@@ -60,25 +67,49 @@ impl<R: Clock> Wire for SocketWire<'_, R> {
         if rest.is_zero() {
             return Ok(Heard::Quiet);
         }
-        self.socket
-            .set_read_timeout(Some(rest))
-            .map_err(socket_fault)?;
+        self.socket.set_read_timeout(Some(rest)).map_err(failed)?;
         match self.socket.recv_from(room) {
             Ok((len, from)) if from == self.agent && len <= room.len() => Ok(Heard::Datagram(len)),
             Ok(_) => Ok(Heard::Other),
             Err(error) => match error.kind() {
                 io::ErrorKind::WouldBlock | io::ErrorKind::TimedOut => Ok(Heard::Quiet),
                 io::ErrorKind::Interrupted => Ok(Heard::Other),
-                _ => Err(socket_fault(error)),
+                _ => Err(SocketFault),
             },
         }
     }
 }
 
-/// A failed call of a socket, unless memory ran out in it.
+impl<R: Clock> Wire for SocketWire<'_, R> {
+    ghost use Rattle.std.specs.Prelude.{None};
+
+    // What happens at a socket is not known.
+    ghost told = { λ _. None };
+
+    ghost failures = { λ w. w.failures };
+
+    fn send(&mut self, octets: &[u8]) -> Result<(), SocketFault> {
+        let sent = self.begin(octets);
+        self.failures = failed_after(self.failures, &sent);
+        sent
+    }
+
+    fn receive(&mut self, room: &mut [u8]) -> Result<Heard, SocketFault> {
+        let heard = self.hear(room);
+        self.failures = failed_after(self.failures, &heard);
+        heard
+    }
+}
+
+/// A socket that could not be opened, unless memory ran out in it.
 pub(crate) fn socket_fault(error: io::Error) -> AppFault {
     match error.kind() {
         io::ErrorKind::OutOfMemory => AppFault::OutOfMemory,
         _ => AppFault::SocketFault,
     }
+}
+
+/// A failed call of a socket.
+pub(crate) fn failed(_error: io::Error) -> SocketFault {
+    SocketFault
 }

@@ -1,8 +1,11 @@
 //! A port over UDP and IPv4.
 
-use crate::fault::AppFault;
+ghost use Rattle.std.specs.Prelude.{◌≡◌, ◌≤◌, IfOk, length};
+
+use crate::fault::{AppFault, SocketFault};
 use crate::port::{Port, Received};
-use crate::socket::socket_fault;
+use crate::socket::{failed, socket_fault};
+use mon_edge::failed_after;
 use mon_mib::Moment;
 use std::io;
 use std::net::{Net, SocketAddr, SocketAddrV4, UdpSocket};
@@ -19,6 +22,7 @@ pub struct SocketPort<'a, R: Clock> {
     socket: UdpSocket,
     began: Instant,
     from: SocketAddr,
+    failures: u64,
 }
 
 impl<'a, R: Clock + Net> SocketPort<'a, R> {
@@ -35,6 +39,7 @@ impl<'a, R: Clock + Net> SocketPort<'a, R> {
             socket,
             began,
             from,
+            failures: 0,
         })
     }
 
@@ -46,23 +51,21 @@ impl<'a, R: Clock + Net> SocketPort<'a, R> {
 
 impl<R: Clock> SocketPort<'_, R> {
     /// The moment in the life of the agent, which is at most 2^31 seconds long.
-    fn moment(&self) -> Result<Moment, AppFault> {
-        let now = Instant::now(self.rt).map_err(socket_fault)?;
+    fn moment(&self) -> Result<Moment, SocketFault> {
+        let now = Instant::now(self.rt).map_err(failed)?;
         let hundredths = now.duration_since(self.began).as_millis() / 10;
         match u64::try_from(hundredths) {
-            Ok(hundredths) => Moment::new(hundredths).ok_or(AppFault::SocketFault),
-            Err(_) => Err(AppFault::SocketFault),
+            Ok(hundredths) => Moment::new(hundredths).ok_or(SocketFault),
+            Err(_) => Err(SocketFault),
         }
     }
-}
 
-impl<R: Clock> Port for SocketPort<'_, R> {
-    ghost use Rattle.std.specs.Prelude.{None};
-
-    // Of a socket nothing is known.
-    ghost sends = { λ _. None };
-
-    fn receive(&mut self, room: &mut [u8]) -> Result<Received, AppFault> {
+    /// Waits for a datagram, and keeps where it came from.
+    fn hear(&mut self, room: &mut [u8]) -> Result<Received, SocketFault>
+        ensures failures { self.new.failures ≡ self.old.failures }
+        ensures room { length room.new ≡ length room.old }
+        ensures within { IfOk result (λ received. received.len ≤ length room.new) }
+    {
         for _ in 0..TRIES {
             match self.socket.recv_from(room) {
                 Ok((len, from)) => {
@@ -74,14 +77,29 @@ impl<R: Clock> Port for SocketPort<'_, R> {
                     });
                 }
                 Err(error) if error.kind() == io::ErrorKind::Interrupted => {}
-                Err(error) => return Err(socket_fault(error)),
+                Err(_) => return Err(SocketFault),
             }
         }
-        Err(AppFault::SocketFault)
+        Err(SocketFault)
+    }
+}
+
+impl<R: Clock> Port for SocketPort<'_, R> {
+    ghost use Rattle.std.specs.Prelude.{None};
+
+    // What happens at a socket is not known.
+    ghost told = { λ _. None };
+
+    ghost failures = { λ p. p.failures };
+
+    fn receive(&mut self, room: &mut [u8]) -> Result<Received, SocketFault> {
+        let received = self.hear(room);
+        self.failures = failed_after(self.failures, &received);
+        received
     }
 
     /// A datagram that cannot be sent is lost, as any may be on its way.
-    fn reply(&mut self, octets: &[u8]) -> Result<(), AppFault> {
+    fn reply(&mut self, octets: &[u8]) -> Result<(), SocketFault> {
         let _ = self.socket.send_to(octets, self.from);
         Ok(())
     }

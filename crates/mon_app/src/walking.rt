@@ -1,9 +1,9 @@
 //! Walking through the variables under a name.
 
-ghost use Rattle.std.specs.Prelude.{◌≡◌, ◌≢◌, ◌<◌, Err, IfOk, IfErr, IfSome, IfNone, string_bytes};
-ghost use Rattle.mon_app.specs.declared.fault.AppFault.TheVariants.{OutOfMemory};
-ghost use Rattle.mon_app.specs.Counts.{GrowsByAtMost};
-ghost use Rattle.mon_app.specs.Walk.{IsLine, IsWalked};
+ghost use Rattle.std.specs.Prelude.{◌≡◌, ◌<◌, ◌↔◌, IsTrue, string_bytes};
+ghost use Rattle.mon_edge.specs.Told.{GoesOnBy};
+ghost use Rattle.mon_app.specs.AtWire.{socket_failures};
+ghost use Rattle.mon_app.specs.Walk.{IsNext, IsStep, IsTurn, IsWalk, question_after};
 
 use crate::client::answers;
 use crate::fault::AppFault;
@@ -23,7 +23,8 @@ const REQUESTS: u32 = 65_536;
 /// text. It ends at the first name that is not under the start, at endOfMibView, or after 65536 requests.
 ///
 /// # Errors
-/// `NotIncreasing` where the agent answers with a name that does not increase; else as `answer_text`. The lines before stay.
+/// `NotIncreasing` where the agent answers with a name that does not increase; else as `answer_text`. The lines before stay,
+/// but for `OutOfMemory`, where the text is not told.
 pub fn walk<W: Wire>(
     alloc: Global,
     wire: &mut W,
@@ -31,8 +32,8 @@ pub fn walk<W: Wire>(
     start: &Oid,
     text: &mut String,
 ) -> Result<(), AppFault>
-    ensures sends { GrowsByAtMost 196608 (W.sends wire.old) (W.sends wire.new) }
-    ensures walked { result ≢ Err OutOfMemory → IsWalked start.now (string_bytes text.old) (string_bytes text.new) }
+    ensures walk { GoesOnBy (λ log. IsWalk community.now start.now (string_bytes text.old) (string_bytes text.new) log result) (W.told wire.old) (W.told wire.new) }
+    ensures failures { W.failures wire.new ≡ socket_failures result (W.failures wire.old) }
 {
     let mut last = start.try_clone(alloc)?;
     for request_id in 0..REQUESTS {
@@ -55,43 +56,72 @@ fn walk_on<W: Wire>(
     text: &mut String,
 ) -> Result<Option<Oid>, AppFault>
     requires { request_id < 65536 }
-    ensures sends { GrowsByAtMost 3 (W.sends wire.old) (W.sends wire.new) }
-    ensures more { IfOk result (λ found. IfSome found (IsLine start.now last.now (string_bytes text.old) (string_bytes text.new))) }
-    ensures ended { IfOk result (λ found. IfNone found (string_bytes text.new ≡ string_bytes text.old)) }
-    ensures fault { IfErr result (λ fault. fault ≢ OutOfMemory → string_bytes text.new ≡ string_bytes text.old) }
+    ensures turn { GoesOnBy (λ log. IsTurn (question_after community.now request_id last.now) start.now last.now (string_bytes text.old) (string_bytes text.new) log result)
+        (W.told wire.old) (W.told wire.new) }
+    ensures failures { W.failures wire.new ≡ socket_failures result (W.failures wire.old) }
 {
-    let Some(found) = after(alloc, wire, community, last, request_id as i32)? else {
-        return Ok(None);
-    };
-    if !start.is_prefix_of(&found.name) {
-        return Ok(None);
+    let found = after(alloc, wire, community, last, request_id)?;
+    match step_of(start, last, &found) {
+        Step::Past => Ok(None),
+        Step::Back => Err(AppFault::NotIncreasing),
+        Step::On => {
+            put_binding(alloc, text, &found)?;
+            Ok(Some(found.name))
+        }
     }
-    if !last.compare(&found.name).is_lt() {
-        return Err(AppFault::NotIncreasing);
-    }
-    put_binding(alloc, text, &found)?;
-    Ok(Some(found.name))
 }
 
-/// The variable after a name; none where the agent has no further one.
+/// What a walk does about a variable binding that answers.
+enum Step {
+    /// It goes on from it.
+    On,
+    /// It ends, since there is no further variable under the start.
+    Past,
+    /// It fails, since the name does not exceed the last one.
+    Back,
+}
+
+/// What a walk does about the variable binding that answers after the last name.
+fn step_of(start: &Oid, last: &Oid, found: &Binding) -> Step
+    ensures { IsStep start.now last.now found.now result }
+{
+    if is_end(&found.value) || !start.is_prefix_of(&found.name) {
+        return Step::Past;
+    }
+    if last.compare(&found.name).is_lt() {
+        return Step::On;
+    }
+    Step::Back
+}
+
+/// Whether there is no further variable.
+fn is_end(value: &Value) -> bool
+    ensures { IsTrue result ↔ (value.now ≡ Value.EndOfMibView) }
+{
+    matches!(value, Value::EndOfMibView)
+}
+
+/// The variable after a name, or the name with endOfMibView.
 fn after<'a, W: Wire>(
     alloc: Global,
     wire: &mut W,
     community: &'a [u8],
     name: &'a Oid,
-    request_id: i32,
-) -> Result<Option<Binding>, AppFault>
-    ensures { GrowsByAtMost 3 (W.sends wire.old) (W.sends wire.new) }
+    request_id: u32,
+) -> Result<Binding, AppFault>
+    requires { request_id < 65536 }
+    ensures next { GoesOnBy (λ log. IsNext (question_after community.now request_id name.now) log result) (W.told wire.old) (W.told wire.new) }
+    ensures failures { W.failures wire.new ≡ socket_failures result (W.failures wire.old) }
 {
     let question = Question {
         asking: Asking::GetNext,
-        request_id,
+        request_id: request_id as i32,
         community,
         names: slice::from_ref(name),
     };
     let mut bindings = answers(alloc, wire, &question)?.into_vec();
     match bindings.pop() {
-        Some(binding) if binding.value != Value::EndOfMibView => Ok(Some(binding)),
-        _ => Ok(None),
+        Some(binding) => Ok(binding),
+        None => Err(AppFault::AgentStatus),
     }
 }

@@ -1,6 +1,6 @@
 //! A wire to one agent: what is sent to it, and what is heard from it.
 
-use crate::fault::AppFault;
+use crate::fault::SocketFault;
 
 /// What a wire heard.
 #[derive(Clone, Copy, Debug, PartialEq, Eq)]
@@ -15,18 +15,25 @@ pub enum Heard {
 
 /// A wire to one agent. Each sending begins a wait, and what is received is heard in the rest of it.
 pub trait Wire {
-    ghost use Rattle.std.specs.Prelude.{◌≡◌, ◌≤◌, ℕ, Option, length, IfOk};
-    ghost use Rattle.mon_app.specs.Counts.{GrowsBy, IsWithin};
+    ghost use Rattle.std.specs.Prelude.{◌≡◌, ◌≤◌, ℕ, List, Option, length, IfOk};
+    ghost use Rattle.mon_edge.specs.Counts.{failed_after};
+    ghost use Rattle.mon_edge.specs.Told.{extended};
+    ghost use Rattle.mon_app.specs.AtWire.{AtWire, IsWithin, hearing, sending};
 
-    // How often something was sent, where the wire tells that.
-    ghost sends: { Self → Option ℕ };
+    // What happened at it, in turn, where the wire tells that.
+    ghost told: { Self → Option (List AtWire) };
+
+    // How often it failed, at most 2^64 - 1.
+    ghost failures: { Self → ℕ };
 
     /// Sends a datagram to the agent.
-    fn send(&mut self, octets: &[u8]) -> Result<(), AppFault>
-        ensures { GrowsBy 1 (sends self.old) (sends self.new) };
+    fn send(&mut self, octets: &[u8]) -> Result<(), SocketFault>
+        ensures told { told self.new ≡ extended (told self.old) (sending octets.now result) }
+        ensures failures { failures self.new ≡ failed_after result (failures self.old) };
 
     /// Waits for a datagram, which is put into the room.
-    fn receive(&mut self, room: &mut [u8]) -> Result<Heard, AppFault>
-        ensures sends { sends self.new ≡ sends self.old }
+    fn receive(&mut self, room: &mut [u8]) -> Result<Heard, SocketFault>
+        ensures told { told self.new ≡ extended (told self.old) (hearing room.new result) }
+        ensures failures { failures self.new ≡ failed_after result (failures self.old) }
         ensures within { IfOk result (IsWithin (length room.new)) };
 }

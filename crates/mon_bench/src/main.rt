@@ -3,7 +3,7 @@
 //! usage: mon_bench TIMES < HEX: the hex digits of a message on standard input, without a line's end. Prints how many octets were written in all.
 #![tactic(auto)]
 
-use mon_app::read_all;
+use mon_app::{Counted, read_all};
 use mon_pdu::{read_message, write_message};
 use std::alloc::Global;
 use std::env;
@@ -19,7 +19,7 @@ fn main(rt: HostRuntime) -> ExitCode {
 
 fn run<R: Env + Input + Print + AllocGlobal>(rt: &R) -> Option<()> {
     let times = times(rt)?;
-    let text = read_all(rt.alloc(), &mut rt.reader()).ok()?;
+    let text = read_all(rt.alloc(), &mut Counted::new(rt.reader())).ok()?;
     let octets = hex::decode(rt.alloc(), text.as_slice()).ok()?;
     let written = again(rt.alloc(), octets.as_slice(), times)?;
     println!(rt; "{written}").ok()

@@ -1,6 +1,6 @@
 //! What the commands compute.
 
-use mon_app::{AppFault, Refusal, read_all, replay};
+use mon_app::{AppFault, Counted, Reads, Refusal, read_all, replay};
 use std::alloc::{AllocError, Global};
 use std::io::{self, Read};
 use std::test::Fail;
@@ -11,8 +11,11 @@ fn replayed(alloc: Global, n: usize, input: &str) -> Result<String, AllocError> 
     String::from_utf8(text).map_err(|_| AllocError)
 }
 
-fn whole<R: Read>(alloc: Global, reader: &mut R) -> Result<Vec<u8>, AppFault> {
-    read_all(alloc, reader)
+/// What is read of a reader, and how it was read.
+fn whole<R: Read + Drop>(alloc: Global, reader: R) -> (Result<Vec<u8>, AppFault>, Reads) {
+    let mut reader = Counted::new(reader);
+    let read = read_all(alloc, &mut reader);
+    (read, reader.counts())
 }
 
 /// A response of engine 8000000001 at boots 3 and time 100: ifInOctets.1 is 7.
@@ -55,20 +58,16 @@ fn replays(rt: HostRuntime) -> Result<(), Fail> {
 
 #[test]
 fn reads_all(rt: HostRuntime) -> Result<(), Fail> {
-    let mut given = b"abc".as_slice();
-    assert_eq!(rt;
-        whole(rt.alloc(), &mut given)?.as_slice(),
-        b"abc".as_slice()
-    );
-    let mut slow = Slow {
+    let (read, counts) = whole(rt.alloc(), b"abc".as_slice());
+    assert_eq!(rt; read?.as_slice(), b"abc".as_slice());
+    assert_eq!(rt; (counts.reads, counts.ends, counts.failures), (2, 1, 0));
+    let slow = Slow {
         left: 3,
         interrupted: false,
     };
-    assert_eq!(rt;
-        whole(rt.alloc(), &mut slow).err(),
-        Some(AppFault::FileFault)
-    );
-    assert_eq!(rt; slow.left, 0);
+    let (read, counts) = whole(rt.alloc(), slow);
+    assert_eq!(rt; read.err(), Some(AppFault::FileFault));
+    assert_eq!(rt; (counts.reads, counts.ends, counts.failures), (8, 0, 1));
     Ok(())
 }
 

@@ -10,8 +10,8 @@ use clap::ArgMatches;
 use clap::error::ErrorKind;
 use mon_agent::Agent;
 use mon_app::{
-    AppFault, Asking, Question, Repeats, SocketPort, SocketWire, ValueKind, answer_text, read_all,
-    room, serve_one, value_of,
+    AppFault, Asking, Counted, Question, Repeats, SocketPort, SocketWire, ValueKind, answer_text,
+    read_all, room, serve_one, value_of,
 };
 use mon_mib::{FuseDevice, Moment, SimDevice};
 use mon_oid::Oid;
@@ -113,7 +113,7 @@ fn size_of(words: &ArgMatches<'_>) -> u8
 fn replay<R: Input + Print + AllocGlobal>(rt: &R, size: u8) -> Result<(), Fault>
     requires { (1 ≤ size) × (size ≤ 64) }
 {
-    let input = read_all(rt.alloc(), &mut rt.reader())?;
+    let input = read_all(rt.alloc(), &mut Counted::new(rt.reader()))?;
     let text = mon_app::replay(rt.alloc(), usize::from(size), &input)?;
     io::writer(rt).write_all(&text)?;
     Ok(())
@@ -268,7 +268,7 @@ fn answer<R: Files + Input + Print + AllocGlobal>(
         return Err(Fault::App(AppFault::BadText));
     };
     let times = words.get_one::<u32>("times").unwrap_or(1);
-    let text = text_of(read_all(rt.alloc(), &mut rt.reader())?)?;
+    let text = text_of(read_all(rt.alloc(), &mut Counted::new(rt.reader()))?)?;
     let lines = answers(rt.alloc(), &mut agent, &text, at, times)?;
     io::writer(rt).write_all(lines.as_bytes())?;
     Ok(())
@@ -284,7 +284,7 @@ fn mib<R: Files + Print + AllocGlobal>(rt: &R, words: &ArgMatches<'_>) -> Result
 
 /// The text of a file.
 fn read_text<R: Files + AllocGlobal>(rt: &R, path: &str) -> Result<String, Fault> {
-    let mut file = File::open(rt, path)?;
+    let mut file = Counted::new(File::open(rt, path)?);
     text_of(read_all(rt.alloc(), &mut file)?)
 }
 

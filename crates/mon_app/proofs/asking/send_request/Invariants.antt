@@ -1,6 +1,11 @@
-use Rattle.mon_app.specs.Counts.{GrowsByAtMost}
+use Rattle.std.proofs.Common.{◌≡◌}
+use Rattle.mon_app.specs.Question.{asked_in}
+use Rattle.mon_app.proofs.Askings.{AreSent}
 use Rattle.mon_app.proofs.asking.send_request.Given as goal
 
--- so often was sent
+-- so often was sent, and no reply was heard
 abbrev pub invariant-loop : goal.invariant-loop
-invariant-loop g l = GrowsByAtMost l.counter (g.W.Wire.sends l.fn.wire) (g.W.Wire.sends l.wire)
+invariant-loop g l = record {
+  sent : AreSent (asked_in l.question) l.counter (g.W.Wire.told l.fn.wire) (g.W.Wire.told l.wire);
+  failures : g.W.Wire.failures l.wire ≡ g.W.Wire.failures l.fn.wire;
+}

@@ -1,6 +1,11 @@
 use Rattle.std.proofs.Common.{◌≡◌}
+use Rattle.mon_app.specs.Question.{asked_in}
+use Rattle.mon_app.proofs.Askings.{AreHeard}
 use Rattle.mon_app.proofs.asking.take_reply.Given as goal
 
--- nothing was sent
+-- what was heard is no reply, and the wire did not fail
 abbrev pub invariant-loop : goal.invariant-loop
-invariant-loop g l = g.W.Wire.sends l.wire ≡ g.W.Wire.sends l.fn.wire
+invariant-loop g l = record {
+  heard : AreHeard (asked_in l.question) l.counter (g.W.Wire.told l.fn.wire) (g.W.Wire.told l.wire);
+  failures : g.W.Wire.failures l.wire ≡ g.W.Wire.failures l.fn.wire;
+}
