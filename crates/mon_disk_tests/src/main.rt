@@ -2,6 +2,7 @@
 //! and again in a file for tests/kill and bench/save.
 //!
 //! usage: mon_disk_tests rows
+//!        mon_disk_tests opens FILE                  prints what an opening of a file answers
 //!        mon_disk_tests saves FILE                  prints what it finds, then the number of each save that is acknowledged, until it is stopped
 //!        mon_disk_tests times FILE OCTETS TIMES     saves so many bodies of so many octets
 #![tactic(auto)]
@@ -25,6 +26,7 @@ fn run(rt: &HostRuntime) -> Option<()> {
     let words: Vec<String> = env::args(rt).ok()?.collect(rt.alloc()).ok()?;
     match words.get(1)?.as_str() {
         "rows" => rows(rt),
+        "opens" => real_file::opens(rt, words.get(2)?.as_str()),
         "saves" => real_file::save_on(rt, words.get(2)?.as_str()),
         "times" => {
             let size = words.get(3)?.as_str().parse().ok()?;

@@ -37,6 +37,12 @@ fn folder(rt: &HostRuntime, path: &str) -> Option<()> {
     println!(rt; "a folder is refused: {refused}, and its handle: {found}").ok()
 }
 
+/// Prints what an opening of a file answers.
+pub fn opens(rt: &HostRuntime, path: &str) -> Option<()> {
+    let found = Found::on(rt.alloc(), FileDisk::open(rt, path).ok()?);
+    println!(rt; "{found}").ok()
+}
+
 /// The body of the save of this number, of 8 to 900,007 octets.
 fn numbered(alloc: Global, number: u64) -> Option<Vec<u8>> {
     let mut body = number.to_be_bytes().to_vec(alloc).ok()?;
