@@ -1,16 +1,34 @@
-"""Bugs of mon_alarms to be planted, one at a time: the file, what stands there, and the bug in its place."""
+"""Bugs of mon_alarms for planted_bugs: by a name the file, what stands there once, and the bug in its place."""
 
-BUGS = [
-    ('src/fault.rt', 'FallingNotBelowRising = 2',
-     'FallingNotBelowRising = 3'),
-    ('src/rule.rt', '        self.rising\n',
-     '        self.falling\n'),
-    ('src/alarm.rt', '            time: sample.time(),',
-     '            time: sample.mark(),'),
-    ('src/alarm.rt', '        let level = observed(samples[..left].last(), sample);',
-     '        let level = observed(samples.last(), sample);'),
-    ('src/alarm.rt', '            return state;',
-     '            return AlarmState::Clear;'),
-    ('src/alarm.rt', '        return Some(state);\n    };\n    if level',
-     '        return None;\n    };\n    if level'),
-]
+BUGS = {
+    "numbers_the_fault_3": (
+        "src/fault.rt",
+        "FallingNotBelowRising = 2",
+        "FallingNotBelowRising = 3",
+    ),
+    "tells_falling_for_rising": (
+        "src/rule.rt",
+        "        self.rising\n",
+        "        self.falling\n",
+    ),
+    "stamps_the_mark_as_time": (
+        "src/alarm.rt",
+        "            time: sample.time(),",
+        "            time: sample.mark(),",
+    ),
+    "compares_with_the_newest": (
+        "src/alarm.rt",
+        "        let level = observed(samples[..left].last(), sample);",
+        "        let level = observed(samples.last(), sample);",
+    ),
+    "ends_clear": (
+        "src/alarm.rt",
+        "            return state;",
+        "            return AlarmState::Clear;",
+    ),
+    "never_ends_raised": (
+        "src/alarm.rt",
+        "        return Some(state);\n    };\n    if level",
+        "        return None;\n    };\n    if level",
+    ),
+}

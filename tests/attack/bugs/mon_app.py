@@ -171,4 +171,109 @@ BUGS = {
         "            let value = value.cast_signed();",
         "            let value = value.cast_signed() & 0xff;",
     ),
+    "answers_at_a_moment_that_stands": (
+        "src/serving.rt",
+        "    match agent.answer(alloc, &room[..received.len], received.moment)? {",
+        "    let moment = mon_mib::Moment::new(0).unwrap_or(received.moment);\n    match agent.answer(alloc, &room[..received.len], moment)? {",
+    ),
+    "asks_four_times": (
+        "src/asking.rt",
+        "const SENDS: u8 = 3;",
+        "const SENDS: u8 = 4;",
+    ),
+    "passes_over_254_strangers": (
+        "src/asking.rt",
+        "const HEARINGS: u8 = 65;",
+        "const HEARINGS: u8 = 255;",
+    ),
+    "passes_over_63_strangers": (
+        "src/asking.rt",
+        "const HEARINGS: u8 = 65;",
+        "const HEARINGS: u8 = 64;",
+    ),
+    "hears_nothing": (
+        "src/asking.rt",
+        "        Ok(message) => Ok(reply_of(question, message)),",
+        "        Ok(message) => Ok(reply_of(question, message).and(None)),",
+    ),
+    "ends_the_wait_at_a_stranger": (
+        "src/asking.rt",
+        "            Heard::Other => {}",
+        "            Heard::Other => return Ok(None),",
+    ),
+    "calls_a_failed_wire_a_timeout": (
+        "src/asking.rt",
+        "        wire.send(octets.as_slice())?;",
+        "        wire.send(octets.as_slice()).map_err(|_| AppFault::Timeout)?;",
+    ),
+    "sends_where_it_is_silent": (
+        "src/serving.rt",
+        "        Reply::Silent(_) => Ok(()),",
+        "        Reply::Silent(_) => Ok(port.reply(&[])?),",
+    ),
+    "is_silent_where_it_sends": (
+        "src/serving.rt",
+        "        Reply::Send(octets) => Ok(port.reply(&octets)?),",
+        "        Reply::Send(_) => Ok(()),",
+    ),
+    "sends_the_datagram_back": (
+        "src/serving.rt",
+        "        Reply::Send(octets) => Ok(port.reply(&octets)?),",
+        "        Reply::Send(_) => Ok(port.reply(&room[..received.len])?),",
+    ),
+    "prints_no_binding": (
+        "src/client.rt",
+        "    Ok(bindings_text(alloc, bindings.as_slice())?)",
+        "    Ok(bindings_text(alloc, &bindings.as_slice()[..0])?)",
+    ),
+    "prints_another_status": (
+        "src/client.rt",
+        "    if pdu.error_status != 0 {",
+        "    if pdu.error_status == 1 {",
+    ),
+    "walks_one_step": (
+        "src/walking.rt",
+        "const REQUESTS: u32 = 65_536;",
+        "const REQUESTS: u32 = 1;",
+    ),
+    "walks_under_one_request_id": (
+        "src/walking.rt",
+        "        request_id: request_id as i32,",
+        "        request_id: 0,",
+    ),
+    "asks_for_the_same_name_again": (
+        "src/walking.rt",
+        "            Some(name) => last = name,",
+        "            Some(_) => {}",
+    ),
+    "takes_any_other_name_for_a_greater": (
+        "src/walking.rt",
+        "    if last.compare(&found.name).is_lt() {",
+        "    if !last.compare(&found.name).is_eq() {",
+    ),
+    "reads_on_past_the_end": (
+        "src/input.rt",
+        "            Ok(0) => return Ok(octets),",
+        "            Ok(0) => {}",
+    ),
+    "ends_where_it_was_interrupted": (
+        "src/input.rt",
+        "                if error.kind() != io::ErrorKind::Interrupted {",
+        "                if error.kind() == io::ErrorKind::Interrupted {",
+    ),
+    "short_engines": (
+        "src/line.rt",
+        "            if len < 5 || len > 32 {",
+        "            if len < 4 || len > 32 {",
+    ),
+    "takes_other_names_for_a_set": (
+        "src/question.rt",
+        "        Asking::Get | Asking::Set(_) => same_names(question.names, bindings),",
+        "        Asking::Get => same_names(question.names, bindings), Asking::Set(_) => true,",
+    ),
+    "walks_back": (
+        "src/walking.rt",
+        "    if last.compare(&found.name).is_lt() {",
+        "    if !last.compare(&found.name).is_lt() {",
+    ),
 }

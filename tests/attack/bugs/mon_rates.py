@@ -1,22 +1,49 @@
-"""Bugs of mon_rates to be planted, one at a time: the file, what stands there, and the bug in its place."""
+"""Bugs of mon_rates for planted_bugs: by a name the file, what stands there once, and the bug in its place."""
 
-BUGS = [
-    ('src/totals.rt', '    let apart = to.wrapping_sub(from);',
-     '    let apart = from.wrapping_sub(to);'),
-    ('src/totals.rt', '            span: u64::from(b.time() - a.time()),',
-     '            span: u64::from(b.time() - a.time()).max(1) - 1,'),
-    ('src/totals.rt', '        && a.kind().tag() == b.kind().tag()',
-     '        && a.kind().tag() <= b.kind().tag()'),
-    ('src/totals.rt', '    let first = joint(older.last(), Some(sample));',
-     '    let first = joint(older.first(), Some(sample));'),
-    ('src/totals.rt', '    let whole = joint(older.last(), newer.first());',
-     '    let whole = joint(older.last(), newer.last());'),
-    ('src/totals.rt', '    if self.span == 0 {',
-     '    if self.pairs == 0 {'),
-    ('src/track.rt', '        Plan::Replaces { out, .. } => without_dropped(items, totals, out, inserted),',
-     '        Plan::Replaces { at: out, .. } => without_dropped(items, totals, out, inserted),'),
-    ('src/track.rt', '        self.totals = shrunk(self.window.items(), grown, plan, &inserted);',
-     '        self.totals = shrunk(self.window.items(), self.totals, plan, &inserted);'),
-    ('src/track.rt', '        Plan::Known | Plan::TooOld => totals,\n    }\n}\n\n/// The totals of the items after',
-     '        Plan::Known | Plan::TooOld => totals.plus(totals),\n    }\n}\n\n/// The totals of the items after'),
-]
+BUGS = {
+    "subtracts_backwards": (
+        "src/totals.rt",
+        "    let apart = to.wrapping_sub(from);",
+        "    let apart = from.wrapping_sub(to);",
+    ),
+    "spans_one_less": (
+        "src/totals.rt",
+        "            span: u64::from(b.time() - a.time()),",
+        "            span: u64::from(b.time() - a.time()).max(1) - 1,",
+    ),
+    "parts_of_a_lower_tag": (
+        "src/totals.rt",
+        "        && a.kind().tag() == b.kind().tag()",
+        "        && a.kind().tag() <= b.kind().tag()",
+    ),
+    "joins_with_the_first": (
+        "src/totals.rt",
+        "    let first = joint(older.last(), Some(sample));",
+        "    let first = joint(older.first(), Some(sample));",
+    ),
+    "joins_to_the_last": (
+        "src/totals.rt",
+        "    let whole = joint(older.last(), newer.first());",
+        "    let whole = joint(older.last(), newer.last());",
+    ),
+    "rates_by_pairs": (
+        "src/totals.rt",
+        "    if self.span == 0 {",
+        "    if self.pairs == 0 {",
+    ),
+    "drops_at_its_own_place": (
+        "src/track.rt",
+        "        Plan::Replaces { out, .. } => without_dropped(items, totals, out, inserted),",
+        "        Plan::Replaces { at: out, .. } => without_dropped(items, totals, out, inserted),",
+    ),
+    "forgets_the_growth": (
+        "src/track.rt",
+        "        self.totals = shrunk(self.window.items(), grown, plan, &inserted);",
+        "        self.totals = shrunk(self.window.items(), self.totals, plan, &inserted);",
+    ),
+    "doubles_at_a_known_sample": (
+        "src/track.rt",
+        "        Plan::Known | Plan::TooOld => totals,\n    }\n}\n\n/// The totals of the items after",
+        "        Plan::Known | Plan::TooOld => totals.plus(totals),\n    }\n}\n\n/// The totals of the items after",
+    ),
+}

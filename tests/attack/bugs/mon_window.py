@@ -1,28 +1,64 @@
-"""Bugs of mon_window to be planted, one at a time: the file, what stands there, and the bug in its place."""
+"""Bugs of mon_window for planted_bugs: by a name the file, what stands there once, and the bug in its place."""
 
-BUGS = [
-    ('src/window.rt', '    pub fn size(&self) -> usize\n        ensures size { result ≡ self.now.size }\n        ensures sizes { AreSizes self.now.size self.now.share }\n    {\n        self.size\n',
-     '    pub fn size(&self) -> usize\n        ensures size { result ≡ self.now.size }\n        ensures sizes { AreSizes self.now.size self.now.share }\n    {\n        self.items.len()\n'),
-    ('src/window.rt', '    {\n        self.share\n    }',
-     '    {\n        self.size.max(self.share)\n    }'),
-    ('src/window.rt', 'self.items.insert(at, sample).unwrap();',
-     'let last = self.items.len();\n                self.items.insert(last, sample).unwrap();'),
-    ('src/window.rt', '            return Plan::Joins { at };',
-     '            return Plan::Joins { at: at / 2 };'),
-    ('src/window.rt', '        Plan::Replaces { at, out }\n    }\n',
-     '        Plan::Replaces { at, out: out / 2 }\n    }\n'),
-    ('src/window.rt', '                    at: at - 1,',
-     '                    at,'),
-    ('src/window.rt', '        if out == at {',
-     '        if out + 1 == at {'),
-    ('src/plan.rt', '    items.partition_point(|kept| kept.boots() < boots)',
-     '    items.partition_point(|kept| kept.boots() <= boots)'),
-    ('src/plan.rt', 'items[first + (share - 1)].boots() == boots',
-     'items[first].boots() == boots'),
-    ('src/plan.rt', 'items.len() - first >= share',
-     'items.len() - first > share'),
-    ('src/plan.rt', '    if items.len() >= size { Some(0) } else { None }',
-     '    if items.len() > size { Some(0) } else { None }'),
-    ('src/plan.rt', '    if items.len() >= size { Some(0) } else { None }',
-     '    if items.len() >= share { Some(0) } else { None }'),
-]
+BUGS = {
+    "size_counts_the_samples": (
+        "src/window.rt",
+        "    pub fn size(&self) -> usize\n        ensures size { result ≡ self.now.size }\n        ensures sizes { AreSizes self.now.size self.now.share }\n    {\n        self.size\n",
+        "    pub fn size(&self) -> usize\n        ensures size { result ≡ self.now.size }\n        ensures sizes { AreSizes self.now.size self.now.share }\n    {\n        self.items.len()\n",
+    ),
+    "tells_the_greater_for_the_share": (
+        "src/window.rt",
+        "    {\n        self.share\n    }",
+        "    {\n        self.size.max(self.share)\n    }",
+    ),
+    "keeps_the_order_of_arrival": (
+        "src/window.rt",
+        "self.items.insert(at, sample).unwrap();",
+        "let last = self.items.len();\n                self.items.insert(last, sample).unwrap();",
+    ),
+    "joins_at_half_the_place": (
+        "src/window.rt",
+        "            return Plan::Joins { at };",
+        "            return Plan::Joins { at: at / 2 };",
+    ),
+    "drops_from_half_the_place": (
+        "src/window.rt",
+        "        Plan::Replaces { at, out }\n    }\n",
+        "        Plan::Replaces { at, out: out / 2 }\n    }\n",
+    ),
+    "tells_the_place_before_the_drop": (
+        "src/window.rt",
+        "                    at: at - 1,",
+        "                    at,",
+    ),
+    "calls_the_next_to_leave_too_old": (
+        "src/window.rt",
+        "        if out == at {",
+        "        if out + 1 == at {",
+    ),
+    "begins_an_epoch_after_it": (
+        "src/plan.rt",
+        "    items.partition_point(|kept| kept.boots() < boots)",
+        "    items.partition_point(|kept| kept.boots() <= boots)",
+    ),
+    "takes_one_for_a_whole_share": (
+        "src/plan.rt",
+        "items[first + (share - 1)].boots() == boots",
+        "items[first].boots() == boots",
+    ),
+    "wants_one_more_than_the_share": (
+        "src/plan.rt",
+        "items.len() - first >= share",
+        "items.len() - first > share",
+    ),
+    "holds_one_more": (
+        "src/plan.rt",
+        "        return Some(first);\n    }\n    if items.len() >= size { Some(0) } else { None }",
+        "        return Some(first);\n    }\n    if items.len() > size { Some(0) } else { None }",
+    ),
+    "holds_a_share_in_all": (
+        "src/plan.rt",
+        "        return Some(first);\n    }\n    if items.len() >= size { Some(0) } else { None }",
+        "        return Some(first);\n    }\n    if items.len() >= share { Some(0) } else { None }",
+    ),
+}
