@@ -1,7 +1,7 @@
 -- What an opening finds after any openings, saves and stops.
-use Rattle.std.proofs.Common.{ℕ, ◌≡◌, ◌≤◌, ◌⊎◌, true, List, [], ◌∷◌, Option, Some, None, refl, sym, ◌∙◌, subst, ⊎_elim, Contains, lit<, arith}
+use Rattle.std.proofs.Common.{ℕ, ◌≡◌, ◌≤◌, true, List, [], ◌∷◌, Option, Some, None, refl, sym, ◌∙◌, subst, ⊎_elim, Contains, arith}
 use Rattle.std.proofs.lemmas.List.Elements.{Contains-append_right}
-use Rattle.mon_disk.specs.Disk.{Leaves, LeavesSince}
+use Rattle.mon_disk.specs.Disk.{Leaves}
 use Rattle.mon_disk.specs.Keeper.{FindsAs, FindsBody, is_undamaged}
 use Rattle.mon_disk.specs.History.{Event, FindsOneOf, FindsRunning, Happens, IsHistory, found_after, last_disk, may_find}
 use Rattle.mon_disk.proofs.Promised.{as_body_of, at_end}
