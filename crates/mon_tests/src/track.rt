@@ -178,9 +178,9 @@ fn raises_and_clears(rt: HostRuntime) -> Result<(), Fail> {
     Ok(())
 }
 
-/// An INTEGER of this value, at this time.
-fn integer(time: u32, value: i32) -> Sample {
-    let value = i64::from(value) as u64;
+/// An INTEGER at this time, so much below 0.
+fn below_zero(time: u32, much: u64) -> Sample {
+    let value = 0u64.wrapping_sub(much);
     if time < 1 << 31 && Kind::Integer.holds(value) {
         Sample::new(3, time, 0, Kind::Integer, value)
     } else {
@@ -195,11 +195,11 @@ fn reads_negative_values(rt: HostRuntime) -> Result<(), Fail> {
     };
     let raised = |time| AlarmState::Raised { boots: 3, time };
     let samples = [
-        integer(1, -30),
-        integer(2, -5),
-        integer(3, -19),
-        integer(4, -20),
-        integer(5, -6),
+        below_zero(1, 30),
+        below_zero(2, 5),
+        below_zero(3, 19),
+        below_zero(4, 20),
+        below_zero(5, 6),
     ];
     assert_eq!(rt; state(&rule, &samples[..3]), raised(2));
     assert_eq!(rt; state(&rule, &samples[..4]), AlarmState::Clear);

@@ -61,4 +61,24 @@ BUGS = {
         "        return Some(first);\n    }\n    if items.len() >= size { Some(0) } else { None }",
         "        return Some(first);\n    }\n    if items.len() >= share { Some(0) } else { None }",
     ),
+    "sees_a_whole_share_one_late": (
+        "src/plan.rt",
+        "if at >= share && items[at - share]",
+        "if at > share && items[at - share]",
+    ),
+    "drops_the_last_of_the_share": (
+        "src/plan.rt",
+        "        return Some(at - share);",
+        "        return Some(at - 1);",
+    ),
+    "looks_on_where_the_share_ends": (
+        "src/plan.rt",
+        "    if at == items.len() || items[at].boots() != boots {",
+        "    if at == items.len() || items[at].boots() == boots {",
+    ),
+    "takes_half_the_size_for_all": (
+        "src/plan.rt",
+        "    if share >= size {",
+        "    if share >= size / 2 {",
+    ),
 }
