@@ -97,7 +97,10 @@ fn next_and_calls(
     mib: &Mib<CountingDevice<SimDevice>>,
     name: &str,
 ) -> Result<(String, u64), Fail> {
-    let access = policy.access(b"public", Need::Read).ok().ok_or("no access")?;
+    let access = policy
+        .access(b"public", Need::Read)
+        .ok()
+        .ok_or("no access")?;
     let name = oid(alloc, name)?;
     let before = mib.device.calls.get();
     let found = mib.next(alloc, policy, access, &name, moment(0)?)?;
