@@ -41,7 +41,7 @@ pub(crate) fn leaving(
     if share >= size {
         return oldest(items, size, share, boots, at);
     }
-    if let Some(first) = whole_share(items, size, share, sample, at) {
+    if let Some(first) = taken_share(items, size, share, sample, at) {
         return Some(first);
     }
     if items.len() >= size { Some(0) } else { None }
@@ -49,7 +49,7 @@ pub(crate) fn leaving(
 
 /// Where the samples of the sample's boots number begin, if `share` of them are there. They are searched for only where the
 /// sample's place is not at their end.
-fn whole_share(
+fn taken_share(
     items: &[Sample],
     size: usize,
     share: usize,

@@ -5,8 +5,8 @@ use Rattle.std.proofs.lemmas.List.{get_or_default}
 use Rattle.mon_sample.specs.Key.{boots_of}
 use Rattle.mon_window.specs.Leaving.{part, IsLeaving}
 use Rattle.mon_window.proofs.Epochs.{boots_rise, first_leaves, share_before, no_share_before}
-use Rattle.mon_window.proofs.plan.whole_share.Goals as goal
-use Rattle.mon_window.proofs.plan.whole_share.Goals.{else-at-share-via-then-at-share+else-boots, else-at-share-via-else-at-share, then-at-items-via-then-at-items, then-at-items-via-else-at-items+then-boots-2}
+use Rattle.mon_window.proofs.plan.taken_share.Goals as goal
+use Rattle.mon_window.proofs.plan.taken_share.Goals.{else-at-share-via-then-at-share+else-boots, else-at-share-via-else-at-share, then-at-items-via-then-at-items, then-at-items-via-else-at-items+then-boots-2}
 
 pub returns-then-boots-clause-some : goal.returns-then-boots-clause-some
 returns-then-boots-clause-some c =
