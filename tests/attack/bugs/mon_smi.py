@@ -206,4 +206,14 @@ BUGS = {
         "        if part.len() > room - numbers.len() {",
         "        if part.len() >= room - numbers.len() {",
     ),
+    "takes_few_words_for_a_conventions_status": (
+        "src/rules.rt",
+        "    let rest = described_at(Part::Word, rest)?;",
+        "    let rest = described_at(Part::Status, rest)?;",
+    ),
+    "takes_any_word_for_an_objects_status": (
+        "src/rules.rt",
+        "    let rest = described_at(Part::Status, rest)?;",
+        "    let rest = described_at(Part::Word, rest)?;",
+    ),
 }
