@@ -5,9 +5,7 @@ ghost use Rattle.mon_app.specs.AtWire.{Heard as HeardAtWire, IsWithin, Sent, hea
 ghost use Rattle.mon_agent_tests.specs.Log.{at_wire};
 
 use crate::small_agent::question;
-use mon_app::{
-    AppFault, Asking, Heard, Repeats, SocketFault, Wire, answer_text, request,
-};
+use mon_app::{AppFault, Asking, Heard, Repeats, SocketFault, Wire, answer_text, request};
 use mon_ber::{Octets, Value};
 use mon_edge::failed_after;
 use mon_oid::Oid;

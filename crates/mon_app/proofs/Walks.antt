@@ -1,9 +1,9 @@
 -- What is answered, and a walk, turn by turn.
 use Rattle.std.proofs.Common.{◌≡◌, ℕ, ℤ, pos, ◌+◌, ◌<◌, Bool, true, false, arith, List, [], ◌∷◌, ◌++◌, length, refl, sym, ap, ◌∙◌, subst, inl, inr, length-append, add-one}
-use Rattle.std.specs.Prelude.{◌⊎◌, ◌&&◌, ◌||◌, ◌==◌, not, if◌then◌else◌, Option, Some, None, Result, Ok, Err, IsOk}
+use Rattle.std.specs.Prelude.{◌&&◌, ◌||◌, ◌==◌, not, if◌then◌else◌, Some, Result, Ok, Err, IsOk}
 use Rattle.std.proofs.lemmas.Bool.Decides.{nat_tests}
 use Rattle.std.proofs.lemmas.List.{append-nil}
-use Rattle.mon_edge.specs.Told.{GoesOnBy, extended}
+use Rattle.mon_edge.specs.Told.{GoesOnBy}
 use Rattle.mon_edge.proofs.Promised.{extended_by_none, extended_on}
 use Rattle.mon_pdu.specs.declared.message.Binding.{Binding}
 use Rattle.mon_pdu.specs.declared.message.Body.{Body}
@@ -132,7 +132,13 @@ pub ends : {A : Type 0} → (community start said text later last : List ℕ) (n
 ends community start said text later last n before between after result at few turn = record {
   more = at.more ++ turn.more;
   holds = record {
-    turns = n; earlier = at.more; text = text; last = last; walked = at.holds; others = turn.more; log_is = refl;
+    turns = n;
+    earlier = at.more;
+    text = text;
+    last = last;
+    walked = at.holds;
+    others = turn.more;
+    log_is = refl;
     ended = inl (few, turn.holds);
   };
   told = extended_on before between after at.more turn.more at.told turn.told;
@@ -144,7 +150,13 @@ pub all_turns : {A : Type 0} → (community start said text last : List ℕ) (be
 all_turns community start said text last before after result at fine = record {
   more = at.more;
   holds = record {
-    turns = 65536; earlier = at.more; text = text; last = last; walked = at.holds; others = []; log_is = sym (append-nil at.more);
+    turns = 65536;
+    earlier = at.more;
+    text = text;
+    last = last;
+    walked = at.holds;
+    others = [];
+    log_is = sym (append-nil at.more);
     ended = inr (inl (refl, refl, refl, fine));
   };
   told = at.told;
@@ -156,7 +168,13 @@ pub no_turn : {A : Type 0} → (community start said text : List ℕ) (told : Lo
 no_turn community start said text told result is = record {
   more = [];
   holds = record {
-    turns = 0; earlier = []; text = said; last = start; walked = (refl, refl, refl); others = []; log_is = refl;
+    turns = 0;
+    earlier = [];
+    text = said;
+    last = start;
+    walked = (refl, refl, refl);
+    others = [];
+    log_is = refl;
     ended = inr (inr (refl, is));
   };
   told = sym (extended_by_none told);

@@ -49,9 +49,7 @@ impl<R: Clock> SocketWire<'_, R> {
         ensures { self.new.failures ≡ self.old.failures }
     {
         self.began = Instant::now(self.rt).map_err(failed)?;
-        self.socket
-            .send_to(octets, self.agent)
-            .map_err(failed)?;
+        self.socket.send_to(octets, self.agent).map_err(failed)?;
         Ok(())
     }
 

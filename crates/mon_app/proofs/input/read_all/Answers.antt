@@ -1,4 +1,4 @@
-use Rattle.std.proofs.Common.{◌≡◌, ℕ, ◌<◌, arith, List, [], ◌++◌, ap, length, refl, subst, sym, take, ◌∙◌}
+use Rattle.std.proofs.Common.{◌≡◌, ℕ, ◌<◌, arith, List, [], ◌++◌, ap, length, subst, sym, take, ◌∙◌}
 use Rattle.std.specs.Prelude.{IfSome, Option, Some, None, Result, Ok}
 use Rattle.std.specs.Io.KnownBytes.{Consumes, IsAtEnd, ReadConsumes}
 use Rattle.std.proofs.lemmas.List.{append-nil}
@@ -13,6 +13,7 @@ whole {F = F} (Some all) (Some rest) after octets room r n read none is bytes so
   where
     given : Consumes (Some rest) after (take n room) × (n ≡ 0 → 0 < length room → IsAtEnd after)
     given = subst (λ (x : Result ℕ F). ReadConsumes (Some rest) after x room) is bytes
+
     no_rest : (rest : List ℕ) (after : Option (List ℕ)) (n : ℕ) → n ≡ 0 → Consumes (Some rest) after (take n room) × (n ≡ 0 → 0 < length room → IsAtEnd after) → 0 < length room → rest ≡ []
     no_rest rest None n none given some = absurd given.0
     no_rest rest (Some later) n none given some =
@@ -21,5 +22,5 @@ whole {F = F} (Some all) (Some rest) after octets room r n read none is bytes so
 pub returns-in-Ok-eq0-clause-whole : goal.returns-in-Ok-eq0-clause-whole
 returns-in-Ok-eq0-clause-whole g c =
     whole (g.R.Read.remaining c.args.reader.now.reader) (g.R.Read.remaining c.loop.reader.reader) (g.R.Read.remaining c.read.new.self.reader) c.loop.octets.items
-        c.read.new.room c.read.result c.in-Ok-eq0.field-0 c.loop.invariant.read c.in-Ok-eq0.field-0-test c.in-Ok-eq0.is c.read.ensures.bytes
-        (omega (arith, c.read.auto.room, ap length c.as_mut_slice.ensures.value, c.loop.invariant.room))
+    c.read.new.room c.read.result c.in-Ok-eq0.field-0 c.loop.invariant.read c.in-Ok-eq0.field-0-test c.in-Ok-eq0.is c.read.ensures.bytes
+    (omega (arith, c.read.auto.room, ap length c.as_mut_slice.ensures.value, c.loop.invariant.room))

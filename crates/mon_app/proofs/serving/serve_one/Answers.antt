@@ -20,8 +20,8 @@ returns-in_ok-reply-in-Send-clause-served g c =
     let between = g.P.Port.told c.receive.new.self in
     let datagram = take c.in_ok-received.received.len c.receive.new.room in
     let replied : g.P.Port.told c.reply.new.self ≡ extended between (sent_for c.in_ok-octets.field-0) =
-        c.in_ok-reply-in-Send.ensures.told ∙ (ap (λ o. extended between (Replied o ∷ [])) c.deref.ensures.value
-        ∙ ap (λ r. extended between (sent_for r)) (sym c.in-Send.is)) in
+    c.in_ok-reply-in-Send.ensures.told ∙ (ap (λ o. extended between (Replied o ∷ [])) c.deref.ensures.value
+    ∙ ap (λ r. extended between (sent_for r)) (sym c.in-Send.is)) in
     record {
       datagram = datagram;
       moment = c.in_ok-received.received.moment;
