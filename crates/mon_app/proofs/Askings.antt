@@ -1,6 +1,6 @@
 -- What is heard in a wait, one thing after another, and what asking comes to, wait by wait.
-use Rattle.std.proofs.Common.{◌≡◌, ◌≢◌, ℕ, Bool, true, false, zero, suc, ◌+◌, ◌^◌, ◌<◌, ◌≤◌, arith, List, [], ◌∷◌, ◌++◌, length, refl, sym, ap, ◌∙◌, subst, inl, inr, length-append, add-one}
-use Rattle.std.specs.Prelude.{◌⊎◌, All, IfNone, IfOk, IfSome, IsErrAnd, IsTrue, Option, Some, None, Result, Ok, Err}
+use Rattle.std.proofs.Common.{◌≡◌, ◌≢◌, ℕ, true, false, ◌+◌, ◌^◌, ◌<◌, ◌≤◌, arith, List, [], ◌∷◌, ◌++◌, length, refl, sym, ap, ◌∙◌, subst, inl, inr, length-append, add-one}
+use Rattle.std.specs.Prelude.{◌⊎◌, All, IfNone, IfOk, IfSome, IsErrAnd, Option, Some, None, Result, Ok, Err}
 use Rattle.std.proofs.lemmas.List.Elements.{All-append, All-cons, All-nil}
 use Rattle.std.specs.declared.alloc.AllocError.{AllocError}
 use Rattle.mon_edge.specs.Told.{GoesOnBy, extended}
@@ -15,7 +15,7 @@ use Rattle.mon_app.specs.AppFault.{of_message}
 use Rattle.mon_app.specs.declared.fault.AppFault.{AppFault}
 use Rattle.mon_app.specs.declared.fault.AppFault.TheVariants as faults
 use Rattle.mon_app.specs.declared.wire.Heard.{Heard as AnyHeard}
-use Rattle.mon_app.specs.Asking.{AreUnanswered, HearsNone, HearsReply, HoldsNone, HoldsReply, IsAsked, IsCutShort, IsHeardInPart, IsStrange, IsWait, EndsWith, request_octets}
+use Rattle.mon_app.specs.Asking.{AreUnanswered, HoldsNone, HoldsReply, IsAsked, IsStrange, IsWait, EndsWith, request_octets}
 use Rattle.mon_app.specs.AtWire.{AtWire, Heard, Quiet, Sent, heard_as, hearing}
 use Rattle.mon_app.specs.Question.{Asked, is_reply, request_of}
 

@@ -1,7 +1,7 @@
 -- A text means one value at most.
-use Rattle.std.proofs.Common.{◌≡◌, ◌⊎◌, inl, inr, ℕ, ◌≤◌, ◌<◌, ℤ, pos, neg_ℤ, List, [], ◌∷◌, ◌++◌, None, Some, codes, sym, ap, subst, ◌∙◌, drop, arith}
+use Rattle.std.proofs.Common.{◌≡◌, inl, inr, ℕ, ◌≤◌, ◌<◌, ℤ, pos, neg_ℤ, List, [], ◌∷◌, ◌++◌, None, Some, codes, sym, ap, subst, ◌∙◌, drop, arith}
 use Rattle.std.specs.Net.Grammar.{IsDotted, IsNumber}
-use Rattle.std.specs.Net.Reader.{Read, read_ipv4}
+use Rattle.std.specs.Net.Reader.{Read}
 use Rattle.std.specs.Str.Parse.{IsNumeral}
 use Rattle.std.proofs.NetLemmas.Ipv4.{read_ipv4_complete}
 use Rattle.mon_oid.specs.Oid.{AreNumbers, dotted}

@@ -1,6 +1,6 @@
 -- What happens at a wire to an agent.
 use Rattle.std.specs.Prelude.{ℕ, ◌≤◌, List, [], ◌∷◌, take, Result, Ok, Err}
-use Rattle.mon_edge.specs.Counts.{one_more}
+use Rattle.mon_edge.specs.Counts.{next_count}
 use Rattle.mon_app.specs.declared.fault.AppFault.{AppFault}
 use Rattle.mon_app.specs.declared.fault.AppFault.TheVariants.{SocketFault}
 use Rattle.mon_app.specs.declared.wire.Heard.{Heard as AnyHeard}
@@ -38,5 +38,5 @@ IsWithin room heard.Quiet = Unit {0}
 -- a socket's count of failures after a call that answers a socket's fault exactly where the socket failed
 abbrev pub socket_failures : {A : Type 0} → Result A AppFault → ℕ → ℕ
 socket_failures (Ok given) count = count
-socket_failures (Err SocketFault) count = one_more count
+socket_failures (Err SocketFault) count = next_count count
 socket_failures (Err other) count = count

@@ -37,19 +37,19 @@ abbrev pub Exceeds : List ℕ → Binding → Type 0
 Exceeds last b = slice_cmp nat_cmp last b.name ≡ Less
 
 -- what a walk does about a variable binding that answers
-abbrev pub IsStep : List ℕ → List ℕ → Binding → Step → Type 0
-IsStep start last b On = IsUnder start b × Exceeds last b
-IsStep start last b Past = IsPast start b
-IsStep start last b Back = IsUnder start b × ¬ (Exceeds last b)
+abbrev pub IsWalkStep : List ℕ → List ℕ → Binding → Step → Type 0
+IsWalkStep start last b On = IsUnder start b × Exceeds last b
+IsWalkStep start last b Past = IsPast start b
+IsWalkStep start last b Back = IsUnder start b × ¬ (Exceeds last b)
 
 -- A turn of a walk, with the text before and after it: the line of one more variable, whose name is given; none at the walk's
 -- end; or a fault. Where memory runs out nothing is said of the text.
 abbrev pub IsTurn : Asked → List ℕ → List ℕ → List ℕ → List ℕ → List AtWire → Result (Option (List ℕ)) AppFault → Type 0
 IsTurn q start last before after log (Ok (Some name)) =
-    (b : Binding) × IsNext q log (Ok b) × IsStep start last b On × (name ≡ b.name) × (after ≡ before ++ binding_line b)
-IsTurn q start last before after log (Ok None) = (b : Binding) × IsNext q log (Ok b) × IsStep start last b Past × (after ≡ before)
+    (b : Binding) × IsNext q log (Ok b) × IsWalkStep start last b On × (name ≡ b.name) × (after ≡ before ++ binding_line b)
+IsTurn q start last before after log (Ok None) = (b : Binding) × IsNext q log (Ok b) × IsWalkStep start last b Past × (after ≡ before)
 IsTurn q start last before after log (Err OutOfMemory) = (answer : Result Binding AppFault) × IsNext q log answer
-IsTurn q start last before after log (Err NotIncreasing) = (b : Binding) × IsNext q log (Ok b) × IsStep start last b Back × (after ≡ before)
+IsTurn q start last before after log (Err NotIncreasing) = (b : Binding) × IsNext q log (Ok b) × IsWalkStep start last b Back × (after ≡ before)
 IsTurn q start last before after log (Err other) = IsNext q log (Err other) × (after ≡ before)
 
 -- After so many turns, each with one more line: what happened at the wire, the text, and the last name. The first question is

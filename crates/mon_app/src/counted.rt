@@ -4,7 +4,7 @@ ghost use Rattle.std.specs.Prelude.{◌≡◌, IfErr, OnOk};
 ghost use Rattle.std.specs.Io.{ReadsAtMost};
 ghost use Rattle.std.specs.Io.KnownBytes.{ReadConsumes};
 ghost use Rattle.std.specs.IoError.{error_kind};
-ghost use Rattle.mon_edge.specs.Counts.{one_more};
+ghost use Rattle.mon_edge.specs.Counts.{next_count};
 ghost use Rattle.mon_app.specs.Input.{ends_after, failures_by};
 
 use std::io;
@@ -55,7 +55,7 @@ impl<R: Read> Counted<R> {
     pub(crate) fn read(&mut self, room: &mut [u8]) -> io::Result<usize>
         ensures bound { ReadsAtMost result room.new }
         ensures bytes { ReadConsumes (R.remaining self.old.reader) (R.remaining self.new.reader) result room.new }
-        ensures reads { self.new.counts.reads ≡ one_more self.old.counts.reads }
+        ensures reads { self.new.counts.reads ≡ next_count self.old.counts.reads }
         ensures ends { self.new.counts.ends ≡ ends_after result self.old.counts.ends }
         ensures fine { OnOk result (self.new.counts.failures ≡ self.old.counts.failures) }
         ensures failed { IfErr result (λ e. self.new.counts.failures ≡ failures_by (error_kind e) self.old.counts.failures) }

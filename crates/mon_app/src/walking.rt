@@ -3,7 +3,7 @@
 ghost use Rattle.std.specs.Prelude.{◌≡◌, ◌<◌, ◌↔◌, IsTrue, string_bytes};
 ghost use Rattle.mon_edge.specs.Told.{GoesOnBy};
 ghost use Rattle.mon_app.specs.AtWire.{socket_failures};
-ghost use Rattle.mon_app.specs.Walk.{IsNext, IsStep, IsTurn, IsWalk, question_after};
+ghost use Rattle.mon_app.specs.Walk.{IsNext, IsWalkStep, IsTurn, IsWalk, question_after};
 
 use crate::client::answers;
 use crate::fault::AppFault;
@@ -83,7 +83,7 @@ enum Step {
 
 /// What a walk does about the variable binding that answers after the last name.
 fn step_of(start: &Oid, last: &Oid, found: &Binding) -> Step
-    ensures { IsStep start.now last.now found.now result }
+    ensures { IsWalkStep start.now last.now found.now result }
 {
     if is_end(&found.value) || !start.is_prefix_of(&found.name) {
         return Step::Past;

@@ -1,10 +1,10 @@
 //! Laws over the words. Each is a function that does nothing; its clauses are the law.
 
 ghost use Rattle.std.specs.Prelude.{◌≡◌, ◌<◌, ◌-◌, ◌^◌, ℕ, suc};
-ghost use Rattle.mon_edge.specs.Counts.{one_more};
+ghost use Rattle.mon_edge.specs.Counts.{next_count};
 
 /// A count rises by one, until it is at its greatest; there it stays.
 pub fn counts_rise()
-    ensures rises { (count : ℕ) → count < 2 ^ 64 - 1 → one_more count ≡ suc count }
-    ensures stays { one_more (2 ^ 64 - 1) ≡ 2 ^ 64 - 1 }
+    ensures rises { (count : ℕ) → count < 2 ^ 64 - 1 → next_count count ≡ suc count }
+    ensures stays { next_count (2 ^ 64 - 1) ≡ 2 ^ 64 - 1 }
 {}

@@ -1,4 +1,4 @@
-use Rattle.std.proofs.Common.{◌≡◌, ℕ, ◌<◌, arith, List, [], ◌++◌, ap, length, refl, subst, sym, take, ◌∙◌}
+use Rattle.std.proofs.Common.{◌≡◌, ℕ, ◌<◌, arith, List, [], ◌++◌, ap, length, subst, sym, take, ◌∙◌}
 use Rattle.std.specs.Prelude.{IfSome, Option, Some, None, Result, Ok}
 use Rattle.std.specs.Io.KnownBytes.{Consumes, IsAtEnd, ReadConsumes}
 use Rattle.std.proofs.lemmas.List.{append-nil}

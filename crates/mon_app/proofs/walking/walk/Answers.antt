@@ -1,5 +1,5 @@
 use Rattle.std.proofs.Common.{ℕ, List, subst, sym, ◌∙◌}
-use Rattle.std.specs.Prelude.{Option, Result, Ok, Err, Some, None, string_bytes}
+use Rattle.std.specs.Prelude.{Option, Result, Ok, Err, string_bytes}
 use Rattle.mon_edge.specs.Told.{GoesOnBy}
 use Rattle.mon_app.specs.declared.fault.AppFault.{AppFault}
 use Rattle.mon_app.specs.declared.fault.AppFault.TheVariants.{OutOfMemory}
