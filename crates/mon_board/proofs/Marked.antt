@@ -1,5 +1,5 @@
 -- Marks of a board, one list for each window.
-use Rattle.std.proofs.Common.{◌≡◌, ◌≢◌, ℕ, ◌<◌, ◌≤◌, Bool, true, false, cond, ◌||◌, ◌&&◌, not, List, [], ◌∷◌, length, get_or, set, replicate, refl, sym, ap, ◌∙◌, subst, arith, inl, inr}
+use Rattle.std.proofs.Common.{◌≡◌, ◌≢◌, ℕ, ◌<◌, ◌≤◌, Bool, true, false, cond, ◌||◌, ◌&&◌, not, List, [], ◌∷◌, length, get_or, map, set, refl, sym, ap, ◌∙◌, subst, arith, inl, inr}
 use Rattle.std.specs.Prelude.{◌==◌}
 use Rattle.std.specs.Cmp.{nat_cmp_total, unsigned_tied}
 use Rattle.std.specs.FinSet as finset
@@ -8,7 +8,7 @@ use Rattle.std.specs.List.{filter}
 use Rattle.std.specs.List.Sorted.{IsStrictlySortedBy}
 use Rattle.std.specs.Ordering.{nat_cmp, eq_by_cmp}
 use Rattle.std.proofs.lemmas.Bool.{cases_Bool, cases_eq, cases_lt, eq-eqb, ne_eqb, eqb-true, true≢false, or_cases}
-use Rattle.std.proofs.lemmas.List.{get_or-map, length-map, map-set, get_or-set_same, get_or-set_other, get_or_past, get_or-replicate, length-replicate, length-set}
+use Rattle.std.proofs.lemmas.List.{get_or-map, length-map, map-set, get_or-set_same, get_or-set_other, get_or_past, length-set}
 use Rattle.mon_window.specs.Top.{put, rising}
 use Rattle.mon_window.specs.Keep.{keep}
 use Rattle.mon_sample.specs.Key.{boots_of}
@@ -19,7 +19,9 @@ use Rattle.mon_board.specs.Each.{AreChanged}
 use Rattle.mon_board.specs.Marks.{Marks, AreMarks, AreKept, AreCleared, has_bit, bits_at, marked_in, samples_in}
 use Rattle.mon_board.specs.Owed.{kept_marks}
 use Rattle.mon_board.proofs.Bits.{no_bit}
-use Rattle.mon_board.proofs.Boards.{set_at}
+use Rattle.mon_board.specs.Empty.{no_marks_of}
+use Rattle.mon_board.specs.Watch.{Watch, size_of}
+use Rattle.mon_board.proofs.Boards.{nobody, set_at, size_at}
 
 -- the marks of a window
 abbrev pub marks_at : List Marks → ℕ → List (ℕ × ℕ)
@@ -53,35 +55,39 @@ none_rising : IsStrictlySortedBy nat_cmp []
 unfolding IsStrictlySortedBy
 none_rising = tt
 
-no_marks : (n : ℕ) (window : Samples) → AreMarks n window (record { room = n; items = [] })
-no_marks n window = record { rising = none_rising; within = λ s h. absurd (in_none s h); room = omega arith }
+no_marks : (n room : ℕ) (window : Samples) → n ≤ room → AreMarks n window (record { room = room; items = [] })
+no_marks n room window fits = record { rising = none_rising; within = λ s h. absurd (in_none s h); room = fits }
 
-module _ (n k : ℕ) (ws : List Window) (ms : List Marks) (number : length ws ≡ k) (none : ms ≡ replicate k (record { room = n; items = [] })) where
-  pub all_unmarked : AreAllMarks n (sets_of ws) ms
+module _ (watch : Watch) (ws : List Window) (ms : List Marks) (number : length ws ≡ length watch.instances) (none : ms ≡ map no_marks_of watch.instances) where
+  as_watched : length ms ≡ length watch.instances
+  as_watched = ap length none ∙ length-map watch.instances no_marks_of
+
+  none_here : (i : ℕ) (d : Marks) → i < length watch.instances → get_or ms i d ≡ no_marks_of (get_or watch.instances i nobody)
+  none_here i d lt = ap (λ (l : List Marks). get_or l i d) none ∙ get_or-map no_marks_of watch.instances i nobody d lt
+
+  pub all_unmarked : AreAllMarks (size_of watch) (sets_of ws) ms
   all_unmarked = record {
-    number = ap length none ∙ length-replicate k (record { room = n; items = [] }) ∙ sym number ∙ sym (as_many ws);
+    number = as_watched ∙ sym number ∙ sym (as_many ws);
     each = λ i d lt.
-        let there : i < k = omega (arith, as_many ws, number) in
-        let one : get_or ms i d ≡ record { room = n; items = [] } = ap (λ (l : List Marks). get_or l i d) none ∙ get_or-replicate k i (record { room = n; items = [] }) d there in
-        subst (AreMarks n (set_at ws i)) (sym one) (no_marks n (set_at ws i));
+        let there : i < length watch.instances = omega (arith, as_many ws, number) in
+        subst (AreMarks (size_of watch i) (set_at ws i)) (sym (none_here i d there)) (no_marks (size_of watch i) _ (set_at ws i) (omega (arith, size_at watch i there)));
   }
 
   pub none_marked : (slot i s : ℕ) → marked_in slot s (marks_at ms i) ≡ false
   none_marked slot i s = elim (cases_lt i (length ms)) [
     | inl lt ↦
-        let d : Marks = record { room = n; items = [] } in
-        let there : i < k = omega (arith, ap length none, length-replicate k d) in
-        let one : get_or ms i d ≡ d = ap (λ (l : List Marks). get_or l i d) none ∙ get_or-replicate k i d d there in
-        ap (λ (l : List (ℕ × ℕ)). marked_in slot s l) (marks_at_is ms i d lt ∙ ap (λ (m : Marks). m.items) one) ∙ no_bit slot
+        let d : Marks = record { room = 0; items = [] } in
+        let there : i < length watch.instances = omega (arith, as_watched) in
+        ap (λ (l : List (ℕ × ℕ)). marked_in slot s l) (marks_at_is ms i d lt ∙ ap (λ (m : Marks). m.items) (none_here i d there)) ∙ no_bit slot
     | inr le ↦ unmarked_past ms slot i s le
   ]
 
 -- ---- only entries are marked
-module _ (n : ℕ) (ws : List Window) (ms : List Marks) (all : AreAllMarks n (sets_of ws) ms) where
+module _ (n : ℕ → ℕ) (ws : List Window) (ms : List Marks) (all : AreAllMarks n (sets_of ws) ms) where
   pub same_number : length ms ≡ length ws
   same_number = all.number ∙ as_many ws
 
-  pub marks_of_window : (i : ℕ) (d : Marks) → i < length ws → AreMarks n (set_at ws i) (get_or ms i d)
+  pub marks_of_window : (i : ℕ) (d : Marks) → i < length ws → AreMarks (n i) (set_at ws i) (get_or ms i d)
   marks_of_window i d lt = let there : i < length (sets_of ws) = omega (arith, as_many ws) in all.each i d there
 
   pub entries_marked : (slot i s : ℕ) → marked_in slot s (marks_at ms i) ≡ true → In s (set_at ws i)
@@ -102,7 +108,7 @@ module _ (n : ℕ) (ws : List Window) (ms : List Marks) (all : AreAllMarks n (se
   as_kept after windows is slot = λ j i s. (is slot i s ∙ ap (λ (b : Bool). b && finset.contains (windows i) s) (kept_same slot i s)) j
 
 -- ---- the marks of one window changed
-module _ (n : ℕ) (ws : List Window) (ms : List Marks) (i : ℕ) (lt : i < length ms) (new : Marks) where
+module _ (n : ℕ → ℕ) (ws : List Window) (ms : List Marks) (i : ℕ) (lt : i < length ms) (new : Marks) where
   pub changed_marks : marks_at (set ms i new) i ≡ new.items
   changed_marks =
       let there : i < length (set ms i new) = omega (arith, length-set ms i new) in
@@ -112,30 +118,30 @@ module _ (n : ℕ) (ws : List Window) (ms : List Marks) (i : ℕ) (lt : i < leng
   other_marks j ne =
       ap (λ (l : List (List (ℕ × ℕ))). get_or l j []) (map-set (λ (m : Marks). m.items) ms i new) ∙ get_or-set_other (marks_of ms) i j new.items [] ne
 
-  pub still_marks : (us : List Window) → AreAllMarks n (sets_of ws) ms → length us ≡ length ws → ((j : ℕ) → j ≢ i → set_at us j ≡ set_at ws j) → AreMarks n (set_at us i) new
+  pub still_marks : (us : List Window) → AreAllMarks n (sets_of ws) ms → length us ≡ length ws → ((j : ℕ) → j ≢ i → set_at us j ≡ set_at ws j) → AreMarks (n i) (set_at us i) new
       → AreAllMarks n (sets_of us) (set ms i new)
   still_marks us all as_long stay here = record {
     number = length-set ms i new ∙ same_number n ws ms all ∙ sym as_long ∙ sym (as_many us);
     each = λ j d below. elim (cases_eq j i) [
-      | inl e ↦ subst (λ (m : ℕ). AreMarks n (set_at us m) (get_or (set ms i new) m d)) (sym e)
-          (subst (AreMarks n (set_at us i)) (sym (get_or-set_same ms i new d lt)) here)
+      | inl e ↦ subst (λ (q : ℕ). AreMarks (n q) (set_at us q) (get_or (set ms i new) q d)) (sym e)
+          (subst (AreMarks (n i) (set_at us i)) (sym (get_or-set_same ms i new d lt)) here)
       | inr ne ↦
           let old : j < length ws = omega (arith, as_many us, as_long) in
-          subst (λ (a : Samples). AreMarks n a (get_or (set ms i new) j d)) (sym (stay j ne))
-          (subst (AreMarks n (set_at ws j)) (sym (get_or-set_other ms i j new d ne)) (marks_of_window n ws ms all j d old))
+          subst (λ (a : Samples). AreMarks (n j) a (get_or (set ms i new) j d)) (sym (stay j ne))
+          (subst (AreMarks (n j) (set_at ws j)) (sym (get_or-set_other ms i j new d ne)) (marks_of_window n ws ms all j d old))
     ];
   }
 
 -- ---- a sample taken
-module _ (n : ℕ) (ws us : List Window) (ms : List Marks) (all : AreAllMarks n (sets_of ws) ms) (as_long : length us ≡ length ws) (i : ℕ) (lt : i < length ws)
+module _ (n : ℕ → ℕ) (ws us : List Window) (ms : List Marks) (all : AreAllMarks n (sets_of ws) ms) (as_long : length us ≡ length ws) (i : ℕ) (lt : i < length ws)
     (stay : (j : ℕ) → j ≢ i → set_at us j ≡ set_at ws j) (old new : Marks) (was : old ≡ get_or ms i old) (kept : AreKept (set_at us i) old new) where
   here : i < length ms
   here = omega (arith, same_number n ws ms all)
 
   pub marks_after : AreAllMarks n (sets_of us) (set ms i new)
   marks_after =
-      let room : n ≤ old.room = subst (λ (m : Marks). n ≤ m.room) (sym was) (marks_of_window n ws ms all i old lt).room in
-      still_marks n ws ms i here new us all as_long stay (kept.beside n room)
+      let room : n i ≤ old.room = subst (λ (m : Marks). n i ≤ m.room) (sym was) (marks_of_window n ws ms all i old lt).room in
+      still_marks n ws ms i here new us all as_long stay (kept.beside (n i) room)
 
   pub marks_taken : (slot j s : ℕ) → marked_in slot s (marks_at (set ms i new) j) ≡ (marked_in slot s (marks_at ms j) && finset.contains (set_at us j) s)
   marks_taken slot j s = elim (cases_eq j i) [
@@ -150,7 +156,7 @@ module _ (n : ℕ) (ws us : List Window) (ms : List Marks) (all : AreAllMarks n 
   ]
 
 -- ---- all marks changed
-module _ (n : ℕ) (ws us : List Window) (ms ns : List Marks) (all : AreAllMarks n (sets_of ws) ms) (as_long : length us ≡ length ws) where
+module _ (n : ℕ → ℕ) (ws us : List Window) (ms ns : List Marks) (all : AreAllMarks n (sets_of ws) ms) (as_long : length us ≡ length ws) where
   module _ (changed : AreChanged (λ i. AreKept (set_at us i)) ms ns) where
     pub all_kept : AreAllMarks n (sets_of us) ns
     all_kept = record {
@@ -158,7 +164,7 @@ module _ (n : ℕ) (ws us : List Window) (ms ns : List Marks) (all : AreAllMarks
       each = λ i d below.
           let lt : i < length ws = omega (arith, as_many us, as_long) in
           let there : i < length ms = omega (arith, same_number n ws ms all) in
-          (changed.each i d there).beside n (marks_of_window n ws ms all i d lt).room;
+          (changed.each i d there).beside (n i) (marks_of_window n ws ms all i d lt).room;
     }
 
     pub marks_kept : (slot i s : ℕ) → marked_in slot s (marks_at ns i) ≡ (marked_in slot s (marks_at ms i) && finset.contains (set_at us i) s)
@@ -251,7 +257,7 @@ module _ (window : Samples) (s : ℕ) (there : finset.contains window s ≡ true
   if_there : (t : ℕ) → (t == s) ≡ ((t == s) && finset.contains window t)
   if_there t = and_implied _ _ (λ h. ap (finset.contains window) (eqb-true t s h) ∙ there)
 
-module _ (n : ℕ) (ws : List Window) (ms : List Marks) (i : ℕ) (lt : i < length ms) (old new : Marks) (was : old ≡ get_or ms i old) (slot s : ℕ)
+module _ (n : ℕ → ℕ) (ws : List Window) (ms : List Marks) (i : ℕ) (lt : i < length ms) (old new : Marks) (was : old ≡ get_or ms i old) (slot s : ℕ)
     (there : finset.contains (set_at ws i) s ≡ true) (more : (k t : ℕ) → marked_in k t new.items ≡ (marked_in k t old.items || ((k == slot) && (t == s)))) where
   pub marks_marked : (k j t : ℕ) → marked_in k t (marks_at (set ms i new) j)
       ≡ (marked_in k t (marks_at ms j) || (((k == slot) && (j == i)) && ((t == s) && finset.contains (set_at ws j) t)))

@@ -1,7 +1,7 @@
-use Rattle.std.proofs.Common.{◌≡◌, replicate}
-use Rattle.std.specs.FinSet as set
+use Rattle.std.proofs.Common.{◌≡◌, map, take}
+use Rattle.mon_board.specs.Empty.{empty_window_of}
 use Rattle.mon_board.proofs.board.empty_windows.Given as goal
 
 -- the windows so far are empty
-abbrev pub invariant-loop : goal.invariant-loop
-invariant-loop l = l.windows.items ≡ replicate l.index (record { size = l.watch.window; share = l.watch.share; items = set.empty })
+abbrev pub invariant-loop-watched : goal.invariant-loop-watched
+invariant-loop-watched l = l.windows.items ≡ map empty_window_of (take l.watched-index l.watch.instances)

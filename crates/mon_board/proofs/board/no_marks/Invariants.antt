@@ -1,6 +1,7 @@
-use Rattle.std.proofs.Common.{◌≡◌, [], replicate}
+use Rattle.std.proofs.Common.{◌≡◌, map, take}
+use Rattle.mon_board.specs.Empty.{no_marks_of}
 use Rattle.mon_board.proofs.board.no_marks.Given as goal
 
 -- the marks so far are none
-abbrev pub invariant-loop : goal.invariant-loop
-invariant-loop l = l.marks.items ≡ replicate l.index (record { room = l.watch.window; items = [] })
+abbrev pub invariant-loop-watched : goal.invariant-loop-watched
+invariant-loop-watched l = l.marks.items ≡ map no_marks_of (take l.watched-index l.watch.instances)

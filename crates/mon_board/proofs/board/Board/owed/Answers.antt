@@ -6,6 +6,7 @@ use Rattle.mon_window.specs.Window.{Window, Samples}
 use Rattle.mon_board.specs.Board.{Board, window_of, is_marked}
 use Rattle.mon_board.specs.Marks.{Marks, marked_in}
 use Rattle.mon_board.specs.Owed.{next_above, owed_in}
+use Rattle.mon_board.specs.Watch.{size_of}
 use Rattle.mon_board.proofs.Boards.{set_at, set_at_is}
 use Rattle.mon_board.proofs.Marked.{marks_at, marks_at_is, same_number, unmarked_rising}
 use Rattle.mon_board.proofs.board.Board.owed.Goals as goal
@@ -14,7 +15,7 @@ pub returns : goal.returns
 returns c =
     let slot = c.args.slot in
     let after = c.args.after in
-    let n = c.self.inside.watch.window in
+    let n = size_of c.self.inside.watch in
     let ws = c.self.inside.windows.items in
     let ms = c.self.inside.marks.items in
     let i = c.from-place.result in

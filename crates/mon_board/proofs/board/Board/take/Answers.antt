@@ -3,15 +3,16 @@ use Rattle.mon_board.specs.Board.{Board, IsInsertion, KeepsMarks, sets_of, marks
 use Rattle.mon_board.specs.Marks.{AreKept, marked_in}
 use Rattle.mon_board.specs.Windows.{IsTaken}
 use Rattle.mon_board.specs.Rules.{rule_of}
+use Rattle.mon_board.specs.Watch.{size_of, share_of}
 use Rattle.mon_board.proofs.Boards.{set_at, windows_after, taken_is, insertion_is, kept_changed, others_stay}
 use Rattle.mon_board.proofs.Marked.{marks_at, marks_after, marks_taken, kept_same, as_kept}
 use Rattle.mon_board.proofs.board.Board.take.Goals as goal
 
 pub invariant_of-self : goal.invariant_of-self
 invariant_of-self c =
-    let n = c.self.inside.watch.window in
+    let n = size_of c.self.inside.watch in
     let k = length c.self.inside.watch.instances in
-    let m = c.self.inside.watch.share in
+    let m = share_of c.self.inside.watch in
     let ws = c.self.inside.windows.items in
     let ms = c.self.inside.marks.items in
     let i = c.from-place.result in
@@ -40,22 +41,21 @@ returns-clause-inserted c =
     let w = c.index_mut-window.result.now in
     let how = c.insert-inserted.ensures in
     let lt : c.from-place.result < length ws = omega (arith, c.if-place-len.false, c.len.ensures) in
-    let done : IsInsertion w.size w.share w.items v.items c.args.sample c.insert-inserted.result = record { known = how.known; too_old = how.too_old; added = how.added } in
-    let inserted = insertion_is c.self.inside.watch ws c.self.invariant.0 c.from-place.result lt w v c.index_mut-window.ensures.value c.args.sample how.items c.insert-inserted.result done in
-    subst (λ (b : Board). IsInsertion b.watch.window b.watch.share (window_of b c.args.instance) (set_at (set ws c.from-place.result v) c.args.instance) c.args.sample c.insert-inserted.result) c.self.view_is
-    (subst (λ (i : ℕ). IsInsertion c.self.inside.watch.window c.self.inside.watch.share (set_at ws i) (set_at (set ws c.from-place.result v) i) c.args.sample c.insert-inserted.result) c.from-place.ensures inserted)
+    let inserted = insertion_is c.self.inside.watch ws c.self.invariant.0 c.from-place.result lt w v c.index_mut-window.ensures.value c.args.sample how.items c.insert-inserted.result how.known how.too_old how.added in
+    subst (λ (b : Board). IsInsertion (rule_of b.watch) c.args.instance (window_of b c.args.instance) (set_at (set ws c.from-place.result v) c.args.instance) c.args.sample c.insert-inserted.result) c.self.view_is
+    (subst (λ (i : ℕ). IsInsertion (rule_of c.self.inside.watch) i (set_at ws i) (set_at (set ws c.from-place.result v) i) c.args.sample c.insert-inserted.result) c.from-place.ensures inserted)
 
 pub returns-then-place-len-clause-marks : goal.returns-then-place-len-clause-marks
 returns-then-place-len-clause-marks c =
-    subst (λ (b : Board). KeepsMarks b b) c.self.view_is (as_kept c.self.inside.watch.window c.self.inside.windows.items c.self.inside.marks.items c.self.invariant.1
+    subst (λ (b : Board). KeepsMarks b b) c.self.view_is (as_kept (size_of c.self.inside.watch) c.self.inside.windows.items c.self.inside.marks.items c.self.invariant.1
     (λ slot i s. marked_in slot s (marks_at c.self.inside.marks.items i)) (set_at c.self.inside.windows.items)
-    (kept_same c.self.inside.watch.window c.self.inside.windows.items c.self.inside.marks.items c.self.invariant.1))
+    (kept_same (size_of c.self.inside.watch) c.self.inside.windows.items c.self.inside.marks.items c.self.invariant.1))
 
 pub returns-clause-marks : goal.returns-clause-marks
 returns-clause-marks c =
-    let n = c.self.inside.watch.window in
+    let n = size_of c.self.inside.watch in
     let k = length c.self.inside.watch.instances in
-    let m = c.self.inside.watch.share in
+    let m = share_of c.self.inside.watch in
     let ws = c.self.inside.windows.items in
     let ms = c.self.inside.marks.items in
     let i = c.from-place.result in

@@ -4,6 +4,7 @@ use Rattle.std.specs.Vec.{with_items}
 use Rattle.mon_board.specs.Board.{Board, is_marked}
 use Rattle.mon_board.specs.Each.{AreChanged}
 use Rattle.mon_board.specs.Marks.{Marks, AreCleared, marked_in}
+use Rattle.mon_board.specs.Watch.{size_of}
 use Rattle.mon_board.proofs.Marked.{marks_at, marks_cleared}
 use Rattle.mon_board.proofs.Places.{written}
 use Rattle.mon_board.proofs.board.Board.unmark_all.Goals as goal
@@ -11,7 +12,7 @@ use Rattle.mon_board.proofs.board.Board.unmark_all.Goals as goal
 pub returns-clause-marks : goal.returns-clause-marks
 returns-clause-marks c = λ k j s.
     let slot = c.args.slot in
-    let n = c.self.inside.watch.window in
+    let n = size_of c.self.inside.watch in
     let ws = c.self.inside.windows.items in
     let ms = c.self.inside.marks.items in
     let ns = c.clear_each.new.marks in
