@@ -1,5 +1,4 @@
 -- The rules of what is kept.
-use Rattle.std.specs.Prelude.{ℕ}
 use Rattle.std.specs.Cmp.{nat_cmp_total}
 use Rattle.std.specs.FinSet.{nat_cmp-IsAntisymmetric}
 use Rattle.mon_sample.specs.Key.{boots_of}

@@ -1,5 +1,3 @@
-//! Boards: a window for each watched instance.
-
 ghost use Rattle.std.specs.Prelude.{◌≡◌, ◌≤◌, ◌<◌, ◌*◌, ◌^◌, ◌↔◌, ℕ, Contains, IfOk, IfSome, IfNone, IsErr, OnErr, OnOk, Some, false, not, ◌==◌, ◌&&◌, ◌||◌, length, map, slice_get};
 ghost use Rattle.std.specs.FinSet as set;
 ghost use Rattle.mon_window.specs.Top.{rising};

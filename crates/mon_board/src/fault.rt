@@ -1,5 +1,3 @@
-//! Why there is no watch.
-
 ghost use Rattle.std.specs.Prelude.{◌≡◌};
 ghost use Rattle.mon_board.specs.WatchFault.{number_of, name_of};
 

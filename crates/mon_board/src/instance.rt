@@ -1,5 +1,3 @@
-//! Instances: what is sampled, and where.
-
 ghost use Rattle.std.specs.Prelude.{◌≡◌, IfOk, IsTrue, ◌↔◌};
 ghost use Rattle.mon_board.specs.Instance.{instance_cmp, named, IsEngine};
 

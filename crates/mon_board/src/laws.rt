@@ -1,4 +1,4 @@
-//! Laws of the definitions.
+//! Laws of windows that pairs leave, by any rule. Each is a function that does nothing.
 
 ghost use Rattle.std.specs.Prelude.{◌≡◌, ◌++◌, ◌∷◌, [], List, ℕ, ◌==◌, if◌then◌else◌};
 ghost use Rattle.std.specs.FinSet as set;

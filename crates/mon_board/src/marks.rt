@@ -1,5 +1,3 @@
-//! Marks on the samples of a window, for each of up to 15 peers.
-
 ghost use Rattle.std.specs.Prelude.{◌≡◌, ◌≤◌, ◌<◌, ◌==◌, ◌||◌, ◌&&◌, not, ℕ, [], IfOk, IfErr, filter, length, slice_index_or, vec_capacity};
 ghost use Rattle.std.specs.FinSet as set;
 ghost use Rattle.std.specs.List.Sorted.{IsStrictlySortedBy};

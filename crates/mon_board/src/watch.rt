@@ -117,9 +117,7 @@ fn copied_rules(alloc: Global, all: &[Rule]) -> Result<Vec<Rule>, AllocError>
 fn are_sized(instances: &[Watched]) -> bool
     ensures { IsTrue result ↔ AreSized instances.now }
 {
-    instances
-        .iter()
-        .all(|watched| is_sized(watched))
+    instances.iter().all(|watched| is_sized(watched))
 }
 
 /// Whether a window may have these sizes.
