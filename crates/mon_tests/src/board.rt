@@ -57,17 +57,17 @@ fn fault(
 }
 
 /// Two boards of one watch of two agents: a window of 2 with no more than 1 of a boots number, and one of 3.
-fn boards(rt: &HostRuntime) -> Result<(Board, Board), Fail>
-    ensures { IfOk result (λ p. p.1.watch ≡ p.0.watch) }
+fn boards(alloc: Global) -> Result<Result<(Board, Board), WatchFault>, Fail>
+    ensures { IfOk result (λ r. IfOk r (λ p. p.1.watch ≡ p.0.watch)) }
 {
-    let alloc = rt.alloc();
     match watch(alloc, &[(1, 2, 1), (2, 3, 3)], &[])? {
         Ok(watch) => {
             let copy = watch.try_clone(alloc)?;
             let own = Board::new(alloc, watch)?;
-            Ok((own, Board::new(alloc, copy)?))
+            let other = Board::new(alloc, copy)?;
+            Ok(Ok((own, other)))
         }
-        Err(_) => panic!(rt; "a watch"),
+        Err(fault) => Ok(Err(fault)),
     }
 }
 
@@ -161,7 +161,10 @@ fn watches_what_is_in_range(rt: HostRuntime) -> Result<(), Fail> {
 
 #[test]
 fn takes_for_one_instance(rt: HostRuntime) -> Result<(), Fail> {
-    let (mut board, _) = boards(&rt)?;
+    let (mut board, _other) = match boards(rt.alloc())? {
+        Ok(boards) => boards,
+        Err(_) => panic!(rt; "a watch"),
+    };
     let added = |at, dropped| Ok(Inserted::Added { at, dropped });
     let steps = [
         (0, ticking(3, 100), added(0, None), 0),
@@ -187,7 +190,10 @@ fn takes_for_one_instance(rt: HostRuntime) -> Result<(), Fail> {
 
 #[test]
 fn marks_go_with_their_entries(rt: HostRuntime) -> Result<(), Fail> {
-    let (mut own, mut other) = boards(&rt)?;
+    let (mut own, mut other) = match boards(rt.alloc())? {
+        Ok(boards) => boards,
+        Err(_) => panic!(rt; "a watch"),
+    };
     let [first, second, third, fourth] = [100, 110, 120, 130].map(|time| ticking(3, time));
     let _ = (
         take(&mut own, 1, first),
