@@ -8,6 +8,8 @@ mod app;
 #[cfg(test)]
 mod ber;
 #[cfg(test)]
+mod board;
+#[cfg(test)]
 mod oid;
 #[cfg(test)]
 mod pdu;

@@ -1,0 +1,11 @@
+pub mod Board
+pub mod Each
+pub mod Empty
+pub mod Instance
+pub mod Marks
+pub mod Owed
+pub mod RuleOrder
+pub mod Rules
+pub mod Watch
+pub mod WatchFault
+pub mod Windows

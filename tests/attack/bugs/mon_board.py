@@ -1,0 +1,139 @@
+"""Bugs of mon_board for planted_bugs: by a name the file, what stands there once, and the bug in its place."""
+
+BUGS = {
+    "windows_of_65": (
+        "src/watch.rt",
+        "const MOST_SAMPLES: usize = 64;",
+        "const MOST_SAMPLES: usize = 65;",
+    ),
+    "one_instance_less": (
+        "src/watch.rt",
+        "const MOST_INSTANCES: usize = 256;",
+        "const MOST_INSTANCES: usize = 255;",
+    ),
+    "one_rule_more": (
+        "src/watch.rt",
+        "const MOST_RULES: usize = 256;",
+        "const MOST_RULES: usize = 257;",
+    ),
+    "an_instance_twice": (
+        "src/watch.rt",
+        "        if !below.compare(above.engine.as_slice(), &above.name).is_lt() {",
+        "        if !below.compare(above.engine.as_slice(), &above.name).is_le() {",
+    ),
+    "rules_on_the_instance_after_the_last": (
+        "src/watch.rt",
+        "        .all(|rule| usize::from(rule.instance()) < instances)",
+        "        .all(|rule| usize::from(rule.instance()) <= instances)",
+    ),
+    "rules_by_the_falling_threshold_first": (
+        "src/watch.rt",
+        "        .then(a.rising().cmp(&b.rising()))\n        .then(a.falling().cmp(&b.falling()))",
+        "        .then(a.falling().cmp(&b.falling()))\n        .then(a.rising().cmp(&b.rising()))",
+    ),
+    "rules_before_instances": (
+        "src/watch.rt",
+        "        if !are_instances(&instances) {",
+        "        if !are_instances(&instances) && are_rules(&rules, instances.len()) {",
+    ),
+    "copies_the_first_rule": (
+        "src/watch.rt",
+        "        copies.push(*rule)?;",
+        "        copies.push(all[0])?;",
+    ),
+    "names_fall": (
+        "src/instance.rt",
+        "            .then(self.name.parts().cmp(&name.parts()))",
+        "            .then(name.parts().cmp(&self.name.parts()))",
+    ),
+    "engines_of_33": (
+        "src/instance.rt",
+        "        5 <= len && len <= 32",
+        "        5 <= len && len <= 33",
+    ),
+    "copies_the_window_as_epoch": (
+        "src/instance.rt",
+        "            epoch: self.epoch,",
+        "            epoch: self.window,",
+    ),
+    "finds_the_one_before": (
+        "src/board.rt",
+        "            Some(place) => Some(place as u16),",
+        "            Some(place) => Some(place.max(1) as u16 - 1),",
+    ),
+    "knows_one_instance_more": (
+        "src/board.rt",
+        "        if place >= self.windows.len() {",
+        "        if place > self.windows.len() {",
+    ),
+    "mends_marks_of_another_instance": (
+        "src/board.rt",
+        "        let marks = &mut self.marks[place];",
+        "        let marks = &mut self.marks[place / 2];",
+    ),
+    "items_of_another_instance": (
+        "src/board.rt",
+        "        self.windows[usize::from(instance)].items()",
+        "        self.windows[usize::from(instance / 2)].items()",
+    ),
+    "totals_of_another_instance": (
+        "src/board.rt",
+        "        self.windows[usize::from(instance)].totals()",
+        "        self.windows[usize::from(instance / 2)].totals()",
+    ),
+    "joins_itself": (
+        "src/board.rt",
+        "        keep_each(&mut self.marks, &self.windows);",
+        "        keep_each(&mut self.marks, &other.windows);",
+    ),
+    "marks_what_is_not_there": (
+        "src/board.rt",
+        "        if stands_in(&self.windows[place], sample) {",
+        "        if stands_in(&self.windows[place], sample) || slot == 0 {",
+    ),
+    "unmarks_the_slot_above": (
+        "src/board.rt",
+        "        clear_each(&mut self.marks, slot);",
+        "        clear_each(&mut self.marks, slot + 1);",
+    ),
+    "owes_from_the_first": (
+        "src/board.rt",
+        "        first_unmarked(self.windows[place].items(), &self.marks[place], slot, after)",
+        "        first_unmarked(self.windows[place].items(), &self.marks[place], slot, if slot == 0 { None } else { after })",
+    ),
+    "room_for_marks_of_an_epoch": (
+        "src/board.rt",
+        "        marks.push(Marks::new(alloc, watched.window)?)?;",
+        "        marks.push(Marks::new(alloc, watched.epoch)?)?;",
+    ),
+    "a_new_mark_for_slot_0": (
+        "src/marks.rt",
+        "            Err(at) => self.items.insert(at, (*sample, 1 << slot)).unwrap(),",
+        "            Err(at) => self.items.insert(at, (*sample, 1)).unwrap(),",
+    ),
+    "reads_the_bit_above": (
+        "src/marks.rt",
+        "            Ok(at) => self.items[at].1 >> slot & 1 == 1,",
+        "            Ok(at) => self.items[at].1 >> slot & 2 == 2,",
+    ),
+    "finds_what_is_not_there": (
+        "src/marks.rt",
+        "        Ok(_) => true,\n        Err(_) => false,\n    }\n}\n\n/// Where the sample stands among rising ones, or belongs.",
+        "        Ok(_) => true,\n        Err(at) => at > 63,\n    }\n}\n\n/// Where the sample stands among rising ones, or belongs.",
+    ),
+    "keeps_by_the_first_window": (
+        "src/each.rt",
+        "        marks[i].keep(&windows[i]);",
+        "        marks[i].keep(&windows[0]);",
+    ),
+    "clears_the_first": (
+        "src/each.rt",
+        "        marks[i].clear(slot);",
+        "        marks[0].clear(slot);",
+    ),
+    "adds_in_front": (
+        "src/pairs.rt",
+        "        self.items.push((instance, sample))?;",
+        "        self.items.insert(0, (instance, sample))?;",
+    ),
+}
