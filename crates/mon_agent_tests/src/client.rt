@@ -4,6 +4,7 @@ ghost use Rattle.std.specs.Prelude.{◌≡◌, ◌≤◌, ◌++◌, ◌∷◌, [
 ghost use Rattle.mon_app.specs.AtWire.{Heard as HeardAtWire, IsWithin, Sent, hearing};
 ghost use Rattle.mon_agent_tests.specs.Log.{at_wire};
 
+use crate::event::Event;
 use crate::small_agent::question;
 use mon_app::{AppFault, Asking, Heard, Repeats, SocketFault, Wire, answer_text, request};
 use mon_ber::{Octets, Value};
@@ -34,15 +35,6 @@ const OTHER_REQUEST: &str =
 
 const REPLY: &str =
     "302802010104067075626C6963A21B0201070201000201003010300E06082B0601020101050004027231";
-
-/// What happened at the wire.
-#[derive(Drop)]
-enum Event {
-    Sent(Vec<u8>),
-    Heard(Vec<u8>),
-    Other,
-    Quiet,
-}
 
 /// What a wire hears, in turn: each time something else, and then its datagrams. It writes down what happened.
 #[derive(Drop)]

@@ -9,6 +9,7 @@ mod agent;
 mod client;
 #[cfg(test)]
 mod counting;
+pub mod event;
 #[cfg(test)]
 mod mib;
 #[cfg(test)]
