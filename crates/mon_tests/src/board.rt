@@ -1,4 +1,4 @@
-ghost use Rattle.std.specs.Prelude.{◌≡◌, IfOk};
+ghost use Rattle.std.specs.Prelude.{◌≡◌, ◌<◌, ◌↔◌, IfOk, IsTrue, length};
 
 use mon_alarms::Rule;
 use mon_ber::Octets;
@@ -87,7 +87,9 @@ fn take(board: &mut Board, instance: u16, sample: Sample) -> Result<Inserted, Un
     board.take(instance, sample)
 }
 
-fn is_watched(board: &Board, instance: u16) -> bool {
+fn is_watched(board: &Board, instance: u16) -> bool
+    ensures { IsTrue result ↔ (instance < length board.now.watch.instances) }
+{
     usize::from(instance) < board.watch().instances().len()
 }
 
