@@ -1,0 +1,4 @@
+pub mod Written
+pub mod Loops
+pub mod Entries
+pub mod Ends

@@ -1,0 +1,105 @@
+-- The text of a report: for each watched instance a line, and a last line that counts.
+use Rattle.std.specs.Prelude.{ℕ, ◌+◌, ◌/◌, ◌%◌, List, [], ◌∷◌, ◌++◌, Option, Some, None, codes, decimal, length, filter, sum_by, get_or, ◌==◌}
+use Rattle.std.specs.Fmt.{signed_decimal}
+use Rattle.std.specs.List.{flat_map}
+use Rattle.hex.specs.Hex.{encode_lower}
+use Rattle.mon_oid.specs.Oid.{dotted}
+use Rattle.mon_sample.specs.Kind.{kind_name, number_of}
+use Rattle.mon_sample.specs.Key.{boots_of, time_of, kind_of, value_of}
+use Rattle.mon_window.specs.Top.{rising}
+use Rattle.mon_window.specs.Window.{Samples}
+use Rattle.mon_rates.specs.declared.totals.Totals.{Totals}
+use Rattle.mon_rates.specs.Totals.{totals, thousandths}
+use Rattle.mon_alarms.specs.declared.alarm.AlarmState.{AlarmState}
+use Rattle.mon_alarms.specs.declared.alarm.AlarmState.TheVariants.{Clear, Raised}
+use Rattle.mon_alarms.specs.Rule.{Rule}
+use Rattle.mon_alarms.specs.Observed.{state_by}
+use Rattle.mon_board.specs.declared.instance.Watched.{Watched}
+use Rattle.mon_board.specs.Watch.{Watch}
+
+-- what a report says of an instance: its engine's octets, its name, its samples from the oldest on, and the rules on it
+pub record Entry : Type 0 where
+  pub engine : List ℕ
+  pub name : List ℕ
+  pub items : List ℕ
+  pub rules : List Rule
+
+-- a dot and a sub-identifier, as they follow the first one in a name
+abbrev pub dot_text : ℕ → List ℕ
+dot_text part = codes "." ++ decimal part
+
+-- a stamp: boots and time
+abbrev pub stamp_text : ℕ → ℕ → List ℕ
+stamp_text boots time = decimal boots ++ codes ":" ++ decimal time
+
+-- the stamps of two samples
+abbrev pub stamps_text : ℕ → ℕ → List ℕ
+stamps_text oldest newest = stamp_text (boots_of oldest) (time_of oldest) ++ codes ".." ++ stamp_text (boots_of newest) (time_of newest)
+
+-- a sample's kind and number
+abbrev pub value_text : ℕ → List ℕ
+value_text sample = kind_name (kind_of sample) ++ codes "=" ++ signed_decimal (number_of (kind_of sample) (value_of sample))
+
+-- a rate in thousandths, with three digits after the point
+abbrev pub rate_text : Option ℕ → List ℕ
+rate_text None = codes "none"
+rate_text (Some q) = decimal (q / 1000) ++ codes "." ++ (48 + q / 100 % 10) ∷ (48 + q / 10 % 10) ∷ (48 + q % 10) ∷ []
+
+-- how much the counter counted, in how many seconds, and the rate
+unfoldable pub totals_text : Totals → List ℕ
+totals_text t = codes " delta=" ++ decimal t.delta ++ codes " span=" ++ decimal t.span ++ codes " rate=" ++ rate_text (thousandths t)
+
+-- the last of some samples, of which this is the first
+abbrev pub newest : ℕ → List ℕ → ℕ
+newest first rest = get_or (first ∷ rest) (length rest) first
+
+-- how many samples there are; then the oldest and the newest stamp, the newest sample's value, and the totals
+unfoldable pub window_text : List ℕ → List ℕ
+window_text [] = codes " n=0"
+window_text (first ∷ rest) =
+    codes " n=" ++ decimal (length (first ∷ rest)) ++ codes " " ++ stamps_text first (newest first rest) ++ codes " " ++ value_text (newest first rest)
+    ++ totals_text (totals (first ∷ rest))
+
+-- an alarm's state: clear, or raised at a stamp
+abbrev pub state_text : AlarmState → List ℕ
+state_text Clear = codes "clear"
+state_text (Raised boots time) = codes "raised@" ++ stamp_text boots time
+
+-- a rule with its thresholds, and its state over these samples
+unfoldable pub alarm_text : List ℕ → Rule → List ℕ
+alarm_text items rule =
+    codes " alarm " ++ signed_decimal rule.rising ++ codes "/" ++ signed_decimal rule.falling ++ codes "=" ++ state_text (state_by rule items)
+
+-- an instance's line: the engine id in hex digits, the name, the window and the alarms
+unfoldable pub entry_line : Entry → List ℕ
+entry_line e = encode_lower e.engine ++ codes " " ++ dotted e.name ++ window_text e.items ++ flat_map (alarm_text e.items) e.rules ++ codes "\n"
+
+-- the last line: how many instances and samples there are
+unfoldable pub end_line : ℕ → ℕ → List ℕ
+end_line instances samples = codes "end " ++ decimal instances ++ codes " instances " ++ decimal samples ++ codes " samples\n"
+
+-- how many samples some instances have
+abbrev pub samples_in : List Entry → ℕ
+samples_in entries = sum_by (λ e. length e.items) entries
+
+-- the report of some instances, in this order
+unfoldable pub report_of : List Entry → List ℕ
+report_of entries = flat_map entry_line entries ++ end_line (length entries) (samples_in entries)
+
+-- the rules on the instance of this number
+abbrev pub rules_on : ℕ → List Rule → List Rule
+rules_on i rules = filter (λ r. r.instance == i) rules
+
+-- what a report says of the instance of this number
+abbrev pub entry_of : List Rule → (ℕ → Samples) → ℕ → Watched → Entry
+entry_of rules windows i w =
+    record { engine = w.instance.engine; name = w.instance.name; items = rising (windows i); rules = rules_on i rules }
+
+-- of each of these instances, which have the numbers from this one on
+abbrev pub entries_from : List Rule → (ℕ → Samples) → ℕ → List Watched → List Entry
+entries_from rules windows i [] = []
+entries_from rules windows i (w ∷ ws) = entry_of rules windows i w ∷ entries_from rules windows (i + 1) ws
+
+-- the report of a watch and a window for each of its instances; nothing else is an argument
+abbrev pub report : Watch → (ℕ → Samples) → List ℕ
+report watch windows = report_of (entries_from watch.rules windows 0 watch.instances)

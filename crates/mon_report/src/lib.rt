@@ -1,0 +1,13 @@
+//! Reports: of each watched instance its window, its totals and its alarms, a line each.
+//! Contract: the text is a function of the watch and the windows, and of nothing else; a writer that fails has a beginning
+//! of it.
+#![tactic(auto)]
+
+mod fault;
+mod line;
+mod report;
+mod writing;
+
+pub use fault::ReportFault;
+pub use line::write_end;
+pub use report::{Entry, write_entry, write_report};

@@ -1,0 +1,140 @@
+//! A board's report.
+
+ghost use Rattle.std.specs.Prelude.{◌≡◌, ◌≤◌, ◌<◌, ◌*◌, ◌^◌, true, length};
+ghost use Rattle.std.specs.List.{flat_map};
+ghost use Rattle.mon_board.specs.Board.{window_of};
+ghost use Rattle.mon_rates.specs.Totals as sums;
+ghost use Rattle.mon_report.specs.Report.{Entry as AnyEntry, entry_line, entry_of, entries_from, samples_in, report, rules_on};
+ghost use Rattle.mon_report.specs.Written.{AppendsIf, AppendsResult};
+
+use crate::fault::ReportFault;
+use crate::line::{put_alarms, put_hex, put_name, put_window, write_end};
+use crate::writing::put;
+use mon_alarms::Rule;
+use mon_board::{Board, Watched};
+use mon_oid::Oid;
+use mon_rates::Totals;
+use mon_sample::Sample;
+use std::io::Write;
+use std::marker::Model;
+
+/// What a report says of an instance.
+#[derive(Drop)]
+pub struct Entry<'a> {
+    engine: &'a [u8],
+    name: &'a Oid,
+    samples: &'a [Sample],
+    totals: Totals,
+    rules: &'a [Rule],
+    instance: u16,
+}
+
+impl<'a> Model for Entry<'a> {
+    ghost use Rattle.std.specs.Prelude.{◌≡◌, ◌<◌, ◌*◌, ◌^◌};
+    ghost use Rattle.mon_rates.specs.Totals as sums;
+    ghost use Rattle.mon_report.specs.Report.{Entry, rules_on};
+
+    ghost Value = { Entry };
+
+    ghost view = { λ e. record { engine = e.engine.now; name = e.name.now; items = e.samples.now; rules = rules_on e.instance e.rules.now } };
+
+    ghost invariant = { λ e. (e.totals ≡ sums.totals e.samples.now) × (1000 * e.totals.delta < 2 ^ 128) };
+}
+
+impl<'a> Entry<'a> {
+    /// An instance with its samples, the oldest first, their totals, and the rules on it: of these rules those that are on the
+    /// instance of this number.
+    pub fn new(
+        engine: &'a [u8],
+        name: &'a Oid,
+        samples: &'a [Sample],
+        totals: Totals,
+        rules: &'a [Rule],
+        instance: u16,
+    ) -> Self
+        requires totals { totals ≡ sums.totals samples.now }
+        requires rated { 1000 * totals.delta < 2 ^ 128 }
+        ensures { let entry : AnyEntry = record { engine = engine.now; name = name.now; items = samples.now; rules = rules_on instance rules.now } in
+            result ≡ entry }
+    {
+        Entry {
+            engine,
+            name,
+            samples,
+            totals,
+            rules,
+            instance,
+        }
+    }
+}
+
+/// Writes an instance's line, unless the writer failed before, and tells whether all is written so far.
+#[tactic(auto, unfolding(crate::specs::Report::entry_line))]
+pub fn write_entry<W: Write>(writer: &mut W, ok: bool, entry: &Entry) -> bool
+    ensures { AppendsIf (W.contents writer.old) ok (W.contents writer.new) result (entry_line entry.now) }
+{
+    let ok = put_hex(writer, ok, entry.engine);
+    let ok = put(writer, ok, b" ");
+    let ok = put_name(writer, ok, entry.name);
+    let ok = put_window(writer, ok, entry.samples, entry.totals);
+    let ok = put_alarms(writer, ok, entry.samples, entry.rules, entry.instance);
+    put(writer, ok, b"\n")
+}
+
+/// Writes the report of a board: of each watched instance a line with its engine id, its name, how many samples its window
+/// holds, the oldest and the newest stamp, the newest value, what its counter counted and in how many seconds, the rate, and
+/// the state of each alarm rule on it; then the numbers of instances and samples. It takes no memory. A writer that fails, or
+/// that takes nothing, has got a beginning of the report: `WriteFailed`.
+pub fn write_report<W: Write>(board: &Board, writer: &mut W) -> Result<(), ReportFault>
+    ensures { AppendsResult (W.contents writer.old) (W.contents writer.new) result (report board.now.watch (window_of board.now)) }
+{
+    let ok = write_lines(board, writer);
+    let instances = board.watch().instances().len() as u64;
+    if write_end(writer, ok, instances, count_samples(board)) {
+        Ok(())
+    } else {
+        Err(ReportFault::WriteFailed)
+    }
+}
+
+/// Writes the lines of all instances.
+fn write_lines<W: Write>(board: &Board, writer: &mut W) -> bool
+    ensures { AppendsIf (W.contents writer.old) true (W.contents writer.new) result
+        (flat_map entry_line (entries_from board.now.watch.rules (window_of board.now) 0 board.now.watch.instances)) }
+{
+    let mut ok = true;
+    for (i, watched) in board.watch().instances().iter().enumerate() {
+        ok = write_line(board, writer, ok, i as u16, watched);
+    }
+    ok
+}
+
+/// Writes the line of the instance of this number.
+fn write_line<W: Write>(board: &Board, writer: &mut W, ok: bool, i: u16, watched: &Watched) -> bool
+    requires { i < length board.now.watch.instances }
+    ensures { AppendsIf (W.contents writer.old) ok (W.contents writer.new) result
+        (entry_line (entry_of board.now.watch.rules (window_of board.now) i watched.now)) }
+{
+    let rules = board.watch().rules();
+    let instance = &watched.instance;
+    let entry = Entry::new(
+        instance.engine.as_slice(),
+        &instance.name,
+        board.items(i),
+        board.totals(i),
+        rules,
+        i,
+    );
+    write_entry(writer, ok, &entry)
+}
+
+/// How many samples the windows of a board hold.
+fn count_samples(board: &Board) -> u64
+    ensures { result ≡ samples_in (entries_from board.now.watch.rules (window_of board.now) 0 board.now.watch.instances) }
+{
+    let mut count = 0;
+    for i in 0..board.watch().instances().len() {
+        count += board.items(i as u16).len() as u64;
+    }
+    count
+}
