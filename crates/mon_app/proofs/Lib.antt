@@ -8,3 +8,4 @@ pub mod Search
 pub mod Windows
 pub mod Walks
 pub mod Meanings
+pub mod Reports

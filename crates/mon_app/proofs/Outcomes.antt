@@ -1,5 +1,5 @@
 -- The outcomes of lines, one after the other.
-use Rattle.std.proofs.Common.{◌≡◌, ℕ, zero, suc, ◌+◌, ◌<◌, ◌≤◌, true, false, List, [], ◌∷◌, ◌++◌, length, take, get_or, refl, sym, ap, ◌∙◌, subst, append_assoc, arith, Some, None, Result, Ok, Err}
+use Rattle.std.proofs.Common.{◌≡◌, ℕ, zero, suc, ◌+◌, ◌<◌, ◌≤◌, true, false, List, [], ◌∷◌, ◌++◌, length, map, take, get_or, refl, sym, ap, ◌∙◌, subst, append_assoc, arith, Some, None, Result, Ok, Err}
 use Rattle.std.specs.Prelude.{nat_le, if◌then◌else◌}
 use Rattle.std.specs.FinSet.{len}
 use Rattle.std.specs.List.{flat_map}
@@ -11,6 +11,8 @@ use Rattle.mon_app.specs.declared.refusal.Refusal.TheVariants.{OutOfMemory, BadH
 use Rattle.mon_app.specs.Line.{Says}
 use Rattle.mon_app.specs.Offer.{Offer}
 use Rattle.mon_app.specs.Outcome.{Outcome, IsOutcome, taken_by, refused_in, IsReplay}
+use Rattle.mon_app.specs.Reported.{reported_row, reported, IsReported}
+use Rattle.mon_report.specs.Report.{report_of}
 use Rattle.mon_app.specs.Reading.{hex_reading, line_reading}
 use Rattle.mon_app.specs.Replay.{admitted, verdict, judged, offered, refused, accepted, refusals, refused_text, lines_of, replayed}
 use Rattle.mon_app.specs.Text.{row_text, end_line, samples_in}
@@ -134,11 +136,32 @@ module _ (says : (text : List ℕ) → Says text (hex_reading text))
   pub meets : (n : ℕ) (input : List ℕ) → IsReplay n input (replayed n input)
   meets n input = record {
     outcomes = outcomes_of [] (lines_of input);
-    one_each = length-outcomes [] (lines_of input);
-    each = each_is [] (lines_of input);
+    are = record { one_each = length-outcomes [] (lines_of input); each = each_is [] (lines_of input) };
     printed = replayed_is n input;
   }
 
   pub one_text : (n : ℕ) (input text : List ℕ) → IsReplay n input text → text ≡ replayed n input
   one_text n input text is =
-      is.printed ∙ ap (printed_of n) (one_list [] (lines_of input) is.outcomes is.one_each is.each) ∙ sym (replayed_is n input)
+      is.printed ∙ ap (printed_of n) (one_list [] (lines_of input) is.outcomes is.are.one_each is.are.each) ∙ sym (replayed_is n input)
+
+  -- ---- the report
+  abbrev report_in : ℕ → List Outcome → List ℕ
+  report_in n outcomes = refused_text (refused_in 0 outcomes) ++ report_of (map reported_row (rows_of n (taken_by outcomes)))
+
+  reported_is : (n : ℕ) (input : List ℕ) → reported n input ≡ report_in n (outcomes_of [] (lines_of input))
+  unfolding reported
+  reported_is n input =
+      let why = refusals_are 0 [] (lines_of input) in
+      let taken = accepted_is [] (lines_of input) in
+      λ j. refused_text (why j) ++ report_of (map reported_row (rows_of n (taken j)))
+
+  pub report_meets : (n : ℕ) (input : List ℕ) → IsReported n input (reported n input)
+  report_meets n input = record {
+    outcomes = outcomes_of [] (lines_of input);
+    are = record { one_each = length-outcomes [] (lines_of input); each = each_is [] (lines_of input) };
+    printed = reported_is n input;
+  }
+
+  pub one_report : (n : ℕ) (input text : List ℕ) → IsReported n input text → text ≡ reported n input
+  one_report n input text is =
+      is.printed ∙ ap (report_in n) (one_list [] (lines_of input) is.outcomes is.are.one_each is.are.each) ∙ sym (reported_is n input)

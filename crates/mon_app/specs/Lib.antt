@@ -15,6 +15,7 @@ pub mod Question
 pub mod Reading
 pub mod Refusal
 pub mod Replay
+pub mod Reported
 pub mod Response
 pub mod Served
 pub mod Taken

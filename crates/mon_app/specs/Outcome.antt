@@ -36,11 +36,15 @@ abbrev pub refused_in : ℕ → List Outcome → List (ℕ × Refusal)
 refused_in k [] = []
 refused_in k (outcome ∷ outcomes) = refused (k + 1) outcome ++ refused_in (k + 1) outcomes
 
+-- these are the outcomes of lines: each after what the lines before it brought
+pub record AreOutcomes (lines : List (List ℕ)) (outcomes : List Outcome) : Type 0 where
+  pub one_each : length outcomes ≡ length lines
+  pub each : (k : ℕ) → k < length outcomes → IsOutcome (taken_by (take k outcomes)) (slice_index_or lines k []) (slice_index_or outcomes k None)
+
 -- The text is what windows of n samples keep of the input: each line has its outcome, after what the lines before it brought; the refused
 -- lines are named, and then each instance has the n newest of all samples that were taken of it.
 pub record IsReplay (n : ℕ) (input text : List ℕ) : Type 0 where
   pub outcomes : List Outcome
-  pub one_each : length outcomes ≡ length (lines_of input)
-  pub each : (k : ℕ) → k < length outcomes → IsOutcome (taken_by (take k outcomes)) (slice_index_or (lines_of input) k []) (slice_index_or outcomes k None)
+  pub are : AreOutcomes (lines_of input) outcomes
   pub printed : text ≡ refused_text (refused_in 0 outcomes) ++ flat_map row_text (rows_of n (taken_by outcomes))
       ++ end_line (length (rows_of n (taken_by outcomes))) (samples_in (rows_of n (taken_by outcomes))) (length (refused_in 0 outcomes))

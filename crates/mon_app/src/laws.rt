@@ -10,6 +10,7 @@ ghost use Rattle.mon_app.specs.Offer.{Offer};
 ghost use Rattle.mon_app.specs.Outcome.{IsReplay};
 ghost use Rattle.mon_app.specs.Reading.{hex_reading};
 ghost use Rattle.mon_app.specs.Replay.{replayed};
+ghost use Rattle.mon_app.specs.Reported.{IsReported, reported};
 
 /// A line says what reading it from left to right gives, and nothing else.
 pub fn readings()
@@ -20,10 +21,12 @@ pub fn readings()
     mon_pdu::laws::again();
 }
 
-/// What is printed follows from what the lines say, and from nothing else.
+/// What is printed follows from what the lines say, and from nothing else; so does the report.
 pub fn one_text()
     ensures meets { (n : ℕ) (input : List ℕ) → IsReplay n input (replayed n input) }
     ensures only { (n : ℕ) (input text : List ℕ) → IsReplay n input text → text ≡ replayed n input }
+    ensures report_meets { (n : ℕ) (input : List ℕ) → IsReported n input (reported n input) }
+    ensures only_report { (n : ℕ) (input text : List ℕ) → IsReported n input text → text ≡ reported n input }
 {
     readings();
 }

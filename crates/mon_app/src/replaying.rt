@@ -88,7 +88,7 @@ fn take_line(alloc: Global, table: &mut Table, line: &[u8]) -> Result<(), Refusa
 }
 
 /// Takes the lines in turn, writes why lines are refused, and counts these.
-fn take_lines(
+pub(crate) fn take_lines(
     alloc: Global,
     table: &mut Table,
     input: &[u8],

@@ -84,7 +84,7 @@ pub(crate) fn put_refused_line(
 }
 
 /// How many samples the rows hold.
-fn samples_in(rows: &[Row]) -> usize
+pub(crate) fn samples_in(rows: &[Row]) -> usize
     requires { length rows.now ≤ 256 }
     ensures { result ≡ samples_in rows.now }
 {

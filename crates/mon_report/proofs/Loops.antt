@@ -16,7 +16,7 @@ pub text-more : {X : Type 0} (f : X → List ℕ) (xs : List X) (i : ℕ) (d : X
     → AppendsIf a p b q (flat_map f (take i xs)) → AppendsIf b q c r (f (get_or xs i d)) → AppendsIf a p c r (flat_map f (take (i + 1) xs))
 text-more f xs i d a b c p q r lt h g =
     let one : flat_map f (take (i + 1) xs) ≡ flat_map f (take i xs) ++ f (get_or xs i d) =
-      ap (flat_map f) (take_more xs i d lt) ∙ flat_map-append f (take i xs) (get_or xs i d ∷ []) ∙ ap (λ t. flat_map f (take i xs) ++ t) (append-nil (f (get_or xs i d))) in
+    ap (flat_map f) (take_more xs i d lt) ∙ flat_map-append f (take i xs) (get_or xs i d ∷ []) ∙ ap (λ t. flat_map f (take i xs) ++ t) (append-nil (f (get_or xs i d))) in
     text-as a c p r _ _ (sym one) (text-then a b c p q r _ _ h g)
 
 -- two hex digits for each octet

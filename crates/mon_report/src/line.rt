@@ -132,7 +132,12 @@ fn put_stamps<W: Write>(writer: &mut W, ok: bool, oldest: &Sample, newest: &Samp
 
 /// Writes how many samples there are, their stamps, the newest one's value, and their totals.
 #[tactic(auto, unfolding(crate::specs::Report::window_text))]
-pub(crate) fn put_window<W: Write>(writer: &mut W, ok: bool, samples: &[Sample], totals: Totals) -> bool
+pub(crate) fn put_window<W: Write>(
+    writer: &mut W,
+    ok: bool,
+    samples: &[Sample],
+    totals: Totals,
+) -> bool
     requires totals { totals ≡ sums.totals samples.now }
     requires rated { 1000 * totals.delta < 2 ^ 128 }
     ensures { AppendsIf (W.contents writer.old) ok (W.contents writer.new) result (window_text samples.now) }

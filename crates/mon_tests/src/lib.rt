@@ -14,6 +14,8 @@ mod oid;
 #[cfg(test)]
 mod pdu;
 #[cfg(test)]
+mod report;
+#[cfg(test)]
 mod sample;
 #[cfg(test)]
 mod smi;

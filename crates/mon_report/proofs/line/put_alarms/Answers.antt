@@ -15,14 +15,14 @@ loop-rule-preserved g c =
       | then-instance w ↦
           let passes = same-number _ _ (sym c.instance.ensures ∙ w.if-instance.true) in
           rw (w.writer-is, w.ok-is) (text-more (text_where test text) c.args.rules.now c.loop-rule.rule-index item _ _ _ _ _ _ c.loop-rule-test.true c.loop-rule.invariant
-              (text-as _ _ _ _ _ _ (text_where-yes test text item _ c.rule-item.is passes) w.put_alarm-ok.ensures))
+          (text-as _ _ _ _ _ _ (text_where-yes test text item _ c.rule-item.is passes) w.put_alarm-ok.ensures))
       | else-instance w ↦
           let fails = other-number _ _ (λ e. w.if-instance.false (c.instance.ensures ∙ e)) in
           rw (w.writer-is, w.ok-is) (text-more (text_where test text) c.args.rules.now c.loop-rule.rule-index item _ _ _ _ _ _ c.loop-rule-test.true c.loop-rule.invariant
-              (text-as _ _ _ _ _ _ (text_where-not test text item _ c.rule-item.is fails) (text-none _ _)))
+          (text-as _ _ _ _ _ _ (text_where-not test text item _ c.rule-item.is fails) (text-none _ _)))
     ]
 
 pub returns : goal.returns
 returns g c =
     text-as _ _ _ _ _ _ (filter-each (λ r. r.instance == c.args.instance) (alarm_text c.args.samples.now) c.args.rules.now)
-      (text-all _ c.args.rules.now c.loop-rule.rule-index _ _ _ _ c.loop-rule-test.false c.loop-rule.invariant)
+    (text-all _ c.args.rules.now c.loop-rule.rule-index _ _ _ _ c.loop-rule-test.false c.loop-rule.invariant)

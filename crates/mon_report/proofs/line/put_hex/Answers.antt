@@ -9,4 +9,4 @@ loop-octet-preserved g c =
 pub returns : goal.returns
 returns g c =
     text-as _ _ _ _ _ _ (hex-each c.args.octets.now)
-      (text-all octet_text c.args.octets.now c.loop-octet.octet-index _ _ _ _ c.loop-octet-test.false c.loop-octet.invariant)
+    (text-all octet_text c.args.octets.now c.loop-octet.octet-index _ _ _ _ c.loop-octet-test.false c.loop-octet.invariant)

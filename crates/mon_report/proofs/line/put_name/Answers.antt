@@ -10,5 +10,5 @@ pub returns : goal.returns
 returns g c =
     let parts = c.parts.result.now in
     text-as _ _ _ _ _ _
-      (ap (λ n. decimal n ++ flat_map dot_text (take (length parts - 1) (drop 1 parts))) c.from.ensures ∙ dotted-split parts c.in-len1-up.len_at_least ∙ ap dotted c.parts.ensures.parts)
-      (text-then _ _ _ _ _ _ _ _ c.put_number-ok.ensures c.put_others.ensures)
+    (ap (λ n. decimal n ++ flat_map dot_text (take (length parts - 1) (drop 1 parts))) c.from.ensures ∙ dotted-split parts c.in-len1-up.len_at_least ∙ ap dotted c.parts.ensures.parts)
+    (text-then _ _ _ _ _ _ _ _ c.put_number-ok.ensures c.put_others.ensures)

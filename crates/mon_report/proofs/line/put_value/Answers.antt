@@ -11,4 +11,4 @@ returns g c =
     let kind = c.as_bytes.ensures.value ∙ c.name.ensures ∙ ap kind_name c.kind.ensures in
     let number = to_z-of_z w128 c.number.result (record { sfits = c.number.type_inv }) ∙ c.number.ensures in
     text-as _ _ _ _ _ _ (λ i. (kind i ++ codes "=") ++ signed_decimal (number i))
-      (text-then _ _ _ _ _ _ _ _ (text-then _ _ _ _ _ _ _ _ c.put-ok.ensures c.put-ok-2.ensures) c.put_signed.ensures)
+    (text-then _ _ _ _ _ _ _ _ (text-then _ _ _ _ _ _ _ _ c.put-ok.ensures c.put-ok-2.ensures) c.put_signed.ensures)

@@ -10,14 +10,14 @@ returns g c =
     let first = c.oldest-item.result in
     let last = c.index-samples-others.result in
     text-as _ _ _ _ _ _
-      ((λ i. (((((codes " n=" ++ decimal (length xs)) ++ codes " ") ++ stamps_text first last) ++ codes " ") ++ value_text last) ++ totals_text (c.requires.totals i))
-      ∙ range-is xs first last c.in-len1-up.len_at_least c.oldest-item.is c.index-samples-others.is)
-      (text-then _ _ _ _ _ _ _ _
-        (text-then _ _ _ _ _ _ _ _
-          (text-then _ _ _ _ _ _ _ _
-            (text-then _ _ _ _ _ _ _ _
-              (text-then _ _ _ _ _ _ _ _ (text-then _ _ _ _ _ _ _ _ c.put-ok.ensures c.put_number-ok.ensures) c.put-ok-2.ensures)
-              c.put_stamps-ok.ensures)
-            c.put-ok-3.ensures)
-          c.put_value-ok.ensures)
-        c.put_totals.ensures)
+    ((λ i. (((((codes " n=" ++ decimal (length xs)) ++ codes " ") ++ stamps_text first last) ++ codes " ") ++ value_text last) ++ totals_text (c.requires.totals i))
+    ∙ range-is xs first last c.in-len1-up.len_at_least c.oldest-item.is c.index-samples-others.is)
+    (text-then _ _ _ _ _ _ _ _
+    (text-then _ _ _ _ _ _ _ _
+    (text-then _ _ _ _ _ _ _ _
+    (text-then _ _ _ _ _ _ _ _
+    (text-then _ _ _ _ _ _ _ _ (text-then _ _ _ _ _ _ _ _ c.put-ok.ensures c.put_number-ok.ensures) c.put-ok-2.ensures)
+    c.put_stamps-ok.ensures)
+    c.put-ok-3.ensures)
+    c.put_value-ok.ensures)
+    c.put_totals.ensures)

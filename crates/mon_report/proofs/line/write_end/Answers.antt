@@ -6,7 +6,7 @@ pub returns : goal.returns
 unfolding end_line
 returns g c =
     text-then _ _ _ _ _ _ _ _
-      (text-then _ _ _ _ _ _ _ _
-        (text-then _ _ _ _ _ _ _ _ (text-then _ _ _ _ _ _ _ _ c.put-ok.ensures c.put_number-ok.ensures) c.put-ok-2.ensures)
-        c.put_number-ok-2.ensures)
-      c.put.ensures
+    (text-then _ _ _ _ _ _ _ _
+    (text-then _ _ _ _ _ _ _ _ (text-then _ _ _ _ _ _ _ _ c.put-ok.ensures c.put_number-ok.ensures) c.put-ok-2.ensures)
+    c.put_number-ok-2.ensures)
+    c.put.ensures

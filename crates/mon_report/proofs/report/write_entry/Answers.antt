@@ -6,9 +6,9 @@ pub returns : goal.returns
 unfolding entry_line
 returns g c =
     rw (← c.entry.view_is) (text-then _ _ _ _ _ _ _ _
-      (text-then _ _ _ _ _ _ _ _
-        (text-then _ _ _ _ _ _ _ _
-          (text-then _ _ _ _ _ _ _ _ (text-then _ _ _ _ _ _ _ _ c.put_hex-ok.ensures c.put-ok.ensures) c.put_name-ok.ensures)
-          c.put_window-ok.ensures)
-        c.put_alarms-ok.ensures)
-      c.put.ensures)
+    (text-then _ _ _ _ _ _ _ _
+    (text-then _ _ _ _ _ _ _ _
+    (text-then _ _ _ _ _ _ _ _ (text-then _ _ _ _ _ _ _ _ c.put_hex-ok.ensures c.put-ok.ensures) c.put_name-ok.ensures)
+    c.put_window-ok.ensures)
+    c.put_alarms-ok.ensures)
+    c.put.ensures)

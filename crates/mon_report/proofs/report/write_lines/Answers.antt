@@ -24,7 +24,7 @@ loop-i-preserved g c =
     let there : item ≡ get_or all at item = c.watched-item.is ∙ ap (λ l. get_or l at item) watched in
     let same = ap (entry_of rules (window_of board) at) there ∙ sym (get_or-first rules (window_of board) all at own item inside) in
     text-more entry_line (entries_from rules (window_of board) 0 all) at own (g.W.Write.contents c.args.writer.now) (g.W.Write.contents c.loop-i.writer) _ true c.loop-i.ok _ (omega (arith, inside, number)) c.loop-i.invariant
-      (text-as _ _ _ _ _ _ (ap entry_line same) c.write_line-ok.ensures)
+    (text-as _ _ _ _ _ _ (ap entry_line same) c.write_line-ok.ensures)
 
 pub returns : goal.returns
 returns g c =
@@ -34,4 +34,4 @@ returns g c =
     let watched = c.instances-watched-items.ensures.instances ∙ ap (λ w. w.instances) c.watch.ensures.watch in
     let number = length-entries rules (window_of board) 0 all in
     text-all entry_line (entries_from rules (window_of board) 0 all) c.loop-i.i (g.W.Write.contents c.args.writer.now) (g.W.Write.contents c.loop-i.writer) true c.loop-i.ok
-      (omega (arith, c.loop-i-test.false, ap length watched, number)) c.loop-i.invariant
+    (omega (arith, c.loop-i-test.false, ap length watched, number)) c.loop-i.invariant

@@ -15,8 +15,8 @@ returns-then-write_end g c =
     let watched = c.instances.ensures.instances ∙ ap (λ w. w.instances) c.watch.ensures.watch in
     let number = ap length watched ∙ sym (length-entries rules (window_of board) 0 all) in
     subst (λ b. AppendsIf (g.W.Write.contents c.args.writer.now) true (g.W.Write.contents c.write_end.new.writer) b (report board.watch (window_of board))) c.if-write_end.true
-      (text-then (g.W.Write.contents c.args.writer.now) (g.W.Write.contents c.write_lines-ok.new.writer) (g.W.Write.contents c.write_end.new.writer)
-        true c.write_lines-ok.result c.write_end.result _ _ c.write_lines-ok.ensures (text-as _ _ _ _ _ _ (λ i. end_line (number i) (c.count_samples.ensures i)) c.write_end.ensures))
+    (text-then (g.W.Write.contents c.args.writer.now) (g.W.Write.contents c.write_lines-ok.new.writer) (g.W.Write.contents c.write_end.new.writer)
+    true c.write_lines-ok.result c.write_end.result _ _ c.write_lines-ok.ensures (text-as _ _ _ _ _ _ (λ i. end_line (number i) (c.count_samples.ensures i)) c.write_end.ensures))
 
 pub returns-else-write_end : goal.returns-else-write_end
 unfolding report_of
@@ -27,5 +27,5 @@ returns-else-write_end g c =
     let watched = c.instances.ensures.instances ∙ ap (λ w. w.instances) c.watch.ensures.watch in
     let number = ap length watched ∙ sym (length-entries rules (window_of board) 0 all) in
     subst (λ b. AppendsIf (g.W.Write.contents c.args.writer.now) true (g.W.Write.contents c.write_end.new.writer) b (report board.watch (window_of board))) c.if-write_end.false
-      (text-then (g.W.Write.contents c.args.writer.now) (g.W.Write.contents c.write_lines-ok.new.writer) (g.W.Write.contents c.write_end.new.writer)
-        true c.write_lines-ok.result c.write_end.result _ _ c.write_lines-ok.ensures (text-as _ _ _ _ _ _ (λ i. end_line (number i) (c.count_samples.ensures i)) c.write_end.ensures))
+    (text-then (g.W.Write.contents c.args.writer.now) (g.W.Write.contents c.write_lines-ok.new.writer) (g.W.Write.contents c.write_end.new.writer)
+    true c.write_lines-ok.result c.write_end.result _ _ c.write_lines-ok.ensures (text-as _ _ _ _ _ _ (λ i. end_line (number i) (c.count_samples.ensures i)) c.write_end.ensures))
