@@ -17,7 +17,7 @@ use mon_mib::{FuseDevice, Moment, SimDevice};
 use mon_oid::Oid;
 use mon_settings::{AgentSettings, read_agent};
 use mon_smi::Names;
-use std::alloc::Global;
+use std::alloc::{AllocError, Global};
 use std::fs::File;
 use std::io::Write;
 use std::net::{Ipv4Addr, Net, SocketAddrV4};
@@ -97,8 +97,8 @@ fn run<R: Clock + Files + Net + Input + Print + Eprint + AllocGlobal>(
         Some(("agent", words)) => agent(rt, words),
         Some(("answer", words)) => answer(rt, words),
         Some(("mib", words)) => mib(rt, words),
-        Some((_, words)) => replay(rt, size_of(words)),
-        None => replay(rt, USUAL_SIZE),
+        Some((_, words)) => replay(rt, size_of(words), words.get_flag("report")),
+        None => replay(rt, USUAL_SIZE, false),
     }
 }
 
@@ -109,14 +109,25 @@ fn size_of(words: &ArgMatches<'_>) -> u8
     words.get_one::<u8>("N").unwrap_or(USUAL_SIZE).clamp(1, 64)
 }
 
-/// Prints the windows of the responses on standard input.
-fn replay<R: Input + Print + AllocGlobal>(rt: &R, size: u8) -> Result<(), Fault>
+/// Prints the windows of the responses on standard input, or their report.
+fn replay<R: Input + Print + AllocGlobal>(rt: &R, size: u8, report: bool) -> Result<(), Fault>
     requires { (1 ≤ size) × (size ≤ 64) }
 {
     let input = read_all(rt.alloc(), &mut Counted::new(rt.reader()))?;
-    let text = mon_app::replay(rt.alloc(), usize::from(size), &input)?;
+    let text = replayed(rt.alloc(), usize::from(size), &input, report)?;
     io::writer(rt).write_all(&text)?;
     Ok(())
+}
+
+/// What a replay prints.
+fn replayed(alloc: Global, size: usize, input: &[u8], report: bool) -> Result<Vec<u8>, AllocError>
+    requires { (1 ≤ size) × (size ≤ 64) }
+{
+    if report {
+        mon_app::replay_report(alloc, size, input)
+    } else {
+        mon_app::replay(alloc, size, input)
+    }
 }
 
 /// Asks the agent that the words name, and prints its answer.

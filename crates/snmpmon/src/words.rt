@@ -1,7 +1,7 @@
 //! The command line.
 
 use clap::builder::ValueRange;
-use clap::{Arg, Command, value_parser};
+use clap::{Arg, ArgAction, Command, value_parser};
 use mon_app::KINDS;
 use std::alloc::{AllocError, Global};
 
@@ -33,19 +33,34 @@ its number and the reason, and changes nothing:
 
 A sample is printed as BOOTS TIME MARK KIND VALUE, the oldest first.
 
-Example: snmpmon replay 8 < examples/three-responses.hex";
+With --report each instance has one line instead: ENGINE NAME n=COUNT, the stamps BOOTS:TIME of its oldest and its newest
+sample, the newest value, and for a counter what it counted from each sample to the next (delta), in how many seconds
+(span), and delta / span, a second (rate). A gap across a restart of the agent counts nothing.
+
+  8000000001 1.3.6.1.2.1.2.2.1.10.1 n=3 3:100..3:110 Counter32=9 delta=2 span=10 rate=0.200
+
+Examples: snmpmon replay 8 < examples/three-responses.hex
+          snmpmon replay 8 --report < examples/three-responses.hex";
 
 const SIZE: &str = "How many samples a window keeps, 1 to 64";
+
+const REPORT: &str =
+    "Prints a line for each instance, with deltas, seconds and rates, in place of its samples";
 
 fn replay<'a>(alloc: Global) -> Result<Command<'a>, AllocError> {
     let size = Arg::new(alloc, "N")
         .required(true)
         .value_parser(value_parser!(u8).range(1..=64))
         .help(SIZE);
+    let report = Arg::new(alloc, "report")
+        .long("report")
+        .action(ArgAction::SetTrue)
+        .help(REPORT);
     Command::new(alloc, "replay")
         .about(REPLAY)
         .long_about(REPLAY_MORE)
-        .arg(size)
+        .arg(size)?
+        .arg(report)
 }
 
 const GET: &str = "Asks an agent for variables by their names (GetRequest)";
