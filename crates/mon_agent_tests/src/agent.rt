@@ -1,6 +1,6 @@
 //! An agent's answer to one datagram. What it answers to others is in the rows of tests/answer.
 
-use crate::small_agent::{GET, RESPONSE, TEXT, agent, moment};
+use crate::small_agent::{TEXT, agent, moment};
 use mon_agent::{Agent, AgentFault, Reply, Silence};
 use mon_mib::{Counter, Device, Moment, SimDevice, SysText};
 use std::alloc::Global;
@@ -24,15 +24,6 @@ fn sent(reply: &Reply) -> &[u8] {
     }
 }
 
-/// What an agent does at its start about a datagram in hex digits: its reply in hex digits, or why there is none.
-fn heard(alloc: Global, agent: &mut Agent<SimDevice>, datagram: &str) -> Result<String, Fail> {
-    let datagram = hex::decode(alloc, datagram)?;
-    match answer(alloc, agent, datagram.as_slice(), moment(0)?)? {
-        Reply::Send(octets) => Ok(hex::encode(alloc, octets.as_slice())?),
-        Reply::Silent(cause) => Ok(format!(in alloc; "{cause:?}")?),
-    }
-}
-
 /// What an agent answers to a datagram, which comes again where memory was wanting the first time; and whether the agent had counted
 /// nothing then.
 fn answer_again(
@@ -48,37 +39,28 @@ fn answer_again(
     Ok((answer(alloc, agent, datagram, moment(0)?)?, same))
 }
 
-#[test]
-fn assigns_on_a_repeat(rt: HostRuntime) -> Result<(), Fail> {
-    let alloc = rt.alloc();
+/// Whether an agent had counted nothing where memory was wanting; what it sent, in hex digits, how many messages it has counted, and the
+/// name that it has then.
+fn assigned(alloc: Global, set: &str) -> Result<String, Fail> {
     let mut agent = agent(alloc, TEXT)?;
-    // sysName.0 as `x`.
-    let set = hex::decode(
-        alloc,
-        "3028020101040770726976617465a31a020107020100020100300f300d06082b06010201010500040178",
-    )?;
-    let reply = hex::decode(
-        alloc,
-        "3028020101040770726976617465a21a020107020100020100300f300d06082b06010201010500040178",
-    )?;
+    let set = hex::decode(alloc, set)?;
     let (answered, same) = answer_again(alloc, &mut agent, set.as_slice())?;
-    assert!(rt; same, "it counted what it did not answer");
-    assert_eq!(rt; sent(&answered), reply.as_slice());
-    assert_eq!(rt; agent.mib.counters.value(Counter::InPackets), 1);
-    assert_eq!(rt;
-        agent.mib.device.sys_text(SysText::SystemName),
-        b"x".as_slice()
-    );
-    Ok(())
+    let reply = hex::encode(alloc, sent(&answered))?;
+    let counted = agent.mib.counters.value(Counter::InPackets);
+    let name = hex::encode(alloc, agent.mib.device.sys_text(SysText::SystemName))?;
+    Ok(format!(in alloc; "{same} {reply} {counted} {name}")?)
 }
 
+/// sysName.0 as `x`.
+const SET: &str =
+    "3028020101040770726976617465a31a020107020100020100300f300d06082b06010201010500040178";
+
 #[test]
-fn gets_sys_name(rt: HostRuntime) -> Result<(), Fail> {
-    let mut agent = agent(rt.alloc(), TEXT)?;
-    let found = heard(rt.alloc(), &mut agent, GET)?;
-    assert_eq!(rt; found.as_str(), RESPONSE);
-    assert_eq!(rt; agent.mib.counters.value(Counter::InPackets), 1);
-    assert_eq!(rt; agent.mib.counters.value(Counter::SilentDrops), 0);
+fn assigns_on_a_repeat(rt: HostRuntime) -> Result<(), Fail> {
+    assert_eq!(rt;
+        assigned(rt.alloc(), SET)?.as_str(),
+        "true 3028020101040770726976617465a21a020107020100020100300f300d06082b06010201010500040178 1 78"
+    );
     Ok(())
 }
 

@@ -60,14 +60,6 @@ out_octets = { start = 0, rate = 0 }
 out_packets = { start = 0, rate = 0 }
 "#;
 
-/// A Get of sysName.0 in the community `public` under request-id 7.
-pub(crate) const GET: &str =
-    "302602010104067075626c6963a019020107020100020100300e300c06082b060102010105000500";
-
-/// The agent's Response to it.
-pub(crate) const RESPONSE: &str =
-    "302802010104067075626c6963a21b0201070201000201003010300e06082b0601020101050004027231";
-
 // These have no clauses, which a test's proof needn't carry.
 
 pub(crate) fn settings(alloc: Global, text: &str) -> Result<AgentSettings, SettingsFault> {
