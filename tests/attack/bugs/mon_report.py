@@ -19,4 +19,6 @@ BUGS = {
     "name_before_engine": ("src/report.rt", "let ok = put_hex(writer, ok, entry.engine);", "let ok = put_name(writer, ok, entry.name);"),
     "no_rules": ("src/report.rt", "let rules = board.watch().rules();", "let rules = &board.watch().rules()[..0];"),
     "end_without_a_line": ("src/line.rt", 'put(writer, ok, b" samples\\n")', 'put(writer, ok, b" samples")'),
+    "alarms_of_later_instances": ("src/line.rt", "rule.instance() == instance", "rule.instance() >= instance"),
+    "counts_instances_as_samples": ("src/report.rt", "count += board.items(i as u16).len() as u64;", "count += (board.items(i as u16).len() as u64).min(1);"),
 }
