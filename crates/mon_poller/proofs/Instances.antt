@@ -18,7 +18,8 @@ use Rattle.mon_poller.specs.declared.target.Target.{Target}
 use Rattle.mon_poller.specs.Gives.{◌>>=◌, need}
 use Rattle.mon_poller.specs.Polls.{Open, Poll}
 use Rattle.mon_poller.specs.Target.{poll_names, no_target, target_at}
-use Rattle.mon_poller.specs.Verdict.{Stamp, object_offers, sample_of, bindings_for, stamp_and_others, have_names, no_error, target_offers, poll_answer, awaited, response_verdict, to_offered}
+use Rattle.mon_poller.specs.Stamp.{Stamp}
+use Rattle.mon_poller.specs.Verdict.{object_offers, sample_of, bindings_for, stamp_and_others, have_names, no_error, target_offers, poll_answer, awaited, response_verdict, to_offered}
 
 -- what two steps give, the first gave something
 bind_ok : {A B : Type 0} (x : Result A ResponseFault) (f : A → Result B ResponseFault) (y : B) → x >>= f ≡ Ok y → (a : A) × (f a ≡ Ok y)

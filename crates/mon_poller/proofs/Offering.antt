@@ -4,7 +4,8 @@ use Rattle.std.specs.Option.{option_map, option_to_list}
 use Rattle.std.proofs.Math.Seq.{drop-cons}
 use Rattle.mon_pdu.specs.declared.message.Binding.{Binding}
 use Rattle.mon_poller.specs.declared.target.Object.{Object}
-use Rattle.mon_poller.specs.Verdict.{Stamp, object_offers, sample_of, bindings_for}
+use Rattle.mon_poller.specs.Stamp.{Stamp}
+use Rattle.mon_poller.specs.Verdict.{object_offers, sample_of, bindings_for}
 
 module _ (stamp : Stamp) where
   -- what is offered of an object, if it is anything

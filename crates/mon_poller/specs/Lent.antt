@@ -1,6 +1,6 @@
 -- What a stamp that is lent shows.
 use Rattle.mon_poller.specs.declared.lent.Stamp.{Stamp as Lent}
-use Rattle.mon_poller.specs.Verdict.{Stamp}
+use Rattle.mon_poller.specs.Stamp.{Stamp}
 
 -- its values
 abbrev pub lent_stamp : Lent → Stamp

@@ -18,6 +18,12 @@ engine_boots_name = 1 ∷ 3 ∷ 6 ∷ 1 ∷ 6 ∷ 3 ∷ 10 ∷ 2 ∷ 1 ∷ 2 ∷
 abbrev pub engine_time_name : List ℕ
 engine_time_name = 1 ∷ 3 ∷ 6 ∷ 1 ∷ 6 ∷ 3 ∷ 10 ∷ 2 ∷ 1 ∷ 3 ∷ 0 ∷ []
 
+-- whose response it is, and when it was made
+pub record Stamp : Type 0 where
+  pub engine : List ℕ
+  pub boots : ℕ
+  pub time : ℕ
+
 -- the octets of an OCTET STRING
 abbrev pub octets_in : Value → Option (List ℕ)
 octets_in (Octets o) = Some o

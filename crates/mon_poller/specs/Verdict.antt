@@ -28,7 +28,7 @@ use Rattle.mon_poller.specs.declared.target.Target.{Target}
 use Rattle.mon_poller.specs.Fault.{response_number}
 use Rattle.mon_poller.specs.Gives.{◌>>=◌, or_refuse, need}
 use Rattle.mon_poller.specs.Polls.{Poll, Open, Polls, poll_of, closed_by}
-use Rattle.mon_poller.specs.Stamp.{octets_in, stamp_number, sampled, mark_in}
+use Rattle.mon_poller.specs.Stamp.{Stamp, octets_in, stamp_number, sampled, mark_in}
 use Rattle.mon_poller.specs.Target.{poll_names, poll_octets, target_at}
 
 -- the request-id under which a poll starts, or the first reason why it does not
@@ -70,12 +70,6 @@ have_names (n ∷ ns) (b ∷ bs) = bytes_eq n b.name && have_names ns bs
 abbrev pub have_after : List (List ℕ) → Option (List Binding) → Bool
 have_after names None = false
 have_after names (Some bindings) = have_names names bindings
-
--- whose response it is, and when it was made
-pub record Stamp : Type 0 where
-  pub engine : List ℕ
-  pub boots : ℕ
-  pub time : ℕ
 
 -- the stamp of these values
 unfoldable pub stamp_of_values : Value → Value → Value → Result Stamp ResponseFault
