@@ -131,10 +131,10 @@ BUGS = {
         "const LAST_ID: u32 = 2147483647;",
         "const LAST_ID: u32 = 2147483646;",
     ),
-    "a_resend_is_not_counted": (
+    "a_resend_counts_twice": (
         "src/poller.rt",
-        "        self.polls[key].sends += 1;\n",
-        "",
+        "        self.polls[key].sends += 1;",
+        "        self.polls[key].sends += 2;",
     ),
     "given_up_and_still_open": (
         "src/poller.rt",
@@ -175,5 +175,10 @@ BUGS = {
         "src/target.rt",
         "            mark,\n",
         "            mark: None,\n",
+    ),
+    "reads_another_port": (
+        "src/addr.rt",
+        "                port: address.port(),",
+        "                port: if address.port() == 161 { 162 } else { address.port() },",
     ),
 }
