@@ -18,7 +18,7 @@ engine_boots_name = 1 ∷ 3 ∷ 6 ∷ 1 ∷ 6 ∷ 3 ∷ 10 ∷ 2 ∷ 1 ∷ 2 ∷
 abbrev pub engine_time_name : List ℕ
 engine_time_name = 1 ∷ 3 ∷ 6 ∷ 1 ∷ 6 ∷ 3 ∷ 10 ∷ 2 ∷ 1 ∷ 3 ∷ 0 ∷ []
 
--- whose response it is, and when it was made
+-- whose response it is, and when it was made: snmpEngineID, snmpEngineBoots and snmpEngineTime (RFC 3411 section 5)
 pub record Stamp : Type 0 where
   pub engine : List ℕ
   pub boots : ℕ
