@@ -16,7 +16,8 @@ use Rattle.mon_pdu.specs.declared.message.Binding.{Binding}
 use Rattle.mon_window.specs.Top.{rising}
 use Rattle.mon_window.proofs.Promised.{insert-known, contains-rising, from_list-rising, len-rising, len_within}
 use Rattle.mon_app.specs.declared.instance.Instance.{Instance}
-use Rattle.mon_app.specs.Offer.{Offer, Stamp}
+use Rattle.mon_poller.specs.Stamp.{Stamp}
+use Rattle.mon_app.specs.Offer.{Offer}
 use Rattle.mon_app.specs.declared.table.Row.{Row}
 use Rattle.mon_app.specs.Find.{Finds, instances_of}
 use Rattle.mon_app.specs.Instance.{instance_cmp, named}

@@ -25,8 +25,9 @@ use Rattle.mon_app.specs.declared.refusal.Refusal.{Refusal}
 use Rattle.mon_app.specs.declared.refusal.Refusal.TheVariants.{OutOfMemory, BadHex, BadMessage, NotAResponse, AgentError, BadStamp, TooManyInstances}
 use Rattle.mon_app.specs.Gives.{◌>>=◌, or_refuse}
 use Rattle.mon_app.specs.Line.{Holds, IsResponse, IsStamped, IsNoMessage, Says}
-use Rattle.mon_app.specs.Offer.{Offer, Stamp}
-use Rattle.mon_app.specs.Reading.{engine_id, engine_boots, engine_time, engine_in, number_in, engine_of, number_at, stamp_of, response_of, is_zero, body_reading, message_in, message_reading, hex_reading, offers_of}
+use Rattle.mon_poller.specs.Stamp.{Stamp, engine_id_name, engine_boots_name, engine_time_name}
+use Rattle.mon_app.specs.Offer.{Offer}
+use Rattle.mon_app.specs.Reading.{engine_in, number_in, engine_of, number_at, stamp_of, response_of, is_zero, body_reading, message_in, message_reading, hex_reading, offers_of}
 
 -- ---- octets that hex digits stand for
 octets_all : (xs : List ℕ) → IsBytes xs → (k d : ℕ) → k < length xs → get_or xs k d < 256
@@ -158,17 +159,17 @@ module _ {A : Type 0} (read : Value → Result A Refusal) (name : List ℕ) (b :
         | false ↦ λ g. cc
       ] h
 
-engine_takes : (b : Binding) (engine : List ℕ) → engine_of b ≡ Ok engine → (b.name ≡ engine_id) × (engine_in b.value ≡ Ok engine)
+engine_takes : (b : Binding) (engine : List ℕ) → engine_of b ≡ Ok engine → (b.name ≡ engine_id_name) × (engine_in b.value ≡ Ok engine)
 unfolding engine_of
-engine_takes b engine h = named_takes engine_in engine_id b engine h
+engine_takes b engine h = named_takes engine_in engine_id_name b engine h
 
-engine_again : (b : Binding) (engine : List ℕ) → b.name ≡ engine_id → engine_in b.value ≡ Ok engine → engine_of b ≡ Ok engine
+engine_again : (b : Binding) (engine : List ℕ) → b.name ≡ engine_id_name → engine_in b.value ≡ Ok engine → engine_of b ≡ Ok engine
 unfolding engine_of
-engine_again b engine same h = named_again engine_in engine_id b engine same h
+engine_again b engine same h = named_again engine_in engine_id_name b engine same h
 
 engine_fails : (b : Binding) (e : Refusal) → engine_of b ≡ Err e → e ≡ BadStamp
 unfolding engine_of
-engine_fails b e h = named_fails engine_in engine_id b (engine_in_fails b.value) e h
+engine_fails b e h = named_fails engine_in engine_id_name b (engine_in_fails b.value) e h
 
 number_takes : (name : List ℕ) (b : Binding) (n : ℕ) → number_at name b ≡ Ok n → (b.name ≡ name) × (b.value ≡ Integer (pos n))
 unfolding number_at
@@ -186,13 +187,13 @@ stamp_takes : (first second third : Binding) (stamp : Stamp) (others : List Bind
 unfolding stamp_of
 stamp_takes first second third stamp others h =
     let engine = bind_ok (engine_of first) _ stamp h in
-    let boots = bind_ok (number_at engine_boots second) _ stamp engine.2 in
-    let time = bind_ok (number_at engine_time third) _ stamp boots.2 in
+    let boots = bind_ok (number_at engine_boots_name second) _ stamp engine.2 in
+    let time = bind_ok (number_at engine_time_name third) _ stamp boots.2 in
     let is : record { engine = engine.0; boots = boots.0; time = time.0 } ≡ stamp = (let made : Stamp = record { engine = engine.0; boots = boots.0; time = time.0 } in ok_is made stamp time.2) in
     let e = engine_takes first engine.0 engine.1 in
     let v = engine_in_takes first.value engine.0 e.1 in
-    let b = number_takes engine_boots second boots.0 boots.1 in
-    let t = number_takes engine_time third time.0 time.1 in
+    let b = number_takes engine_boots_name second boots.0 boots.1 in
+    let t = number_takes engine_time_name third time.0 time.1 in
     record {
       first = first;
       second = second;
@@ -214,11 +215,11 @@ stamp_fails first second third e h =
     elim (bind_err (engine_of first) _ e h) [
       | inl bad ↦ engine_fails first e bad
       | inr engine ↦
-          elim (bind_err (number_at engine_boots second) _ e engine.2) [
-            | inl bad ↦ number_fails engine_boots second e bad
+          elim (bind_err (number_at engine_boots_name second) _ e engine.2) [
+            | inl bad ↦ number_fails engine_boots_name second e bad
             | inr boots ↦
-                elim (bind_err (number_at engine_time third) _ e boots.2) [
-                  | inl bad ↦ number_fails engine_time third e bad
+                elim (bind_err (number_at engine_time_name third) _ e boots.2) [
+                  | inl bad ↦ number_fails engine_time_name third e bad
                   | inr time ↦ cc time.2
                 ]
           ]
@@ -243,8 +244,8 @@ response_again : (bindings : List Binding) (stamp : Stamp) (others : List Bindin
 unfolding response_of stamp_of
 response_again bindings stamp others is =
     let engine : engine_of is.first ≡ Ok stamp.engine = engine_again is.first stamp.engine is.engine_named (ap engine_in is.engine_is ∙ engine_in_again stamp.engine is.engine_long is.engine_short) in
-    let boots : number_at engine_boots is.second ≡ Ok stamp.boots = number_again engine_boots is.second stamp.boots is.boots_named is.boots_is in
-    let time : number_at engine_time is.third ≡ Ok stamp.time = number_again engine_time is.third stamp.time is.time_named is.time_is in
+    let boots : number_at engine_boots_name is.second ≡ Ok stamp.boots = number_again engine_boots_name is.second stamp.boots is.boots_named is.boots_is in
+    let time : number_at engine_time_name is.third ≡ Ok stamp.time = number_again engine_time_name is.third stamp.time is.time_named is.time_is in
     ap response_of is.whole ∙ (rw (engine, boots, time) refl)
 
 response_fails : (bindings : List Binding) (e : Refusal) → response_of bindings ≡ Err e → e ≡ BadStamp

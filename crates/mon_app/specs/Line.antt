@@ -10,8 +10,9 @@ use Rattle.mon_pdu.specs.declared.message.PduKind.TheVariants.{Response}
 use Rattle.mon_pdu.specs.Grammar.{BeginsWithMessage}
 use Rattle.mon_app.specs.declared.refusal.Refusal.{Refusal}
 use Rattle.mon_app.specs.declared.refusal.Refusal.TheVariants.{OutOfMemory, BadHex, BadMessage, NotAResponse, AgentError, BadStamp, TooManyInstances}
-use Rattle.mon_app.specs.Offer.{Offer, Stamp}
-use Rattle.mon_app.specs.Reading.{engine_id, engine_boots, engine_time, offers_of}
+use Rattle.mon_poller.specs.Stamp.{Stamp, engine_id_name, engine_boots_name, engine_time_name}
+use Rattle.mon_app.specs.Offer.{Offer}
+use Rattle.mon_app.specs.Reading.{offers_of}
 
 -- The text is pairs of hex digits, in either case, for octets that begin with a spelling of the message.
 pub record Holds (text : List ℕ) (m : Message) : Type 0 where
@@ -30,13 +31,13 @@ pub record IsStamped (bindings : List Binding) (stamp : Stamp) (others : List Bi
   pub second : Binding
   pub third : Binding
   pub whole : bindings ≡ first ∷ second ∷ third ∷ others
-  pub engine_named : first.name ≡ engine_id
+  pub engine_named : first.name ≡ engine_id_name
   pub engine_is : first.value ≡ values.Octets stamp.engine
   pub engine_long : 5 ≤ length stamp.engine
   pub engine_short : length stamp.engine ≤ 32
-  pub boots_named : second.name ≡ engine_boots
+  pub boots_named : second.name ≡ engine_boots_name
   pub boots_is : second.value ≡ values.Integer (pos stamp.boots)
-  pub time_named : third.name ≡ engine_time
+  pub time_named : third.name ≡ engine_time_name
   pub time_is : third.value ≡ values.Integer (pos stamp.time)
 
 -- The text is a stamped response without an error, and brings these samples.

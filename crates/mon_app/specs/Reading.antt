@@ -1,12 +1,10 @@
 -- What a line offers, or why it is refused.
 use Rattle.std.specs.Prelude.{ℕ, ℤ, pos, negsuc, List, [], ◌∷◌, length, Option, Some, None, Result, Ok, Err, nat_le, ◌==◌, ◌&&◌, if◌then◌else◌, Bool, false}
-use Rattle.std.specs.Int.{w64, cast_unsigned}
 use Rattle.std.specs.List.{filter_map}
 use Rattle.std.specs.Option.{option_map}
 use Rattle.std.specs.Str.{bytes_eq}
 use Rattle.hex.specs.Hex.{decode_of}
 use Rattle.mon_ber.specs.declared.value.Value.{Value}
-use Rattle.mon_ber.specs.declared.value.Value.TheVariants.{Integer, Octets, Counter32, Gauge32, TimeTicks, Counter64}
 use Rattle.mon_pdu.specs.declared.message.Binding.{Binding}
 use Rattle.mon_pdu.specs.declared.message.Body.{Body}
 use Rattle.mon_pdu.specs.declared.message.Body.TheVariants.{Pdu, Bulk}
@@ -15,40 +13,36 @@ use Rattle.mon_pdu.specs.declared.message.PduKind.TheVariants as pdu
 use Rattle.mon_pdu.specs.Reading.{message_at}
 use Rattle.mon_pdu.specs.Kinds.{octet_of}
 use Rattle.mon_sample.specs.declared.kind.Kind.{Kind}
-use Rattle.mon_sample.specs.declared.kind.Kind.TheVariants as kinds
 use Rattle.mon_sample.specs.Kind.{kind_tag}
 use Rattle.mon_sample.specs.Key.{key}
 use Rattle.mon_app.specs.Instance.{named}
-use Rattle.mon_app.specs.Offer.{Offer, Stamp}
+use Rattle.mon_poller.specs.Stamp.{Stamp, engine_id_name, engine_boots_name, engine_time_name, octets_in, stamp_number, sampled}
+use Rattle.mon_app.specs.Offer.{Offer}
 use Rattle.mon_app.specs.declared.refusal.Refusal.{Refusal}
 use Rattle.mon_app.specs.declared.refusal.Refusal.TheVariants.{BadHex, BadMessage, NotAResponse, AgentError, BadStamp}
 use Rattle.mon_app.specs.Gives.{◌>>=◌, or_refuse}
 
--- snmpEngineID.0 (RFC 3411 section 5)
-abbrev pub engine_id : List ℕ
-engine_id = 1 ∷ 3 ∷ 6 ∷ 1 ∷ 6 ∷ 3 ∷ 10 ∷ 2 ∷ 1 ∷ 1 ∷ 0 ∷ []
+-- what a value of the stamp is, else the refusal of the stamp
+abbrev pub or_bad_stamp : {A : Type 0} → Option A → Result A Refusal
+or_bad_stamp (Some x) = Ok x
+or_bad_stamp None = Err BadStamp
 
--- snmpEngineBoots.0 (RFC 3411 section 5)
-abbrev pub engine_boots : List ℕ
-engine_boots = 1 ∷ 3 ∷ 6 ∷ 1 ∷ 6 ∷ 3 ∷ 10 ∷ 2 ∷ 1 ∷ 2 ∷ 0 ∷ []
+-- an engine id has 5 to 32 octets
+abbrev pub engine_id_of : Option (List ℕ) → Result (List ℕ) Refusal
+engine_id_of (Some o) = if nat_le 5 (length o) && nat_le (length o) 32 then Ok o else Err BadStamp
+engine_id_of None = Err BadStamp
 
--- snmpEngineTime.0 (RFC 3411 section 5)
-abbrev pub engine_time : List ℕ
-engine_time = 1 ∷ 3 ∷ 6 ∷ 1 ∷ 6 ∷ 3 ∷ 10 ∷ 2 ∷ 1 ∷ 3 ∷ 0 ∷ []
-
--- an engine is an octet string of 5 to 32 octets
+-- the engine id that a value is: an octet string
 abbrev pub engine_in : Value → Result (List ℕ) Refusal
-engine_in (Octets o) = if nat_le 5 (length o) && nat_le (length o) 32 then Ok o else Err BadStamp
-engine_in _ = Err BadStamp
+engine_in v = engine_id_of (octets_in v)
 
--- boots and time are integers, none of them negative
+-- the boots or the time that a value is: an integer that is not negative
 abbrev pub number_in : Value → Result ℕ Refusal
-number_in (Integer (pos n)) = Ok n
-number_in _ = Err BadStamp
+number_in v = or_bad_stamp (stamp_number v)
 
 -- the engine that a binding names
 unfoldable pub engine_of : Binding → Result (List ℕ) Refusal
-engine_of b = if bytes_eq b.name engine_id then engine_in b.value else Err BadStamp
+engine_of b = if bytes_eq b.name engine_id_name then engine_in b.value else Err BadStamp
 
 -- the number that a binding has for the object of this name
 unfoldable pub number_at : List ℕ → Binding → Result ℕ Refusal
@@ -58,18 +52,9 @@ number_at name b = if bytes_eq b.name name then number_in b.value else Err BadSt
 unfoldable pub stamp_of : Binding → Binding → Binding → Result Stamp Refusal
 stamp_of first second third = do
   engine ← engine_of first
-  boots ← number_at engine_boots second
-  time ← number_at engine_time third
+  boots ← number_at engine_boots_name second
+  time ← number_at engine_time_name third
   Ok (record { engine = engine; boots = boots; time = time })
-
--- a value of a sampled kind: the kind, and the value modulo 2 ^ 64
-abbrev pub sampled : Value → Option (Kind × ℕ)
-sampled (Integer z) = Some (kinds.Integer, cast_unsigned w64 z)
-sampled (Counter32 n) = Some (kinds.Counter32, n)
-sampled (Gauge32 n) = Some (kinds.Gauge32, n)
-sampled (TimeTicks n) = Some (kinds.TimeTicks, n)
-sampled (Counter64 n) = Some (kinds.Counter64, n)
-sampled _ = None
 
 -- a sample with mark 0 of the object that the binding names
 abbrev pub offer_of : Stamp → List ℕ → Kind × ℕ → Offer

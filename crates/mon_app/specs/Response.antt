@@ -3,7 +3,8 @@ use Rattle.std.specs.Prelude.{ℕ, List}
 use Rattle.mon_pdu.specs.declared.message.Binding.{Binding}
 use Rattle.mon_app.specs.declared.response.Response.{Response}
 use Rattle.mon_app.specs.Instance.{named}
-use Rattle.mon_app.specs.Offer.{Offer, Stamp}
+use Rattle.mon_poller.specs.Stamp.{Stamp}
+use Rattle.mon_app.specs.Offer.{Offer}
 
 -- its stamp
 abbrev pub stamp_in : Response → Stamp

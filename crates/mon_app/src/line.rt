@@ -1,25 +1,15 @@
 //! What a line of the input offers.
 
-ghost use Rattle.std.specs.Prelude.{◌≡◌, ◌<◌, ◌^◌, IfOk, IfSome, IsTrue};
-ghost use Rattle.mon_sample.specs.Kind.{holds};
+ghost use Rattle.std.specs.Prelude.{◌<◌, ◌^◌, IfOk};
 ghost use Rattle.mon_app.specs.Gives.{Gives};
-ghost use Rattle.mon_app.specs.Reading.{engine_of, number_at, stamp_of, sampled, response_of, body_reading};
+ghost use Rattle.mon_app.specs.Reading.{engine_of, number_at, stamp_of, response_of, body_reading};
 ghost use Rattle.mon_app.specs.Response.{response_in};
 
 use crate::refusal::Refusal;
 use crate::response::Response;
-use mon_ber::{Octets, Value};
+use mon_ber::Octets;
 use mon_pdu::{Binding, Body, PduKind};
-use mon_sample::Kind;
-
-/// snmpEngineID.0 (RFC 3411 section 5).
-const ENGINE_ID: [u32; 11] = [1, 3, 6, 1, 6, 3, 10, 2, 1, 1, 0];
-
-/// snmpEngineBoots.0.
-const ENGINE_BOOTS: [u32; 11] = [1, 3, 6, 1, 6, 3, 10, 2, 1, 2, 0];
-
-/// snmpEngineTime.0.
-const ENGINE_TIME: [u32; 11] = [1, 3, 6, 1, 6, 3, 10, 2, 1, 3, 0];
+use mon_poller::stamp::{ENGINE_BOOTS, ENGINE_ID, ENGINE_TIME, octets_in, stamp_number};
 
 #[tactic(auto, unfolding(crate::specs::Reading::engine_of))]
 fn engine_of(binding: &Binding) -> Result<&Octets, Refusal>
@@ -28,15 +18,15 @@ fn engine_of(binding: &Binding) -> Result<&Octets, Refusal>
     if binding.name.parts() != ENGINE_ID.as_slice() {
         return Err(Refusal::BadStamp);
     }
-    match &binding.value {
-        Value::Octets(engine) => {
+    match octets_in(&binding.value) {
+        Some(engine) => {
             let len = engine.as_slice().len();
             if len < 5 || len > 32 {
                 return Err(Refusal::BadStamp);
             }
             Ok(engine)
         }
-        _ => Err(Refusal::BadStamp),
+        None => Err(Refusal::BadStamp),
     }
 }
 
@@ -49,12 +39,9 @@ fn number_at(name: &[u32], binding: &Binding) -> Result<u32, Refusal>
     if binding.name.parts() != name {
         return Err(Refusal::BadStamp);
     }
-    match &binding.value {
-        Value::Integer(number) => match u32::try_from(*number) {
-            Ok(number) => Ok(number),
-            Err(_) => Err(Refusal::BadStamp),
-        },
-        _ => Err(Refusal::BadStamp),
+    match stamp_number(&binding.value) {
+        Some(number) => Ok(number),
+        None => Err(Refusal::BadStamp),
     }
 }
 
@@ -75,21 +62,6 @@ fn response_of(bindings: &[Binding]) -> Result<Response<'_>, Refusal>
         time,
         bindings: others,
     })
-}
-
-/// The kind and the value of a sample of this value.
-pub(crate) fn sampled(value: &Value) -> Option<(Kind, u64)>
-    ensures value { result ≡ sampled value.now }
-    ensures holds { IfSome result (λ v. IsTrue (holds v.0 v.1)) }
-{
-    match value {
-        Value::Integer(number) => Some((Kind::Integer, i64::from(*number).cast_unsigned())),
-        Value::Counter32(number) => Some((Kind::Counter32, u64::from(*number))),
-        Value::Gauge32(number) => Some((Kind::Gauge32, u64::from(*number))),
-        Value::TimeTicks(number) => Some((Kind::TimeTicks, u64::from(*number))),
-        Value::Counter64(number) => Some((Kind::Counter64, *number)),
-        _ => None,
-    }
 }
 
 /// The response that a message's body is.

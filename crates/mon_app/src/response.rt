@@ -2,9 +2,9 @@
 
 ghost use Rattle.std.specs.Prelude.{◌≡◌, ◌<◌, ◌^◌};
 
-use crate::line::sampled;
 use mon_ber::Octets;
 use mon_pdu::Binding;
+use mon_poller::stamp::sampled;
 use mon_sample::Sample;
 
 /// A response of an agent: whose it is, when it was made, and the variable bindings behind its stamp.

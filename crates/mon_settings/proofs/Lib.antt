@@ -1,5 +1,4 @@
 pub mod Accepted
-pub mod Addrs
 pub mod KeyNames
 pub mod Named
 pub mod Oids

@@ -5,7 +5,7 @@ use Rattle.mon_mib.specs.declared.interface.Interface.{Interface}
 use Rattle.mon_mib.specs.declared.settings.Settings.{Settings}
 use Rattle.mon_mib.specs.declared.sys_texts.SysTexts.{SysTexts}
 use Rattle.mon_vacm.specs.Tables.{Lists}
-use Rattle.mon_settings.specs.declared.addr.Addr.{Addr}
+use Rattle.mon_poller.specs.declared.addr.Addr.{Addr}
 use Rattle.mon_settings.specs.declared.agent.AgentSettings.{AgentSettings}
 use Rattle.mon_settings.specs.declared.agent.System.{System}
 use Rattle.mon_settings.specs.declared.key.Key.{Key}

@@ -14,8 +14,8 @@ use Rattle.mon_oid.specs.declared.fault.OidFault.TheVariants as oid_fault
 use Rattle.mon_settings.specs.declared.key.Key.{Key}
 use Rattle.mon_settings.specs.declared.fault.SettingsFault.{SettingsFault}
 use Rattle.mon_settings.specs.declared.fault.SettingsFault.TheVariants as fault
-use Rattle.mon_settings.specs.declared.addr.Addr.{Addr}
-use Rattle.mon_settings.specs.Addr.{addr_of}
+use Rattle.mon_poller.specs.declared.addr.Addr.{Addr}
+use Rattle.mon_poller.specs.Addr.{addr_of}
 
 -- a number from least to most
 abbrev pub bounded : ℕ → ℕ → ℤ → Option ℕ

@@ -1,5 +1,4 @@
 pub mod Accepted
-pub mod Addr
 pub mod Agent
 pub mod Interfaces
 pub mod Key

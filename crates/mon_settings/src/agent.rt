@@ -8,7 +8,6 @@ ghost use Rattle.mon_settings.specs.Keys.{Reads};
 ghost use Rattle.toml.specs.Parse.{parse_document};
 ghost use Rattle.toml.specs.View.{table_view};
 
-use crate::addr::Addr;
 use crate::fault::SettingsFault;
 use crate::interfaces::read_interfaces;
 use crate::key::Key;
@@ -17,6 +16,7 @@ use crate::leaf::{addr_at, int_at, int_or, oid_at};
 use crate::octets::{hex_octets_at, octets_at};
 use crate::tables::read_policy;
 use mon_mib::{Interface, Settings, SysTexts};
+use mon_poller::Addr;
 use mon_vacm::Policy;
 use std::alloc::Global;
 use toml::Table;

@@ -3,9 +3,7 @@
 ghost use Rattle.std.specs.Prelude.{◌≡◌, ◌↔◌, ℕ, List, Some, Ok, Err};
 ghost use Rattle.toml.specs.Data.{Members};
 ghost use Rattle.mon_oid.specs.Oid.{IsOid, Spells};
-ghost use Rattle.mon_settings.specs.declared.addr.Addr.{Addr};
 ghost use Rattle.mon_settings.specs.Accepted.{IsAgent};
-ghost use Rattle.mon_settings.specs.Addr.{addr_of, IsAddrText};
 ghost use Rattle.mon_settings.specs.Agent.{Agent, agent_of};
 ghost use Rattle.mon_settings.specs.Leaf.{oid_of};
 ghost use Rattle.mon_settings.specs.SettingsFault.{IsOfTree};
@@ -15,11 +13,6 @@ ghost use Rattle.mon_settings.specs.declared.fault.SettingsFault.{SettingsFault}
 /// is out of its range, the tables make a policy and the indexes rise; and the settings are those values.
 pub fn accepted()
     ensures { (t : Members) (a : Agent) → (agent_of t ≡ Ok a) ↔ IsAgent t a }
-{}
-
-/// A text is read as an address exactly where it writes that address.
-pub fn addresses()
-    ensures { (text : List ℕ) (a : Addr) → (addr_of text ≡ Some a) ↔ IsAddrText text a }
 {}
 
 /// A text is read as an object identifier exactly where it spells that identifier.

@@ -6,12 +6,12 @@ ghost use Rattle.toml.specs.View.{view, table_view};
 ghost use Rattle.mon_settings.specs.Keys.{needed_at, default_at, or_bad, Reads};
 ghost use Rattle.mon_settings.specs.Leaf.{bounded, number_in, int_in, text_in, hex_of, hex_in, oid_of, oid_in, refused, addr_in, model_of, model_in};
 
-use crate::addr::Addr;
 use crate::fault::SettingsFault;
 use crate::key::Key;
 use crate::keys::find;
 use hex::FromHexError;
 use mon_oid::{Oid, OidFault};
+use mon_poller::Addr;
 use mon_vacm::SecurityModel;
 use std::alloc::Global;
 use toml::{Table, Value};

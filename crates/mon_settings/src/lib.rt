@@ -2,7 +2,6 @@
 //! To the layer above: where the text is TOML, the result is what one definition gives for its tree, want of memory aside.
 #![tactic(auto)]
 
-mod addr;
 mod agent;
 mod fault;
 mod interfaces;
@@ -14,7 +13,7 @@ mod list;
 mod octets;
 mod tables;
 
-pub use addr::Addr;
 pub use agent::{AgentSettings, read_agent};
 pub use fault::SettingsFault;
 pub use key::Key;
+pub use mon_poller::Addr;

@@ -31,11 +31,6 @@ BUGS = {
         "    text.iter().position(|octet| *octet == b'\\n')",
         "    text.iter().position(|octet| *octet == b'\\r')",
     ),
-    "gauges_as_counters": (
-        "src/line.rt",
-        "Value::Gauge32(number) => Some((Kind::Gauge32, u64::from(*number))),",
-        "Value::Gauge32(number) => Some((Kind::Counter32, u64::from(*number))),",
-    ),
     "names_bad_stamp_bad_hex": (
         "src/refusal.rt",
         '            Refusal::BadStamp => "BadStamp",',

@@ -21,11 +21,6 @@ BUGS = {
         "            SettingsFault::UnknownKey => 5,",
         "            SettingsFault::UnknownKey => 6,",
     ),
-    "reads_another_port": (
-        "src/addr.rt",
-        "                port: address.port(),",
-        "                port: if address.port() == 161 { 162 } else { address.port() },",
-    ),
     "spells_rate_otherwise": (
         "src/key.rt",
         '            Key::Rate => "rate",',

@@ -1,0 +1,11 @@
+pub mod Addrs
+pub mod Asks
+pub mod Changes
+pub mod Instances
+pub mod Offering
+pub mod Readings
+pub mod Responds
+pub mod Short
+pub mod Slots
+pub mod Steps
+pub mod Verdicts

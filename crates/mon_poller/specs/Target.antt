@@ -1,0 +1,62 @@
+-- Targets, and how they are asked.
+use Rattle.std.specs.Prelude.{ℕ, ◌≤◌, pos, List, [], ◌∷◌, length, map, All, Option, Some, None, slice_index_or}
+use Rattle.std.specs.List.{flat_map}
+use Rattle.mon_ber.specs.declared.value.Value.TheVariants as values
+use Rattle.mon_pdu.specs.declared.message.Binding.{Binding}
+use Rattle.mon_pdu.specs.declared.message.Body.TheVariants.{Pdu}
+use Rattle.mon_pdu.specs.declared.message.Message.{Message}
+use Rattle.mon_pdu.specs.declared.message.PduKind.TheVariants as pdu
+use Rattle.mon_pdu.specs.Writing.{written_message}
+use Rattle.mon_board.specs.Instance.{IsEngine}
+use Rattle.mon_poller.specs.declared.target.Object.{Object}
+use Rattle.mon_poller.specs.declared.target.Target.{Target}
+use Rattle.mon_poller.specs.Stamp.{engine_id_name, engine_boots_name, engine_time_name}
+
+-- a target within the limits of what is polled
+pub record IsTarget (t : Target) : Type 0 where
+  pub community : (1 ≤ length t.community) × (length t.community ≤ 512)
+  pub engine : IsEngine t.engine
+  pub tries : (1 ≤ t.tries) × (t.tries ≤ 8)
+  pub objects : (1 ≤ length t.objects) × (length t.objects ≤ 16)
+
+-- 1 to 64 targets, each within its limits
+pub record AreTargets (targets : List Target) : Type 0 where
+  pub some : 1 ≤ length targets
+  pub few : length targets ≤ 64
+  pub each : All IsTarget targets
+
+-- what stands where there is no target
+abbrev pub no_target : Target
+no_target = record { address = record { octets = []; port = 0 }; community = []; engine = []; tries = 0; objects = [] }
+
+-- the target of this number
+abbrev pub target_at : List Target → ℕ → Target
+target_at targets i = slice_index_or targets i no_target
+
+-- the name of a mark, where there is one
+abbrev pub name_of_mark : Option (List ℕ) → List (List ℕ)
+name_of_mark None = []
+name_of_mark (Some name) = name ∷ []
+
+-- the names by which an object is asked for: its own, directly followed by its mark's
+abbrev pub object_names : Object → List (List ℕ)
+object_names o = o.name ∷ name_of_mark o.mark
+
+-- the names of a poll: the stamp's, and then the objects'
+abbrev pub poll_names : Target → List (List ℕ)
+poll_names t = engine_id_name ∷ engine_boots_name ∷ engine_time_name ∷ flat_map object_names t.objects
+
+-- a name whose value is asked for (unSpecified, RFC 3416 section 3)
+abbrev pub unspecified : List ℕ → Binding
+unspecified name = record { name = name; value = values.Null }
+
+-- the poll: a GetRequest for these names (RFC 3416 section 4.2.1)
+abbrev pub poll_message : Target → ℕ → Message
+poll_message t id = record {
+  community = t.community;
+  body = Pdu (record { kind = pdu.Get; request_id = pos id; error_status = pos 0; error_index = pos 0; bindings = map unspecified (poll_names t) });
+}
+
+-- its datagram
+abbrev pub poll_octets : Target → ℕ → List ℕ
+poll_octets t id = written_message (poll_message t id)

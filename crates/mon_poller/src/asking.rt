@@ -1,0 +1,115 @@
+//! The datagram that asks for a target's objects.
+
+ghost use Rattle.std.specs.Prelude.{◌≡◌, ◌∷◌, ◌++◌, [], ◌<◌, ◌≤◌, ◌^◌, ◌+◌, ◌*◌, IfOk, OnOk, length, map};
+ghost use Rattle.std.specs.List.{flat_map};
+ghost use Rattle.mon_poller.specs.Stamp.{engine_id_name, engine_boots_name, engine_time_name};
+ghost use Rattle.mon_poller.specs.Target.{IsTarget, poll_names, unspecified, object_names, poll_message, poll_octets};
+ghost use Rattle.mon_ber.specs.declared.value.Value.TheVariants.{Name};
+ghost use Rattle.mon_ber.specs.Writing.{written};
+ghost use Rattle.mon_pdu.specs.Writing.{list_contents, message_contents, written_binding};
+
+use crate::stamp::{ENGINE_BOOTS, ENGINE_ID, ENGINE_TIME};
+use crate::target::{Object, Target};
+use mon_ber::writing::name_size;
+use mon_ber::{Octets, Value};
+use mon_oid::Oid;
+use mon_pdu::{Binding, Bindings, Body, Message, Pdu, PduFault, PduKind, write_message};
+use std::alloc::{AllocError, Global};
+
+/// The datagram of a poll: a Get of the stamp's names and then of each object, directly followed by its mark where it has one
+/// (RFC 3416 section 4.2.1). It fails for memory alone, since a target within its limits is asked for no more than can be written.
+pub(crate) fn poll_octets(alloc: Global, target: &Target, id: u32) -> Result<Octets, AllocError>
+    requires target { IsTarget target.now }
+    requires id { id < 2 ^ 31 }
+    ensures { IfOk result (λ o. o ≡ poll_octets target.now id) }
+{
+    let message = poll_message(alloc, target, id)?;
+    match write_message(alloc, &message) {
+        Ok(octets) => Ok(Octets::new(octets)),
+        Err(PduFault::OutOfMemory) => Err(AllocError),
+        Err(_) => unreachable!(),
+    }
+}
+
+fn poll_message(alloc: Global, target: &Target, id: u32) -> Result<Message, AllocError>
+    requires target { IsTarget target.now }
+    requires id { id < 2 ^ 31 }
+    ensures message { IfOk result (λ m. m ≡ poll_message target.now id) }
+    ensures short { IfOk result (λ m. length (message_contents m) < 2 ^ 32) }
+{
+    Ok(Message {
+        community: target.community.try_clone(alloc)?,
+        body: Body::Pdu(Pdu {
+            kind: PduKind::Get,
+            request_id: id as i32,
+            error_status: 0,
+            error_index: 0,
+            bindings: Bindings::new(asked_bindings(alloc, target)?),
+        }),
+    })
+}
+
+/// The names of a poll, none with a value yet.
+fn asked_bindings(alloc: Global, target: &Target) -> Result<Vec<Binding>, AllocError>
+    ensures bindings { IfOk result (λ v. v.items ≡ map unspecified (poll_names target.now)) }
+    ensures short { IfOk result (λ v. length (list_contents v.items) ≤ 1989 + 1326 * length target.now.objects) }
+{
+    let mut bindings = stamp_bindings(alloc)?;
+    for object in target.objects.as_slice() {
+        ask_for(alloc, &mut bindings, object)?;
+    }
+    Ok(bindings)
+}
+
+/// The names of a stamp.
+fn stamp_bindings(alloc: Global) -> Result<Vec<Binding>, AllocError>
+    ensures bindings { IfOk result (λ v. v.items ≡ unspecified engine_id_name ∷ unspecified engine_boots_name ∷ unspecified engine_time_name ∷ []) }
+    ensures short { IfOk result (λ v. length (list_contents v.items) ≤ 1989) }
+{
+    let mut bindings = Vec::new(alloc);
+    bindings.push(unspecified(stamp_name(alloc, &ENGINE_ID)?))?;
+    bindings.push(unspecified(stamp_name(alloc, &ENGINE_BOOTS)?))?;
+    bindings.push(unspecified(stamp_name(alloc, &ENGINE_TIME)?))?;
+    Ok(bindings)
+}
+
+/// Asks for an object too, and for its mark.
+fn ask_for(alloc: Global, bindings: &mut Vec<Binding>, object: &Object) -> Result<(), AllocError>
+    ensures bindings { OnOk result (bindings.new.items ≡ bindings.old.items ++ map unspecified (object_names object.now)) }
+    ensures short { OnOk result (length (list_contents bindings.new.items) ≤ length (list_contents bindings.old.items) + 1326) }
+{
+    bindings.push(unspecified(object.name.try_clone(alloc)?))?;
+    if let Some(mark) = &object.mark {
+        bindings.push(unspecified(mark.try_clone(alloc)?))?;
+    }
+    Ok(())
+}
+
+/// The name of an object of the stamp.
+fn stamp_name(alloc: Global, parts: &[u32; 11]) -> Result<Oid, AllocError>
+    ensures { IfOk result (λ name. name ≡ parts.now) }
+{
+    match Oid::from_parts(alloc, parts) {
+        Ok(name) => Ok(name),
+        Err(_) => Err(AllocError),
+    }
+}
+
+/// A name whose value is asked for (`unSpecified`, RFC 3416 section 3).
+fn unspecified(name: Oid) -> Binding
+    ensures binding { result ≡ unspecified name }
+    ensures short { length (written_binding result) ≤ 663 }
+{
+    look_at_name(&name);
+    Binding {
+        name,
+        value: Value::Null,
+    }
+}
+
+/// A name is written in at most 651 octets.
+fn look_at_name(name: &Oid)
+    ensures { length (written (Name name.now)) ≤ 651 }
+{
+    let _size = name_size(name);
+}

@@ -1,0 +1,157 @@
+//! Targets: which agents are polled, and for what.
+
+ghost use Rattle.std.specs.Prelude.{◌≡◌, ◌↔◌, ◌≤◌, All, IfOk, IsTrue, length};
+ghost use Rattle.mon_poller.specs.Target.{AreTargets, IsTarget};
+
+use crate::addr::Addr;
+use mon_ber::Octets;
+use mon_oid::Oid;
+use std::alloc::{AllocError, Global};
+use std::marker::Model;
+
+/// The most octets of a community.
+const MOST_COMMUNITY: usize = 512;
+
+/// The most tries of a target.
+const MOST_TRIES: u8 = 8;
+
+/// The most objects of a target.
+const MOST_OBJECTS: usize = 16;
+
+/// The most targets.
+const MOST_TARGETS: usize = 64;
+
+/// An object that is polled.
+#[derive(Debug, Drop, PartialEq, Eq)]
+pub struct Object {
+    /// The number of its instance in the watch.
+    pub instance: u16,
+    /// Its name.
+    pub name: Oid,
+    /// The name of its discontinuity indicator (RFC 2578 section 7.1.6), where one is asked for with it.
+    pub mark: Option<Oid>,
+}
+
+impl Object {
+    /// An equal object.
+    pub fn try_clone(&self, alloc: Global) -> Result<Self, AllocError>
+        ensures { IfOk result (λ o. o ≡ self.now) }
+    {
+        let mark = match &self.mark {
+            Some(name) => Some(name.try_clone(alloc)?),
+            None => None,
+        };
+        Ok(Object {
+            instance: self.instance,
+            name: self.name.try_clone(alloc)?,
+            mark,
+        })
+    }
+}
+
+/// Objects in the order in which they are asked for. Contracts see their list.
+#[derive(Debug, Drop)]
+pub struct Objects {
+    items: Vec<Object>,
+}
+
+impl Model for Objects {
+    ghost use Rattle.std.specs.Prelude.{List};
+    ghost use Rattle.mon_poller.specs.declared.target.Object.{Object};
+
+    ghost Value = { List Object };
+
+    ghost view = { λ o. o.items.items };
+}
+
+impl Objects {
+    /// These objects, in this order.
+    pub fn new(items: Vec<Object>) -> Self
+        ensures { result ≡ items.items }
+    {
+        Objects { items }
+    }
+
+    /// The objects, in their order.
+    pub fn as_slice(&self) -> &[Object]
+        ensures { result.now ≡ self.now }
+    {
+        self.items.as_slice()
+    }
+
+    /// Equal objects, in this order.
+    pub fn try_clone(&self, alloc: Global) -> Result<Self, AllocError>
+        ensures { IfOk result (λ o. o ≡ self.now) }
+    {
+        Ok(Objects::new(copied(alloc, self.items.as_slice())?))
+    }
+}
+
+/// Equal objects, in this order.
+fn copied(alloc: Global, all: &[Object]) -> Result<Vec<Object>, AllocError>
+    ensures { IfOk result (λ v. v.items ≡ all.now) }
+{
+    let mut copies = Vec::with_capacity(alloc, all.len())?;
+    for object in all {
+        copies.push(object.try_clone(alloc)?)?;
+    }
+    Ok(copies)
+}
+
+/// An agent that is polled.
+#[derive(Debug, Drop)]
+pub struct Target {
+    /// Where it is asked, and where its responses come from.
+    pub address: Addr,
+    /// The community of requests and responses, 1 to 512 octets.
+    pub community: Octets,
+    /// The engine id that its responses must name, 5 to 32 octets (RFC 3411 section 5, snmpEngineID).
+    pub engine: Octets,
+    /// How often a poll is sent in all, 1 to 8.
+    pub tries: u8,
+    /// What it is asked for, 1 to 16 objects.
+    pub objects: Objects,
+}
+
+impl Target {
+    /// Whether the target is within its limits: a community of 1 to 512 octets, an engine id of 5 to 32, 1 to 8 tries, and 1 to
+    /// 16 objects.
+    pub fn is_within_limits(&self) -> bool
+        ensures { IsTrue result ↔ IsTarget self.now }
+    {
+        let community = self.community.as_slice().len();
+        let engine = self.engine.as_slice().len();
+        let objects = self.objects.as_slice().len();
+        1 <= community
+            && community <= MOST_COMMUNITY
+            && 5 <= engine
+            && engine <= 32
+            && 1 <= self.tries
+            && self.tries <= MOST_TRIES
+            && 1 <= objects
+            && objects <= MOST_OBJECTS
+    }
+
+    /// An equal target.
+    pub fn try_clone(&self, alloc: Global) -> Result<Self, AllocError>
+        ensures { IfOk result (λ t. t ≡ self.now) }
+    {
+        Ok(Target {
+            address: self.address,
+            community: self.community.try_clone(alloc)?,
+            engine: self.engine.try_clone(alloc)?,
+            tries: self.tries,
+            objects: self.objects.try_clone(alloc)?,
+        })
+    }
+}
+
+/// Whether these may be polled: 1 to 64 targets, each within its limits.
+pub fn are_targets(targets: &[Target]) -> bool
+    ensures { IsTrue result ↔ AreTargets targets.now }
+{
+    if targets.is_empty() || targets.len() > MOST_TARGETS {
+        return false;
+    }
+    targets.iter().all(|target| target.is_within_limits())
+}

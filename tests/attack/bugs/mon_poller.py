@@ -1,0 +1,184 @@
+"""Bugs of mon_poller for planted_bugs: by a name the file, what stands there once, and the bug in its place."""
+
+BUGS = {
+    "a_gauge_is_no_mark": (
+        "src/stamp.rt",
+        "        Value::Counter32(number) | Value::Gauge32(number) | Value::TimeTicks(number) => {",
+        "        Value::Counter32(number) | Value::TimeTicks(number) => {",
+    ),
+    "counter64_gives_no_sample": (
+        "src/stamp.rt",
+        "        Value::Counter64(number) => Some((Kind::Counter64, *number)),\n",
+        "",
+    ),
+    "a_negative_integer_without_its_sign": (
+        "src/stamp.rt",
+        "i64::from(*number).cast_unsigned()",
+        "u64::from(number.unsigned_abs())",
+    ),
+    "a_gauge_as_a_counter": (
+        "src/stamp.rt",
+        "Some((Kind::Gauge32, u64::from(*number)))",
+        "Some((Kind::Counter32, u64::from(*number)))",
+    ),
+    "wrong_names_leave_the_poll_open": (
+        "src/awaiting.rt",
+        "        Err(fault) => fault.number() > 5,",
+        "        Err(fault) => fault.number() > 7,",
+    ),
+    "another_community_closes_the_poll": (
+        "src/fault.rt",
+        "            ResponseFault::WrongCommunity => 5,",
+        "            ResponseFault::WrongCommunity => 6,",
+    ),
+    "a_request_id_of_an_earlier_poll": (
+        "src/finding.rt",
+        "            if poll.id == id {",
+        "            if poll.id <= id {",
+    ),
+    "the_last_slot_is_not_searched": (
+        "src/finding.rt",
+        "    for key in 0..polls.capacity() {\n        if let Some(poll) = polls.get(key) {\n            if poll.id == id {",
+        "    for key in 1..polls.capacity() {\n        if let Some(poll) = polls.get(key) {\n            if poll.id == id {",
+    ),
+    "a_community_by_its_length": (
+        "src/awaiting.rt",
+        "    if message.community.as_slice() != target.community.as_slice() {",
+        "    if message.community.as_slice().len() != target.community.as_slice().len() {",
+    ),
+    "any_port": (
+        "src/awaiting.rt",
+        "    if from != target.address {",
+        "    if from.octets != target.address.octets {",
+    ),
+    "the_address_of_the_first_target": (
+        "src/awaiting.rt",
+        "    let target = &targets[usize::from(poll.target)];",
+        "    let target = &targets[usize::from(poll.target) / 2];",
+    ),
+    "a_report_as_a_response": (
+        "src/offers.rt",
+        "            if pdu.kind == PduKind::Response {",
+        "            if pdu.kind == PduKind::Response || pdu.kind == PduKind::Report {",
+    ),
+    "a_negative_status_is_no_error": (
+        "src/offers.rt",
+        "    if pdu.error_status != 0 {",
+        "    if pdu.error_status > 0 {",
+    ),
+    "index_before_status": (
+        "src/offers.rt",
+        "ResponseFault::AgentError(pdu.error_status, pdu.error_index)",
+        "ResponseFault::AgentError(pdu.error_index, pdu.error_status)",
+    ),
+    "the_engine_before_the_names": (
+        "src/offers.rt",
+        "    if !have_names(target, bindings) {\n        return Err(ResponseFault::WrongNames);\n    }",
+        "    if stamp_and_others(bindings).is_err() {\n        return Err(ResponseFault::BadStamp);\n    }\n    if !have_names(target, bindings) {\n        return Err(ResponseFault::WrongNames);\n    }",
+    ),
+    "more_names_than_asked": (
+        "src/offers.rt",
+        "        return bindings.is_empty();",
+        "        return true;",
+    ),
+    "a_time_below_boots": (
+        "src/offers.rt",
+        "    let Some(time) = stamp_number(&third.value) else {",
+        "    let Some(time) = stamp_number(&second.value) else {",
+    ),
+    "the_object_as_its_mark": (
+        "src/offers.rt",
+        "            [_, second, ..] => mark_in(&second.value),",
+        "            [first, _, ..] => mark_in(&first.value),",
+    ),
+    "a_mark_is_not_passed_over": (
+        "src/offers.rt",
+        "        Some(_) => 2,",
+        "        Some(_) => 1,",
+    ),
+    "samples_of_the_first_instance": (
+        "src/offers.rt",
+        "            pairs.push(object.instance, sample)?;",
+        "            pairs.push(0, sample)?;",
+    ),
+    "the_first_target_is_offered": (
+        "src/poller.rt",
+        "        Ok(pairs) => Ok(Offered { target, pairs }),",
+        "        Ok(pairs) => Ok(Offered { target: 0, pairs }),",
+    ),
+    "asks_by_get_next": (
+        "src/asking.rt",
+        "            kind: PduKind::Get,",
+        "            kind: PduKind::GetNext,",
+    ),
+    "time_before_boots": (
+        "src/asking.rt",
+        "    bindings.push(unspecified(stamp_name(alloc, &ENGINE_BOOTS)?))?;\n    bindings.push(unspecified(stamp_name(alloc, &ENGINE_TIME)?))?;",
+        "    bindings.push(unspecified(stamp_name(alloc, &ENGINE_TIME)?))?;\n    bindings.push(unspecified(stamp_name(alloc, &ENGINE_BOOTS)?))?;",
+    ),
+    "asks_for_the_object_twice": (
+        "src/asking.rt",
+        "        bindings.push(unspecified(mark.try_clone(alloc)?))?;",
+        "        bindings.push(unspecified(object.name.try_clone(alloc)?))?;",
+    ),
+    "asks_with_the_engine_as_community": (
+        "src/asking.rt",
+        "        community: target.community.try_clone(alloc)?,",
+        "        community: target.engine.try_clone(alloc)?,",
+    ),
+    "the_last_id_is_not_used": (
+        "src/poller.rt",
+        "const LAST_ID: u32 = 2147483647;",
+        "const LAST_ID: u32 = 2147483646;",
+    ),
+    "a_resend_counts_twice": (
+        "src/poller.rt",
+        "        self.polls[key].sends += 1;",
+        "        self.polls[key].sends += 2;",
+    ),
+    "given_up_and_still_open": (
+        "src/poller.rt",
+        "            self.polls.remove(key);\n            return Ok(TimedOut::GivenUp);",
+        "            return Ok(TimedOut::GivenUp);",
+    ),
+    "a_start_for_too_many_is_of_an_unknown_target": (
+        "src/poller.rt",
+        "            return Err(PollFault::TooManyOpen);",
+        "            return Err(PollFault::UnknownTarget);",
+    ),
+    "a_poll_of_the_first_target": (
+        "src/poller.rt",
+        "        let octets = poll_octets(alloc, &self.targets[place], id)?;",
+        "        let octets = poll_octets(alloc, &self.targets[place / 2], id)?;",
+    ),
+    "goes_again_to_the_first_target": (
+        "src/poller.rt",
+        "            target: poll.target,\n",
+        "            target: 0,\n",
+    ),
+    "has_tries_after_the_last": (
+        "src/poller.rt",
+        "poll.sends < self.targets[usize::from(poll.target)].tries",
+        "poll.sends <= self.targets[usize::from(poll.target)].tries",
+    ),
+    "nine_tries": (
+        "src/target.rt",
+        "const MOST_TRIES: u8 = 8;",
+        "const MOST_TRIES: u8 = 9;",
+    ),
+    "communities_of_513": (
+        "src/target.rt",
+        "const MOST_COMMUNITY: usize = 512;",
+        "const MOST_COMMUNITY: usize = 513;",
+    ),
+    "a_copy_of_the_object_without_its_mark": (
+        "src/target.rt",
+        "            mark,\n",
+        "            mark: None,\n",
+    ),
+    "reads_another_port": (
+        "src/addr.rt",
+        "                port: address.port(),",
+        "                port: if address.port() == 161 { 162 } else { address.port() },",
+    ),
+}
