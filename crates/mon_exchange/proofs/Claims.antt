@@ -16,10 +16,13 @@ use Rattle.mon_exchange.proofs.Parts.{lifted_ok, version_takes, version_again, k
 pub claim_octets_length : (c : Claim) → length (claim_octets c) ≡ 17 + length (instance_octets c.engine c.name) + length (samples_octets c.samples)
 unfolding claim_octets counted_samples
 claim_octets_length c =
-    omega (arith, length-append (to_be_bytes w32 c.station) (to_be_bytes w32 c.incarnation ++ (to_be_bytes w32 c.serial ++ (instance_octets c.engine c.name ++ counted_samples c.samples))),
+    omega (
+      arith,
+      length-append (to_be_bytes w32 c.station) (to_be_bytes w32 c.incarnation ++ (to_be_bytes w32 c.serial ++ (instance_octets c.engine c.name ++ counted_samples c.samples))),
       length-append (to_be_bytes w32 c.incarnation) (to_be_bytes w32 c.serial ++ (instance_octets c.engine c.name ++ counted_samples c.samples)),
       length-append (to_be_bytes w32 c.serial) (instance_octets c.engine c.name ++ counted_samples c.samples),
-      length-append (instance_octets c.engine c.name) (counted_samples c.samples))
+      length-append (instance_octets c.engine c.name) (counted_samples c.samples),
+    )
 
 -- an instance, and what follows it
 instance_split : (engine name rest : List ℕ) → instance_octets engine name ++ rest ≡ length engine ∷ engine ++ (length name ∷ numbers_octets name ++ rest)
@@ -87,7 +90,7 @@ claim_takes octets c b e =
     let made : Claim = record { kind = k.0.0; station = s.0.0; incarnation = j.0.0; serial = r.0.0; engine = g.0.0; name = n.0.0; samples = a.0.0 } in
     let done = all_read_takes a.0.1 made c a.2 in
     subst (λ (d : Claim). SpellsClaim octets d) done.1
-        (whole made octets h.0 k.0.1 s.0.1 j.0.1 r.0.1 g.0.1 n.0.1 a.0.1 b h.1 k.1 s.1 j.1 (lifted_ok (u32_at j.0.1) r.0 r.1) g.1 n.1 a.1 done.0)
+    (whole made octets h.0 k.0.1 s.0.1 j.0.1 r.0.1 g.0.1 n.0.1 a.0.1 b h.1 k.1 s.1 j.1 (lifted_ok (u32_at j.0.1) r.0 r.1) g.1 n.1 a.1 done.0)
 
 again : ReadsAgain → (c : Claim) → IsClaim c → claim_at (claim_octets c) ≡ Ok c
 unfolding claim_at claim_octets all_read
@@ -99,9 +102,17 @@ again law c is =
     let station : List ℕ = to_be_bytes w32 c.station ++ incarnation in
     let nothing : List ℕ = [] in
     let last : claimed_at samples ≡ Ok (c.samples, nothing) = ap claimed_at (sym (append-nil samples)) ∙ claimed_again law c.samples nothing is.few is.samples in
-    rw (version_again (kind_octet c.kind ∷ station), kind_again c.kind station, positive_again c.station incarnation is.station is.station_fits,
-        positive_again c.incarnation serial is.incarnation is.incarnation_fits, u32_again c.serial (instance_octets c.engine c.name ++ samples) is.serial_fits,
-        instance_split c.engine c.name samples, engine_again c.engine name is.engine, oid_again c.name samples is.name, last) refl
+    rw (
+      version_again (kind_octet c.kind ∷ station),
+      kind_again c.kind station,
+      positive_again c.station incarnation is.station is.station_fits,
+      positive_again c.incarnation serial is.incarnation is.incarnation_fits,
+      u32_again c.serial (instance_octets c.engine c.name ++ samples) is.serial_fits,
+      instance_split c.engine c.name samples,
+      engine_again c.engine name is.engine,
+      oid_again c.name samples is.name,
+      last,
+    ) refl
 
 pub claim_again : ReadsAgain → (octets : List ℕ) (c : Claim) → SpellsClaim octets c → claim_at octets ≡ Ok c
 claim_again law octets c is = ap claim_at is.spelled ∙ again law c is.valid

@@ -1,5 +1,5 @@
 -- Which faults reading has: none of noting.
-use Rattle.std.proofs.Common.{◌≡◌, ℕ, ◌≤◌, Bool, true, false, cond, List, length, Result, Ok, Err, subst, arith}
+use Rattle.std.proofs.Common.{ℕ, ◌≤◌, Bool, true, false, cond, List, length, Result, Ok, Err, subst, arith}
 use Rattle.std.specs.Prelude.{IfErr, nat_lt, ◌==◌, ◌||◌}
 use Rattle.mon_ber.specs.Reading.{◌>>=◌}
 use Rattle.mon_layout.specs.declared.fault.LayoutFault.{LayoutFault}

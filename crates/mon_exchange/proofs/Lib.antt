@@ -1,3 +1,5 @@
 pub mod Claims
 pub mod Faults
+pub mod Noting
 pub mod Parts
+pub mod Slots

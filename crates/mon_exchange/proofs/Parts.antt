@@ -96,9 +96,11 @@ within_takes least most f octets n rest e =
     let b = bind_ok (lifted (octet_at octets)) (λ b. if nat_lt b.0 least || nat_lt most b.0 then Err f else Ok b) made e in
     let g = guard (nat_lt b.0.0 least || nat_lt most b.0.0) f (Ok b.0) made b.2 in
     let o = or_false (nat_lt b.0.0 least) (nat_lt most b.0.0) g.0 in
-    let p = pair_is b.0.0 b.0.1 n rest g.1 in
-    (octet_takes octets b.0.0 b.0.1 (lifted_ok (octet_at octets) b.0 b.1) ∙ (λ i. p.0 i ∷ p.1 i),
-     subst (λ (k : ℕ). least ≤ k) p.0 (ltb-false b.0.0 least o.0), subst (λ (k : ℕ). k ≤ most) p.0 (ltb-false most b.0.0 o.1))
+    let p = pair_is b.0.0 b.0.1 n rest g.1 in (
+      octet_takes octets b.0.0 b.0.1 (lifted_ok (octet_at octets) b.0 b.1) ∙ (λ i. p.0 i ∷ p.1 i),
+      subst (λ (k : ℕ). least ≤ k) p.0 (ltb-false b.0.0 least o.0),
+      subst (λ (k : ℕ). k ≤ most) p.0 (ltb-false most b.0.0 o.1),
+    )
 
 pub within_again : (least most : ℕ) (f : ExchangeFault) (n : ℕ) (rest : List ℕ) → least ≤ n → n ≤ most → within_at least most f (n ∷ rest) ≡ Ok (n, rest)
 unfolding within_at
@@ -175,13 +177,16 @@ numbers_read octets count rest parts after b e f =
     let t = within_takes 2 128 BadName octets count rest e in
     let one : List ℕ = count ∷ [] in
     let u = numbers_takes count rest parts after (IsBytes-after octets one rest b t.0) f in
-    let both : count ∷ rest ≡ length parts ∷ numbers_octets parts ++ after = λ i. sym u.1 i ∷ u.0 i in
-    (t.0 ∙ both, omega (arith, u.1, t.1), λ fine. record {
-      long = omega (arith, u.1, t.1);
-      short = omega (arith, u.1, t.2);
-      rooted = rooted_when parts fine;
-      small = All-from_recursion (λ k. k < 2 ^ 32) parts u.2;
-    })
+    let both : count ∷ rest ≡ length parts ∷ numbers_octets parts ++ after = λ i. sym u.1 i ∷ u.0 i in (
+      t.0 ∙ both,
+      omega (arith, u.1, t.1),
+      λ fine. record {
+        long = omega (arith, u.1, t.1);
+        short = omega (arith, u.1, t.2);
+        rooted = rooted_when parts fine;
+        small = All-from_recursion (λ k. k < 2 ^ 32) parts u.2;
+      },
+    )
 
 pub oid_takes : (octets name rest : List ℕ) → IsBytes octets → oid_at octets ≡ Ok (name, rest) → (octets ≡ length name ∷ numbers_octets name ++ rest) × IsOid name
 unfolding oid_at
@@ -198,8 +203,11 @@ oid_takes octets name rest b e =
 pub oid_again : (name rest : List ℕ) → IsOid name → oid_at (length name ∷ numbers_octets name ++ rest) ≡ Ok (name, rest)
 unfolding oid_at
 oid_again name rest is =
-    rw (within_again 2 128 BadName (length name) (numbers_octets name ++ rest) is.long is.short,
-        numbers_again name rest (recursion_from_All (λ k. k < 2 ^ 32) name is.small), not_bad name is.rooted) refl
+    rw (
+      within_again 2 128 BadName (length name) (numbers_octets name ++ rest) is.long is.short,
+      numbers_again name rest (recursion_from_All (λ k. k < 2 ^ 32) name is.small),
+      not_bad name is.rooted,
+    ) refl
 
 -- ---- samples
 pub claimed_takes : (octets samples rest : List ℕ) → IsBytes octets → claimed_at octets ≡ Ok (samples, rest) → (octets ≡ counted_samples samples ++ rest) × (length samples ≤ 40) × AreSamples samples

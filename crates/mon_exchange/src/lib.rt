@@ -6,10 +6,15 @@
 mod claim;
 mod fault;
 pub mod laws;
+mod marking;
+mod noted;
+mod peers;
 mod reading;
 mod writing;
 
 pub use claim::{Claim, ClaimKind, ClaimRef};
 pub use fault::ExchangeFault;
+pub use noted::Noted;
+pub use peers::Peers;
 pub use reading::read_claim;
 pub use writing::{claim_size, write_claim, write_within};

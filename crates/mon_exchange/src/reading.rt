@@ -11,7 +11,7 @@ ghost use Rattle.mon_exchange.specs.Reading.{Fails, Gives, octet_is, claim_kind_
 use crate::claim::{Claim, ClaimKind};
 use crate::fault::ExchangeFault;
 use mon_ber::Octets;
-use mon_layout::{LayoutFault, SampleList, field_at, u32_at, octet_at, samples_at};
+use mon_layout::{LayoutFault, SampleList, field_at, octet_at, samples_at, u32_at};
 use mon_oid::Oid;
 use smallvec::SmallVec;
 use std::alloc::Global;

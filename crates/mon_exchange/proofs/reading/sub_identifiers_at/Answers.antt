@@ -25,7 +25,8 @@ loop-rest-preserved c =
     rw c.in_ok-push.ensures.ok (
       omega (arith, longer, some),
       ap (λ (n : ℕ). with_front (c.loop-rest.numbers.items ++ c.in_ok-number.number ∷ []) (one_by_one next_number None n c.in_ok-number.after.now)) (sym next)
-      ∙ one_more c.loop-rest.numbers.items _ c.loop-rest.rest.now _ c.loop-rest.invariant.1 some c.in_ok-number.number c.in_ok-number.after.now c.in_ok-number.ensures.gives)
+          ∙ one_more c.loop-rest.numbers.items _ c.loop-rest.rest.now _ c.loop-rest.invariant.1 some c.in_ok-number.number c.in_ok-number.after.now c.in_ok-number.ensures.gives,
+    )
 
 pub returns : goal.returns
 returns c =

@@ -6,8 +6,8 @@ use Rattle.mon_exchange.proofs.writing.write_within.Goals as goal
 pub returns-clause-items : goal.returns-clause-items
 returns-clause-items c =
     all_written (claim_of c.args.claim.now) c.args.out.now.items c.put_octets.new.out.items c.put_octet.new.out.items c.put_u32.new.out.items c.put_u32-2.new.out.items c.put_u32-3.new.out.items
-      c.put_instance.new.out.items c.put_octet-2.new.out.items c.put_samples.new.out.items
-      (search rules) (search rules) (search rules) (search rules) (search rules) (search rules) (search rules) (search rules)
+    c.put_instance.new.out.items c.put_octet-2.new.out.items c.put_samples.new.out.items
+    (search rules) (search rules) (search rules) (search rules) (search rules) (search rules) (search rules) (search rules)
 
 pub returns-clause-says : goal.returns-clause-says
 returns-clause-says c = record {
