@@ -10,6 +10,7 @@ mod marking;
 mod noted;
 mod peers;
 mod reading;
+mod sharing;
 mod writing;
 
 pub use claim::{Claim, ClaimKind, ClaimRef};
@@ -17,4 +18,5 @@ pub use fault::ExchangeFault;
 pub use noted::Noted;
 pub use peers::Peers;
 pub use reading::read_claim;
+pub use sharing::{Portion, portions, serial_after};
 pub use writing::{claim_size, write_claim, write_within};
