@@ -9,7 +9,7 @@ use Rattle.std.proofs.lemmas.List.{append-nil, length-drop, take_all, drop_all}
 use Rattle.mon_window.specs.Top.{rising}
 use Rattle.mon_window.specs.Window.{Samples}
 use Rattle.mon_exchange.specs.declared.sharing.Portion.{Portion}
-use Rattle.mon_exchange.specs.Portions.{or_empty, pieces, pieces_by, portion, portions_from, portions_of}
+use Rattle.mon_exchange.specs.Portions.{pieces, pieces_by, portion, portions_from, portions_of}
 
 -- ---- pieces
 more_than_enough : (k m : ℕ) (xs : List ℕ) → length xs ≤ k → length xs ≤ m → pieces_by k xs ≡ pieces_by m xs
@@ -33,34 +33,25 @@ min_above k lt = grind (arith, nat_tests)
 at_least : (n k : ℕ) → n ≡ min k 40 → k ≤ 40 → k ≤ n
 at_least n k e le = let m : min k 40 ≡ k = grind (arith, nat_tests) in omega (arith, e, m)
 
-pub at_most : (n k : ℕ) → n ≡ min k 40 → n ≤ 40
-at_most n k e = omega (arith, e)
-
-first_piece : (n : ℕ) (xs : List ℕ) → n ≡ min (length xs) 40 → take n xs ≡ take 40 xs
+pub first_piece : (n : ℕ) (xs : List ℕ) → n ≡ min (length xs) 40 → take n xs ≡ take 40 xs
 first_piece n xs e = elim (cases_lt 40 (length xs)) [
   | inl more ↦ let m : n ≡ 40 = e ∙ min_above (length xs) more in ap (λ (k : ℕ). take k xs) m
   | inr few ↦ take_all n xs (at_least n (length xs) e few) ∙ sym (take_all 40 xs few)
 ]
 
-other_pieces : (n : ℕ) (xs : List ℕ) → n ≡ min (length xs) 40 → drop n xs ≡ drop 40 xs
+pub other_pieces : (n : ℕ) (xs : List ℕ) → n ≡ min (length xs) 40 → drop n xs ≡ drop 40 xs
 other_pieces n xs e = elim (cases_lt 40 (length xs)) [
   | inl more ↦ let m : n ≡ 40 = e ∙ min_above (length xs) more in ap (λ (k : ℕ). drop k xs) m
   | inr few ↦ drop_all n xs (at_least n (length xs) e few) ∙ sym (drop_all 40 xs few)
 ]
 
 -- the first piece of what is left was appended
-pub piece_more : (i n : ℕ) (done : List Portion) (rest piece more : List ℕ) → 0 < length rest → n ≡ min (length rest) 40 → piece ≡ take n rest → more ≡ drop n rest
+pub piece_more : (i : ℕ) (done : List Portion) (rest piece more : List ℕ) → 0 < length rest → piece ≡ take 40 rest → more ≡ drop 40 rest
     → (done ++ portion i piece ∷ []) ++ map (portion i) (pieces more) ≡ done ++ map (portion i) (pieces rest)
-piece_more i n done [] piece more some e front back = absurd (omega arith)
-piece_more i n done (y ∷ rest) piece more some e front back =
+piece_more i done [] piece more some front back = absurd (omega arith)
+piece_more i done (y ∷ rest) piece more some front back =
     append_assoc done (portion i piece ∷ []) (map (portion i) (pieces more))
-    ∙ ap (λ (l : List Portion). done ++ l) (
-    (λ k. portion i ((front ∙ first_piece n (y ∷ rest) e) k) ∷ map (portion i) (pieces ((back ∙ other_pieces n (y ∷ rest) e) k)))
-    ∙ ap (map (portion i)) (sym (first_and_others y rest)))
-
-pub no_more : (done all : List Portion) (i : ℕ) (rest : List ℕ) → length rest ≡ 0 → done ++ map (portion i) (pieces rest) ≡ all → done ≡ all
-no_more done all i [] none h = sym (append-nil done) ∙ h
-no_more done all i (x ∷ rest) none h = absurd (omega (arith, none))
+    ∙ ap (λ (l : List Portion). done ++ l) ((λ k. portion i (front k) ∷ map (portion i) (pieces (back k))) ∙ ap (map (portion i)) (sym (first_and_others y rest)))
 
 -- ---- instances
 module _ (owed : ℕ → Samples) where
@@ -79,11 +70,3 @@ module _ (owed : ℕ → Samples) where
       ∙ ap (λ n. portions_from owed 0 i ++ portions_of owed n) (same ∙ sym (zero-add i))
       ∙ sym (from_more 0 i)
       ∙ ap (λ n. portions_from owed 0 n) (sym (add-one i))
-
-pub some_portions : (portions : List Portion) → 0 < length portions → portions ≡ or_empty portions
-some_portions [] some = absurd (omega arith)
-some_portions (p ∷ portions) some = refl
-
-pub no_portions : (portions : List Portion) → length portions ≡ 0 → portions ++ portion 0 [] ∷ [] ≡ or_empty portions
-no_portions [] none = refl
-no_portions (p ∷ portions) none = absurd (omega (arith, none))

@@ -1,4 +1,4 @@
-ghost use Rattle.std.specs.Prelude.{◌≡◌, ◌≤◌, ◌<◌, ◌++◌, ℕ, All, IfOk, OnOk, length, map};
+ghost use Rattle.std.specs.Prelude.{◌≡◌, ◌≤◌, ◌<◌, ◌++◌, ℕ, All, IfOk, OnOk, drop, length, map, take};
 ghost use Rattle.std.specs.List.Sorted.{IsStrictlySortedBy};
 ghost use Rattle.std.specs.Ordering.{nat_cmp};
 ghost use Rattle.mon_board.specs.Board.{is_marked, window_of};
@@ -95,12 +95,21 @@ fn push_pieces(
 {
     let mut rest = samples;
     while !rest.is_empty() {
-        let (piece, more) = rest.split_at(rest.len().min(MOST_SAMPLES));
+        let (piece, more) = split_piece(rest);
         let samples = SampleList::new(Vec::from_slice(alloc, piece)?);
         portions.push(Portion { instance, samples })?;
         rest = more;
     }
     Ok(())
+}
+
+/// The first piece of the samples, at most 40, and the others.
+#[tactic(auto, using(crate::proofs::Pieces::first_piece, crate::proofs::Pieces::other_pieces))]
+fn split_piece(samples: &[Sample]) -> (&[Sample], &[Sample])
+    ensures piece { result.0.now ≡ take 40 samples.now }
+    ensures others { result.1.now ≡ drop 40 samples.now }
+{
+    samples.split_at(samples.len().min(MOST_SAMPLES))
 }
 
 /// The serial of the offer that follows one of this serial: serials count from 1, and after 4294967295 comes 1.
