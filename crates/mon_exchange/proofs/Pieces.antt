@@ -1,11 +1,10 @@
 -- Samples cut into pieces, instance by instance.
-use Rattle.std.proofs.Common.{◌≡◌, ℕ, zero, suc, ◌+◌, ◌<◌, ◌≤◌, min, List, [], ◌∷◌, ◌++◌, length, map, take, drop, refl, sym, ap, subst, ◌∙◌, append_assoc, arith, inl, inr, zero-add, add-one}
-use Rattle.std.specs.Prelude.{All}
-use Rattle.std.specs.List.Sorted.{IsStrictlySortedBy}
-use Rattle.std.specs.Ordering.{nat_cmp}
+use Rattle.std.proofs.Common.{◌≡◌, ℕ, zero, suc, ◌+◌, ◌<◌, ◌≤◌, min, List, [], ◌∷◌, ◌++◌, length, get_or, map, take, drop, refl, sym, ap, ◌∙◌, append_assoc, arith, inl, inr, zero-add, add-one}
 use Rattle.std.proofs.lemmas.Bool.{cases_lt}
 use Rattle.std.proofs.lemmas.Bool.Decides.{nat_tests}
-use Rattle.std.proofs.lemmas.List.{append-nil, length-drop, take_all, drop_all}
+use Rattle.std.proofs.lemmas.List.{append-nil, length-drop, length-take, take-append-drop, take_all, drop_all}
+use Rattle.std.proofs.lemmas.List.Concat.{flat_map-cons}
+use Rattle.std.specs.List.{AllByRecursion, flat_map}
 use Rattle.mon_window.specs.Top.{rising}
 use Rattle.mon_window.specs.Window.{Samples}
 use Rattle.mon_exchange.specs.declared.sharing.Portion.{Portion}
@@ -52,6 +51,51 @@ piece_more i done [] piece more some front back = absurd (omega arith)
 piece_more i done (y ∷ rest) piece more some front back =
     append_assoc done (portion i piece ∷ []) (map (portion i) (pieces more))
     ∙ ap (λ (l : List Portion). done ++ l) ((λ k. portion i (front k) ∷ map (portion i) (pieces (back k))) ∙ ap (map (portion i)) (sym (first_and_others y rest)))
+
+-- ---- what pieces are
+abbrev same_list : List ℕ → List ℕ
+same_list p = p
+
+whole_by : (n : ℕ) (xs : List ℕ) → length xs ≤ n → flat_map same_list (pieces_by n xs) ≡ xs
+whole_by zero [] h = refl
+whole_by zero (x ∷ xs) h = absurd (omega arith)
+whole_by (suc n) [] h = refl
+whole_by (suc n) (x ∷ xs) h =
+    flat_map-cons same_list (take 40 (x ∷ xs)) (pieces_by n (drop 40 (x ∷ xs)))
+    ∙ ap (λ (r : List ℕ). take 40 (x ∷ xs) ++ r) (whole_by n (drop 40 (x ∷ xs)) (omega (arith, length-drop 40 (x ∷ xs)))) ∙ take-append-drop 40 (x ∷ xs)
+
+pub whole_again : (samples : List ℕ) → flat_map same_list (pieces samples) ≡ samples
+whole_again samples = whole_by (length samples) samples (omega arith)
+
+abbrev IsPiece : List ℕ → Type 0
+IsPiece p = (1 ≤ length p) × (length p ≤ 40)
+
+sized_by : (n : ℕ) (xs : List ℕ) → AllByRecursion IsPiece (pieces_by n xs)
+sized_by zero xs = tt
+sized_by (suc n) [] = tt
+sized_by (suc n) (x ∷ xs) = ((omega (arith, length-take 40 (x ∷ xs)), omega (arith, length-take 40 (x ∷ xs))), sized_by n (drop 40 (x ∷ xs)))
+
+pub each_sized : (samples : List ℕ) → AllByRecursion IsPiece (pieces samples)
+each_sized samples = sized_by (length samples) samples
+
+none_of_none : (n : ℕ) (xs : List ℕ) → length xs ≡ 0 → length (pieces_by n xs) ≡ 0
+none_of_none zero xs h = refl
+none_of_none (suc n) [] h = refl
+none_of_none (suc n) (x ∷ xs) h = absurd (omega (arith, h))
+
+full_by : (n : ℕ) (xs : List ℕ) (k : ℕ) (d : List ℕ) → k + 1 < length (pieces_by n xs) → length (get_or (pieces_by n xs) k d) ≡ 40
+full_by zero xs k d lt = absurd (omega arith)
+full_by (suc n) [] k d lt = absurd (omega arith)
+full_by (suc n) (x ∷ xs) zero d lt = elim (cases_lt 40 (length (x ∷ xs))) [
+  | inl more ↦ omega (arith, length-take 40 (x ∷ xs), more)
+  | inr few ↦
+      let left : length (drop 40 (x ∷ xs)) ≡ 0 = omega (arith, length-drop 40 (x ∷ xs), few) in
+      absurd (omega (arith, none_of_none n (drop 40 (x ∷ xs)) left, lt))
+]
+full_by (suc n) (x ∷ xs) (suc k) d lt = full_by n (drop 40 (x ∷ xs)) k d (omega (arith, lt))
+
+pub all_but_last : (samples : List ℕ) (k : ℕ) (d : List ℕ) → k + 1 < length (pieces samples) → length (get_or (pieces samples) k d) ≡ 40
+all_but_last samples k d lt = full_by (length samples) samples k d lt
 
 -- ---- instances
 module _ (owed : ℕ → Samples) where

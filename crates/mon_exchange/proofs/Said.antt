@@ -1,5 +1,5 @@
 -- Marks tell what was said.
-use Rattle.std.proofs.Common.{ℕ, ◌≡◌, ◌≢◌, ◌<◌, ◌≤◌, inl, inr, ⊎_elim, Bool, true, false, List, [], ◌∷◌, Option, Some, None, max, refl, sym, ◌∙◌, ap, subst, arith}
+use Rattle.std.proofs.Common.{ℕ, ◌≡◌, ◌<◌, ◌≤◌, inl, inr, ⊎_elim, Bool, true, false, List, [], ◌∷◌, Option, Some, None, refl, sym, ◌∙◌, ap, subst, arith}
 use Rattle.std.specs.Prelude.{◌==◌, not, ◌&&◌, ◌||◌}
 use Rattle.std.specs.List.{AllByRecursion, list_any}
 use Rattle.std.specs.FinSet.{contains, retain}
@@ -154,10 +154,10 @@ module _ (y : ℕ) (windows : ℕ → Samples) (claims : List Heard) (known : Op
       let noted : noted_as (Some k) c.incarnation ≡ Counted = rw (le-ltb k c.incarnation (omega (arith, same)), eq-eqb k c.incarnation same) refl in
       let now : latest_heard y (c ∷ claims) ≡ Some k = now_known (Some k) is ∙ ap (λ (n : ℕ). Some n) (omega (arith, same)) in
       told_by (Some k) Counted is noted (λ i s h.
-        ap (λ (b : Bool). marked i s || b) (claimed_here c windows i s h) ∙ or_turned (marked i s) (names c i s) ∙ sym (
-        told y k i s (c ∷ claims) now
-        ∙ ap (λ (b : Bool). b || list_any (has_said y k i s) claims) (says_names y k i s c own (eq-eqb c.incarnation k (sym same)))
-        ∙ ap (λ (b : Bool). names c i s || b) (sym (told y k i s claims is) ∙ sym (was.marked_is i s h))))
+      ap (λ (b : Bool). marked i s || b) (claimed_here c windows i s h) ∙ or_turned (marked i s) (names c i s) ∙ sym (
+      told y k i s (c ∷ claims) now
+      ∙ ap (λ (b : Bool). b || list_any (has_said y k i s) claims) (says_names y k i s c own (eq-eqb c.incarnation k (sym same)))
+      ∙ ap (λ (b : Bool). names c i s || b) (sym (told y k i s claims is) ∙ sym (was.marked_is i s h))))
 
   -- an older one
   older : (k : ℕ) → latest_heard y claims ≡ Some k → c.incarnation < k → Noted_at (Some k)
@@ -165,9 +165,9 @@ module _ (y : ℕ) (windows : ℕ → Samples) (claims : List Heard) (known : Op
       let noted : noted_as (Some k) c.incarnation ≡ OlderIncarnation = rw (le-ltb k c.incarnation (omega (arith, lt)), ne_eqb k c.incarnation (λ e. omega (arith, e, lt))) refl in
       let now : latest_heard y (c ∷ claims) ≡ Some k = now_known (Some k) is ∙ ap (λ (n : ℕ). Some n) (omega (arith, lt)) in
       told_by (Some k) OlderIncarnation is noted (λ i s h.
-        was.marked_is i s h ∙ told y k i s claims is ∙ sym (
-        told y k i s (c ∷ claims) now
-        ∙ ap (λ (b : Bool). b || list_any (has_said y k i s) claims) (not_of_incarnation y k i s c (ne_eqb c.incarnation k (λ e. omega (arith, e, lt))))))
+      was.marked_is i s h ∙ told y k i s claims is ∙ sym (
+      told y k i s (c ∷ claims) now
+      ∙ ap (λ (b : Bool). b || list_any (has_said y k i s) claims) (not_of_incarnation y k i s c (ne_eqb c.incarnation k (λ e. omega (arith, e, lt))))))
 
   by_known : (k : Option ℕ) → latest_heard y claims ≡ k → Noted_at k
   by_known None none = fresh None none refl refl (λ i s. none_said y c.incarnation i s claims none)

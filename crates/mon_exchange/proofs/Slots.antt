@@ -1,5 +1,5 @@
 -- The slots of peers.
-use Rattle.std.proofs.Common.{◌≡◌, ◌≢◌, ℕ, ◌+◌, ◌<◌, Bool, true, false, cond, List, length, get_or, map, set, Option, Some, None, refl, sym, ap, ◌∙◌, arith, inl, inr}
+use Rattle.std.proofs.Common.{◌≡◌, ◌≢◌, ℕ, zero, suc, ◌+◌, ◌<◌, Bool, true, false, cond, List, [], ◌∷◌, length, get_or, map, set, Option, Some, None, refl, sym, ap, ◌∙◌, arith, inl, inr}
 use Rattle.std.specs.Prelude.{◌==◌, if◌then◌else◌, nat_lt, not, IfSome}
 use Rattle.std.specs.List.{position, position_or_len}
 use Rattle.std.specs.Option.{option_and_then}
@@ -8,7 +8,7 @@ use Rattle.std.proofs.lemmas.Bool.{cases_eq, eq-eqb, eqb-true, ne_eqb}
 use Rattle.std.proofs.lemmas.List.{get_or-map, length-map, map-set, get_or-set_same, get_or-set_other}
 use Rattle.std.proofs.lemmas.List.Quantifiers.{position-Some}
 use Rattle.std.proofs.lemmas.List.Recursion.{is_position_or_len}
-use Rattle.mon_exchange.specs.Peers.{incarnation_in, known_incarnation, latest, numbers_of, peer_slot}
+use Rattle.mon_exchange.specs.Peers.{incarnation_in, known_incarnation, latest, numbers_of, peer_slot, unheard}
 use Rattle.mon_exchange.specs.declared.peers.Peer.{Peer}
 
 turned : (b : Bool) (m n : ℕ) → cond (not b) m n ≡ cond b n m
@@ -87,3 +87,20 @@ by_latest old new same station slot j is known y = by_station old new same stati
   | inl e ↦ ap (λ (o : Option ℕ). if y == station then Some (latest o j) else known_incarnation old y) (sym (ap (known_incarnation old) e ∙ known_at old station slot is))
   | inr ne ↦ rw (ne_eqb y station ne) refl
 ]
+
+-- ---- peers of which no incarnation is known
+pub numbers_unheard : (numbers : List ℕ) → numbers_of (map unheard numbers) ≡ numbers
+numbers_unheard [] = refl
+numbers_unheard (n ∷ numbers) = ap (λ (l : List ℕ). n ∷ l) (numbers_unheard numbers)
+
+none_in : (numbers : List ℕ) (k : ℕ) → incarnation_in (map unheard numbers) k ≡ None
+none_in [] k = refl
+none_in (n ∷ numbers) zero = refl
+none_in (n ∷ numbers) (suc k) = none_in numbers k
+
+none_at : (numbers : List ℕ) (slot : Option ℕ) → option_and_then (incarnation_in (map unheard numbers)) slot ≡ None
+none_at numbers None = refl
+none_at numbers (Some k) = none_in numbers k
+
+pub none_known : (numbers : List ℕ) (y : ℕ) → known_incarnation (map unheard numbers) y ≡ None
+none_known numbers y = none_at numbers (peer_slot (map unheard numbers) y)

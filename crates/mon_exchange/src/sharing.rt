@@ -61,12 +61,7 @@ fn owed_portions(alloc: Global, board: &Board, slot: u8) -> Result<Vec<Portion>,
 }
 
 /// What is owed to the peer in the slot of an instance, the oldest first.
-fn owed_of(
-    alloc: Global,
-    board: &Board,
-    slot: u8,
-    instance: u16,
-) -> Result<Vec<Sample>, AllocError>
+fn owed_of(alloc: Global, board: &Board, slot: u8, instance: u16) -> Result<Vec<Sample>, AllocError>
     requires slot { slot < 15 }
     requires instance { instance < length board.now.watch.instances }
     ensures owed { IfOk result (λ owed. owed.items ≡ rising (owed_in (window_of board.now) (is_marked board.now slot) instance)) }

@@ -1,4 +1,4 @@
-use Rattle.std.proofs.Common.{◌≡◌, ◌<◌, ◌++◌, List, length, map, refl, ap, ◌∙◌, rules}
+use Rattle.std.proofs.Common.{◌<◌, ◌++◌, List, length, map, refl, ap, ◌∙◌, rules}
 use Rattle.mon_board.specs.Board.{is_marked, window_of}
 use Rattle.mon_board.specs.Owed.{owed_in}
 use Rattle.mon_exchange.specs.declared.sharing.Portion.{Portion}
@@ -14,6 +14,6 @@ loop-place-preserved c =
     let within : i < length c.args.board.now.watch.instances = search rules in
     record {
       portions = c.in_ok-push_pieces.ensures.portions ∙ ap (λ (l : List Portion). l ++ map (portion i) (pieces samples)) c.loop-place.invariant.portions
-        ∙ instance_more owed i i samples refl (c.as_slice.ensures.value ∙ c.in_ok-owed.ensures.owed);
+          ∙ instance_more owed i i samples refl (c.as_slice.ensures.value ∙ c.in_ok-owed.ensures.owed);
       each = c.in_ok-push_pieces.ensures.each (length c.args.board.now.watch.instances) within c.loop-place.invariant.each;
     }

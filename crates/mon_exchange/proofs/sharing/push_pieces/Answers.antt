@@ -26,8 +26,8 @@ loop-rest-preserved c =
       rising = subst (λ (l : List ℕ). IsStrictlySortedBy nat_cmp l) (sym c.split_piece.ensures.others) (sorted_drop 40 rest so_far.rising);
       portions = ap (λ (l : List Portion). l ++ map (portion i) (pieces more)) pushed ∙ piece_more i done rest samples more some piece c.split_piece.ensures.others ∙ so_far.portions;
       each = λ many within all. subst (λ (l : List Portion). All (IsPortion many) l) (sym pushed)
-        (All-push (IsPortion many) done (portion i samples) (so_far.each many within all)
-        (record { instance = within; few = few; rising = subst (λ (l : List ℕ). IsStrictlySortedBy nat_cmp l) (sym piece) (sorted_take 40 rest so_far.rising) }));
+          (All-push (IsPortion many) done (portion i samples) (so_far.each many within all)
+          (record { instance = within; few = few; rising = subst (λ (l : List ℕ). IsStrictlySortedBy nat_cmp l) (sym piece) (sorted_take 40 rest so_far.rising) }));
     }
 
 pub loop-rest-smaller : goal.loop-rest-smaller
