@@ -1,0 +1,64 @@
+ghost use Rattle.mon_exchange.specs.Claim.{IsSendable, claim_of};
+
+use mon_exchange::{Claim, ClaimRef, ExchangeFault, claim_size, read_claim, write_claim};
+use mon_sample::Sample;
+use std::alloc::Global;
+
+/// The claim that these octets spell, its size and its octets as they are written; or the fault.
+pub fn row(alloc: Global, digits: &str) -> Option<String> {
+    let octets = hex::decode(alloc, digits).ok()?;
+    match read_claim(alloc, octets.as_slice()) {
+        Ok(claim) => told(alloc, &claim),
+        Err(fault) => refused(alloc, fault),
+    }
+}
+
+/// The number and name of a fault.
+pub fn refused(alloc: Global, fault: ExchangeFault) -> Option<String> {
+    format!(in alloc; "{} {}", fault.number(), fault.name()).ok()
+}
+
+fn told(alloc: Global, claim: &Claim) -> Option<String>
+    requires { IsSendable claim.now }
+{
+    let mut text = fields(alloc, claim)?;
+    for sample in claim.samples.as_slice() {
+        put_sample(&mut text, sample)?;
+    }
+    put_written(&mut text, alloc, &claim.lend())?;
+    Some(text)
+}
+
+fn fields(alloc: Global, claim: &Claim) -> Option<String> {
+    let engine = hex::encode(alloc, claim.engine.as_slice()).ok()?;
+    let name = claim.name.text(alloc).ok()?;
+    format!(in alloc;
+        "{} {} {} {} {engine} {name}",
+        claim.kind.octet(),
+        claim.station,
+        claim.incarnation,
+        claim.serial
+    )
+    .ok()
+}
+
+fn put_sample(text: &mut String, sample: &Sample) -> Option<()> {
+    write!(
+        text,
+        " {}:{}:{}:{}:{}",
+        sample.boots(),
+        sample.time(),
+        sample.mark(),
+        sample.kind().name(),
+        sample.value()
+    )
+    .ok()
+}
+
+fn put_written(text: &mut String, alloc: Global, claim: &ClaimRef) -> Option<()>
+    requires { IsSendable (claim_of claim.now) }
+{
+    let octets = write_claim(alloc, claim).ok()?;
+    let digits = hex::encode(alloc, octets.as_slice()).ok()?;
+    write!(text, " {} {digits}", claim_size(claim)).ok()
+}

@@ -1,0 +1,47 @@
+//! Tests of what stations exchange and save: does what each line of standard input says, and prints a line for each, to be
+//! compared with the expected ones, which tests/attack/codec_rows writes from readers of another make.
+//!
+//!     claim HEX     the claim that these octets spell, its size and its octets as they are written; or the fault
+//!     note HEX      what becomes of this claim at the station of number 1, and the incarnation then known of its station
+//!     known STATION the incarnation that is known of this station
+//!     offer PEER    what the station offers to this peer
+//!     serial N      the serial after this one
+#![tactic(auto)]
+
+mod claims;
+mod station;
+
+use station::Station;
+use std::alloc::Global;
+use std::io::{BufRead, BufReader};
+use std::process::ExitCode;
+
+fn main(rt: HostRuntime) -> ExitCode {
+    match run(&rt) {
+        Some(()) => ExitCode::SUCCESS,
+        None => ExitCode::FAILURE,
+    }
+}
+
+fn run(rt: &HostRuntime) -> Option<()> {
+    let alloc = rt.alloc();
+    let mut station = Station::new(alloc)?;
+    for line in BufReader::new(alloc, rt.reader()).ok()?.lines(alloc) {
+        let row = row(alloc, &mut station, line.ok()?.as_str())?;
+        println!(rt; "{row}").ok()?;
+    }
+    Some(())
+}
+
+/// What is told of a line.
+fn row(alloc: Global, station: &mut Station, line: &str) -> Option<String> {
+    let (command, word) = line.split_once(' ')?;
+    match command {
+        "claim" => claims::row(alloc, word),
+        "note" => station.note(alloc, word),
+        "known" => station.known(alloc, word),
+        "offer" => station.offer(alloc, word),
+        "serial" => station::serial(alloc, word),
+        _ => None,
+    }
+}

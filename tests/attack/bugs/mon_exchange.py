@@ -1,0 +1,159 @@
+"""Bugs of mon_exchange for planted_bugs: by a name the file, what stands there once, and the bug in its place."""
+
+BUGS = {
+    "a_mark_of_images": (
+        "src/reading.rt",
+        "    let rest = octet_is(b'X', ExchangeFault::NotAClaim, rest)?;",
+        "    let rest = octet_is(b'I', ExchangeFault::NotAClaim, rest)?;",
+    ),
+    "any_kind_from_2": (
+        "src/reading.rt",
+        "    if octet == 2 {",
+        "    if octet >= 2 {",
+    ),
+    "a_station_of_number_0": (
+        "src/reading.rt",
+        "    if number == 0 {",
+        "    if number == u32::MAX {",
+    ),
+    "engines_of_4_octets": (
+        "src/reading.rt",
+        "    let (len, rest) = within_at(5, 32, ExchangeFault::BadName, octets)?;",
+        "    let (len, rest) = within_at(4, 32, ExchangeFault::BadName, octets)?;",
+    ),
+    "a_name_of_129_sub_identifiers": (
+        "src/reading.rt",
+        "    let (count, rest) = within_at(2, 128, ExchangeFault::BadName, octets)?;",
+        "    let (count, rest) = within_at(2, 129, ExchangeFault::BadName, octets)?;",
+    ),
+    "a_second_sub_identifier_of_40": (
+        "src/reading.rt",
+        "    parts[0] > 2 || parts[0] < 2 && parts[1] > 39",
+        "    parts[0] > 2 || parts[0] < 2 && parts[1] > 40",
+    ),
+    "an_octet_above_the_range": (
+        "src/reading.rt",
+        "    if octet < least || octet > most {",
+        "    if octet < least || octet > most + 1 {",
+    ),
+    "the_incarnation_as_the_station": (
+        "src/reading.rt",
+        "    let (station, rest) = positive_at(rest)?;\n    let (incarnation, rest) = positive_at(rest)?;",
+        "    let (incarnation, rest) = positive_at(rest)?;\n    let (station, rest) = positive_at(rest)?;",
+    ),
+    "a_serial_that_is_not_0": (
+        "src/reading.rt",
+        "    let (serial, rest) = u32_at(rest)?;",
+        "    let (serial, rest) = positive_at(rest)?;",
+    ),
+    "a_size_of_one_more": (
+        "src/writing.rt",
+        "    17 + instance_size(claim.engine, claim.name) + samples_size(claim.samples)",
+        "    18 + instance_size(claim.engine, claim.name) + samples_size(claim.samples)",
+    ),
+    "writes_version_2": (
+        "src/writing.rt",
+        '    put_octets(out, b"MX\\x01");',
+        '    put_octets(out, b"MX\\x02");',
+    ),
+    "writes_the_station_as_its_incarnation": (
+        "src/writing.rt",
+        "    put_u32(out, claim.incarnation);",
+        "    put_u32(out, claim.station);",
+    ),
+    "lends_the_serial_as_the_incarnation": (
+        "src/claim.rt",
+        "            incarnation: self.incarnation,",
+        "            incarnation: self.serial,",
+    ),
+    "an_older_incarnation_is_counted": (
+        "src/noted.rt",
+        "        Some(_) => Noted::OlderIncarnation,",
+        "        Some(_) => Noted::Counted,",
+    ),
+    "the_first_claim_is_counted": (
+        "src/noted.rt",
+        "        None => Noted::NewIncarnation,",
+        "        None => Noted::Counted,",
+    ),
+    "the_first_incarnation_is_kept_as_1": (
+        "src/noted.rt",
+        "        None => incarnation,",
+        "        None => 1,",
+    ),
+    "an_older_incarnation_marks": (
+        "src/marking.rt",
+        "        Noted::OlderIncarnation => {}",
+        "        Noted::OlderIncarnation => mark_all(board, slot, instance, samples),",
+    ),
+    "marks_of_another_instance": (
+        "src/marking.rt",
+        "        board.mark(slot, instance, sample);",
+        "        board.mark(slot, instance / 2, sample);",
+    ),
+    "peers_begin_with_an_incarnation": (
+        "src/peers.rt",
+        "                known: None,",
+        "                known: Some(0),",
+    ),
+    "another_own_number": (
+        "src/peers.rt",
+        "        self.own\n",
+        "        self.own.max(2)\n",
+    ),
+    "the_next_slot": (
+        "src/peers.rt",
+        "            Some(slot) => Some(slot as u8),",
+        "            Some(slot) => Some(slot as u8 / 2),",
+    ),
+    "known_of_the_first_peer": (
+        "src/peers.rt",
+        "        self.peers[usize::from(slot)].known\n",
+        "        self.peers[usize::from(slot / 2)].known\n",
+    ),
+    "the_peer_before": (
+        "src/peers.rt",
+        "        let peer = &mut self.peers[usize::from(slot)];",
+        "        let peer = &mut self.peers[usize::from(slot / 2)];",
+    ),
+    "an_unknown_instance_before_an_unknown_peer": (
+        "src/peers.rt",
+        "            return Err(ExchangeFault::UnknownPeer);",
+        "            return Err(ExchangeFault::UnknownInstance);",
+    ),
+    "says_that_it_counted": (
+        "src/peers.rt",
+        "        Ok(noted)\n",
+        "        Ok(Noted::Counted)\n",
+    ),
+    "takes_the_first_half": (
+        "src/peers.rt",
+        "        board.take_all(instance, samples);",
+        "        board.take_all(instance, &samples[..samples.len() / 2]);",
+    ),
+    "an_empty_offer_of_the_second_instance": (
+        "src/sharing.rt",
+        "        instance: 0,",
+        "        instance: 1,",
+    ),
+    "the_first_instance_is_left_out": (
+        "src/sharing.rt",
+        "    for place in 0..many {",
+        "    for place in 1..many {",
+    ),
+    "owed_to_another_peer": (
+        "src/sharing.rt",
+        "        let owed = owed_of(alloc, board, slot, instance)?;",
+        "        let owed = owed_of(alloc, board, slot / 2, instance)?;",
+    ),
+    "a_serial_of_0": (
+        "src/sharing.rt",
+        "    if serial == u32::MAX { 1 } else { serial + 1 }",
+        "    if serial == u32::MAX { 0 } else { serial + 1 }",
+    ),
+    "the_serial_stays_at_the_last": (
+        "src/sharing.rt",
+        "    if serial == u32::MAX { 1 } else { serial + 1 }",
+        "    if serial == u32::MAX { serial } else { serial + 1 }",
+    ),
+}
