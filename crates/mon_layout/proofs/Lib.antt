@@ -1,0 +1,5 @@
+pub mod Fields
+pub mod Loops
+pub mod OneByOne
+pub mod Promised
+pub mod Samples
