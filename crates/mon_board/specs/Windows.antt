@@ -1,5 +1,5 @@
 -- Windows of pairs: an instance is its number in the watch, a sample its number.
-use Rattle.std.specs.Prelude.{◌≡◌, ◌≢◌, ℕ, List, [], ◌∷◌, ◌==◌, if◌then◌else◌}
+use Rattle.std.specs.Prelude.{◌≡◌, ◌≢◌, ℕ, List, [], ◌∷◌, ◌==◌, if◌then◌else◌, map}
 use Rattle.std.specs.Ordering.{nat_cmp}
 use Rattle.std.specs.FinSet as set
 use Rattle.mon_window.specs.Choice.{IsChoice}
@@ -9,6 +9,10 @@ use Rattle.mon_window.specs.Window.{Samples, In}
 abbrev pub samples_of : ℕ → List (ℕ × ℕ) → List ℕ
 samples_of i [] = []
 samples_of i (pair ∷ pairs) = if pair.0 == i then pair.1 ∷ samples_of i pairs else samples_of i pairs
+
+-- each of these samples as a pair with the instance
+abbrev pub paired : ℕ → List ℕ → List (ℕ × ℕ)
+paired i samples = map (λ s. (i, s)) samples
 
 -- the set of an instance's samples
 abbrev pub set_of : ℕ → List (ℕ × ℕ) → Samples

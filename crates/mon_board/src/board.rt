@@ -7,11 +7,12 @@ ghost use Rattle.mon_board.specs.Instance.{instance_cmp, instances_of, named};
 ghost use Rattle.mon_board.specs.Rules.{rule_of};
 ghost use Rattle.mon_board.specs.Watch.{size_of};
 ghost use Rattle.mon_board.specs.Empty.{empty_window_of, no_marks_of};
-ghost use Rattle.mon_board.specs.Windows.{IsTaken, IsWhole, of_both};
+ghost use Rattle.mon_board.specs.Windows.{IsTaken, IsWhole, joined, of_both, paired};
 ghost use Rattle.mon_rates.specs.Totals as sums;
 
 use crate::each::{clear_each, join_each, keep_each};
 use crate::instance::Watched;
+use crate::laws;
 use crate::marks::{Marks, first_unmarked, stands_in};
 use crate::watch::Watch;
 use mon_oid::Oid;
@@ -107,6 +108,21 @@ impl Board {
         let marks = &mut self.marks[place];
         marks.keep(window);
         Ok(inserted)
+    }
+
+    /// Takes samples of the instance in, one after another. It changes that instance's window alone.
+    pub fn take_all(&mut self, instance: u16, samples: &[Sample])
+        requires { instance < length self.old.watch.instances }
+        ensures watch { self.new.watch ≡ self.old.watch }
+        ensures windows { (i : ℕ) → window_of self.new i ≡ joined (rule_of self.old.watch) (window_of self.old) (paired instance samples.now) i }
+        ensures marks { KeepsMarks self.old self.new }
+    {
+        laws::taken_in_turn();
+        let _ = self.watch();
+        for sample in samples {
+            let _ = self.watch();
+            let _ = self.take(instance, *sample);
+        }
     }
 
     /// The samples of the instance's window, the oldest first.
