@@ -1,0 +1,4 @@
+pub mod Fills
+pub mod Images
+pub mod Loops
+pub mod Shared
