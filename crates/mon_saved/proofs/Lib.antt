@@ -1,3 +1,4 @@
+pub mod Back
 pub mod Fills
 pub mod Images
 pub mod Loops

@@ -7,6 +7,7 @@
 mod fault;
 mod filling;
 mod image;
+pub mod laws;
 mod reading;
 mod writing;
 
