@@ -19,10 +19,10 @@ use std::alloc::{AllocError, Global};
 
 /// How many octets the entry of an instance takes.
 fn entry_size(watched: &Watched, samples: &[Sample]) -> usize
-    requires engine { length watched.now.instance.engine < 256 }
+    requires engine { length watched.now.instance.engine ≤ 32 }
     requires few { length samples.now ≤ 64 }
     ensures size { result ≡ length (entry_octets Two watched.now.instance (entry_of watched.now samples.now)) }
-    ensures few { result ≤ 2116 }
+    ensures few { result ≤ 1893 }
 {
     let instance = &watched.instance;
     3 + instance_size(instance.engine.as_slice(), &instance.name) + samples_size(samples)
@@ -65,9 +65,10 @@ fn put_entries(out: &mut Vec<u8>, board: &Board)
     }
 }
 
-/// How many octets the image of the board takes.
+/// How many octets the image of the board takes: at most 484617, those of 256 full windows of 64 samples.
 pub fn image_size(board: &Board) -> usize
-    ensures { (incarnation : ℕ) → result ≡ length (written_image board.now incarnation) }
+    ensures size { (incarnation : ℕ) → result ≡ length (written_image board.now incarnation) }
+    ensures few { result ≤ 484617 }
 {
     let watched = board.watch().instances();
     let mut size = 9;

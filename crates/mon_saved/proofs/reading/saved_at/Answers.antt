@@ -11,6 +11,6 @@ pub is_shared-requires : goal.is_shared-requires
 is_shared-requires c =
     let bytes : IsBytes c.args.octets.now = λ i. omega (arith, c.type_inv.octets i) in
     let first : List ℕ = c.in_ok-count.count ∷ [] in
-    let counted = within_takes 0 c.args.sizes.window BadImage c.args.octets.now c.in_ok-count.count c.in_ok-count.rest.now c.in_ok-count.ensures in
+    let counted = within_takes 0 _ BadImage c.args.octets.now c.in_ok-count.count c.in_ok-count.rest.now c.in_ok-count.ensures in
     let taken = samples_takes c.in_ok-count.count c.in_ok-count.rest.now c.in_ok-samples.samples c.in_ok-samples.rest.now (IsBytes-after c.args.octets.now first c.in_ok-count.rest.now bytes counted.0) c.in_ok-samples.ensures in
     record { rising = subst (λ (v : List ℕ). IsStrictlySortedBy nat_cmp v) (sym c.as_slice.ensures) taken.2.rising }

@@ -21,4 +21,15 @@ returns-clause-size c =
     )
 
 pub returns-clause-few : goal.returns-clause-few
-returns-clause-few c = omega (arith, c.instance_size.ensures.few, c.samples_size.ensures, c.requires.few, length-samples c.args.samples.now)
+returns-clause-few c =
+    let size : c.instance_size.result ≡ length (instance_octets c.args.watched.now.instance.engine c.args.watched.now.instance.name) = search rules in
+    omega (
+      arith,
+      size,
+      c.samples_size.ensures,
+      c.requires.few,
+      c.requires.engine,
+      c.instance_size.ensures.oid.short,
+      length-samples c.args.samples.now,
+      length-instance c.args.watched.now.instance.engine c.args.watched.now.instance.name,
+    )

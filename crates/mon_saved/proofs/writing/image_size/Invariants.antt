@@ -5,4 +5,4 @@ use Rattle.mon_saved.proofs.writing.image_size.Given as goal
 
 abbrev pub invariant-loop-i : goal.invariant-loop-i
 invariant-loop-i l = (l.size + length (left (window_of l.board) l.watched l.i) ≡ 9 + length (left (window_of l.board) l.watched 0))
-    × (l.size ≤ 9 + 2116 * l.i)
+    × (l.size ≤ 9 + 1893 * l.i)
