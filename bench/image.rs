@@ -13,6 +13,7 @@ use track::{Kind, Sample, Track};
 
 const RECORD: usize = 21;
 
+#[derive(Clone)]
 struct Watched {
     engine: Vec<u8>,
     name: Vec<u32>,
@@ -135,14 +136,26 @@ fn read(watch: &[Watched], octets: &[u8]) -> Result<(u32, Vec<Entry>), Fault> {
     if reader.rest.is_empty() { Ok((incarnation, entries)) } else { Err(Fault::BadImage) }
 }
 
-fn filled(watch: &[Watched], entries: &[Entry]) -> Vec<Track> {
-    let mut windows: Vec<Track> = watch.iter().map(|it| Track::new(it.window, it.epoch)).collect();
-    for (window, entry) in windows.iter_mut().zip(entries) {
+/// A watch, the windows of its instances with their totals, and the marks of peers on their samples, for which there is
+/// room from the start.
+struct Board {
+    watch: Vec<Watched>,
+    windows: Vec<Track>,
+    marks: Vec<Vec<(Sample, u16)>>,
+}
+
+fn filled(watch: &[Watched], entries: &[Entry]) -> Board {
+    let windows = watch.iter().map(|it| Track::new(it.window, it.epoch)).collect();
+    let marks = watch.iter().map(|it| Vec::with_capacity(it.window)).collect();
+    let mut board = Board { watch: watch.to_vec(), windows, marks };
+    for (i, entry) in entries.iter().enumerate() {
         for sample in &entry.samples {
+            let window = &mut board.windows[i];
             window.insert(*sample);
+            board.marks[i].retain(|(marked, _)| window.items.binary_search(marked).is_ok());
         }
     }
-    windows
+    board
 }
 
 fn put_sample(out: &mut Vec<u8>, sample: &Sample) {
@@ -159,7 +172,8 @@ fn put_sample(out: &mut Vec<u8>, sample: &Sample) {
     out.extend_from_slice(&sample.value.to_be_bytes());
 }
 
-fn written(watch: &[Watched], windows: &[Track], incarnation: u32) -> Vec<u8> {
+fn written(board: &Board, incarnation: u32) -> Vec<u8> {
+    let (watch, windows) = (&board.watch, &board.windows);
     let sizes = watch.iter().zip(windows).map(|(it, window)| 5 + it.engine.len() + 4 * it.name.len() + RECORD * window.items.len());
     let mut out = Vec::with_capacity(9 + sizes.sum::<usize>());
     out.extend_from_slice(b"MI\x02");
@@ -206,7 +220,7 @@ fn main() {
     let mut sum = 0;
     for _ in 0..times {
         let (incarnation, entries) = read(&watch, &image).unwrap();
-        sum += written(&watch, &filled(&watch, &entries), incarnation).len();
+        sum += written(&filled(&watch, &entries), incarnation).len();
     }
     println!("{sum} octets");
 }

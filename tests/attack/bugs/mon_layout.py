@@ -16,10 +16,10 @@ BUGS = {
         "    Ok((u32::from_be_bytes(number), rest))",
         "    Ok((u32::from_be_bytes(number), octets))",
     ),
-    "records_of_22_octets": (
-        "src/reading.rt",
-        "const RECORD: usize = 21;",
-        "const RECORD: usize = 22;",
+    "the_engines_length_without_its_last_bit": (
+        "src/writing.rt",
+        "    put_octet(out, engine.len() as u8);",
+        "    put_octet(out, engine.len() as u8 & 0xFE);",
     ),
     "one_sample_less": (
         "src/reading.rt",
