@@ -10,7 +10,7 @@ const LIFE: u32 = 48;
 
 #[allow(dead_code)]
 #[derive(Clone, Copy, PartialEq, Eq, PartialOrd, Ord)]
-enum Kind {
+pub enum Kind {
     Integer,
     Counter32,
     Gauge32,
@@ -19,16 +19,16 @@ enum Kind {
 }
 
 #[derive(Clone, Copy, PartialEq, Eq, PartialOrd, Ord)]
-struct Sample {
-    boots: u32,
-    time: u32,
-    mark: u32,
-    kind: Kind,
-    value: u64,
+pub struct Sample {
+    pub boots: u32,
+    pub time: u32,
+    pub mark: u32,
+    pub kind: Kind,
+    pub value: u64,
 }
 
 #[derive(Clone, Copy, Default)]
-struct Totals {
+pub struct Totals {
     delta: u128,
     span: u64,
     pairs: u32,
@@ -58,25 +58,25 @@ impl Totals {
     }
 }
 
-enum Inserted {
+pub enum Inserted {
     Added { at: usize, #[allow(dead_code)] dropped: Option<Sample> },
     Known,
     TooOld,
 }
 
-struct Track {
+pub struct Track {
     size: usize,
     share: usize,
-    items: Vec<Sample>,
+    pub items: Vec<Sample>,
     totals: Totals,
 }
 
 impl Track {
-    fn new(size: usize, share: usize) -> Track {
+    pub fn new(size: usize, share: usize) -> Track {
         Track { size, share, items: Vec::with_capacity(size), totals: Totals::default() }
     }
 
-    fn insert(&mut self, sample: Sample) -> Inserted {
+    pub fn insert(&mut self, sample: Sample) -> Inserted {
         let at = match self.items.binary_search(&sample) {
             Ok(_) => return Inserted::Known,
             Err(at) => at,

@@ -1,0 +1,5 @@
+pub mod Back
+pub mod Fills
+pub mod Images
+pub mod Loops
+pub mod Shared

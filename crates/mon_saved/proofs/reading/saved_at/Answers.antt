@@ -1,0 +1,16 @@
+use Rattle.std.proofs.Common.{ℕ, List, [], ◌∷◌, sym, subst, arith}
+use Rattle.std.specs.List.Sorted.{IsStrictlySortedBy}
+use Rattle.std.specs.Ordering.{nat_cmp}
+use Rattle.mon_ber.proofs.Promised.{IsBytes, IsBytes-after}
+use Rattle.mon_layout.proofs.Promised.{samples_takes}
+use Rattle.mon_saved.specs.declared.fault.ImageFault.TheVariants.{BadImage}
+use Rattle.mon_saved.proofs.Images.{within_takes}
+use Rattle.mon_saved.proofs.reading.saved_at.Goals as goal
+
+pub is_shared-requires : goal.is_shared-requires
+is_shared-requires c =
+    let bytes : IsBytes c.args.octets.now = λ i. omega (arith, c.type_inv.octets i) in
+    let first : List ℕ = c.in_ok-count.count ∷ [] in
+    let counted = within_takes 0 _ BadImage c.args.octets.now c.in_ok-count.count c.in_ok-count.rest.now c.in_ok-count.ensures in
+    let taken = samples_takes c.in_ok-count.count c.in_ok-count.rest.now c.in_ok-samples.samples c.in_ok-samples.rest.now (IsBytes-after c.args.octets.now first c.in_ok-count.rest.now bytes counted.0) c.in_ok-samples.ensures in
+    record { rising = subst (λ (v : List ℕ). IsStrictlySortedBy nat_cmp v) (sym c.as_slice.ensures) taken.2.rising }

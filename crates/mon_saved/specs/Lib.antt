@@ -1,0 +1,5 @@
+pub mod Fault
+pub mod Image
+pub mod Reading
+pub mod Restored
+pub mod Written

@@ -1,0 +1,129 @@
+"""Bugs of mon_saved for planted_bugs: by a name the file, what stands there once, and the bug in its place."""
+
+BUGS = {
+    "begins_with_other_letters": (
+        "src/reading.rt",
+        "octet_within(b'I', b'I', ",
+        "octet_within(b'O', b'O', ",
+    ),
+    "reads_version_0": (
+        "src/reading.rt",
+        "octet_within(1, 2, ImageFault::BadVersion",
+        "octet_within(0, 2, ImageFault::BadVersion",
+    ),
+    "a_window_of_65_for_all": (
+        "src/reading.rt",
+        "return octet_within(1, 64, ImageFault::BadImage, octets);",
+        "return octet_within(1, 65, ImageFault::BadImage, octets);",
+    ),
+    "a_window_of_65_for_one": (
+        "src/reading.rt",
+        "let (window, rest) = octet_within(1, 64, ImageFault::BadImage, octets)?;",
+        "let (window, rest) = octet_within(1, 65, ImageFault::BadImage, octets)?;",
+    ),
+    "an_epoch_above_its_window": (
+        "src/reading.rt",
+        "octet_within(1, window, ImageFault::BadImage, rest)?;",
+        "octet_within(1, 64, ImageFault::BadImage, rest)?;",
+    ),
+    "a_window_of_1_for_all_read_as_none": (
+        "src/reading.rt",
+        "    if window > 0 {",
+        "    if window > 1 {",
+    ),
+    "an_epoch_of_1_in_version_1": (
+        "src/reading.rt",
+        "epoch: window,",
+        "epoch: 1,",
+    ),
+    "the_count_of_instances_in_the_other_order": (
+        "src/reading.rt",
+        "expected_at(&many.to_be_bytes(), rest)?;",
+        "expected_at(&many.to_le_bytes(), rest)?;",
+    ),
+    "the_names_count_not_looked_at": (
+        "src/reading.rt",
+        "expected_at(&[name.len() as u8], rest)?;",
+        "expected_at(&[engine.len() as u8], rest)?;",
+    ),
+    "the_engine_after_the_name": (
+        "src/reading.rt",
+        "    numbers_are(name, rest)",
+        "    numbers_are(&name[1..], rest)",
+    ),
+    "names_in_the_other_order": (
+        "src/reading.rt",
+        "expected_at(&number.to_be_bytes(), rest)?;",
+        "expected_at(&number.to_le_bytes(), rest)?;",
+    ),
+    "an_octet_left_over": (
+        "src/reading.rt",
+        "    if !rest.is_empty() {",
+        "    if rest.len() > 1 {",
+    ),
+    "shares_by_time": (
+        "src/reading.rt",
+        "if samples[i].boots() == samples[i - epoch].boots() {",
+        "if samples[i].time() == samples[i - epoch].time() {",
+    ),
+    "the_window_for_the_epoch": (
+        "src/reading.rt",
+        "        epoch: sizes.epoch,",
+        "        epoch: sizes.window,",
+    ),
+    "an_incarnation_of_1": (
+        "src/filling.rt",
+        "    Ok((board, image.incarnation))",
+        "    Ok((board, 1))",
+    ),
+    "fills_half_of_the_instances": (
+        "src/filling.rt",
+        "board.take_all(k as u16,",
+        "board.take_all(k as u16 / 2,",
+    ),
+    "leaves_the_first_instance_empty": (
+        "src/filling.rt",
+        "    for k in 0..entries.len() {",
+        "    for k in 1..entries.len() {",
+    ),
+    "writes_version_1": (
+        "src/writing.rt",
+        'put_octets(out, b"MI\\x02");',
+        'put_octets(out, b"MI\\x01");',
+    ),
+    "writes_the_count_in_the_other_order": (
+        "src/writing.rt",
+        "put_octets(out, &many.to_be_bytes());",
+        "put_octets(out, &many.to_le_bytes());",
+    ),
+    "writes_the_window_twice": (
+        "src/writing.rt",
+        "put_octet(out, watched.epoch as u8);",
+        "put_octet(out, watched.window as u8);",
+    ),
+    "writes_the_first_window_for_all": (
+        "src/writing.rt",
+        "put_entry(out, &watched[i], board.items(i as u16));",
+        "put_entry(out, &watched[i], board.items(0));",
+    ),
+    "measures_4_octets_beside": (
+        "src/writing.rt",
+        "    3 + instance_size(",
+        "    4 + instance_size(",
+    ),
+    "takes_half_of_the_room": (
+        "src/writing.rt",
+        "Vec::with_capacity(alloc, image_size(board))?;",
+        "Vec::with_capacity(alloc, image_size(board) / 2)?;",
+    ),
+    "calls_what_is_cut_short_a_bad_image": (
+        "src/fault.rt",
+        "LayoutFault::Truncated => ImageFault::Truncated,",
+        "LayoutFault::Truncated => ImageFault::BadImage,",
+    ),
+    "gives_two_faults_one_name": (
+        "src/fault.rt",
+        'ImageFault::OtherWatch => "OtherWatch",',
+        'ImageFault::OtherWatch => "BadImage",',
+    ),
+}
