@@ -1,29 +1,22 @@
 //! Tests of what stations exchange and save: does what each line of standard input says, and prints a line for each, to be
 //! compared with the expected ones, which tests/attack/codec_rows writes from readers of another make.
 //!
-//!     claim HEX     the claim that these octets spell, its size and its octets as they are written; or the fault
-//!     note HEX      what becomes of this claim at the station of number 1, and the incarnation then known of its station
-//!     known STATION the incarnation that is known of this station
-//!     offer PEER    what the station offers to this peer
-//!     serial N      the serial after this one
+//!     claim HEX         the claim that these octets spell, its size and its octets as they are written; or the fault
+//!     note HEX          what becomes of this claim at the station of number 1, and the incarnation then known of its station
+//!     known STATION     the incarnation that is known of this station
+//!     offer PEER        what the station offers to this peer
+//!     serial N          the serial after this one
+//!     image WATCH HEX   what this image is read as under the watch, and the image that is written of that; or the fault
+//!
+//! usage: mon_codec_tests                   as above
+//!        mon_codec_tests image-times N     reads the image of the first line, WATCH HEX, and writes it, so many times, for bench/image
 #![tactic(auto)]
 
 mod claims;
+mod images;
 mod station;
 
 use station::Station;
-use std::alloc::Global;
-use std::io::{BufRead, BufReader};
-use std::process::ExitCode;
-//! Tests of the codecs that stand between stations and files: reads lines, prints what a codec says of each, a row a line, to be
-//! compared with the expected rows; and reads and writes one image again and again for bench/image.
-//!
-//! usage: mon_codec_tests image             each line is a watch and an image
-//!        mon_codec_tests image-times N     reads the image of the first line and writes it, so many times
-#![tactic(auto)]
-
-mod images;
-
 use std::alloc::Global;
 use std::env;
 use std::io::{BufRead, BufReader};
@@ -37,29 +30,23 @@ fn main(rt: HostRuntime) -> ExitCode {
     }
 }
 
-fn run(rt: &HostRuntime) -> Option<()> {
-    let alloc = rt.alloc();
+fn run<R: Env + Input + Print + AllocGlobal>(rt: &R) -> Option<()> {
+    let words: Vec<String> = env::args(rt).ok()?.collect(rt.alloc()).ok()?;
+    let Some(word) = words.get(1) else {
+        return rows(rt, rt.alloc());
+    };
+    if word.as_str() != "image-times" {
+        return None;
+    }
+    let times = words.get(2)?.as_str().parse().ok()?;
+    images::times(rt, rt.alloc(), times)
+}
+
+/// Prints what is told of each line.
+fn rows<R: Input + Print>(rt: &R, alloc: Global) -> Option<()> {
     let mut station = Station::new(alloc)?;
     for line in BufReader::new(alloc, rt.reader()).ok()?.lines(alloc) {
         let row = row(alloc, &mut station, line.ok()?.as_str())?;
-fn run<R: Env + Input + Print + AllocGlobal>(rt: &R) -> Option<()> {
-    let words: Vec<String> = env::args(rt).ok()?.collect(rt.alloc()).ok()?;
-    match words.get(1)?.as_str() {
-        "image" => rows(rt, rt.alloc()),
-        "image-times" => {
-            let times = words.get(2)?.as_str().parse().ok()?;
-            images::times(rt, rt.alloc(), times)
-        }
-        _ => None,
-    }
-}
-
-/// Prints the row of each line.
-fn rows<R: Input + Print>(rt: &R, alloc: Global) -> Option<()> {
-    let reader = BufReader::new(alloc, rt.reader()).ok()?;
-    for line in reader.lines(alloc) {
-        let line = line.ok()?;
-        let row = images::row(alloc, line.as_str())?;
         println!(rt; "{row}").ok()?;
     }
     Some(())
@@ -74,6 +61,7 @@ fn row(alloc: Global, station: &mut Station, line: &str) -> Option<String> {
         "known" => station.known(alloc, word),
         "offer" => station.offer(alloc, word),
         "serial" => station::serial(alloc, word),
+        "image" => images::row(alloc, word),
         _ => None,
     }
 }

@@ -1,14 +1,7 @@
-#!/usr/bin/env -S python3 -B
-"""Writes the rows of crates/mon_codec_tests for images: two images of one sample, in versions 1 and 2, read and written, cut after each octet,
-with each octet turned to 00, 80 and FF, and under other watches. What is to be answered comes from images.py.
-
-usage: tests/attack/image_rows [FOLDER]        into crates/mon_codec_tests, if no other folder is named
+"""Watches and images for the rows of crates/mon_codec_tests: two images of one sample, in versions 1 and 2, whole, cut after each octet,
+with each octet turned to 00, 80 and FF, and under other watches.
 """
-import sys
-from pathlib import Path
-
-from images import Watched, line, row, written
-from running import TOP
+from images import Watched, written
 
 ENGINE, NAME = bytes.fromhex("8000000001"), (1, 3, 6, 1, 2, 1, 2, 2, 1, 10, 1)
 
@@ -86,14 +79,3 @@ def cases():
     for sizes in ((5, 2), (4, 2), (5, 1), (3, 1), (2, 2), (1, 1), (64, 64)):
         yield watch(*sizes), of(5, 2, EPOCHS)
     yield watch(5, 5), of(5, 1, EPOCHS)
-
-
-def main():
-    place = Path(sys.argv[1]) if sys.argv[1:] else TOP / "crates/mon_codec_tests"
-    rows = list(cases())
-    (place / "stdin").write_text("".join(f"{line(*it)}\n" for it in rows))
-    (place / "stdout").write_text("".join(f"{row(*it)}\n" for it in rows))
-    print(f"{len(rows)} rows")
-
-
-main()
