@@ -7,6 +7,7 @@ use std::alloc::Global;
 
 /// ifHCInOctets and ifCounterDiscontinuityTime (RFC 2863), which take the number of an interface.
 const IN_OCTETS: [u32; 11] = [1, 3, 6, 1, 2, 1, 31, 1, 1, 1, 6];
+
 const DISCONTINUITY: [u32; 11] = [1, 3, 6, 1, 2, 1, 31, 1, 1, 1, 19];
 
 /// An address of this host.
@@ -58,14 +59,7 @@ fn one_object(alloc: Global) -> Option<Target> {
     let name = Oid::parse(alloc, "1.3.6.1.2.1.2.2.1.10.1").ok()?;
     let mut objects = Vec::new(alloc);
     objects.push(object(0, name, None)).ok()?;
-    target(
-        alloc,
-        16100,
-        b"public",
-        &[0x80, 0, 0, 0, 1],
-        2,
-        objects,
-    )
+    target(alloc, 16100, b"public", &[0x80, 0, 0, 0, 1], 2, objects)
 }
 
 fn many_objects(alloc: Global) -> Option<Target> {
@@ -75,14 +69,7 @@ fn many_objects(alloc: Global) -> Option<Target> {
         let mark = of_interface(alloc, &DISCONTINUITY, interface)?;
         objects.push(object(interface, name, Some(mark))).ok()?;
     }
-    target(
-        alloc,
-        16102,
-        b"private",
-        &[0x80, 0, 0, 0, 2, 7],
-        8,
-        objects,
-    )
+    target(alloc, 16102, b"private", &[0x80, 0, 0, 0, 2, 7], 8, objects)
 }
 
 fn some_marks(alloc: Global) -> Option<Target> {
@@ -95,14 +82,7 @@ fn some_marks(alloc: Global) -> Option<Target> {
     let last = of_interface(alloc, &IN_OCTETS, 2)?;
     let mark = of_interface(alloc, &DISCONTINUITY, 2)?;
     objects.push(object(300, last, Some(mark))).ok()?;
-    target(
-        alloc,
-        16103,
-        b"c",
-        &[0x80, 0, 0, 0, 3],
-        1,
-        objects,
-    )
+    target(alloc, 16103, b"c", &[0x80, 0, 0, 0, 3], 1, objects)
 }
 
 /// The name of a column at an interface.
