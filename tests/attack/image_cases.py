@@ -79,3 +79,12 @@ def cases():
     for sizes in ((5, 2), (4, 2), (5, 1), (3, 1), (2, 2), (1, 1), (64, 64)):
         yield watch(*sizes), of(5, 2, EPOCHS)
     yield watch(5, 5), of(5, 1, EPOCHS)
+
+
+def reports():
+    """The image of two samples of a counter that wraps, saved with window 8, and its reports under other windows, as the specification has them."""
+    saved = written(2, watch(8, 8), 1, [(8, 8, WRAPPED)])
+    instance = f"{ENGINE.hex()} {'.'.join(map(str, NAME))}"
+    yield watch(1, 1), saved, f"{instance} n=1 3:110..3:110 Counter32=4 delta=0 span=0 rate=none\nend 1 instances 1 samples"
+    for sizes in ((8, 8), (64, 64)):
+        yield watch(*sizes), saved, f"{instance} n=2 3:100..3:110 Counter32=4 delta=10 span=10 rate=1.000\nend 1 instances 2 samples"

@@ -3,6 +3,7 @@
 use mon_ber::Octets;
 use mon_board::{Board, Instance, Watch, Watched};
 use mon_oid::Oid;
+use mon_report::write_report;
 use mon_saved::{ImageFault, image_size, read, read_image, write_image, write_within};
 use std::alloc::Global;
 use std::io::{BufRead, BufReader};
@@ -17,6 +18,18 @@ pub fn row(alloc: Global, line: &str) -> Option<String> {
         Ok((board, incarnation)) => read_row(alloc, &watch, octets.as_slice(), &board, incarnation),
         Err(fault) => refused_row(alloc, fault),
     }
+}
+
+/// The report of the board that a line's image is read as under its watch, without the last line's end.
+pub fn report(alloc: Global, line: &str) -> Option<String> {
+    let (words, digits) = line.split_once(' ')?;
+    let watch = watch_of(alloc, words)?;
+    let octets = hex::decode(alloc, digits).ok()?;
+    let (board, _incarnation) = read_image(alloc, &watch, octets.as_slice()).ok()?;
+    let mut text = Vec::new(alloc);
+    write_report(&board, &mut text).ok()?;
+    let text = str::from_utf8(text.as_slice()).ok()?;
+    String::from_str(alloc, text.trim_end()).ok()
 }
 
 fn refused_row(alloc: Global, fault: ImageFault) -> Option<String> {

@@ -7,6 +7,7 @@
 //!     offer PEER        what the station offers to this peer
 //!     serial N          the serial after this one
 //!     image WATCH HEX   what this image is read as under the watch, and the image that is written of that; or the fault
+//!     report WATCH HEX  the report of what this image is read as under the watch
 //!
 //! usage: mon_codec_tests                   as above
 //!        mon_codec_tests image-times N     reads the image of the first line, WATCH HEX, and writes it, so many times, for bench/image
@@ -62,6 +63,7 @@ fn row(alloc: Global, station: &mut Station, line: &str) -> Option<String> {
         "offer" => station.offer(alloc, word),
         "serial" => station::serial(alloc, word),
         "image" => images::row(alloc, word),
+        "report" => images::report(alloc, word),
         _ => None,
     }
 }
