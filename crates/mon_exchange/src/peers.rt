@@ -115,7 +115,7 @@ impl Peers {
             → (i : ℕ) → window_of board.new i ≡ joined (rule_of board.old.watch) (window_of board.old) (paired number claim.now.samples) i) }
         ensures marks { OnOk result ((slot number : ℕ) → peer_slot self.old.peers claim.now.station ≡ Some slot → IsWatchedAs board.old.watch claim.now.engine claim.now.name number
             → (k i s : ℕ) → is_marked board.new k i s
-            ≡ marks_after (noted_of (incarnation_in self.old.peers slot) claim.now.incarnation) slot number claim.now.samples (window_of board.old) (window_of board.new) (is_marked board.old) k i s) }
+            ≡ marks_after (noted_of (known_incarnation self.old.peers claim.now.station) claim.now.incarnation) slot number claim.now.samples (window_of board.old) (window_of board.new) (is_marked board.old) k i s) }
     {
         let Some(slot) = self.slot(claim.station) else {
             return Err(ExchangeFault::UnknownPeer);
