@@ -13,16 +13,18 @@ fn parsed(alloc: Global, text: &str) -> Result<Oid, OidFault> {
     Oid::parse(alloc, text)
 }
 
-fn clone(alloc: Global, name: &Oid) -> Result<Oid, AllocError> {
-    name.try_clone(alloc)
+/// The text of the identifier that a text spells, and whether its clone is equal.
+fn read_back(alloc: Global, text: &str) -> Result<(String, bool), Fail> {
+    let name = parsed(alloc, text)?;
+    let clone = name.try_clone(alloc)?;
+    Ok((name.text(alloc)?, clone == name))
 }
 
-fn compared(a: &Oid, b: &Oid) -> (Ordering, Ordering, bool) {
-    (a.compare(b), a.cmp(b), a == b)
-}
-
-fn is_prefix(a: &Oid, b: &Oid) -> bool {
-    a.is_prefix_of(b)
+/// How two identifiers compare, in both ways, whether they are equal, and whether the first is a prefix of the second.
+fn compared(alloc: Global, a: &[u32], b: &[u32]) -> Result<(Ordering, Ordering, bool, bool), Fail> {
+    let a = oid(alloc, a)?;
+    let b = oid(alloc, b)?;
+    Ok((a.compare(&b), a.cmp(&b), a == b, a.is_prefix_of(&b)))
 }
 
 /// 1.3, from a vector that is known to be an identifier.
@@ -63,28 +65,43 @@ fn reads_and_writes_text(rt: HostRuntime) -> Result<(), Fail> {
         assert_eq!(rt; parsed(alloc, text).err(), Some(fault), "at {text}");
     }
     for text in ["2.100.3", "0.0", "2.4294967295", "1.3.6.1.2.1.2.2.1.10.1"] {
-        let name = parsed(alloc, text)?;
-        assert_eq!(rt; name.text(alloc)?.as_str(), text);
-        assert_eq!(rt; clone(alloc, &name)?, name);
+        let (written, equal) = read_back(alloc, text)?;
+        assert_eq!(rt; (written.as_str(), equal), (text, true));
     }
+    Ok(())
+}
+
+#[test]
+fn holds_its_parts(rt: HostRuntime) -> Result<(), Fail> {
+    let alloc = rt.alloc();
     assert_eq!(rt; parsed(alloc, "2.100.3")?.parts(), [2, 100, 3].as_slice());
+    assert_eq!(rt; made(alloc)?.parts(), [1, 3].as_slice());
     Ok(())
 }
 
 #[test]
 fn compares(rt: HostRuntime) -> Result<(), Fail> {
-    let alloc = rt.alloc();
-    let short = made(alloc)?;
-    let longer = oid(alloc, &[1, 3, 6])?;
-    let later = oid(alloc, &[1, 4])?;
-    let less = (Ordering::Less, Ordering::Less, false);
-    assert_eq!(rt; compared(&short, &longer), less);
-    assert_eq!(rt; compared(&longer, &later), less);
-    assert_eq!(rt;
-        compared(&short, &oid(alloc, &[1, 3])?),
-        (Ordering::Equal, Ordering::Equal, true)
-    );
-    assert!(rt; is_prefix(&short, &longer));
-    assert!(rt; !is_prefix(&longer, &short));
+    let less = Ordering::Less;
+    let rows = [
+        (
+            [1, 3].as_slice(),
+            [1, 3, 6].as_slice(),
+            (less, less, false, true),
+        ),
+        (&[1, 3, 6], &[1, 4], (less, less, false, false)),
+        (
+            &[1, 3],
+            &[1, 3],
+            (Ordering::Equal, Ordering::Equal, true, true),
+        ),
+        (
+            &[1, 3, 6],
+            &[1, 3],
+            (Ordering::Greater, Ordering::Greater, false, false),
+        ),
+    ];
+    for (a, b, found) in rows {
+        assert_eq!(rt; compared(rt.alloc(), a, b)?, found);
+    }
     Ok(())
 }

@@ -130,6 +130,11 @@ fn reads_the_fields(rt: HostRuntime) -> Result<(), Fail> {
         panic!(rt; "no octets");
     };
     assert_eq!(rt; text.as_slice(), b"r1".as_slice());
+    Ok(())
+}
+
+#[test]
+fn reads_the_fields_of_a_bulk(rt: HostRuntime) -> Result<(), Fail> {
     let message = read(rt.alloc(), &hex::decode(rt.alloc(), BULK)?)?;
     let Body::Bulk(bulk) = &message.body else {
         panic!(rt; "no GetBulk");
