@@ -28,7 +28,7 @@ module _ (more : (a b c : Option (List ℕ)) (p q r : Bool) (xs ys : List ℕ) �
       → AppendsIf a p b q (flat_map entry_line (take i es)) → AppendsIf b q c r (entry_line (get_or es i e)) → AppendsIf a p c r (flat_map entry_line (take (i + 1) es))
   line-more es i e a b c p q r lt h g =
       let one : flat_map entry_line (take (i + 1) es) ≡ flat_map entry_line (take i es) ++ entry_line (get_or es i e) =
-        ap (flat_map entry_line) (take_more es i e lt) ∙ flat_map-append entry_line (take i es) (get_or es i e ∷ []) ∙ ap (λ t. flat_map entry_line (take i es) ++ t) (append-nil (entry_line (get_or es i e))) in
+      ap (flat_map entry_line) (take_more es i e lt) ∙ flat_map-append entry_line (take i es) (get_or es i e ∷ []) ∙ ap (λ t. flat_map entry_line (take i es) ++ t) (append-nil (entry_line (get_or es i e))) in
       subst (AppendsIf a p c r) (sym one) (more a b c p q r _ _ h g)
 
   -- the lines of all rows, and the last line
@@ -37,4 +37,4 @@ module _ (more : (a b c : Option (List ℕ)) (p q r : Bool) (xs ys : List ℕ) �
   unfolding report_of
   report-whole rows a b c q n count lines last =
       more a b c true q true _ _ lines
-        (subst (AppendsIf b q c true) (λ i. end_line (sym (length-map rows reported_row) i) ((count ∙ samples-same rows) i)) last)
+      (subst (AppendsIf b q c true) (λ i. end_line (sym (length-map rows reported_row) i) ((count ∙ samples-same rows) i)) last)

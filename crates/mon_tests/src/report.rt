@@ -139,72 +139,63 @@ type Case<'a> = (
     &'a str,
 );
 
+const CASES: [Case<'static>; 8] = [
+    (
+        (8, 8),
+        &[],
+        &TWO,
+        " n=2 3:100..3:110 Counter32=4 delta=10 span=10 rate=1.000\n",
+        "end 1 instances 2 samples\n",
+    ),
+    (
+        (8, 8),
+        &[],
+        &THREE,
+        " n=3 3:100..3:110 Counter32=4 delta=10 span=10 rate=1.000\n",
+        "end 1 instances 3 samples\n",
+    ),
+    (
+        (8, 8),
+        &[(1000, 500)],
+        &TWO,
+        " n=2 3:100..3:110 Counter32=4 delta=10 span=10 rate=1.000 alarm 1000/500=raised@3:110\n",
+        "end 1 instances 2 samples\n",
+    ),
+    (
+        (8, 8),
+        &[(1000, 500)],
+        &THREE,
+        " n=3 3:100..3:110 Counter32=4 delta=10 span=10 rate=1.000 alarm 1000/500=raised@3:105\n",
+        "end 1 instances 3 samples\n",
+    ),
+    (
+        (8, 8),
+        &[],
+        &RESTARTED,
+        " n=2 3:100..4:110 Counter32=4 delta=0 span=0 rate=none\n",
+        "end 1 instances 2 samples\n",
+    ),
+    ((8, 8), &[], &[], " n=0\n", "end 1 instances 0 samples\n"),
+    (
+        (8, 8),
+        &[(-5, -6), (1000, 500)],
+        &[],
+        " n=0 alarm -5/-6=clear alarm 1000/500=clear\n",
+        "end 1 instances 0 samples\n",
+    ),
+    (
+        (4, 2),
+        &[],
+        &SHARED,
+        " n=4 3:130..5:5 Counter32=5 delta=5 span=5 rate=1.000\n",
+        "end 1 instances 4 samples\n",
+    ),
+];
+
 #[test]
 fn reports_the_worked_rows(rt: HostRuntime) -> Result<(), Fail> {
     let alloc = rt.alloc();
-    let none: [(i64, i64); 0] = [];
-    let one = [(1000, 500)];
-    let pair = [(-5, -6), (1000, 500)];
-    let empty: [Row; 0] = [];
-    let cases: [Case<'_>; 8] = [
-        (
-            (8, 8),
-            &none,
-            &TWO,
-            " n=2 3:100..3:110 Counter32=4 delta=10 span=10 rate=1.000\n",
-            "end 1 instances 2 samples\n",
-        ),
-        (
-            (8, 8),
-            &none,
-            &THREE,
-            " n=3 3:100..3:110 Counter32=4 delta=10 span=10 rate=1.000\n",
-            "end 1 instances 3 samples\n",
-        ),
-        (
-            (8, 8),
-            &one,
-            &TWO,
-            " n=2 3:100..3:110 Counter32=4 delta=10 span=10 rate=1.000 alarm 1000/500=raised@3:110\n",
-            "end 1 instances 2 samples\n",
-        ),
-        (
-            (8, 8),
-            &one,
-            &THREE,
-            " n=3 3:100..3:110 Counter32=4 delta=10 span=10 rate=1.000 alarm 1000/500=raised@3:105\n",
-            "end 1 instances 3 samples\n",
-        ),
-        (
-            (8, 8),
-            &none,
-            &RESTARTED,
-            " n=2 3:100..4:110 Counter32=4 delta=0 span=0 rate=none\n",
-            "end 1 instances 2 samples\n",
-        ),
-        (
-            (8, 8),
-            &none,
-            &empty,
-            " n=0\n",
-            "end 1 instances 0 samples\n",
-        ),
-        (
-            (8, 8),
-            &pair,
-            &empty,
-            " n=0 alarm -5/-6=clear alarm 1000/500=clear\n",
-            "end 1 instances 0 samples\n",
-        ),
-        (
-            (4, 2),
-            &none,
-            &SHARED,
-            " n=4 3:130..5:5 Counter32=5 delta=5 span=5 rate=1.000\n",
-            "end 1 instances 4 samples\n",
-        ),
-    ];
-    for case in cases {
+    for case in CASES {
         let (sizes, thresholds, rows, line, last) = case;
         let Some(board) = board(alloc, sizes, thresholds, rows)? else {
             panic!(rt; "a watch");

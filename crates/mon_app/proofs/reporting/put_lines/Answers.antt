@@ -13,5 +13,5 @@ loop-row-preserved c =
     let at = c.loop-row.row-index in
     let same = ap reported_row c.row-item.is ∙ sym (get_or-map reported_row rows at item (reported_row item) c.loop-row-test.true) in
     line-more c.written.ensures.more (map reported_row rows) at (reported_row item) (Some c.args.text.now.items) (Some c.loop-row.text.items) (Some c.put_line-ok.new.text.items)
-      true c.loop-row.ok c.put_line-ok.result (omega (arith, c.loop-row-test.true, length-map rows reported_row)) c.loop-row.invariant
-      (subst (λ e. AppendsIf (Some c.loop-row.text.items) c.loop-row.ok (Some c.put_line-ok.new.text.items) c.put_line-ok.result (entry_line e)) same c.put_line-ok.ensures)
+    true c.loop-row.ok c.put_line-ok.result (omega (arith, c.loop-row-test.true, length-map rows reported_row)) c.loop-row.invariant
+    (subst (λ e. AppendsIf (Some c.loop-row.text.items) c.loop-row.ok (Some c.put_line-ok.new.text.items) c.put_line-ok.result (entry_line e)) same c.put_line-ok.ensures)
