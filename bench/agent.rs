@@ -1,4 +1,4 @@
-//! A load generator for SNMPv2c agents, in plain Rust with std alone: asks agents in turn over UDP with so many requests in flight,
+//! A load generator for SNMPv2c agents, in plain Rust with std alone: asks agents in turn over UDP with this many requests in flight,
 //! and prints for each kind of request how many a second were answered, and the agent's processor time for one.
 //! rustc -O -C target-cpu=x86-64-v2 agent.rs
 //!
@@ -83,7 +83,7 @@ fn answered(row: &Row, octets: &[u8]) -> i32 {
     }
 }
 
-/// Asks for so long with so many requests in flight. Where nothing comes for a second, what is open is lost.
+/// Asks for this long with this many requests in flight. Where nothing comes for a second, what is open is lost.
 fn measure(agent: &Agent, row: &Row, window: usize, seconds: f64) -> io::Result<Measured> {
     let mut room = [0; 65536];
     let mut open = HashSet::new();

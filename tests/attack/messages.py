@@ -1,8 +1,8 @@
 """SNMPv2c messages by the published grammar alone (RFC 1901, RFC 3416 section 3, RFC 3417 section 8), read and written
 apart from the proved code.
 
-Where BER leaves a choice, docs/DEFINITIONS.md tells the choice made: a length is one octet below 80, or 81 to 84 with so many
-octets of length behind it, spare zeros allowed; a number has 1 to 9 octets; octets behind the message are ignored.
+Where BER leaves a choice, docs/DEFINITIONS.md tells the choice made: a length is one octet below 80, or 81 to 84 with this many
+octets of length after it, leading zeros allowed; a number has 1 to 9 octets; octets after the message are ignored.
 """
 
 SEQUENCE, INTEGER, OCTETS, NULL, NAME = 0x30, 0x02, 0x04, 0x05, 0x06
@@ -124,7 +124,7 @@ def read(octets):
 
 
 def spelled(tag, contents, spare=0):
-    """An element; with `spare`, its length in one of the longer forms, so many octets of it."""
+    """An element; with `spare`, its length in one of the longer forms, this many octets of it."""
     size = len(contents)
     if spare:
         return bytes([tag, 0x80 + spare]) + size.to_bytes(spare, "big") + contents

@@ -18,7 +18,7 @@ def settings(folder, more=""):
 
 
 class Agent:
-    """An agent that serves so many datagrams, at its third boot. `address` is where it listens, or None where it ended before that."""
+    """An agent that serves this many datagrams, at its third boot. `address` is where it listens, or None where it ended before that."""
 
     def __init__(self, program, more="", count=4294967295, environment=None, pass_fds=()):
         self.folder = tempfile.TemporaryDirectory()

@@ -26,7 +26,7 @@ is_end other = false
 abbrev pub is_last : List Binding → Bool
 is_last round = list_all (λ b. is_end b.value) round
 
--- So many rounds, each with the answers to the names before it; none follows one that is all at the end.
+-- This many rounds, each with the answers to the names before it; none follows one that is all at the end.
 unfoldable pub rounds : (List ℕ → Binding) → ℕ → List (List ℕ) → List Binding
 rounds next zero names = []
 rounds next (suc m) names =

@@ -18,7 +18,7 @@ pub record Grown : Type 0 where
 abbrev pub FitsWith : Grown → List Binding → Type 0
 FitsWith grown bindings = Fits grown.limit (with_bindings grown.head bindings)
 
--- the list goes on behind this beginning, and the beginning has no room for what comes next
+-- the list goes on after this beginning, and the beginning has no room for what comes next
 pub record IsCut (fits : List Binding → Type 0) (all part : List Binding) : Type 0 where
   pub next : Binding
   pub rest : List Binding
@@ -30,7 +30,7 @@ abbrev pub IsPut : (List Binding → Type 0) → List Binding → Bool → List 
 IsPut fits all true part = part ≡ all
 IsPut fits all false part = IsCut fits all part
 
--- the last so many
+-- the last ones, this many
 abbrev pub last : ℕ → List Binding → List Binding
 last width bindings = drop (length bindings - width) bindings
 

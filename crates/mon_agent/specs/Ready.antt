@@ -52,7 +52,7 @@ pub record IsToAssign (policy : Lists) (k : Known) (m : Message) (a : Assigning)
   pub access : access_of policy m.community (need_of m.body) ≡ Ok view
   pub planned : IsPlanned k (IsInView policy.families view) m a
 
--- the variable binding that is refused is one of so many
+-- the variable binding that is refused is one of this many
 abbrev pub IsNumbered : ℕ → SetFault → Type 0
 IsNumbered count OutOfMemory = Unit {0}
 IsNumbered count (Refused status index) = index ≤ count

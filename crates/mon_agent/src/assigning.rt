@@ -99,7 +99,7 @@ fn count_bindings(body: &Body) -> Option<i32>
     i32::try_from(body.bindings().len()).ok()
 }
 
-/// The response to a Set of which a variable binding is refused, in so many octets.
+/// The response to a Set of which a variable binding is refused, in this many octets.
 fn refused(
     alloc: Global,
     response: Message,

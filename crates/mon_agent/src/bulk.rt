@@ -73,7 +73,7 @@ impl<D: Device + Drop> Agent<D> {
         Ok(true)
     }
 
-    /// Adds so many rounds of answers to the names of the last `width`, each to the names before; none after one that is at the end.
+    /// Adds this many rounds of answers to the names of the last `width`, each to the names before; none after one that is at the end.
     fn repeat_all(
         &self,
         alloc: Global,

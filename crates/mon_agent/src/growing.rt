@@ -69,7 +69,7 @@ impl Growing {
         Ok(true)
     }
 
-    /// The name of the variable binding so many places before the end.
+    /// The name of the variable binding this many places before the end.
     pub(crate) fn name_before(&self, places: usize) -> &Oid
         requires some { 1 ≤ places }
         requires within { places ≤ length self.now.bindings }
@@ -78,7 +78,7 @@ impl Growing {
         &self.bindings[self.bindings.len() - places].name
     }
 
-    /// Whether each of the last so many variable bindings has the value endOfMibView.
+    /// Whether each of the last variable bindings, this many of them, has the value endOfMibView.
     pub(crate) fn is_last(&self, width: usize) -> bool
         requires { width ≤ length self.now.bindings }
         ensures { result ≡ is_last (last width self.now.bindings) }

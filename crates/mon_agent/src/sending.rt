@@ -121,7 +121,7 @@ pub(crate) fn size_within(message: &Message, limit: i32) -> Option<usize>
     Some(size)
 }
 
-/// Writes a message that takes so many octets at most.
+/// Writes a message that takes this many octets at most.
 pub(crate) fn write(alloc: Global, message: &Message, size: usize) -> Result<Vec<u8>, AllocError>
     requires length { HasLength message.now }
     requires size { length (written_message message.now) ≤ size }

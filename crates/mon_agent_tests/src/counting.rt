@@ -78,7 +78,7 @@ fn interface(alloc: Global, index: u32) -> Result<Interface, AllocError> {
     })
 }
 
-/// A device of so many interfaces, from index 1.
+/// A device of this many interfaces, from index 1.
 fn device(alloc: Global, texts: SysTexts, many: u32) -> Result<CountingDevice<SimDevice>, Fail> {
     let mut interfaces = Vec::new(alloc);
     for index in 0..many {

@@ -61,7 +61,7 @@ IsWait q heard (Err other) = ⊥
 abbrev pub request_octets : Asked → List ℕ
 request_octets q = written_message (request_of q)
 
--- so many sendings of the request, and after each a wait in which no reply was heard
+-- this many sendings of the request, and after each a wait in which no reply was heard
 abbrev pub AreUnanswered : Asked → ℕ → List AtWire → Type 0
 AreUnanswered q zero log = log ≡ []
 AreUnanswered q (suc n) log = (before : List AtWire) × (heard : List AtWire) × AreUnanswered q n before × HearsNone q heard

@@ -23,7 +23,7 @@ word_of kinds.Gauge32 = codes "gauge32"
 word_of kinds.TimeTicks = codes "timeticks"
 word_of kinds.Counter64 = codes "counter64"
 
--- decimal digits, at least one, for a number of k bits; spare zeros may stand in front
+-- decimal digits, at least one, for a number of k bits; leading zeros are allowed
 abbrev pub IsUnsigned : ℕ → List ℕ → ℕ → Type 0
 IsUnsigned k text n = IsNumber 10 text n × (n < 2 ^ k)
 

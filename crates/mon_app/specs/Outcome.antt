@@ -31,7 +31,7 @@ IsOutcome taken (c ∷ cs) (Some (Err TooManyInstances)) = (offers : List Offer)
 abbrev pub taken_by : List Outcome → List Offer
 taken_by outcomes = flat_map offered outcomes
 
--- the refused lines with their numbers, where so many lines came before
+-- the refused lines with their numbers, where this many lines came before
 abbrev pub refused_in : ℕ → List Outcome → List (ℕ × Refusal)
 refused_in k [] = []
 refused_in k (outcome ∷ outcomes) = refused (k + 1) outcome ++ refused_in (k + 1) outcomes

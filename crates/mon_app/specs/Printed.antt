@@ -33,11 +33,11 @@ hex_text octets = codes "hex " ++ encode_lower octets
 unfoldable pub string_text : List ℕ → List ℕ
 string_text octets = if list_all is_seen octets then codes "\"" ++ flat_map escaped octets ++ codes "\"" else hex_text octets
 
--- a number behind its kind
+-- a number after its kind
 unfoldable pub number_text : List ℕ → ℕ → List ℕ
 number_text kind n = kind ++ codes ": " ++ decimal n
 
--- a text behind its kind
+-- a text after its kind
 unfoldable pub kind_text : List ℕ → List ℕ → List ℕ
 kind_text kind text = kind ++ codes ": " ++ text
 

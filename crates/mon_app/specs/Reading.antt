@@ -67,11 +67,11 @@ offer_of stamp name value = record {
 abbrev pub offer_in : Stamp → Binding → Option Offer
 offer_in stamp b = option_map (offer_of stamp b.name) (sampled b.value)
 
--- the samples of all bindings behind the stamp
+-- the samples of all bindings after the stamp
 unfoldable pub offers_of : Stamp → List Binding → List Offer
 offers_of stamp bindings = filter_map (offer_in stamp) bindings
 
--- the stamp, and the bindings behind it
+-- the stamp, and the bindings after it
 unfoldable pub response_of : List Binding → Result (Stamp × List Binding) Refusal
 response_of (first ∷ second ∷ third ∷ others) = do
   stamp ← stamp_of first second third

@@ -15,7 +15,7 @@ use Rattle.mon_app.specs.Text.{row_text, refused_line, end_line, samples_in}
 unfoldable pub lines_of : List ℕ → List (List ℕ)
 lines_of input = map strip_carriage_return (slice_split (λ b. b == 10) input)
 
--- what the octets behind an LF hold, where there are such
+-- what the octets after an LF hold, where there are such
 abbrev pub lines_left : Option (List ℕ) → List (List ℕ)
 lines_left None = []
 lines_left (Some text) = lines_of text

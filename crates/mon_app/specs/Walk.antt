@@ -52,7 +52,7 @@ IsTurn q start last before after log (Err OutOfMemory) = (answer : Result Bindin
 IsTurn q start last before after log (Err NotIncreasing) = (b : Binding) × IsNext q log (Ok b) × IsWalkStep start last b Back × (after ≡ before)
 IsTurn q start last before after log (Err other) = IsNext q log (Err other) × (after ≡ before)
 
--- After so many turns, each with one more line: what happened at the wire, the text, and the last name. The first question is
+-- After this many turns, each with one more line: what happened at the wire, the text, and the last name. The first question is
 -- for the variable after the start, and each other one for the variable after the name that was answered.
 abbrev pub HasWalked : List ℕ → List ℕ → List ℕ → ℕ → List AtWire → List ℕ → List ℕ → Type 0
 HasWalked community start before zero log text last = (log ≡ []) × (text ≡ before) × (last ≡ start)

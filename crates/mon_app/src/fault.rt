@@ -74,7 +74,7 @@ impl From<SocketFault> for AppFault {
     }
 }
 
-/// The one fault of an agent is want of memory.
+/// The one fault of an agent is that memory ran out.
 impl From<AgentFault> for AppFault {
     ghost from_gives = { λ _ e. e ≡ OutOfMemory };
 
@@ -95,7 +95,7 @@ impl From<io::Error> for AppFault {
     }
 }
 
-/// A message that finds no room is want of memory; one that is too long for a datagram cannot be sent.
+/// A message that finds no room is out of memory; one that is too long for a datagram cannot be sent.
 impl From<PduFault> for AppFault {
     ghost from_gives = { λ pdu fault. fault ≡ of_message pdu };
 

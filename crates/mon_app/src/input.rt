@@ -15,7 +15,7 @@ const CHUNK: usize = 65_536;
 /// How many reads an input may take.
 const READS: u32 = 1_048_576;
 
-/// So many zeros.
+/// This many zeros.
 pub(crate) fn zeros(alloc: Global, len: usize) -> Result<Vec<u8>, AllocError>
     ensures { IfOk result (λ v. length v.items ≡ len) }
 {
@@ -25,7 +25,7 @@ pub(crate) fn zeros(alloc: Global, len: usize) -> Result<Vec<u8>, AllocError>
 /// The octets of a reader to its end, in at most 1048576 reads of at most 65536 octets.
 ///
 /// # Errors
-/// `FileFault` where a read fails, or where so many reads came to no end; `OutOfMemory` where the octets find no room.
+/// `FileFault` where a read fails, or where this many reads came to no end; `OutOfMemory` where the octets find no room.
 pub fn read_all<R: Read>(alloc: Global, reader: &mut Counted<R>) -> Result<Vec<u8>, AppFault>
     requires { reader.old.counts.reads < 2 ^ 63 }
     ensures whole { IfOk result (λ octets. IfSome (R.remaining reader.old.reader) (λ all. octets.items ≡ all)) }

@@ -7,7 +7,7 @@ use mon_pdu::Binding;
 use mon_poller::stamp::sampled;
 use mon_sample::Sample;
 
-/// A response of an agent: whose it is, when it was made, and the variable bindings behind its stamp.
+/// A response of an agent: whose it is, when it was made, and the variable bindings after its stamp.
 #[derive(Drop)]
 pub(crate) struct Response<'a> {
     pub(crate) engine: &'a Octets,

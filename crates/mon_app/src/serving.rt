@@ -27,7 +27,7 @@ pub fn serve_one<P: Port, D: Device + Drop>(
     // The agent's answer to the datagram that came, at the moment when it came, and what was sent for it.
     ensures served { OnOk result (IsServed (AnswersIt D.held D.failed D.refuses agent.old.policy agent.old.mib.settings
         agent.old.mib.counters agent.new.mib.counters agent.old.mib.device agent.new.mib.device) (P.told port.old) (P.told port.new)) }
-    // A want of memory changes nothing but that the datagram came.
+    // Where memory runs out nothing changes but that the datagram came.
     ensures memory { result ≡ Err AppFault.OutOfMemory → (agent.new ≡ agent.old) × IsUnanswered (P.told port.old) (P.told port.new) }
     // Where the port failed nothing came, or the reply was lost.
     ensures socket { result ≡ Err AppFault.SocketFault → ((agent.new ≡ agent.old) × (P.told port.new ≡ P.told port.old))

@@ -69,7 +69,7 @@ impl ValueKind {
     }
 }
 
-/// The value that a text means for a kind. A decimal number is digits alone, of which spare zeros may stand in front, and for an
+/// The value that a text means for a kind. A decimal number is digits alone, leading zeros allowed, and for an
 /// integer one `-` before them; `+5`, a blank and the empty text are none.
 ///
 /// # Errors

@@ -72,7 +72,7 @@ IsContents bytes NoSuchObject = bytes ≡ []
 IsContents bytes NoSuchInstance = bytes ≡ []
 IsContents bytes EndOfMibView = bytes ≡ []
 
--- a length is one octet below 128, or 1 to 4 octets behind one that says how many; spare zeros may lead (X.690 8.1.3)
+-- a length is one octet below 128, or 1 to 4 octets after one that says how many; leading zeros are allowed (X.690 8.1.3)
 abbrev pub IsLength : List ℕ → ℕ → Type 0
 IsLength [] n = ⊥
 IsLength (b ∷ bs) n = ((b < 128) × (bs ≡ []) × (n ≡ b))

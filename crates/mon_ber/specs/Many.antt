@@ -3,7 +3,7 @@ use Rattle.std.specs.Prelude.{ℕ, zero, suc, List, [], ◌∷◌, ◌++◌, Res
 pub use Rattle.mon_ber.specs.Sequence.{AreSpelled}
 use Rattle.mon_ber.specs.Reading.{◌>>=◌}
 
--- what reads one of them reads all; where octets are left after so many of them, the fault is full
+-- what reads one of them reads all; where octets are left after this many of them, the fault is full
 unfoldable pub many : {A E : Type 0} → (List ℕ → Result (A × List ℕ) E) → E → ℕ → List ℕ → Result (List A) E
 many read full room [] = Ok []
 many read full zero (b ∷ bs) = Err full

@@ -14,7 +14,7 @@ IsTwosComplement [] z = ⊥
 IsTwosComplement (b ∷ bs) (pos n) = (b < 128) × (big_endian (b ∷ bs) ≡ n)
 IsTwosComplement (b ∷ bs) (negsuc n) = (128 ≤ b) × (big_endian (b ∷ bs) + suc n ≡ 256 ^ length (b ∷ bs))
 
--- a number of 1 to 9 octets, spare ones allowed
+-- a number of 1 to 9 octets, also more than it needs
 pub record IsNumber (bytes : List ℕ) (z : ℤ) : Type 0 where
   pub value : IsTwosComplement bytes z
   pub short : length bytes ≤ 9
@@ -25,7 +25,7 @@ IsBase128 [] n = ⊥
 IsBase128 (b ∷ []) n = (b < 128) × (n ≡ b)
 IsBase128 (b ∷ c ∷ bs) n = (128 ≤ b) × (low : ℕ) × (n ≡ (b - 128) * 128 ^ length (c ∷ bs) + low) × IsBase128 (c ∷ bs) low
 
--- such a number does not begin with a spare octet, 0x80
+-- such a number does not begin with 0x80, a leading zero
 pub record IsSubidentifier (bytes : List ℕ) (n : ℕ) : Type 0 where
   pub value : IsBase128 bytes n
   pub begins : slice_index bytes 0 ≢ 128

@@ -39,7 +39,7 @@ length_at (b ∷ bs) =
     (if nat_lt (length bs) (b - 128) then Err Truncated else
     Ok (big_endian (take (b - 128) bs), drop (b - 128) bs)))
 
--- behind a tag: the contents, and what follows the element
+-- after a tag: the contents, and what follows the element
 unfoldable pub contents_at : List ℕ → Result (List ℕ × List ℕ) BerFault
 contents_at bytes = do
   n ← length_at bytes
@@ -103,7 +103,7 @@ digits_at high (b ∷ bs) =
     if nat_lt b 128 then (if nat_lt (128 * high + b) (2 ^ 32 + 80) then Ok (128 * high + b, bs) else Err BadOid) else
     (if nat_lt (128 * high + (b - 128)) (2 ^ 32 + 80) then digits_at (128 * high + (b - 128)) bs else Err BadOid)
 
--- a number in base 128 that does not begin with a spare octet, and what follows it
+-- a number in base 128 that does not begin with a leading zero, and what follows it
 unfoldable pub subidentifier_at : List ℕ → Result (ℕ × List ℕ) BerFault
 subidentifier_at bytes = if slice_index bytes 0 == 128 then Err BadOid else digits_at 0 bytes
 
@@ -130,7 +130,7 @@ name_of contents = do
   others ← subidentifiers_of 126 n.1
   Ok (two.0 ∷ two.1 ∷ others)
 
--- the value that contents behind this tag stand for
+-- the value that contents after this tag stand for
 unfoldable pub value_of : Tag → List ℕ → Result Value BerFault
 value_of tags.Integer contents = do
   z ← integer_of contents

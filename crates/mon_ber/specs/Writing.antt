@@ -80,7 +80,7 @@ written v = element (octet_of (tag_of v)) (contents_of v)
 abbrev pub HasLength : Value → Type 0
 HasLength v = length (contents_of v) < 2 ^ 32
 
--- how many octets an element with so many octets of contents takes
+-- how many octets an element with this many octets of contents takes
 unfoldable pub size_for : ℕ → ℕ
 size_for n = 1 + length (length_octets n) + n
 

@@ -9,7 +9,7 @@ use crate::fault::BerFault;
 use crate::number::big_endian;
 use crate::tag::Tag;
 
-/// A length, and what follows it: one octet up to 0x7f, or 0x81 to 0x84 and so many octets, spare
+/// A length, and what follows it: one octet up to 0x7f, or 0x81 to 0x84 and this many octets, leading
 /// zeros allowed; `BadLength` for another first octet (X.690 8.1.3).
 #[tactic(auto, using(crate::proofs::Numbers::power_of_four), unfolding(crate::specs::Reading::length_at))]
 fn length_at(bytes: &[u8]) -> Result<(usize, &[u8]), BerFault>
@@ -34,7 +34,7 @@ fn length_at(bytes: &[u8]) -> Result<(usize, &[u8]), BerFault>
     Ok((big_endian(octets) as usize, rest))
 }
 
-/// Behind a tag: the contents, and what follows the element. `BadLength` for a length of another
+/// After a tag: the contents, and what follows the element. `BadLength` for a length of another
 /// form, `Truncated` where the octets end first.
 #[tactic(auto, unfolding(crate::specs::Reading::contents_at))]
 pub fn contents_at(bytes: &[u8]) -> Result<(&[u8], &[u8]), BerFault>

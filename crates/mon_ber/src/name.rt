@@ -58,7 +58,7 @@ fn first_two(number: u64) -> Result<(u32, u32), BerFault>
     }
 }
 
-/// The sub-identifiers that the octets spell, all of them, behind those that were read before.
+/// The sub-identifiers that the octets spell, all of them, after those that were read before.
 fn with_others(mut parts: SmallVec<u32, 16>, bytes: &[u8]) -> Result<SmallVec<u32, 16>, BerFault>
     requires { IsOid parts.items }
     ensures gives { Gives (λ v. v.items) result

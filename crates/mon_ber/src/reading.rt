@@ -41,7 +41,7 @@ fn nothing_of(value: Value, contents: &[u8]) -> Result<Value, BerFault>
     Ok(value)
 }
 
-/// The value that contents behind this tag stand for.
+/// The value that contents after this tag stand for.
 #[tactic(auto, unfolding(crate::specs::Reading::value_of))]
 fn value_of(alloc: Global, tag: Tag, contents: &[u8]) -> Result<Value, BerFault>
     ensures gives { Gives (λ v. v) result (value_of tag contents.now) }

@@ -1,5 +1,5 @@
 //! Writing values, with the shortest lengths and numbers. Sizes are counted first, which takes no memory.
-//! What is written goes behind the octets of a vector that has room for it, so it never fails.
+//! What is written goes after the octets of a vector that has room for it, so it never fails.
 
 ghost use Rattle.std.specs.Prelude.{◌≡◌, ℕ, ◌≤◌, ◌<◌, ◌+◌, ◌^◌, ◌++◌, ◌∷◌, [], pos, negsuc, ◌≤ℤ◌, ◌<ℤ◌, length, List, ◌⊎◌, IfOk, IfErr, MatchResult, vec_len, vec_capacity};
 ghost use Rattle.mon_ber.specs.declared.value.Value.{Value};
@@ -327,7 +327,7 @@ pub fn put_object_identifier(out: &mut Vec<u8>, name: &Oid)
 /// The first number of octets that takes a length of more than 4 octets. No size is counted further.
 pub const LIMIT: usize = 0x1_0000_0000;
 
-/// How many octets an element with so many octets of contents takes.
+/// How many octets an element with this many octets of contents takes.
 #[tactic(auto, unfolding(crate::specs::Writing::size_for))]
 pub fn element_len(len: usize) -> usize
     requires { len < 2 ^ 32 }

@@ -57,7 +57,7 @@ pub record AreAllMarks (n : ℕ → ℕ) (windows : List Samples) (marks : List 
 abbrev pub sets_of : List Window → List Samples
 sets_of windows = map (λ w. w.items) windows
 
--- windows for n i samples, m i of one boots number, at each place i of so many; they hold no more than they keep
+-- windows for n i samples, m i of one boots number, at each place i of this many; they hold no more than they keep
 pub record AreWindows (n m : ℕ → ℕ) (many : ℕ) (windows : List Window) : Type 0 where
   pub number : length windows ≡ many
   pub sized : (i : ℕ) (d : Window) → i < many → (slice_index_or windows i d).size ≡ n i

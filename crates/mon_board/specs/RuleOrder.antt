@@ -9,7 +9,7 @@ use Rattle.mon_alarms.specs.Rule.{Rule}
 unfoldable pub rule_cmp : Rule → Rule → Ordering
 rule_cmp = then_cmp (then_cmp (on (λ r. r.instance) nat_cmp) (on (λ r. r.rising) int_cmp)) (on (λ r. r.falling) int_cmp)
 
--- at most 256 rules, each on one of so many instances, rising, and so none twice
+-- at most 256 rules, each on one of this many instances, rising, and so none twice
 pub record AreRules (instances : ℕ) (rules : List Rule) : Type 0 where
   pub few : length rules ≤ 256
   pub known : All (λ r. r.instance < instances) rules

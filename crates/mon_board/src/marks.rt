@@ -29,7 +29,7 @@ impl Model for Marks {
 }
 
 impl Marks {
-    /// No marks, with room for those of so many samples.
+    /// No marks, with room for those of this many samples.
     pub(crate) fn new(alloc: Global, room: usize) -> Result<Self, AllocError>
         ensures { IfOk result (λ m. m ≡ record { room = room; items = [] }) }
     {

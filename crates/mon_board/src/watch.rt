@@ -159,7 +159,7 @@ fn are_rising(instances: &[Watched]) -> bool
     true
 }
 
-/// Whether these may be the rules on so many instances.
+/// Whether these may be the rules on this many instances.
 fn are_rules(rules: &[Rule], instances: usize) -> bool
     ensures { IsTrue result ↔ AreRules instances rules.now }
 {
@@ -169,7 +169,7 @@ fn are_rules(rules: &[Rule], instances: usize) -> bool
     are_on(rules, instances) && rules_rise(rules)
 }
 
-/// Whether each rule is on one of so many instances.
+/// Whether each rule is on one of this many instances.
 fn are_on(rules: &[Rule], instances: usize) -> bool
     ensures { IsTrue result ↔ All (λ r. r.instance < instances) rules.now }
 {

@@ -98,7 +98,7 @@ fn watched_of(alloc: Global, word: &str) -> Option<Watched> {
     })
 }
 
-/// Reads the image of the first line and writes it, so many times, and prints how many octets were written in all.
+/// Reads the image of the first line and writes it, this many times, and prints how many octets were written in all.
 pub fn times<R: Input + Print>(rt: &R, alloc: Global, times: u32) -> Option<()> {
     let mut reader = BufReader::new(alloc, rt.reader()).ok()?;
     let mut line = String::new(alloc);

@@ -10,7 +10,7 @@
 //!     report WATCH HEX  the report of what this image is read as under the watch
 //!
 //! usage: mon_codec_tests                   as above
-//!        mon_codec_tests image-times N     reads the image of the first line, WATCH HEX, and writes it, so many times, for bench/image
+//!        mon_codec_tests image-times N     reads the image of the first line, WATCH HEX, and writes it, this many times, for bench/image
 #![tactic(auto)]
 
 mod claims;

@@ -11,7 +11,7 @@ pub enum Found {
     Old,
     /// The body `new`.
     New,
-    /// Another body, of so many octets.
+    /// Another body, of this many octets.
     Other(usize),
     /// A fault.
     Fault(KeeperFault),

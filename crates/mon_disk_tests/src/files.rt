@@ -66,7 +66,7 @@ pub fn rows(rt: &HostRuntime) -> Option<()> {
     Some(())
 }
 
-/// What an opening answers of a file of so many octets with these slots, and then a save.
+/// What an opening answers of a file of this many octets with these slots, and then a save.
 fn row(rt: &HostRuntime, name: &str, first: Slot, second: Slot, size: u64) -> Option<()> {
     let disk = disk_of(rt.alloc(), first, second, size)?;
     match Keeper::open(rt.alloc(), disk) {
@@ -88,7 +88,7 @@ fn disk_of(alloc: Global, first: Slot, second: Slot, size: u64) -> Option<Memory
     Some(disk)
 }
 
-/// What a save of so many octets answers.
+/// What a save of this many octets answers.
 fn sized(alloc: Global, size: usize) -> Option<&'static str> {
     let disk = MemoryDisk::new(alloc, &[]).ok()?;
     let (mut keeper, _) = Keeper::open(alloc, disk).ok()?;

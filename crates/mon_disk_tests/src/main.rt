@@ -4,7 +4,7 @@
 //! usage: mon_disk_tests rows
 //!        mon_disk_tests opens FILE                  prints what an opening of a file answers
 //!        mon_disk_tests saves FILE                  prints what it finds, then the number of each save that is acknowledged, until it is stopped
-//!        mon_disk_tests times FILE OCTETS TIMES     saves so many bodies of so many octets
+//!        mon_disk_tests times FILE OCTETS TIMES     saves TIMES bodies of OCTETS octets
 #![tactic(auto)]
 
 mod answer;

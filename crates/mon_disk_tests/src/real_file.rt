@@ -79,7 +79,7 @@ pub fn save_on(rt: &HostRuntime, path: &str) -> Option<()> {
     Some(())
 }
 
-/// Saves a body of so many octets so many times.
+/// Saves a body of this many octets this many times.
 pub fn save_times(rt: &HostRuntime, path: &str, size: usize, times: u64) -> Option<()> {
     let (mut keeper, _) = open_file(rt, path)?;
     let body = zeros(rt.alloc(), size.min(BODY_SIZE)).ok()?;

@@ -91,7 +91,7 @@ abbrev pub instances : Held → Object → List ℕ
 instances h (served.Scalar s) = 0 ∷ []
 instances h (served.Column c) = h.indexes
 
--- the variable of an object and an instance: its name is the object's with the instance behind it (RFC 2578 section 7.7)
+-- the variable of an object and an instance: its name is the object's with the instance after it (RFC 2578 section 7.7)
 abbrev pub variable : Known → Object → ℕ → Binding
 variable k o i = record { name = prefix_of o ++ i ∷ []; value = value_of k o i }
 

@@ -33,7 +33,7 @@ abbrev pub IsNext : List Object → Known → (List ℕ → Type 0) → List ℕ
 IsNext os k sees x (Some b) = IsLeast os k sees x b
 IsNext os k sees x None = (c : Binding) → IsVariable os k c → IsLater sees x c → ⊥
 
--- the name is an object's own, or an object's own with numbers behind it
+-- the name is an object's own, or an object's own with numbers after it
 abbrev pub IsUnder : Object → List ℕ → Type 0
 IsUnder o x = (rest : List ℕ) × (x ≡ prefix_of o ++ rest)
 

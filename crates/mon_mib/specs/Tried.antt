@@ -43,7 +43,7 @@ writable_of (served.Column IfAdminStatus) = Some writable.AdminStatus
 writable_of (served.Column IfAlias) = Some writable.Alias
 writable_of (served.Column other) = None
 
--- why a value is no text of at most so many octets
+-- why a value is no text of at most this many octets
 abbrev pub IsBadText : Value → ℕ → SetStatus → Type 0
 IsBadText v most WrongType = tag_of v ≢ tag.OctetString
 IsBadText v most WrongLength = (text : List ℕ) × (v ≡ ber.Octets text) × (most < length text)
@@ -55,7 +55,7 @@ IsBadStatus v WrongType = tag_of v ≢ tag.Integer
 IsBadStatus v WrongValue = (tag_of v ≡ tag.Integer) × ((s : AdminStatus) → v ≢ ber.Integer (admin_number s))
 IsBadStatus v other = ⊥
 
--- what each refusal says of a value of an object, for the name with these numbers behind the object's own
+-- what each refusal says of a value of an object, for the name with these numbers after the object's own
 abbrev pub IsGroundAt : Known → Object → List ℕ → Value → SetStatus → Type 0
 IsGroundAt k o rest v NoAccess = ⊥
 IsGroundAt k o rest v NotWritable = ⊥

@@ -255,7 +255,7 @@ impl<D: Device + Drop> Mib<D> {
     }
 }
 
-/// The served object that a name is under, and what of the name stands behind the object's own.
+/// The served object that a name is under, and what of the name stands after the object's own.
 pub(crate) fn find_object(name: &[u32]) -> Option<(Object, &[u32])>
     ensures some { IfSome result (λ found. Contains objects found.0 × (name.now ≡ prefix_of found.0 ++ found.1.now)) }
     ensures none { IfNone result (¬ (IsServed name.now)) }
@@ -268,7 +268,7 @@ pub(crate) fn find_object(name: &[u32]) -> Option<(Object, &[u32])>
 }
 
 /// The place of the one served object that a name can be under: all names under the objects before it come before the
-/// name, and the objects behind it come behind the name.
+/// name, and the objects after it come after the name.
 fn candidate_place(name: &[u32]) -> usize
     ensures within { result < length objects }
     ensures earlier { AllWithin (λ o. (rest : List ℕ) → name_cmp (prefix_of o ++ rest) name.now ≡ Less) objects 0 result }

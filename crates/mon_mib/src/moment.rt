@@ -27,7 +27,7 @@ impl Moment {
     /// The first number of hundredths of a second that is no moment: 2^31 seconds.
     const END: u64 = 214_748_364_800;
 
-    /// The moment so many hundredths of a second after the start, or None where they are 2^31 seconds or more.
+    /// The moment this many hundredths of a second after the start, or None where they are 2^31 seconds or more.
     pub fn new(hundredths: u64) -> Option<Moment>
         ensures value { IfSome result (λ moment. moment ≡ hundredths) }
         ensures exact { IsSome result ↔ IsMoment hundredths }

@@ -128,7 +128,7 @@ impl<D: Device + Drop> Mib<D> {
         }
     }
 
-    /// The change that a value of a text of the device asks for, for the name with these numbers behind the object's own.
+    /// The change that a value of a text of the device asks for, for the name with these numbers after the object's own.
     fn assign_sys_text(
         &self,
         alloc: Global,
@@ -203,7 +203,7 @@ impl<D: Device + Drop> Mib<D> {
     }
 }
 
-/// The object that a Set may change and that a name is under, and what of the name stands behind the object's own.
+/// The object that a Set may change and that a name is under, and what of the name stands after the object's own.
 fn find_writable(name: &[u32]) -> Option<(Writable, &[u32])>
     ensures some { IfSome result (λ found. (name.now ≡ prefix_of (object_of found.0) ++ found.1.now) × IsWritable name.now (object_of found.0)) }
     ensures none { IfNone result ((o : AnyObject) → IsWritable name.now o → ⊥) }

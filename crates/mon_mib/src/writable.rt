@@ -21,7 +21,7 @@ pub(crate) enum Writable {
     Alias,
 }
 
-/// The text of a value of at most so many octets.
+/// The text of a value of at most this many octets.
 pub(crate) fn read_text(value: &Value, longest: usize) -> Result<&[u8], SetStatus>
     ensures text { IfOk result (λ text. (value.now ≡ ber.Octets text.now) × (length text.now ≤ longest)) }
     ensures refused { IfErr result (IsBadText value.now longest) }

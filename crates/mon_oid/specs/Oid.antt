@@ -20,7 +20,7 @@ pub record IsOid (parts : List ℕ) : Type 0 where
 abbrev pub IsPrefix : List ℕ → List ℕ → Type 0
 IsPrefix part all = (rest : List ℕ) × (part ++ rest ≡ all)
 
--- a comes before b: behind what they share, a has no number, or one that is less than b's
+-- a comes before b: after what they share, a has no number, or one that is less than b's
 abbrev pub ComesBefore : List ℕ → List ℕ → Type 0
 ComesBefore a b =
     (shared : List ℕ) × (y : ℕ) × (ys : List ℕ) × (b ≡ shared ++ y ∷ ys)

@@ -21,13 +21,13 @@ pub fn order()
     ensures { (a b : List ℕ) → (slice_cmp nat_cmp a b ≡ Less) ↔ ComesBefore a b }
 {}
 
-/// An identifier with more sub-identifiers behind it is one, up to 128 of them.
+/// An identifier with more sub-identifiers after it is one, up to 128 of them.
 pub fn extended()
     ensures { (oid more : List ℕ) → IsOid oid → length oid + length more ≤ 128
         → All (λ part. part < 2 ^ 32) more → IsOid (oid ++ more) }
 {}
 
-/// An identifier with one more sub-identifier behind it is one, up to 128 of them.
+/// An identifier with one more sub-identifier after it is one, up to 128 of them.
 pub fn pushed()
     ensures { (oid : List ℕ) (part : ℕ) → IsOid oid → length oid < 128 → part < 2 ^ 32 → IsOid (oid ++ part ∷ []) }
 {}

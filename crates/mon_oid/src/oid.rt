@@ -69,7 +69,7 @@ impl Oid {
     }
 
     /// The identifier that a text spells in decimal numbers up to 4294967295 with dots between
-    /// them, none with a spare 0 before it. `BadText` where it spells no numbers, else as `from_parts`.
+    /// them, none with a leading 0. `BadText` where it spells no numbers, else as `from_parts`.
     pub fn parse(alloc: Global, text: &str) -> Result<Self, OidFault>
         ensures found { IfOk result (λ oid. IsOid oid × Spells text.now oid) }
         ensures accepted { (parts : List ℕ) → IsOid parts → Spells text.now parts → IsOkUnless result OidFault.OutOfMemory }
@@ -127,7 +127,7 @@ impl Oid {
 }
 
 /// The numbers that a text spells in decimal with dots between them: at least one, each up to
-/// 4294967295, none with a spare 0 before it. `BadText` where it spells none, or `OutOfMemory`.
+/// 4294967295, none with a leading 0. `BadText` where it spells none, or `OutOfMemory`.
 pub fn dotted_numbers(alloc: Global, text: &str) -> Result<Vec<u32>, OidFault>
     ensures found { IfOk result (λ v. Spells text.now v.items) }
     ensures fault { IfErr result (λ e. IsFaultOfNumbers e text.now) }
@@ -143,7 +143,7 @@ pub fn dotted_numbers(alloc: Global, text: &str) -> Result<Vec<u32>, OidFault>
     Ok(numbers)
 }
 
-/// The number that a text spells in decimal, with no spare 0 before it.
+/// The number that a text spells in decimal, without a leading 0.
 fn number(text: &str) -> Option<u32>
     ensures found { IfSome result (λ n. text.now ≡ decimal n) }
     ensures none { IfNone result ((n : ℕ) → n < 2 ^ 32 → text.now ≢ decimal n) }

@@ -32,13 +32,13 @@ pub fn version()
         → message_at bytes ≡ Err (BadVersion v) ↔ (IsVersioned bytes v × (v ≢ pos 1)) }
 {}
 
-/// Reading gives the fault of a PDU exactly where the tag of no PDU stands behind version 1 and a community.
+/// Reading gives the fault of a PDU exactly where the tag of no PDU stands after version 1 and a community.
 pub fn unknown_pdu()
     ensures { (bytes : List ℕ) (t : ℕ) → AreOctets bytes
         → message_at bytes ≡ Err (UnknownPdu t) ↔ HasUnknownPdu bytes t }
 {}
 
-/// A fault of a call that is not want of memory is the fault that reading gives.
+/// A fault of a call, other than out of memory, is the fault that reading gives.
 pub fn told()
     ensures { (bytes : List ℕ) (e : PduFault) → e ≢ OutOfMemory → Fails e (message_at bytes) → message_at bytes ≡ Err e }
 {}

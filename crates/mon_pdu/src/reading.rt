@@ -88,7 +88,7 @@ fn body_of(alloc: Global, kind: Option<PduKind>, contents: &[u8]) -> Result<Body
     }
 }
 
-/// The PDU behind its tag, and what follows it.
+/// The PDU after its tag, and what follows it.
 #[tactic(auto, unfolding(crate::specs::Reading::behind_tag))]
 fn behind_tag(alloc: Global, kind: Option<PduKind>, bytes: &[u8]) -> Result<(Body, &[u8]), PduFault>
     ensures { Gives (λ x. (x.0, x.1.now)) result (behind_tag kind bytes.now) }
@@ -153,7 +153,7 @@ pub fn read_message(alloc: Global, bytes: &[u8]) -> Result<Message, PduFault>
     // Another version is refused as such, also where no memory is left, and nothing else is.
     ensures version { (v : ℤ) → result ≡ Err (PduFault.BadVersion v) ↔ (IsVersioned bytes.now v × (v ≢ pos 1)) }
 
-    // So is the tag of no PDU behind a community, unless memory runs out.
+    // So is the tag of no PDU after a community, unless memory runs out.
     ensures unknown { (t : ℕ) → result ≡ Err (PduFault.UnknownPdu t) → HasUnknownPdu bytes.now t }
     ensures unknown_only { (t : ℕ) → HasUnknownPdu bytes.now t
         → Gives (λ m. m) result (Err (PduFault.UnknownPdu t)) }

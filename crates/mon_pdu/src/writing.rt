@@ -274,7 +274,7 @@ fn put_message(out: &mut Vec<u8>, message: &Message, lengths: Lengths)
     put_body(out, &message.body, lengths);
 }
 
-/// Writes the shortest spelling of the message behind what `out` holds, where there is room for it: `message_size` octets.
+/// Writes the shortest spelling of the message after what `out` holds, where there is room for it: `message_size` octets.
 /// Takes no memory and never fails, so memory can be taken before and the message written once nothing else can go wrong.
 /// Names and values are measured three times, as by `write_message`, so the time is linear in what is written.
 pub fn write_within(out: &mut Vec<u8>, message: &Message)

@@ -66,7 +66,7 @@ abbrev pub HasSizes : ImageVersion → Entry → Type 0
 HasSizes (One window) e = (e.window ≡ window) × (e.epoch ≡ window)
 HasSizes Two e = Unit {0}
 
--- an image that this version can spell, of so many instances
+-- an image that this version can spell, of this many instances
 pub record IsImage (v : ImageVersion) (many : ℕ) (image : Image) : Type 0 where
   pub version : IsVersion v
   pub positive : 1 ≤ image.incarnation

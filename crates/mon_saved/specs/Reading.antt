@@ -81,7 +81,7 @@ unfoldable pub sizes_at : ℕ → List ℕ → Result ((ℕ × ℕ) × List ℕ)
 sizes_at window octets = if nat_lt 0 window then Ok ((window, window), octets) else
     (octet_within 1 64 BadImage octets >>= λ w. octet_within 1 w.0 BadImage w.1 >>= λ e. Ok ((w.0, e.0), e.1))
 
--- whether no boots number has more than so many of the samples
+-- whether no boots number has more than this many of the samples
 abbrev pub is_shared : ℕ → List ℕ → Bool
 is_shared epoch samples = list_all (λ s. not (nat_lt epoch (of_boots (boots_of s) samples))) samples
 
@@ -105,7 +105,7 @@ unfoldable pub entries_at : ℕ → List Instance → List ℕ → Result (List 
 entries_at window [] octets = Ok ([], octets)
 entries_at window (i ∷ instances) octets = entry_at window i octets >>= λ e. entries_at window instances e.1 >>= λ es. Ok (e.0 ∷ es.0, es.1)
 
--- the incarnation and the one window, 0 in version 2, of an image of so many instances, and what follows them
+-- the incarnation and the one window, 0 in version 2, of an image of this many instances, and what follows them
 unfoldable pub header_at : ℕ → List ℕ → Result ((ℕ × ℕ) × List ℕ) ImageFault
 header_at many octets = do
   mark ← magic_at octets

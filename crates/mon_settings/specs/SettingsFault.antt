@@ -19,7 +19,7 @@ name_of (Missing k) = codes "Missing"
 name_of (BadValue k) = codes "BadValue"
 name_of UnknownKey = codes "UnknownKey"
 
--- what a tree can be refused for: neither as a text that is not TOML, nor for want of memory
+-- what a tree can be refused for: neither as a text that is not TOML, nor because memory ran out
 abbrev pub IsOfTree : SettingsFault → Type 0
 IsOfTree OutOfMemory = ⊥
 IsOfTree NotToml = ⊥

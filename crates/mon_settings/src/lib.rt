@@ -1,5 +1,5 @@
 //! Settings, read from TOML 1.0 texts: what an agent serves, at which address, and to whom.
-//! To the layer above: where the text is TOML, the result is what one definition gives for its tree, want of memory aside.
+//! To the layer above: where the text is TOML, the result is what one definition gives for its tree, unless memory runs out.
 #![tactic(auto)]
 
 mod agent;

@@ -14,7 +14,7 @@ use mon_vacm::Octets as PolicyOctets;
 use std::alloc::Global;
 use toml::{Table, Value};
 
-/// The text at a key, of at most so many octets.
+/// The text at a key, of at most this many octets.
 pub(crate) fn octets_at(
     alloc: Global,
     table: &Table,
@@ -40,7 +40,7 @@ pub(crate) fn hex_octets_at(
     Ok(Octets::new(hex_at(alloc, table, key, least, most)?))
 }
 
-/// The name at a key, of 1 to so many octets.
+/// The name at a key, of 1 to this many octets.
 pub(crate) fn name_at(
     alloc: Global,
     table: &Table,

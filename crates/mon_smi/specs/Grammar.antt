@@ -30,7 +30,7 @@ abbrev pub IsFree : Kind → List Lexeme → Type 0
 IsFree kind [] = Unit {0}
 IsFree kind (l ∷ ls) = (l ≢ mark kind) × IsFree kind ls
 
--- between these two marks each opening one has its closing one, so many being open at the start
+-- between these two marks each opening one has its closing one, this many being open at the start
 abbrev pub IsNested : Kind → Kind → ℕ → List Lexeme → Type 0
 IsNested left right depth [] = depth ≡ 0
 IsNested left right depth (l ∷ ls) =
@@ -53,7 +53,7 @@ IsTypeName ls = (ls ≡ word (codes "OCTET") ∷ word (codes "STRING") ∷ [])
 abbrev pub IsMaybeGroup : List Lexeme → Type 0
 IsMaybeGroup ls = (ls ≡ []) ⊎ (IsGroup LeftBrace RightBrace ls ⊎ IsGroup LeftParen RightParen ls)
 
--- a type's name, and at most one group behind it
+-- a type's name, and at most one group after it
 abbrev pub IsType : List Lexeme → Type 0
 IsType = IsTypeName ▸ IsMaybeGroup
 
@@ -65,7 +65,7 @@ accesses = codes "not-accessible" ∷ codes "accessible-for-notify" ∷ codes "r
 abbrev pub statuses : List (List ℕ)
 statuses = codes "current" ∷ codes "deprecated" ∷ codes "obsolete" ∷ []
 
--- what stands behind the keyword of a clause
+-- what stands after the keyword of a clause
 abbrev pub IsPart : Part → List Lexeme → Type 0
 IsPart Syntax ls = IsType ls
 IsPart Text ls = IsThis (mark Quoted) ls
@@ -102,16 +102,16 @@ IsObjectType = IsSyntax ▸ (IsDescribed Status ▸ (IsIndex ▸ IsOptional (cod
 abbrev pub IsConvention : List Lexeme → Type 0
 IsConvention = IsOptional (codes "DISPLAY-HINT") Text ▸ (IsDescribed Word ▸ IsClause (codes "SYNTAX") Syntax)
 
--- the number that digits behind another one give
+-- the number that digits after another one give
 abbrev pub spelled_from : ℕ → List ℕ → ℕ
 spelled_from n [] = n
 spelled_from n (b ∷ bs) = spelled_from (10 * n + (b - 48)) bs
 
--- decimal digits, also with spare zeros, that spell a number of 32 bits
+-- decimal digits, also with leading zeros, that spell a number of 32 bits
 abbrev pub IsSub : List ℕ → ℕ → Type 0
 IsSub digits n = AreDigits digits × (n ≡ spelled_from 0 digits) × (n < 2 ^ 32)
 
--- a sub-identifier: itself, or in parentheses behind a word
+-- a sub-identifier: itself, or in parentheses after a word
 abbrev pub IsComponent : List Lexeme → ℕ → Type 0
 IsComponent ls n = (digits : List ℕ) × IsSub digits n
     × ((ls ≡ number digits ∷ [])

@@ -34,7 +34,7 @@ IsFaultOfModule (Duplicate span) text = HasTwice text span
 
 -- ---- places as reading keeps them: how many lexemes are left
 
--- the assignment of this definition begins where so many lexemes are left
+-- the assignment of this definition begins where this many lexemes are left
 abbrev pub Begins : List Lexeme → ℕ → Definition → Type 0
 Begins ls n d = (before assignment after : List Lexeme) × (ls ≡ before ++ (assignment ++ after)) × IsValueAssignment assignment d × (n ≡ length (assignment ++ after))
 
@@ -45,11 +45,11 @@ AllBegin ls [] (d ∷ ds) = ⊥
 AllBegin ls (n ∷ ns) [] = ⊥
 AllBegin ls (n ∷ ns) (d ∷ ds) = Begins ls n d × AllBegin ls ns ds
 
--- the token with which so many are left stands at this place
+-- the token with which this many are left stands at this place
 abbrev pub IsLeftAt : List Token → ℕ → Span → Type 0
 IsLeftAt tokens n span = (before after : List Token) × (token : Token) × (tokens ≡ before ++ token ∷ after) × (token.span ≡ span) × (length (token ∷ after) ≡ n)
 
--- the fault of definitions that begin where so many of the tokens are left, where one has its name again
+-- the fault of definitions that begin where this many of the tokens are left, where one has its name again
 abbrev pub IsTwice : TextFault → List Token → List ℕ → List Definition → Type 0
 IsTwice OutOfMemory tokens starts defs = Unit {0}
 IsTwice Unclosed tokens starts defs = ⊥

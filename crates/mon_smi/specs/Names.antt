@@ -46,16 +46,16 @@ IsLost defs w = (chain : List Definition) × (p : List ℕ) × Leads defs (Some 
 abbrev pub IsCircular : List Definition → List ℕ → Type 0
 IsCircular defs w = (chain : List Definition) × (d : Definition) × Leads defs (Some w) chain (Some d.name) × IsOneOf chain d
 
--- a word alone, or a word and numbers behind dots
+-- a word alone, or a word and numbers after dots
 abbrev pub IsNamed : List ℕ → List ℕ → List ℕ → Type 0
 IsNamed text w rest = IsWord w × (((text ≡ w) × (rest ≡ [])) ⊎ ((dotted : List ℕ) × (text ≡ w ++ 46 ∷ dotted) × Spells dotted rest))
 
--- a text means numbers: those that it spells with dots, or those of a name with the rest behind them
+-- a text means numbers: those that it spells with dots, or those of a name with the rest after them
 abbrev pub Means : List Definition → List ℕ → List ℕ → Type 0
 Means defs text q = Spells text q
     ⊎ ((w rest known : List ℕ) × IsNamed text w rest × Stands defs w known × (q ≡ known ++ rest))
 
--- a text that neither spells numbers nor is a name, with numbers behind it or without
+-- a text that neither spells numbers nor is a name, with numbers after it or without
 abbrev pub IsFormless : List ℕ → Type 0
 IsFormless text = ((q : List ℕ) → Spells text q → ⊥) × ((w rest : List ℕ) → IsNamed text w rest → ⊥)
 
@@ -68,7 +68,7 @@ IsFaultOfWord Cycle defs w = IsCircular defs w
 IsFaultOfWord TooDeep defs w = ⊥
 IsFaultOfWord BadIdentifier defs w = ⊥
 
--- why a word with these numbers behind it means no identifier
+-- why a word with these numbers after it means no identifier
 abbrev pub IsFaultOfName : NamesFault → List Definition → List ℕ → List ℕ → Type 0
 IsFaultOfName OutOfMemory defs w rest = Unit {0}
 IsFaultOfName Duplicate defs w rest = ⊥

@@ -59,7 +59,7 @@ name_at (l ∷ ls) = word_of l >>= λ w. Some (w, ls)
 
 -- ---- types and groups
 
--- the rest of a group of which so many are open inside
+-- the rest of a group of which this many are open inside
 abbrev pub nested_at : Kind → Kind → ℕ → List Lexeme → Option (List Lexeme)
 nested_at left right depth [] = None
 nested_at left right depth (l ∷ ls) =
@@ -181,7 +181,7 @@ behind front read = read >>= λ ys. Some (front ++ ys.0, ys.1)
 
 -- ---- values
 
--- digits behind a number give this one
+-- digits after a number give this one
 abbrev pub number_from : ℕ → List ℕ → Option ℕ
 number_from n [] = Some n
 number_from n (b ∷ bs) =
@@ -216,7 +216,7 @@ component_at ls = elim (name_at ls) [ Some x ↦ in_parens_at x.1 | None ↦ sub
 abbrev pub parent_at : List Lexeme → Option (List ℕ) × List Lexeme
 parent_at ls = elim (name_at ls) [ Some x ↦ if begins LeftParen x.1 then (None, ls) else (Some x.0, x.1) | None ↦ (None, ls) ]
 
--- behind a parent one number at least, and else two
+-- after a parent one number at least, and else two
 abbrev pub enough : Option (List ℕ) → List ℕ → Bool
 enough None numbers = nat_le 2 (length numbers)
 enough (Some w) numbers = nat_le 1 (length numbers)
@@ -270,7 +270,7 @@ macro_at ls = do
 unfoldable pub head_at : List Lexeme → Option (List Lexeme)
 head_at ls = if begins_word (codes "OBJECT") ls then identifier_at ls else (if begins_word (codes "OBJECT-TYPE") ls then object_at ls else macro_at ls)
 
--- a value's assignment behind its name
+-- a value's assignment after its name
 unfoldable pub definition_at : List ℕ → List Lexeme → Option (Definition × List Lexeme)
 definition_at name ls = do
   head ← head_at ls
@@ -290,7 +290,7 @@ textual_at ls = do
   rest ← word_at (codes "TEXTUAL-CONVENTION") ls
   convention_at rest
 
--- a type's assignment behind its name
+-- a type's assignment after its name
 unfoldable pub type_body_at : List Lexeme → Option (List Lexeme)
 type_body_at ls = do
   rest ← mark_at Assign ls

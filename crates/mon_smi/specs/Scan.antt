@@ -38,23 +38,23 @@ remark_at (b ∷ bs) = if b == 10 || (b == 45 && slice_index bs 0 == 45) then 0 
 abbrev pub token : Kind → ℕ → Option Piece
 token kind n = Some (record { kind = Some kind; len = n })
 
--- so many bytes of space or comment
+-- this many bytes of space or comment
 abbrev pub passed : ℕ → Option Piece
 passed n = Some (record { kind = None; len = n })
 
--- how many bytes a comment has behind its opening hyphens
+-- how many bytes a comment has after its opening hyphens
 abbrev pub ending_at : List ℕ → ℕ
 ending_at text = remark_at text + run_at is_hyphen (drop (remark_at text) text)
 
--- how many bytes a comment has behind its first hyphen
+-- how many bytes a comment has after its first hyphen
 abbrev pub comment_at : List ℕ → ℕ
 comment_at text = run_at is_hyphen text + ending_at (drop (run_at is_hyphen text) text)
 
--- a hyphen and so many digits
+-- a hyphen and this many digits
 abbrev pub signed : ℕ → Option Piece
 signed n = if n == 0 then None else token Number (suc n)
 
--- behind a hyphen a comment or a number goes on
+-- after a hyphen a comment or a number goes on
 abbrev pub hyphen_at : List ℕ → Option Piece
 hyphen_at text =
     if slice_index text 0 == 45 then passed (suc (comment_at text)) else signed (run_at is_ascii_digit text)
@@ -63,7 +63,7 @@ hyphen_at text =
 abbrev pub quoted_at : List ℕ → Option Piece
 quoted_at text = elim (closes_at text) [ Some n ↦ token Quoted (suc n) | None ↦ None ]
 
--- behind the digits between single quotes stands what closes them
+-- after the digits between single quotes stands what closes them
 abbrev pub closed_bits : ℕ → ℕ → List ℕ → Option Piece
 closed_bits digits bits [] = None
 closed_bits digits bits (b ∷ []) = None
@@ -98,7 +98,7 @@ mark_at b =
     (if b == 59 then token Semicolon 1 else
     (if b == 124 then token Bar 1 else None))))))))
 
--- behind the first byte, which is none of a word, a number or a space
+-- after the first byte, which is none of a word, a number or a space
 abbrev pub behind_at : ℕ → List ℕ → Option Piece
 behind_at b bs =
     if b == 45 then hyphen_at bs else

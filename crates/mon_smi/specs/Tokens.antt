@@ -94,7 +94,7 @@ abbrev pub EndsLine : List ℕ → Type 0
 EndsLine [] = Unit {0}
 EndsLine (b ∷ bs) = b ≡ 10
 
--- a comment, and what follows it: it opens at two hyphens with all hyphens directly behind them, and closes
+-- a comment, and what follows it: it opens at two hyphens with all hyphens directly after them, and closes
 -- at the next two with theirs, or at the end of the line
 pub record IsComment (comment rest : List ℕ) : Type 0 where
   pub opening : List ℕ
@@ -111,7 +111,7 @@ abbrev pub IsPassed : ℕ → List ℕ → Type 0
 IsPassed n text = (n ≤ length text)
     × (((b : ℕ) × (take n text ≡ b ∷ []) × IsTrue (is_space b)) ⊎ IsComment (take n text) (drop n text))
 
--- the longest token of this kind, or with no kind space or a comment, has so many bytes
+-- the longest token of this kind, or with no kind space or a comment, has this many bytes
 abbrev pub IsPieceOf : Option Kind → ℕ → List ℕ → Type 0
 IsPieceOf None n text = IsPassed n text
 IsPieceOf (Some kind) n text = IsLongest kind n text

@@ -94,7 +94,7 @@ fn head_at<'a, 's>(ls: &'a [Lexeme<'s>]) -> Result<&'a [Lexeme<'s>], TextFault>
     macro_at(ls)
 }
 
-/// A value's assignment, behind its name.
+/// A value's assignment, after its name.
 #[tactic(auto, unfolding(crate::specs::Reading::definition_at))]
 fn definition_at<'a, 's>(
     alloc: Global,
@@ -143,7 +143,7 @@ fn textual_at<'a, 's>(ls: &'a [Lexeme<'s>]) -> Result<&'a [Lexeme<'s>], TextFaul
     convention_at(rest)
 }
 
-/// A type's assignment, behind its name.
+/// A type's assignment, after its name.
 #[tactic(auto, unfolding(crate::specs::Reading::type_body_at))]
 fn type_body_at<'a, 's>(ls: &'a [Lexeme<'s>]) -> Result<&'a [Lexeme<'s>], TextFault>
     ensures { Gives (λ rest. rest.now) result (type_body_at ls.now) }

@@ -42,7 +42,7 @@ fn chain<'a>(
     }
 }
 
-/// The numbers of a chain, with others behind them.
+/// The numbers of a chain, with others after them.
 fn joined(alloc: Global, mut chain: Vec<&Definition>, rest: &[u32]) -> Result<Vec<u32>, NamesFault>
     ensures found { IfOk result (λ v. (v.items ≡ numbers_of (map (λ d. d.now) chain.entry.items) ++ rest.now) × (length v.items ≤ 128)) }
     ensures fault { IfErr result (λ e. IsFaultOfJoining e (numbers_of (map (λ d. d.now) chain.entry.items) ++ rest.now)) }
@@ -63,7 +63,7 @@ fn joined(alloc: Global, mut chain: Vec<&Definition>, rest: &[u32]) -> Result<Ve
     Ok(numbers)
 }
 
-/// What a word with numbers behind it stands for.
+/// What a word with numbers after it stands for.
 pub(crate) fn identifier_of(
     alloc: Global,
     places: &BTreeMap<String, usize>,

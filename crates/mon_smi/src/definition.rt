@@ -13,12 +13,12 @@ pub struct Definition {
     pub name: Word,
     /// The name whose identifier comes first.
     pub parent: Option<Word>,
-    /// The sub-identifiers behind the parent's.
+    /// The sub-identifiers after the parent's.
     pub numbers: Numbers,
 }
 
 impl Definition {
-    /// An equal definition. An `Err` is for want of memory.
+    /// An equal definition. An `Err` means out of memory.
     pub fn try_clone(&self, alloc: Global) -> Result<Self, AllocError>
         ensures { IfOk result (λ d. d ≡ self.now) }
     {

@@ -72,7 +72,7 @@ fn tokens_of(alloc: Global, text: &[u8]) -> Result<Vec<Token>, TextFault>
 }
 
 /// The tokens of a text, read from the left: each one is the longest at its place, and only space and
-/// comments stand between them (RFC 2578 section 3). A comment opens at `--` with all hyphens behind it,
+/// comments stand between them (RFC 2578 section 3). A comment opens at `--` with all hyphens after it,
 /// and closes at the next `--` with its hyphens or at the end of the line. `Unclosed` where the text
 /// ends inside a string, `Unexpected` where no token begins.
 pub fn tokens(alloc: Global, text: &str) -> Result<Vec<Token>, TextFault>

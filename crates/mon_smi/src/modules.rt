@@ -57,7 +57,7 @@ struct Body {
     starts: Vec<usize>,
 }
 
-/// Adds a definition that begins with so many tokens left, where there is one.
+/// Adds a definition that begins with this many tokens left, where there is one.
 fn keep(body: &mut Body, definition: Option<Definition>, left: usize) -> Result<(), TextFault>
     ensures kept { OnOk result (body.new.defs.items ≡ body.old.defs.items ++ option_to_list definition) }
     ensures starts { OnOk result (body.new.starts.items ≡ body.old.starts.items ++ map (λ d. left) (option_to_list definition)) }
@@ -88,7 +88,7 @@ fn definitions_at(alloc: Global, ls: &[Lexeme]) -> Result<Body, TextFault>
     Ok(body)
 }
 
-/// A module behind its name.
+/// A module after its name.
 #[tactic(auto, unfolding(crate::specs::Reading::body_at))]
 fn body_at(alloc: Global, ls: &[Lexeme]) -> Result<Body, TextFault>
     ensures gives { Gives (λ body. body.defs.items) result (body_at ls.now) }

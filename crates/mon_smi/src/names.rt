@@ -65,7 +65,7 @@ impl Names {
     }
 
     /// The identifier that a text means: numbers with dots between them, a name, or a name with
-    /// numbers behind it, as `ifInOctets.1`. `Unknown` where the text has another form or the chain
+    /// numbers after it, as `ifInOctets.1`. `Unknown` where the text has another form or the chain
     /// of parents ends at a name that is not defined, `Cycle` where the chain comes to a name that it
     /// has passed, `TooDeep` above 128 sub-identifiers, `BadIdentifier` where they are no identifier.
     pub fn resolve(&self, alloc: Global, text: &str) -> Result<Oid, NamesFault>

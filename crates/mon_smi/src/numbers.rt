@@ -25,7 +25,7 @@ impl Numbers {
         Numbers { items }
     }
 
-    /// These numbers. An `Err` is for want of memory.
+    /// These numbers. An `Err` means out of memory.
     pub fn from_slice(alloc: Global, numbers: &[u32]) -> Result<Self, AllocError>
         ensures { IfOk result (λ n. n ≡ numbers.now) }
     {

@@ -20,14 +20,14 @@ fn token(kind: Kind, len: usize) -> Option<Piece>
     })
 }
 
-/// So many bytes that are no token.
+/// This many bytes that are no token.
 fn passed(len: usize) -> Option<Piece>
     ensures { result ≡ passed len }
 {
     Some(Piece { kind: None, len })
 }
 
-/// A comment or a number, behind its first hyphen.
+/// A comment or a number, after its first hyphen.
 fn hyphen_at(text: &[u8]) -> Option<Piece>
     ensures { result ≡ hyphen_at text.now }
 {
@@ -41,7 +41,7 @@ fn hyphen_at(text: &[u8]) -> Option<Piece>
     token(Kind::Number, digits + 1)
 }
 
-/// A string, behind its opening quote.
+/// A string, after its opening quote.
 fn quoted_at(text: &[u8]) -> Option<Piece>
     ensures { result ≡ quoted_at text.now }
 {
@@ -51,7 +51,7 @@ fn quoted_at(text: &[u8]) -> Option<Piece>
     }
 }
 
-/// Hex or binary digits, by what stands behind them.
+/// Hex or binary digits, by what stands after them.
 fn closed_bits(digits: usize, bits: usize, text: &[u8]) -> Option<Piece>
     requires { digits < 2 ^ 63 }
     ensures { result ≡ closed_bits digits bits text.now }
@@ -66,7 +66,7 @@ fn closed_bits(digits: usize, bits: usize, text: &[u8]) -> Option<Piece>
     }
 }
 
-/// Hex or binary digits, behind the first single quote.
+/// Hex or binary digits, after the first single quote.
 fn bits_at(text: &[u8]) -> Option<Piece>
     ensures { result ≡ bits_at text.now }
 {
@@ -74,7 +74,7 @@ fn bits_at(text: &[u8]) -> Option<Piece>
     closed_bits(digits, bits_len(text), behind(text, digits))
 }
 
-/// The assignment mark, behind its first colon.
+/// The assignment mark, after its first colon.
 fn assign_at(text: &[u8]) -> Option<Piece>
     ensures { result ≡ assign_at text.now }
 {
@@ -84,7 +84,7 @@ fn assign_at(text: &[u8]) -> Option<Piece>
     None
 }
 
-/// One dot or two, behind the first.
+/// One dot or two, after the first.
 fn dot_at(text: &[u8]) -> Option<Piece>
     ensures { result ≡ dot_at text.now }
 {
@@ -112,7 +112,7 @@ fn mark_at(byte: u8) -> Option<Piece>
     }
 }
 
-/// What stands behind a first byte of no word, digits or space.
+/// What stands after a first byte of no word, digits or space.
 fn behind_at(first: u8, rest: &[u8]) -> Option<Piece>
     ensures { result ≡ behind_at first rest.now }
 {

@@ -23,7 +23,7 @@ pub(crate) fn first_twice(alloc: Global, defs: &[Definition]) -> Result<Option<u
     Ok(None)
 }
 
-/// Adds the places of these definitions behind those that are known.
+/// Adds the places of these definitions after those that are known.
 pub(crate) fn add_places(
     alloc: Global,
     places: &mut BTreeMap<String, usize>,

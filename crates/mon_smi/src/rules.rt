@@ -9,7 +9,7 @@ use crate::lexeme::Lexeme;
 use crate::part::Part;
 use crate::text_fault::TextFault;
 
-/// So many tokens at the end.
+/// This many tokens at the end.
 pub(crate) fn last<'a, 's>(ls: &'a [Lexeme<'s>], left: usize) -> &'a [Lexeme<'s>]
     requires { left ≤ length ls.now }
     ensures { result.now ≡ drop (length ls.now - left) ls.now }
@@ -69,7 +69,7 @@ pub(crate) fn begins_word(word: &str, ls: &[Lexeme]) -> bool
     first.is_word(word)
 }
 
-/// The rest of a group, behind its opening mark.
+/// The rest of a group, after its opening mark.
 fn nested_at<'a, 's>(
     left: Kind,
     right: Kind,

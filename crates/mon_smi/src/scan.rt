@@ -39,7 +39,7 @@ pub(crate) fn word_len(text: &[u8]) -> usize
     len
 }
 
-/// The byte at this place, or 0 behind the end.
+/// The byte at this place, or 0 after the end.
 pub(crate) fn byte_at(text: &[u8], i: usize) -> u8
     ensures { result ≡ slice_index text.now i }
 {
@@ -49,7 +49,7 @@ pub(crate) fn byte_at(text: &[u8], i: usize) -> u8
     0
 }
 
-/// What stands behind so many bytes.
+/// What stands after this many bytes.
 pub(crate) fn behind(text: &[u8], n: usize) -> &[u8]
     requires { n ≤ length text.now }
     ensures { result.now ≡ drop n text.now }
@@ -142,7 +142,7 @@ fn remark_len(text: &[u8]) -> usize
     len
 }
 
-/// The length of a comment behind its opening hyphens.
+/// The length of a comment after its opening hyphens.
 fn ending_len(text: &[u8]) -> usize
     ensures within { result ≤ length text.now }
     ensures exact { result ≡ ending_at text.now }
@@ -151,7 +151,7 @@ fn ending_len(text: &[u8]) -> usize
     remark + hyphens_len(behind(text, remark))
 }
 
-/// The length of a comment behind its first hyphen.
+/// The length of a comment after its first hyphen.
 pub(crate) fn comment_len(text: &[u8]) -> usize
     ensures within { result ≤ length text.now }
     ensures exact { result ≡ comment_at text.now }
@@ -160,7 +160,7 @@ pub(crate) fn comment_len(text: &[u8]) -> usize
     opening + ending_len(behind(text, opening))
 }
 
-/// The length of the longest string behind its opening quote, with its closing one, or none where
+/// The length of the longest string after its opening quote, with its closing one, or none where
 /// the text ends first.
 pub(crate) fn closing_len(text: &[u8]) -> Option<usize>
     ensures within { IfSome result (λ n. n ≤ length text.now) }

@@ -7,7 +7,7 @@ use crate::kind::Kind;
 pub struct Span {
     /// Where the first byte stands.
     pub start: usize,
-    /// Where the first byte behind it stands.
+    /// Where the first byte after it stands.
     pub end: usize,
 }
 

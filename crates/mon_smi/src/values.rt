@@ -23,7 +23,7 @@ pub(crate) fn name_at<'a, 's>(ls: &'a [Lexeme<'s>]) -> Option<(&'a str, &'a [Lex
     }
 }
 
-/// The number that decimal digits spell, below 2^32; spare zeros count for nothing.
+/// The number that decimal digits spell, below 2^32; leading zeros count for nothing.
 fn number_of(digits: &[u8]) -> Option<u32>
     ensures { result ≡ number_of digits.now }
 {
@@ -114,7 +114,7 @@ fn numbers_at(alloc: Global, ls: &[Lexeme]) -> Result<(Vec<u32>, usize), TextFau
     Ok((numbers, left))
 }
 
-/// Whether there are as many sub-identifiers as behind this parent, or behind none.
+/// Whether there are as many sub-identifiers as after this parent, or after none.
 fn enough(parent: Option<&str>, numbers: &[u32]) -> bool
     ensures { result ≡ enough (option_map (λ w. w.now) parent.entry) numbers.now }
 {

@@ -18,7 +18,7 @@ impl Model for Word {
 }
 
 impl Word {
-    /// The word with this text, which may be any. An `Err` is for want of memory.
+    /// The word with this text, which may be any. An `Err` means out of memory.
     pub fn from_str(alloc: Global, text: &str) -> Result<Self, AllocError>
         ensures { IfOk result (λ w. w ≡ text.now) }
     {
@@ -34,7 +34,7 @@ impl Word {
         self.text.as_str()
     }
 
-    /// An equal word. An `Err` is for want of memory.
+    /// An equal word. An `Err` means out of memory.
     pub fn try_clone(&self, alloc: Global) -> Result<Self, AllocError>
         ensures { IfOk result (λ w. w ≡ self.now) }
     {

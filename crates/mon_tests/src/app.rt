@@ -24,7 +24,7 @@ const RESPONSE: &str = "306002010104067075626C6963A2530201010201000201003048\
 01300F060A2B060106030A02010200020103300F060A2B060106030A02010300020164\
 300F060A2B060102010202010A01410107";
 
-/// Gives an octet a read, is interrupted before each, and fails after so many.
+/// Gives an octet a read, is interrupted before each, and fails after this many.
 #[derive(Drop)]
 struct Slow {
     left: u8,

@@ -29,7 +29,7 @@ fn octets(alloc: Global, bytes: &[u8]) -> Result<Octets, AllocError> {
     Octets::from_slice(alloc, bytes)
 }
 
-/// An INTEGER, how many sub-identifiers a name has, and how many octets are left behind a value.
+/// An INTEGER, how many sub-identifiers a name has, and how many octets are left after a value.
 fn parts(alloc: Global, bytes: &[u8]) -> Result<(i32, usize, usize), BerFault> {
     let (number, rest) = integer_at(bytes)?;
     let (name, rest) = name_at(alloc, rest)?;
@@ -37,7 +37,7 @@ fn parts(alloc: Global, bytes: &[u8]) -> Result<(i32, usize, usize), BerFault> {
     Ok((number, name.parts().len(), rest.len()))
 }
 
-/// The octets of -129, of 1.3, of 0xff and of Null behind a header, and the sizes of the first two.
+/// The octets of -129, of 1.3, of 0xff and of Null after a header, and the sizes of the first two.
 #[tactic(auto, unfolding(mon_ber::specs::Writing::written, mon_ber::specs::Writing::element, mon_ber::specs::Writing::length_octets))]
 fn put_parts(alloc: Global) -> Result<(Vec<u8>, usize, usize), BerFault> {
     let (name, _rest) = name_at(alloc, &[0x06, 0x01, 0x2b])?;

@@ -63,7 +63,7 @@ fn reads_and_writes_back(rt: HostRuntime) -> Result<(), Fail> {
 #[test]
 fn reads_other_spellings(rt: HostRuntime) -> Result<(), Fail> {
     let bytes = hex::decode(rt.alloc(), GET)?;
-    // A long outer length with spare zeros, octets after the message, and a request-id with a spare octet.
+    // A long outer length with leading zeros, octets after the message, and a request-id with a leading zero.
     for text in [
         "3082002602010104067075626c6963a019020107020100020100300e300c06082b060102010105000500",
         "302602010104067075626c6963a019020107020100020100300e300c06082b060102010105000500ff",
@@ -200,7 +200,7 @@ fn write_into(alloc: Global, message: &Message) -> Result<Vec<u8>, PduFault> {
     Ok(out)
 }
 
-/// The octets of the message behind those of another, in room for both.
+/// The octets of the message after those of another, in room for both.
 fn write_both(alloc: Global, one: &Message, other: &Message) -> Result<Vec<u8>, PduFault> {
     let mut out = mon_pdu::write_message(alloc, one)?;
     out.reserve(mon_pdu::message_size(other)?)?;

@@ -39,7 +39,7 @@ const SHARED: [Row; 9] = [
     (4, 25, 25),
 ];
 
-/// A writer that takes so many octets, one a call, and then fails.
+/// A writer that takes this many octets, one a call, and then fails.
 #[derive(Drop)]
 struct Narrow {
     room: usize,

@@ -14,7 +14,7 @@ use std::rt::Env;
 /// How many samples the track holds.
 const SIZE: usize = 64;
 
-/// The agent restarts after so many seconds.
+/// The agent restarts after this many seconds.
 const LIFE: u32 = 48;
 
 /// In which order the samples come.

@@ -11,7 +11,7 @@ use std::cmp::Ordering;
 pub struct Family {
     pub view_name: Octets,
     pub subtree: Oid,
-    /// Bit i, counted from the highest of the first octet, is 0 where sub-identifier i may differ; behind the end all are 1.
+    /// Bit i, counted from the highest of the first octet, is 0 where sub-identifier i may differ; after the end all are 1.
     pub mask: Octets,
     /// Whether the names are in the view, where this family decides.
     pub included: bool,
@@ -60,7 +60,7 @@ impl Family {
     }
 }
 
-/// Whether the mask has a one at a place. Behind its end it goes on with ones.
+/// Whether the mask has a one at a place. After its end it goes on with ones.
 fn must_agree(mask: &[u8], i: usize) -> bool
     ensures { IsTrue result ↔ MustAgree mask.now i }
 {
