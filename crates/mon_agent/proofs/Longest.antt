@@ -2,7 +2,7 @@
 use Rattle.std.proofs.Common.{◌≡◌, ◌≤◌, List, [], ◌∷◌, ◌++◌, length, sym, ap, subst, ◌∙◌, ◌⊎◌, inl, inr, arith}
 use Rattle.std.proofs.lemmas.List.{length-append, append-nil, append_assoc}
 use Rattle.mon_pdu.specs.declared.message.Binding.{Binding}
-use Rattle.mon_agent.specs.Bulk.{IsLongest}
+use Rattle.mon_agent.specs.Bulk.{IsLongestPart}
 use Rattle.mon_agent.specs.Growing.{IsEnded}
 
 module _ (fits : List Binding → Type 0) (shrinks : (bindings more : List Binding) → fits (bindings ++ more) → fits bindings) where
@@ -25,7 +25,7 @@ module _ (fits : List Binding → Type 0) (shrinks : (bindings more : List Bindi
       both : {a b : Binding} {xs ys ls ms : List Binding} → a ∷ xs ≡ b ∷ ys → ls ≡ ms → b ∷ ls ≡ a ∷ ms
       both e f = cc
 
-  pub longest : (all part : List Binding) → (part ≡ []) ⊎ fits part → IsEnded fits all part → IsLongest fits all part
+  pub longest : (all part : List Binding) → (part ≡ []) ⊎ fits part → IsEnded fits all part → IsLongestPart fits all part
   longest all part within (inl is) = record {
     begins = ([], sym (append-nil part ∙ is));
     within = within;

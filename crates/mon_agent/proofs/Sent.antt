@@ -24,7 +24,7 @@ use Rattle.mon_mib.specs.declared.commit.Commit.{Commit}
 use Rattle.mon_mib.specs.declared.set_fault.SetFault.{SetFault}
 use Rattle.mon_mib.specs.declared.set_fault.SetFault.TheVariants.{OutOfMemory, Refused}
 use Rattle.mon_mib.specs.declared.set_status.SetStatus.{SetStatus}
-use Rattle.mon_mib.specs.Commit.{IsCommitted, failures_of}
+use Rattle.mon_mib.specs.Commit.{IsCommitted, failures_by_then}
 use Rattle.mon_mib.specs.Refusal.{IsSetFault}
 use Rattle.mon_mib.specs.SetStatus.{status_number}
 use Rattle.mon_mib.specs.Held.{Held}
@@ -37,10 +37,10 @@ use Rattle.mon_agent.specs.declared.reply.Reply.{Reply}
 use Rattle.mon_agent.specs.declared.reply.Reply.TheVariants.{Send, Silent}
 use Rattle.mon_agent.specs.declared.reply.Silence.{Silence}
 use Rattle.mon_agent.specs.declared.reply.Silence.TheVariants.{BadMessage, BadVersion, BadCommunity, NotARequest, TooBigTwice}
-use Rattle.mon_agent.specs.Answer.{IsAnswer, IsAnswered, IsGranted, IsKnown, IsResponse, cause_of, is_answered, is_request, need_of, need_of_kind}
+use Rattle.mon_agent.specs.Answer.{IsAnswer, IsAnswered, IsGranted, IsKnown, IsResponseTo, cause_of, is_answered, is_request, need_of, need_of_kind}
 use Rattle.mon_agent.specs.Assigned.{greatest, returned, status_of, place_of}
 use Rattle.mon_agent.specs.Ready.{IsReady, IsReadyFor, IsReadyToSet, IsReturned}
-use Rattle.mon_agent.specs.Reply.{count_of, too_big, Fits, IsAbove, IsOut, IsSent, IsDropped}
+use Rattle.mon_agent.specs.Reply.{count_of, too_big, IsWithinLimit, IsAboveLimit, IsOut, IsSent, IsDropped}
 
 -- what is written is no shorter than its contents
 pub longer : (m : Message) → length (message_contents m) ≤ length (written_message m)
@@ -48,16 +48,16 @@ unfolding written_message element
 longer m = omega (arith, length-append (0x30 ∷ length_octets (length (message_contents m))) (message_contents m))
 
 -- what needs a length of more than 4 octets is within no limit
-pub too_long : (m : Message) (limit : ℤ) → count_of limit < 2 ^ 31 → 2 ^ 32 ≤ length (message_contents m) → Fits limit m → ⊥
+pub too_long : (m : Message) (limit : ℤ) → count_of limit < 2 ^ 31 → 2 ^ 32 ≤ length (message_contents m) → IsWithinLimit limit m → ⊥
 too_long m limit small le fits = omega (arith, longer m, small, le, fits)
 
 -- what is sent of a response depends on its request by community and request-id alone
 sent_of : (m reply : Message) (limit : ℤ) (octets : List ℕ) → too_big reply ≡ too_big m → IsSent limit reply reply octets → IsSent limit m reply octets
 sent_of m reply limit octets same (inl sent) = inl sent
-sent_of m reply limit octets same (inr sent) = inr (sent.0, subst (λ t. Fits limit t) same sent.1, sent.2 ∙ ap written_message same)
+sent_of m reply limit octets same (inr sent) = inr (sent.0, subst (λ t. IsWithinLimit limit t) same sent.1, sent.2 ∙ ap written_message same)
 
 dropped_of : (m reply : Message) (limit : ℤ) → too_big reply ≡ too_big m → IsDropped limit reply reply → IsDropped limit m reply
-dropped_of m reply limit same dropped = (dropped.0, subst (λ t. IsAbove limit t) same dropped.1)
+dropped_of m reply limit same dropped = (dropped.0, subst (λ t. IsAboveLimit limit t) same dropped.1)
 
 -- what is granted to write is a request
 kind_answers : (kind : PduKind) → need_of_kind kind ≡ Write → is_answered kind ≡ true
@@ -79,7 +79,7 @@ known_view policy m view access unknown = absurd cc
 module _ {D : Type 0} (held : D → Held) (failed : D → ℕ) (refuses : D → Change → Type 0) (policy : Lists) (k : Known) where
   -- what becomes of a response answers its request
   pub out_answers : (before after : D) (m reply : Message) (r : Reply) → IsKnown policy m → is_request m.body ≡ true
-      → IsResponse held failed refuses policy k before after m reply → too_big reply ≡ too_big m → IsOut k.settings.limit reply reply r
+      → IsResponseTo held failed refuses policy k before after m reply → too_big reply ≡ too_big m → IsOut k.settings.limit reply reply r
       → IsAnswered held failed refuses policy k before after m r
   out_answers before after m reply (Send octets) known request right same out =
       (known, request, (reply, right, sent_of m reply k.settings.limit octets.items same out))
@@ -105,7 +105,7 @@ module _ {D : Type 0} (held : D → Held) (failed : D → ℕ) (refuses : D → 
   -- a Set that was assigned is answered
   pub assigned_answers : (before after : D) (datagram : List ℕ) (a : Assigning) (outcome : Commit) (octets : Vec ℕ)
       → IsReady held failed refuses policy k before datagram (Assign a)
-      → IsCommitted held refuses a.plan (held before) (held after) outcome → failed after ≡ failures_of outcome (failed before)
+      → IsCommitted held refuses a.plan (held before) (held after) outcome → failed after ≡ failures_by_then outcome (failed before)
       → octets.items ≡ written_message (returned a.response (status_of outcome) (pos (place_of outcome)))
       → length octets.items ≤ length (written_message a.response)
       → IsAnswer held failed refuses policy k before after datagram (Send octets)
@@ -115,7 +115,7 @@ module _ {D : Type 0} (held : D → Held) (failed : D → ℕ) (refuses : D → 
       let reply = returned m (status_of outcome) (pos (place_of outcome)) in
       let is : octets.items ≡ written_message reply =
       written ∙ ap (λ (r : Message). written_message (returned r (status_of outcome) (pos (place_of outcome)))) to.planned.is in
-      let fits : Fits k.settings.limit reply =
+      let fits : IsWithinLimit k.settings.limit reply =
       omega (arith, ap length is, shorter, ap (λ (r : Message). length (written_message r)) to.planned.is, to.planned.fits) in
       let granted : IsGranted held failed refuses Write k (IsInView policy.families to.view) before after m reply = inr (inr (record {
         steps = a.plan;
@@ -144,7 +144,7 @@ module _ {D : Type 0} (held : D → Held) (failed : D → ℕ) (refuses : D → 
   pub refused_ready : (device : D) (sees : List ℕ → Type 0) (m response : Message) (fault : SetFault) (r : Reply)
       → ((status : SetStatus) (index : ℕ) → index ≤ length (bindings_of m.body)
       → length (written_message (returned (greatest m) (status_number status) (pos index))) ≤ length (written_message (greatest m)))
-      → response ≡ greatest m → Fits k.settings.limit (greatest m) → IsSetFault k sees (bindings_of m.body) fault → IsReturned response fault r
+      → response ≡ greatest m → IsWithinLimit k.settings.limit (greatest m) → IsSetFault k sees (bindings_of m.body) fault → IsReturned response fault r
       → IsReadyToSet held failed refuses k sees device m (Answer r)
   refused_ready device sees m response OutOfMemory r shorter is fits refused given = absurd given
   refused_ready device sees m response (Refused status index) (Silent cause) shorter is fits refused given = absurd given
@@ -161,11 +161,11 @@ module _ {D : Type 0} (held : D → Held) (failed : D → ℕ) (refuses : D → 
       )
 
 -- what becomes of a message depends on it by its size, its community and its request-id alone
-pub out_same : (limit : ℤ) (m n : Message) (r : Reply) → too_big m ≡ too_big n → IsAbove limit m → IsAbove limit n → IsOut limit m m r
+pub out_same : (limit : ℤ) (m n : Message) (r : Reply) → too_big m ≡ too_big n → IsAboveLimit limit m → IsAboveLimit limit n → IsOut limit m m r
     → IsOut limit n n r
 out_same limit m n (Send octets) same above other (inl sent) = absurd (omega (arith, above, sent.0))
-out_same limit m n (Send octets) same above other (inr sent) = inr (other, subst (λ t. Fits limit t) same sent.1, sent.2 ∙ ap written_message same)
-out_same limit m n (Silent TooBigTwice) same above other out = (other, subst (λ t. IsAbove limit t) same out.1)
+out_same limit m n (Send octets) same above other (inr sent) = inr (other, subst (λ t. IsWithinLimit limit t) same sent.1, sent.2 ∙ ap written_message same)
+out_same limit m n (Silent TooBigTwice) same above other out = (other, subst (λ t. IsAboveLimit limit t) same out.1)
 out_same limit m n (Silent BadMessage) same above other out = absurd out
 out_same limit m n (Silent BadVersion) same above other out = absurd out
 out_same limit m n (Silent BadCommunity) same above other out = absurd out

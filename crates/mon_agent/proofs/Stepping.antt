@@ -9,7 +9,7 @@ use Rattle.mon_mib.specs.Next.{IsVariable, IsLater}
 use Rattle.mon_mib.specs.Objects.{objects}
 use Rattle.mon_mib.specs.Order.{name_cmp}
 use Rattle.mon_agent.specs.Bulk.{IsStepper}
-use Rattle.mon_agent.specs.Step.{IsStep, at_end}
+use Rattle.mon_agent.specs.Step.{IsNextAnswer, at_end}
 
 -- it holds, or it doesn't
 abbrev pub OrNot : Type 0 → Type 0
@@ -124,7 +124,7 @@ module _ (k : Known) (sees : List ℕ → Type 0) (seen : (name : List ℕ) → 
       by (inl less) (inr hidden) = inr (λ is. hidden is.in_view)
       by (inr not_less) _ = inr (λ is. not_less is.beyond)
 
-  step : (name : List ℕ) → (b : Binding) × IsStep k sees name b
+  step : (name : List ℕ) → (b : Binding) × IsNextAnswer k sees name b
   step name = elim (lowest (IsLater sees name) (later name) (vars k)) [
     | inl found ↦ (
       found.0,

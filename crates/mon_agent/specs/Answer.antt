@@ -29,8 +29,8 @@ use Rattle.mon_agent.specs.declared.reply.Silence.{Silence}
 use Rattle.mon_agent.specs.declared.reply.Silence.TheVariants.{BadMessage, BadVersion, BadCommunity, NotARequest, TooBigTwice}
 use Rattle.mon_agent.specs.Bulk.{IsBulk}
 use Rattle.mon_agent.specs.Assigned.{IsSet}
-use Rattle.mon_agent.specs.Reply.{response, answered, Fits, IsOut}
-use Rattle.mon_agent.specs.Step.{AreFor, IsRead, IsStep}
+use Rattle.mon_agent.specs.Reply.{response, answered, IsWithinLimit, IsOut}
+use Rattle.mon_agent.specs.Step.{AreFor, IsGetAnswer, IsNextAnswer}
 
 -- the PDUs that are answered
 abbrev pub is_answered : PduKind → Bool
@@ -56,14 +56,14 @@ need_of (bodies.Bulk p) = Read
 
 -- the variable bindings that answer a Get or GetNext in a view
 abbrev pub IsOfKind : Known → (List ℕ → Type 0) → PduKind → List Binding → List Binding → Type 0
-IsOfKind k sees kinds.Get asked answers = AreFor (IsRead k sees) asked answers
-IsOfKind k sees kinds.GetNext asked answers = AreFor (IsStep k sees) asked answers
+IsOfKind k sees kinds.Get asked answers = AreFor (IsGetAnswer k sees) asked answers
+IsOfKind k sees kinds.GetNext asked answers = AreFor (IsNextAnswer k sees) asked answers
 IsOfKind k sees other asked answers = ⊥
 
 -- the variable bindings that answer a request to read
 abbrev pub AreAnswers : Known → (List ℕ → Type 0) → Message → Body → List Binding → Type 0
 AreAnswers k sees m (bodies.Pdu p) answers = IsOfKind k sees p.kind p.bindings answers
-AreAnswers k sees m (bodies.Bulk p) answers = IsBulk k sees (λ bindings. Fits k.settings.limit (answered m bindings)) p answers
+AreAnswers k sees m (bodies.Bulk p) answers = IsBulk k sees (λ bindings. IsWithinLimit k.settings.limit (answered m bindings)) p answers
 
 -- the response without an error, with the variable bindings that answer a request to read
 abbrev pub IsReading : Known → (List ℕ → Type 0) → Message → Message → Type 0
@@ -82,8 +82,8 @@ module _ {D : Type 0} (held : D → Held) (failed : D → ℕ) (refuses : D → 
 
   -- The response to a request of a known community. One that is denied gets its own variable bindings back with
   -- authorizationError; else the view that the community is granted is asked.
-  abbrev pub IsResponse : Lists → Known → D → D → Message → Message → Type 0
-  IsResponse policy k before after m reply =
+  abbrev pub IsResponseTo : Lists → Known → D → D → Message → Message → Type 0
+  IsResponseTo policy k before after m reply =
       ((why : Denied) × (why ≢ NoCommunity) × (access_of policy m.community (need_of m.body) ≡ Err why)
       × (after ≡ before) × (reply ≡ response m (pos 16) (pos 0) (bindings_of m.body)))
       ⊎ ((view : List ℕ) × (access_of policy m.community (need_of m.body) ≡ Ok view)
@@ -97,7 +97,7 @@ module _ {D : Type 0} (held : D → Held) (failed : D → ℕ) (refuses : D → 
       (access_of policy m.community (need_of m.body) ≡ Err NoCommunity) × (after ≡ before)
   IsAnswered policy k before after m (Silent NotARequest) = IsKnown policy m × (is_request m.body ≡ false) × (after ≡ before)
   IsAnswered policy k before after m other = IsKnown policy m × (is_request m.body ≡ true)
-      × ((reply : Message) × IsResponse policy k before after m reply × IsOut k.settings.limit m reply other)
+      × ((reply : Message) × IsResponseTo policy k before after m reply × IsOut k.settings.limit m reply other)
 
   -- What a datagram is answered, by the message that it begins with. Where it begins with none, its version may be another
   -- than 1.

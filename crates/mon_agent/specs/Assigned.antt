@@ -7,13 +7,13 @@ use Rattle.mon_mib.specs.declared.commit.Commit.{Commit}
 use Rattle.mon_mib.specs.declared.commit.Commit.TheVariants.{Done, CommitFailed, UndoFailed}
 use Rattle.mon_mib.specs.declared.set_status.SetStatus.{SetStatus}
 use Rattle.mon_mib.specs.declared.step.Step.{Step}
-use Rattle.mon_mib.specs.Assignment.{IsPlan}
-use Rattle.mon_mib.specs.Commit.{IsCommitted, failures_of}
+use Rattle.mon_mib.specs.Assignment.{IsSetPlan}
+use Rattle.mon_mib.specs.Commit.{IsCommitted, failures_by_then}
 use Rattle.mon_mib.specs.Held.{Held}
 use Rattle.mon_mib.specs.Known.{Known}
 use Rattle.mon_mib.specs.Refusal.{IsAccepted, IsFirstRefused}
 use Rattle.mon_mib.specs.SetStatus.{status_number}
-use Rattle.mon_agent.specs.Reply.{response, Fits, IsAbove}
+use Rattle.mon_agent.specs.Reply.{response, IsWithinLimit, IsAboveLimit}
 
 -- the response to a Set with the variable bindings of the Set itself
 abbrev pub returned : Message → ℤ → ℤ → Message
@@ -39,15 +39,15 @@ place_of (UndoFailed failed standing) = 0
 module _ {D : Type 0} (held : D → Held) (failed : D → ℕ) (refuses : D → Change → Type 0) where
   -- above the limit: nothing is assigned
   pub record IsOversized (k : Known) (before after : D) (m reply : Message) : Type 0 where
-    pub above : IsAbove k.settings.limit (greatest m)
+    pub above : IsAboveLimit k.settings.limit (greatest m)
     pub stays : after ≡ before
     pub is : reply ≡ greatest m
 
   -- a variable binding is refused: nothing is assigned, and the first that is refused is named
-  pub record IsRefused (k : Known) (sees : List ℕ → Type 0) (before after : D) (m reply : Message) : Type 0 where
+  pub record IsSetRefused (k : Known) (sees : List ℕ → Type 0) (before after : D) (m reply : Message) : Type 0 where
     pub status : SetStatus
     pub index : ℕ
-    pub fits : Fits k.settings.limit (greatest m)
+    pub fits : IsWithinLimit k.settings.limit (greatest m)
     pub refused : IsFirstRefused k sees (bindings_of m.body) status index
     pub stays : after ≡ before
     pub is : reply ≡ returned m (status_number status) (pos index)
@@ -56,14 +56,14 @@ module _ {D : Type 0} (held : D → Held) (failed : D → ℕ) (refuses : D → 
   pub record IsAssigned (k : Known) (sees : List ℕ → Type 0) (before after : D) (m reply : Message) : Type 0 where
     pub steps : List Step
     pub outcome : Commit
-    pub fits : Fits k.settings.limit (greatest m)
+    pub fits : IsWithinLimit k.settings.limit (greatest m)
     pub accepted : All (IsAccepted k sees) (bindings_of m.body)
-    pub plan : IsPlan k (bindings_of m.body) steps
+    pub plan : IsSetPlan k (bindings_of m.body) steps
     pub committed : IsCommitted held refuses steps (held before) (held after) outcome
-    pub failures : failed after ≡ failures_of outcome (failed before)
+    pub failures : failed after ≡ failures_by_then outcome (failed before)
     pub is : reply ≡ returned m (status_of outcome) (pos (place_of outcome))
 
   -- the response to a Set that is granted in a view, and the device then
   abbrev pub IsSet : Known → (List ℕ → Type 0) → D → D → Message → Message → Type 0
   IsSet k sees before after m reply =
-      IsOversized k before after m reply ⊎ (IsRefused k sees before after m reply ⊎ IsAssigned k sees before after m reply)
+      IsOversized k before after m reply ⊎ (IsSetRefused k sees before after m reply ⊎ IsAssigned k sees before after m reply)

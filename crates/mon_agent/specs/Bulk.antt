@@ -7,11 +7,11 @@ use Rattle.mon_pdu.specs.declared.message.Binding.{Binding}
 use Rattle.mon_pdu.specs.declared.message.Bulk.{Bulk}
 use Rattle.mon_mib.specs.Known.{Known}
 use Rattle.mon_agent.specs.Reply.{count_of}
-use Rattle.mon_agent.specs.Step.{IsStep}
+use Rattle.mon_agent.specs.Step.{IsNextAnswer}
 
 -- next gives the answer to each name
 abbrev pub IsStepper : Known → (List ℕ → Type 0) → (List ℕ → Binding) → Type 0
-IsStepper k sees next = (name : List ℕ) → IsStep k sees name (next name)
+IsStepper k sees next = (name : List ℕ) → IsNextAnswer k sees name (next name)
 
 -- the names of variable bindings
 abbrev pub names_of : List Binding → List (List ℕ)
@@ -44,7 +44,7 @@ abbrev pub IsBeginning : List Binding → List Binding → Type 0
 IsBeginning part all = (rest : List Binding) × (all ≡ part ++ rest)
 
 -- the longest beginning that fits, or an empty one
-pub record IsLongest (fits : List Binding → Type 0) (all part : List Binding) : Type 0 where
+pub record IsLongestPart (fits : List Binding → Type 0) (all part : List Binding) : Type 0 where
   pub begins : IsBeginning part all
   pub within : (part ≡ []) ⊎ fits part
   pub longest : (longer : List Binding) → IsBeginning longer all → fits longer → length longer ≤ length part
@@ -52,4 +52,4 @@ pub record IsLongest (fits : List Binding → Type 0) (all part : List Binding) 
 -- what a GetBulk is answered: the longest beginning of the full list whose response fits
 abbrev pub IsBulk : Known → (List ℕ → Type 0) → (List Binding → Type 0) → Bulk → List Binding → Type 0
 IsBulk k sees fits request answers = (next : List ℕ → Binding) → IsStepper k sees next
-    → IsLongest fits (full_list next request.non_repeaters request.max_repetitions request.bindings) answers
+    → IsLongestPart fits (full_list next request.non_repeaters request.max_repetitions request.bindings) answers

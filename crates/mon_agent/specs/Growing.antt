@@ -1,12 +1,12 @@
 -- The variable bindings of a response as they grow.
 use Rattle.std.specs.Prelude.{◌≡◌, ℕ, ◌-◌, ℤ, Bool, true, false, if◌then◌else◌, List, [], ◌∷◌, ◌++◌, length, drop, ◌⊎◌}
-use Rattle.mon_ber.specs.Writing.{counted}
+use Rattle.mon_ber.specs.Writing.{size_counted}
 use Rattle.mon_pdu.specs.declared.message.Binding.{Binding}
 use Rattle.mon_pdu.specs.declared.message.Message.{Message}
 use Rattle.mon_pdu.specs.Sizes.{with_bindings}
 use Rattle.mon_pdu.specs.Writing.{list_contents}
 use Rattle.mon_agent.specs.Bulk.{names_of, is_last, rounds}
-use Rattle.mon_agent.specs.Reply.{Fits}
+use Rattle.mon_agent.specs.Reply.{IsWithinLimit}
 
 -- a response without variable bindings, the limit, and the variable bindings so far
 pub record Grown : Type 0 where
@@ -16,7 +16,7 @@ pub record Grown : Type 0 where
 
 -- with these variable bindings it is within the limit
 abbrev pub FitsWith : Grown → List Binding → Type 0
-FitsWith grown bindings = Fits grown.limit (with_bindings grown.head bindings)
+FitsWith grown bindings = IsWithinLimit grown.limit (with_bindings grown.head bindings)
 
 -- the list goes on after this beginning, and the beginning has no room for what comes next
 pub record IsCut (fits : List Binding → Type 0) (all part : List Binding) : Type 0 where
@@ -40,8 +40,8 @@ more_rounds next m round = if is_last round then [] else rounds next m (names_of
 
 -- the octets that the variable bindings take are known, and the response is within the limit or has none
 pub record IsSized (head : Message) (limit : ℤ) (bindings : List Binding) (list : ℕ) : Type 0 where
-  pub size : list ≡ counted (length (list_contents bindings))
-  pub within : (bindings ≡ []) ⊎ Fits limit (with_bindings head bindings)
+  pub size : list ≡ size_counted (length (list_contents bindings))
+  pub within : (bindings ≡ []) ⊎ IsWithinLimit limit (with_bindings head bindings)
 
 -- all of the list, or a beginning that has no room for what comes next
 abbrev pub IsEnded : (List Binding → Type 0) → List Binding → List Binding → Type 0

@@ -10,7 +10,7 @@ use Rattle.mon_vacm.specs.View.{IsInView}
 use Rattle.mon_mib.specs.declared.change.Change.{Change}
 use Rattle.mon_mib.specs.declared.set_fault.SetFault.{SetFault}
 use Rattle.mon_mib.specs.declared.set_fault.SetFault.TheVariants.{OutOfMemory, Refused}
-use Rattle.mon_mib.specs.Assignment.{IsPlan}
+use Rattle.mon_mib.specs.Assignment.{IsSetPlan}
 use Rattle.mon_mib.specs.Held.{Held}
 use Rattle.mon_mib.specs.Known.{Known}
 use Rattle.mon_mib.specs.Refusal.{IsAccepted}
@@ -22,10 +22,10 @@ use Rattle.mon_agent.specs.declared.reply.Reply.{Reply}
 use Rattle.mon_agent.specs.declared.reply.Reply.TheVariants.{Send}
 use Rattle.mon_agent.specs.Answer.{IsAnswer, IsAnswered, need_of}
 use Rattle.mon_agent.specs.Assigned.{IsSet, greatest, returned}
-use Rattle.mon_agent.specs.Reply.{Fits, IsOut, too_big}
+use Rattle.mon_agent.specs.Reply.{IsWithinLimit, IsOut, too_big}
 
 -- the response has room, with any of its errors: none is written longer than it is now
-pub record HasRoom (a : Assigning) : Type 0 where
+pub record HasRoomForErrors (a : Assigning) : Type 0 where
   pub greatest_is : a.response ≡ greatest a.response
   pub few : length (bindings_of a.response.body) < 2 ^ 31
   pub numbers : All (λ s. s.index ≤ length (bindings_of a.response.body)) a.plan
@@ -36,13 +36,13 @@ pub record HasRoom (a : Assigning) : Type 0 where
 -- there is room for all that is about to be done
 abbrev pub IsRoomy : Ready → Type 0
 IsRoomy (Answer reply) = Unit {0}
-IsRoomy (Assign a) = HasRoom a
+IsRoomy (Assign a) = HasRoomForErrors a
 
 -- a Set that is within the limit and of which no variable binding is refused, with what it assigns
 pub record IsPlanned (k : Known) (sees : List ℕ → Type 0) (m : Message) (a : Assigning) : Type 0 where
-  pub fits : Fits k.settings.limit (greatest m)
+  pub fits : IsWithinLimit k.settings.limit (greatest m)
   pub accepted : All (IsAccepted k sees) (bindings_of m.body)
-  pub plan : IsPlan k (bindings_of m.body) a.plan
+  pub plan : IsSetPlan k (bindings_of m.body) a.plan
   pub is : a.response ≡ greatest m
 
 -- the same of a message whose community may write

@@ -34,22 +34,22 @@ abbrev pub too_big : Message → Message
 too_big m = response m (pos 1) (pos 0) []
 
 -- written, it is within the limit
-abbrev pub Fits : ℤ → Message → Type 0
-Fits limit m = length (written_message m) ≤ count_of limit
+abbrev pub IsWithinLimit : ℤ → Message → Type 0
+IsWithinLimit limit m = length (written_message m) ≤ count_of limit
 
 -- written, it is above the limit
-abbrev pub IsAbove : ℤ → Message → Type 0
-IsAbove limit m = count_of limit < length (written_message m)
+abbrev pub IsAboveLimit : ℤ → Message → Type 0
+IsAboveLimit limit m = count_of limit < length (written_message m)
 
 -- what is sent of a response: the response itself, or where it is above the limit tooBig without variable bindings
 abbrev pub IsSent : ℤ → Message → Message → List ℕ → Type 0
 IsSent limit request reply octets =
-    (Fits limit reply × (octets ≡ written_message reply))
-    ⊎ (IsAbove limit reply × Fits limit (too_big request) × (octets ≡ written_message (too_big request)))
+    (IsWithinLimit limit reply × (octets ≡ written_message reply))
+    ⊎ (IsAboveLimit limit reply × IsWithinLimit limit (too_big request) × (octets ≡ written_message (too_big request)))
 
 -- nothing is sent where both are above the limit
 abbrev pub IsDropped : ℤ → Message → Message → Type 0
-IsDropped limit request reply = IsAbove limit reply × IsAbove limit (too_big request)
+IsDropped limit request reply = IsAboveLimit limit reply × IsAboveLimit limit (too_big request)
 
 -- What becomes of a response: it is sent, or it is dropped.
 abbrev pub IsOut : ℤ → Message → Message → Reply → Type 0

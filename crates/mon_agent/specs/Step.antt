@@ -10,18 +10,18 @@ use Rattle.mon_mib.specs.Next.{IsGot, IsNext}
 use Rattle.mon_mib.specs.Objects.{objects}
 
 -- the value, or the exception in its place
-abbrev pub value_of : Got → Value
-value_of (Found value) = value
-value_of NoObject = NoSuchObject
-value_of NoInstance = NoSuchInstance
+abbrev pub got_value : Got → Value
+got_value (Found value) = value
+got_value NoObject = NoSuchObject
+got_value NoInstance = NoSuchInstance
 
 -- what a Get finds in a view: outside it there is no object
 abbrev pub IsSeen : Known → (List ℕ → Type 0) → List ℕ → Value → Type 0
 IsSeen k sees name value =
-    (¬ (sees name) × (value ≡ NoSuchObject)) ⊎ (sees name × ((got : Got) × IsGot k name got × (value ≡ value_of got)))
+    (¬ (sees name) × (value ≡ NoSuchObject)) ⊎ (sees name × ((got : Got) × IsGot k name got × (value ≡ got_value got)))
 
 -- the answer to a name in a Get: the name itself, with what is found
-pub record IsRead (k : Known) (sees : List ℕ → Type 0) (name : List ℕ) (answer : Binding) : Type 0 where
+pub record IsGetAnswer (k : Known) (sees : List ℕ → Type 0) (name : List ℕ) (answer : Binding) : Type 0 where
   pub named : answer.name ≡ name
   pub found : IsSeen k sees name answer.value
 
@@ -30,8 +30,8 @@ abbrev pub at_end : List ℕ → Binding
 at_end name = record { name = name; value = EndOfMibView }
 
 -- the answer to a name in a GetNext: the least variable in view beyond it, or where there is none the name with endOfMibView
-abbrev pub IsStep : Known → (List ℕ → Type 0) → List ℕ → Binding → Type 0
-IsStep k sees name answer = IsNext objects k sees name (Some answer) ⊎ (IsNext objects k sees name None × (answer ≡ at_end name))
+abbrev pub IsNextAnswer : Known → (List ℕ → Type 0) → List ℕ → Binding → Type 0
+IsNextAnswer k sees name answer = IsNext objects k sees name (Some answer) ⊎ (IsNext objects k sees name None × (answer ≡ at_end name))
 
 -- one answer for each variable binding of the request, in their order
 abbrev pub AreFor : (List ℕ → Binding → Type 0) → List Binding → List Binding → Type 0

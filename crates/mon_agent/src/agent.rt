@@ -14,7 +14,7 @@ ghost use Rattle.mon_agent.specs.Answer.{IsAnswer, IsReading, IsOfKind, cause_of
 ghost use Rattle.mon_agent.specs.Bulk.{IsStepper};
 ghost use Rattle.mon_agent.specs.Ready.{IsReady, IsReadyFor, IsRoomy};
 ghost use Rattle.mon_agent.specs.Reply.{too_big};
-ghost use Rattle.mon_agent.specs.Step.{AreFor, IsRead, IsSeen, IsStep, value_of};
+ghost use Rattle.mon_agent.specs.Step.{AreFor, IsGetAnswer, IsSeen, IsNextAnswer, got_value};
 
 use crate::fault::AgentFault;
 use crate::growing::Growing;
@@ -246,7 +246,7 @@ impl<D: Device + Drop> Agent<D> {
         moment: Moment,
     ) -> Result<Binding, AllocError>
         ensures step { let known = known_of self.now.mib.settings self.now.mib.counters (D.held self.now.mib.device) moment in
-            IfOk result (IsStep known (IsInView self.now.policy.families access.entry.view.now) name.now) }
+            IfOk result (IsNextAnswer known (IsInView self.now.policy.families access.entry.view.now) name.now) }
         // It is the one that every right choice of answers has.
         ensures only { let known = known_of self.now.mib.settings self.now.mib.counters (D.held self.now.mib.device) moment in
             (next : List ℕ → AnyBinding) → IsStepper known (IsInView self.now.policy.families access.entry.view.now) next
@@ -276,7 +276,7 @@ impl<D: Device + Drop> Agent<D> {
         if !self.policy.sees(access, name) {
             return Ok(Value::NoSuchObject);
         }
-        Ok(value_of(self.mib.get(alloc, name, moment)?))
+        Ok(got_value(self.mib.get(alloc, name, moment)?))
     }
 
     /// The variable bindings of a Get with their values.
@@ -288,7 +288,7 @@ impl<D: Device + Drop> Agent<D> {
         moment: Moment,
     ) -> Result<Vec<Binding>, AllocError>
         ensures { let known = known_of self.now.mib.settings self.now.mib.counters (D.held self.now.mib.device) moment in
-            IfOk result (λ answers. AreFor (IsRead known (IsInView self.now.policy.families access.entry.view.now)) asked.items answers.items) }
+            IfOk result (λ answers. AreFor (IsGetAnswer known (IsInView self.now.policy.families access.entry.view.now)) asked.items answers.items) }
     {
         let mut answers = asked;
         for binding in answers.iter_mut() {
@@ -306,7 +306,7 @@ impl<D: Device + Drop> Agent<D> {
         moment: Moment,
     ) -> Result<Vec<Binding>, AllocError>
         ensures { let known = known_of self.now.mib.settings self.now.mib.counters (D.held self.now.mib.device) moment in
-            IfOk result (λ answers. AreFor (IsStep known (IsInView self.now.policy.families access.entry.view.now)) asked.items answers.items) }
+            IfOk result (λ answers. AreFor (IsNextAnswer known (IsInView self.now.policy.families access.entry.view.now)) asked.items answers.items) }
     {
         let mut answers = asked;
         for binding in answers.iter_mut() {
@@ -368,8 +368,8 @@ fn is_unknown(access: &Result<Access<'_>, Denied>) -> bool
 }
 
 /// The value that stands for what was found.
-fn value_of(got: Got) -> Value
-    ensures { result ≡ value_of got }
+fn got_value(got: Got) -> Value
+    ensures { result ≡ got_value got }
 {
     match got {
         Got::Found(value) => value,

@@ -5,10 +5,10 @@ ghost use Rattle.mon_pdu.specs.Grammar.{bindings_of};
 ghost use Rattle.mon_pdu.specs.Writing.{written_message};
 ghost use Rattle.mon_vacm.specs.View.{IsInView};
 ghost use Rattle.mon_mib.specs.declared.commit.Commit.{Commit as AnyCommit};
-ghost use Rattle.mon_mib.specs.Commit.{IsCommitted, failures_of};
+ghost use Rattle.mon_mib.specs.Commit.{IsCommitted, failures_by_then};
 ghost use Rattle.mon_mib.specs.Known.{known_of};
 ghost use Rattle.mon_agent.specs.Assigned.{greatest, returned, status_of, place_of};
-ghost use Rattle.mon_agent.specs.Ready.{HasRoom, IsNumbered, IsReadyToSet, IsReturned, IsRoomy};
+ghost use Rattle.mon_agent.specs.Ready.{HasRoomForErrors, IsNumbered, IsReadyToSet, IsReturned, IsRoomy};
 
 use crate::agent::Agent;
 use crate::fault::AgentFault;
@@ -66,9 +66,9 @@ impl<D: Device + Drop> Agent<D> {
 
     /// Assigns what a Set asks for, and writes its response. Takes no memory.
     pub(crate) fn assign(&mut self, set: Assigning) -> Vec<u8>
-        requires { HasRoom set }
+        requires { HasRoomForErrors set }
         ensures assigned { (outcome : AnyCommit) × IsCommitted D.held D.refuses set.plan (D.held self.old.mib.device) (D.held self.new.mib.device) outcome
-            × (D.failed self.new.mib.device ≡ failures_of outcome (D.failed self.old.mib.device))
+            × (D.failed self.new.mib.device ≡ failures_by_then outcome (D.failed self.old.mib.device))
             × (result.items ≡ written_message (returned set.response (status_of outcome) (pos (place_of outcome)))) }
         ensures shorter { length result.items ≤ length (written_message set.response) }
 

@@ -25,7 +25,7 @@ pub(crate) struct Growing {
 
 impl Model for Growing {
     ghost use Rattle.std.specs.Prelude.{◌≡◌, ◌⊎◌, [], length};
-    ghost use Rattle.mon_ber.specs.Writing.{counted};
+    ghost use Rattle.mon_ber.specs.Writing.{size_counted};
     ghost use Rattle.mon_pdu.specs.Writing.{list_contents};
     ghost use Rattle.mon_pdu.specs.Sizes.{with_bindings};
     ghost use Rattle.mon_agent.specs.Growing.{Grown, IsSized};

@@ -6,12 +6,12 @@ ghost use Rattle.mon_vacm.specs.declared.family.Family.{Family};
 ghost use Rattle.mon_vacm.specs.View.{IsInView};
 ghost use Rattle.mon_mib.specs.Known.{Known};
 ghost use Rattle.mon_agent.specs.Bulk.{IsStepper};
-ghost use Rattle.mon_agent.specs.Step.{IsStep};
+ghost use Rattle.mon_agent.specs.Step.{IsNextAnswer};
 
 /// One answer alone is right for a name in a GetNext.
 pub fn one_step()
     ensures { (k : Known) (families : List Family) (view name : List ℕ) (a b : Binding)
-        → IsStep k (IsInView families view) name a → IsStep k (IsInView families view) name b → a ≡ b }
+        → IsNextAnswer k (IsInView families view) name a → IsNextAnswer k (IsInView families view) name b → a ≡ b }
 {
     mon_mib::laws::one_next();
 }

@@ -4,7 +4,7 @@ ghost use Rattle.std.specs.Prelude.{◌≡◌, ◌≤◌, ◌↔◌, pos, length
 ghost use Rattle.mon_pdu.specs.Grammar.{bindings_of, first_of};
 ghost use Rattle.mon_pdu.specs.Writing.{HasLength, written_message};
 ghost use Rattle.mon_agent.specs.Assigned.{returned};
-ghost use Rattle.mon_agent.specs.Reply.{Fits, IsAbove, IsOut, response_body, too_big};
+ghost use Rattle.mon_agent.specs.Reply.{IsWithinLimit, IsAboveLimit, IsOut, response_body, too_big};
 
 use crate::growing::is_within;
 use crate::reply::{Reply, Silence};
@@ -74,7 +74,7 @@ pub(crate) fn send(alloc: Global, reply: Message, limit: i32) -> Result<Reply, A
 
 /// Sends tooBig in the place of a response that is above the limit, or nothing where tooBig is above it too.
 pub(crate) fn send_too_big(alloc: Global, reply: Message, limit: i32) -> Result<Reply, AllocError>
-    requires { IsAbove limit reply }
+    requires { IsAboveLimit limit reply }
     ensures { IfOk result (IsOut limit reply reply) }
 {
     let too_big = too_big(alloc, reply);
@@ -109,8 +109,8 @@ fn request_id(body: &Body) -> i32
 pub(crate) fn size_within(message: &Message, limit: i32) -> Option<usize>
     ensures size { IfSome result (λ size. size ≡ length (written_message message.now)) }
     ensures length { IfSome result (λ size. HasLength message.now) }
-    ensures within { IfSome result (λ size. Fits limit message.now) }
-    ensures above { IfNone result (IsAbove limit message.now) }
+    ensures within { IfSome result (λ size. IsWithinLimit limit message.now) }
+    ensures above { IfNone result (IsAboveLimit limit message.now) }
 {
     let Ok(size) = message_size(message) else {
         return None;

@@ -1,7 +1,7 @@
 //! The client commands over a wire in memory.
 
 ghost use Rattle.std.specs.Prelude.{◌≡◌, ◌≤◌, ◌++◌, ◌∷◌, [], IfOk, IfSome, OnErr, OnOk, length, map};
-ghost use Rattle.mon_app.specs.AtWire.{Heard as HeardAtWire, IsWithin, Sent, hearing};
+ghost use Rattle.mon_app.specs.AtWire.{Heard as HeardAtWire, FitsRoom, Sent, hearing};
 ghost use Rattle.mon_agent_tests.specs.Log.{at_wire};
 
 use crate::event::Event;
@@ -106,7 +106,7 @@ impl Memory {
     fn hear(&mut self, room: &mut [u8]) -> Result<Heard, SocketFault>
         ensures told { map at_wire self.new.log.items ≡ map at_wire self.old.log.items ++ hearing room.new result }
         ensures failures { self.new.failures ≡ self.old.failures }
-        ensures within { IfOk result (IsWithin (length room.new)) }
+        ensures within { IfOk result (FitsRoom (length room.new)) }
     {
         self.other = !self.other;
         if self.other {

@@ -19,7 +19,7 @@ use Rattle.mon_app.specs.declared.instance.Instance.{Instance}
 use Rattle.mon_poller.specs.Stamp.{Stamp}
 use Rattle.mon_app.specs.Offer.{Offer}
 use Rattle.mon_app.specs.declared.table.Row.{Row}
-use Rattle.mon_app.specs.Find.{Finds, instances_of}
+use Rattle.mon_app.specs.Find.{StandsAt, instances_of}
 use Rattle.mon_app.specs.Instance.{instance_cmp, named}
 use Rattle.mon_app.specs.Reading.{offer_in, offers_of}
 use Rattle.mon_app.specs.Windows.{instances, rows_of}
@@ -75,7 +75,7 @@ rows_counted n taken rows is = length-rows n taken rows is ∙ sym (len-rising i
 
 -- what a search says of the instances
 pub held : (n : ℕ) (taken : List Offer) (rows : List Row) → rows ≡ rows_of n taken → (i : Instance) (r : Result ℕ ℕ) → IfOk r (λ at. at < length rows)
-    → Finds (instances_of rows) i r → is_err r ≡ not (contains (instances taken) i)
+    → StandsAt (instances_of rows) i r → is_err r ≡ not (contains (instances taken) i)
 held n taken rows is i (Ok at) bound found =
     let stands : get_or (rising (instances taken)) at i ≡ i = sym (ap (λ ys. get_or ys at i) (listed n taken rows is)) ∙ found i in
     let at_xs : at < length (rising (instances taken)) = omega (arith, length-rows n taken rows is) in

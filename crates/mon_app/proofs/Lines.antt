@@ -17,7 +17,7 @@ use Rattle.mon_app.specs.declared.table.Row.{Row}
 use Rattle.mon_app.specs.Gives.{Fails}
 use Rattle.mon_app.specs.Reading.{hex_reading, line_reading}
 use Rattle.mon_app.specs.Replay.{verdict, judged, offered, refused, accepted, refusals, refused_text, lines_of}
-use Rattle.mon_app.specs.Taken.{IsTaken}
+use Rattle.mon_app.specs.Taken.{AreOffersTaken}
 use Rattle.mon_app.specs.Text.{refused_line}
 use Rattle.mon_app.specs.Windows.{instances, row, rows_of}
 use Rattle.mon_app.proofs.Counting.{rows_counted}
@@ -161,7 +161,7 @@ module _ {n : ℕ} {lines : List (List ℕ)} {line : List ℕ} {rest : List (Lis
       (sym (append-nil s.why) ∙ ap (λ v. s.why ++ refused (k + 1) v) (sym none)) s.written s.counted
 
   -- an accepted one
-  pub taken_in : (after : List Row) → 0 < length line → IsTaken (verdict s.taken (hex_reading line)) n s.taken after → SoFar n lines rest (k + 1) after before text count
+  pub taken_in : (after : List Row) → 0 < length line → AreOffersTaken (verdict s.taken (hex_reading line)) n s.taken after → SoFar n lines rest (k + 1) after before text count
   taken_in after some t =
       let told_is : verdict_of ≡ Some (Ok t.offers) = told_read s.taken line some ∙ ap Some t.verdict_is in
       let limit : len (instances (s.taken ++ t.offers)) ≤ 256 = admitted_few s.taken (hex_reading line) t.offers t.verdict_is in

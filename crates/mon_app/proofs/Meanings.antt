@@ -9,7 +9,7 @@ use Rattle.mon_ber.specs.declared.value.Value.{Value}
 use Rattle.mon_ber.specs.declared.value.Value.TheVariants as values
 use Rattle.mon_app.specs.declared.value.ValueKind.{ValueKind}
 use Rattle.mon_app.specs.declared.value.ValueKind.TheVariants as kinds
-use Rattle.mon_app.specs.Meaning.{IsHex, IsName, IsSigned, Means}
+use Rattle.mon_app.specs.Meaning.{IsHex, IsDottedName, IsSigned, MeansValue}
 
 one_number : (text : List ℕ) (m n : ℕ) → IsNumber 10 text m → IsNumber 10 text n → m ≡ n
 one_number text m n a b = sym a.1 ∙ b.1
@@ -43,10 +43,10 @@ one_address text a b left right =
     ap front (sym (read_ipv4_complete text a [] left stops) ∙ read_ipv4_complete text b [] right stops)
 
 module _ (one_reading : (a b : List ℕ) → AreNumbers a → AreNumbers b → dotted a ≡ dotted b → a ≡ b) where
-  one_name : (text a b : List ℕ) → IsName text a → IsName text b → a ≡ b
+  one_name : (text a b : List ℕ) → IsDottedName text a → IsDottedName text b → a ≡ b
   one_name text a b left right = one_reading a b left.1.numbers right.1.numbers (sym left.1.is ∙ right.1.is)
 
-  pub one_value : (kind : ValueKind) (text : List ℕ) (a b : Value) → Means kind text a → Means kind text b → a ≡ b
+  pub one_value : (kind : ValueKind) (text : List ℕ) (a b : Value) → MeansValue kind text a → MeansValue kind text b → a ≡ b
   one_value kinds.Integer text a b (x, p, is) (y, q, js) = is ∙ ap values.Integer (one_signed text x y p.0 q.0) ∙ sym js
   one_value kinds.String text a b is js = is ∙ sym js
   one_value kinds.Hex text a b (x, p, is) (y, q, js) = is ∙ ap values.Octets (one_hex text x y p q) ∙ sym js

@@ -23,8 +23,9 @@ use Rattle.mon_pdu.specs.Kinds.{octet_of}
 use Rattle.mon_pdu.specs.Reading.{message_at}
 use Rattle.mon_app.specs.declared.refusal.Refusal.{Refusal}
 use Rattle.mon_app.specs.declared.refusal.Refusal.TheVariants.{OutOfMemory, BadHex, BadMessage, NotAResponse, AgentError, BadStamp, TooManyInstances}
-use Rattle.mon_app.specs.Gives.{◌>>=◌, or_refuse}
-use Rattle.mon_app.specs.Line.{Holds, IsResponse, IsStamped, IsNoMessage, Says}
+use Rattle.mon_oid.specs.Steps.{◌>>=◌}
+use Rattle.mon_app.specs.Gives.{or_refuse}
+use Rattle.mon_app.specs.Line.{HoldsMessage, IsResponse, IsStamped, IsNoMessage, Says}
 use Rattle.mon_poller.specs.Stamp.{Stamp, engine_id_name, engine_boots_name, engine_time_name}
 use Rattle.mon_app.specs.Offer.{Offer}
 use Rattle.mon_app.specs.Reading.{engine_in, number_in, engine_of, number_at, stamp_of, response_of, is_zero, body_reading, message_in, message_reading, hex_reading, offers_of}
@@ -271,7 +272,7 @@ not_none n = grind (arith, nat_tests)
 abbrev offering : Result (Stamp × List Binding) Refusal → Result (List Offer) Refusal
 offering read = read >>= λ response. Ok (offers_of response.0 response.1)
 
-module _ (text : List ℕ) (m : Message) (holds : Holds text m) where
+module _ (text : List ℕ) (m : Message) (holds : HoldsMessage text m) where
   no_response : (p : AnyPdu) → m.body ≡ Pdu p → (p.kind ≢ Response) → Says text (Err NotAResponse)
   no_response p body other = record {
     message = m;
@@ -348,7 +349,7 @@ module _ (takes : (bytes : List ℕ) (m : Message) → AreOctets bytes → messa
   says text = text_says text (decode_of text) refl
 
   -- ---- and nothing else
-  held : (text : List ℕ) (m : Message) → Holds text m → hex_reading text ≡ offering (body_reading m.body)
+  held : (text : List ℕ) (m : Message) → HoldsMessage text m → hex_reading text ≡ offering (body_reading m.body)
   unfolding hex_reading message_in message_reading
   held text m h =
       ap (λ r. (or_refuse BadHex r >>= λ bytes. or_refuse BadMessage (message_at bytes)) >>= message_reading) h.hex

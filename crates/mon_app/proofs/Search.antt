@@ -7,7 +7,7 @@ use Rattle.std.proofs.lemmas.List.{get_or-map, length-map}
 use Rattle.mon_window.proofs.Promised.{search_places}
 use Rattle.mon_app.specs.declared.instance.Instance.{Instance}
 use Rattle.mon_app.specs.Instance.{instance_cmp}
-use Rattle.mon_app.specs.Find.{Finds}
+use Rattle.mon_app.specs.Find.{StandsAt}
 use Rattle.mon_app.proofs.Order.{instance_cmp_total, instance_cmp-IsAntisymmetric}
 
 module _ {X K : Type 0} (f : X → K) (ord : K → Ordering) where
@@ -39,7 +39,7 @@ range_mapped f xs (Ok i) bound = omega (arith, length-map xs f)
 range_mapped f xs (Err i) bound = omega (arith, length-map xs f)
 
 pub finds : {X : Type 0} (f : X → Instance) (i : Instance) (xs : List X) (r : Result ℕ ℕ) → IsStrictlySortedBy instance_cmp (map f xs)
-    → IsSearchInRange r (length xs) → IsBinarySearchResult (λ y. instance_cmp (f y) i) xs r → Finds (map f xs) i r
+    → IsSearchInRange r (length xs) → IsBinarySearchResult (λ y. instance_cmp (f y) i) xs r → StandsAt (map f xs) i r
 finds f i xs (Ok at) sorted bound found = λ d. instance_cmp-IsAntisymmetric _ i (search_mapped f (λ j. instance_cmp j i) xs (Ok at) bound found d)
 finds f i xs (Err at) sorted bound found =
     search_places instance_cmp_total instance_cmp-IsAntisymmetric i (map f xs) (Err at) sorted (range_mapped f xs (Err at) bound) (search_mapped f (λ j. instance_cmp j i) xs (Err at) bound found)

@@ -14,10 +14,10 @@ use Rattle.mon_app.specs.declared.fault.AppFault.TheVariants as faults
 use Rattle.mon_app.specs.declared.question.Asking.TheVariants.{GetNext}
 use Rattle.mon_app.specs.Asking.{IsAsked}
 use Rattle.mon_app.specs.AtWire.{AtWire}
-use Rattle.mon_app.specs.Printed.{IsAnswered, answer_of, bindings_in}
+use Rattle.mon_app.specs.Printed.{IsQuestionAnswered, answer_of, bindings_in}
 use Rattle.mon_app.specs.Question.{Asked, is_reply}
 use Rattle.mon_app.specs.Reading.{is_zero}
-use Rattle.mon_app.specs.Walk.{HasWalked, IsNext, IsTurn, IsWalk, last_answer, question_after}
+use Rattle.mon_app.specs.Walk.{HasWalked, IsNextAsked, IsTurn, IsWalk, last_answer, question_after}
 use Rattle.mon_app.proofs.Askings.{Log}
 
 -- of a reply without an error status each name is answered
@@ -44,7 +44,7 @@ one_in community name from n (bodies.Pdu p) bindings reply given =
     ap length found.1 ∙ counted _ (is_zero p.error_status) (length p.bindings) reply found.0
 
 pub one_answer : (community name : List ℕ) (n : ℕ) (log : List AtWire) (bindings : List Binding)
-    → IsAnswered (question_after community n name) log (Ok bindings) → length bindings ≡ 1
+    → IsQuestionAnswered (question_after community n name) log (Ok bindings) → length bindings ≡ 1
 one_answer community name n log bindings answered = by_asked answered.asked answered.asking answered.answer_is
   where
     by_asked : (asked : Result Message AppFault) → IsAsked (question_after community n name) log asked → Ok bindings ≡ answer_of asked → length bindings ≡ 1
@@ -65,18 +65,18 @@ one_of bs (x ∷ front) b one is = absurd (omega (arith, one, ap length is, leng
 
 -- the last of one variable binding is the answer
 pub next_found : (community name : List ℕ) (n : ℕ) (before after : Log) (bindings front : List Binding) (b : Binding)
-    → GoesOnBy (λ log. IsAnswered (question_after community n name) log (Ok bindings)) before after → bindings ≡ front ++ b ∷ []
-    → GoesOnBy (λ log. IsNext (question_after community n name) log (Ok b)) before after
+    → GoesOnBy (λ log. IsQuestionAnswered (question_after community n name) log (Ok bindings)) before after → bindings ≡ front ++ b ∷ []
+    → GoesOnBy (λ log. IsNextAsked (question_after community n name) log (Ok b)) before after
 next_found community name n before after bindings front b answered is =
     let one = one_of bindings front b (one_answer community name n answered.more bindings answered.holds) is in
     record {
       more = answered.more;
-      holds = subst (λ (bs : List Binding). IsAnswered (question_after community n name) answered.more (Ok bs)) one answered.holds;
+      holds = subst (λ (bs : List Binding). IsQuestionAnswered (question_after community n name) answered.more (Ok bs)) one answered.holds;
       told = answered.told;
     }
 
 pub never_none : (community name : List ℕ) (n : ℕ) (before after : Log) (bindings : List Binding)
-    → GoesOnBy (λ log. IsAnswered (question_after community n name) log (Ok bindings)) before after → bindings ≡ [] → ⊥
+    → GoesOnBy (λ log. IsQuestionAnswered (question_after community n name) log (Ok bindings)) before after → bindings ≡ [] → ⊥
 never_none community name n before after bindings answered none =
     let one = one_answer community name n answered.more bindings answered.holds in omega (arith, one, ap length none)
 
@@ -84,7 +84,7 @@ of_body : (body : Body) → Err faults.NotIncreasing ≡ bindings_in body → �
 of_body (bodies.Bulk b) is = cc
 of_body (bodies.Pdu p) is = unchosen (is_zero p.error_status) p.bindings is
 
-not_of_asking : (q : Asked) (log : List AtWire) → IsAnswered q log (Err faults.NotIncreasing) → ⊥
+not_of_asking : (q : Asked) (log : List AtWire) → IsQuestionAnswered q log (Err faults.NotIncreasing) → ⊥
 not_of_asking q log answered = by_asked answered.asked answered.asking answered.answer_is
   where
     by_asked : (asked : Result Message AppFault) → IsAsked q log asked → Err faults.NotIncreasing ≡ answer_of asked → ⊥
@@ -93,11 +93,11 @@ not_of_asking q log answered = by_asked answered.asked answered.asking answered.
         let same : fault ≡ faults.NotIncreasing = cc in subst (λ (f : AppFault). IsAsked q log (Err f)) same asking
 
 -- a fault of the question is the turn's; a walk's own fault is none of asking
-pub fault_of_turn : (q : Asked) (start last text : List ℕ) (before after : Log) (fault : AppFault) → GoesOnBy (λ log. IsNext q log (Err fault)) before after
+pub fault_of_turn : (q : Asked) (start last text : List ℕ) (before after : Log) (fault : AppFault) → GoesOnBy (λ log. IsNextAsked q log (Err fault)) before after
     → GoesOnBy (λ log. IsTurn q start last text text log (Err fault)) before after
 fault_of_turn q start last text before after fault next = record { more = next.more; holds = by_cases fault next.more next.holds; told = next.told }
   where
-    by_cases : (fault : AppFault) (log : List AtWire) → IsNext q log (Err fault) → IsTurn q start last text text log (Err fault)
+    by_cases : (fault : AppFault) (log : List AtWire) → IsNextAsked q log (Err fault) → IsTurn q start last text text log (Err fault)
     by_cases faults.OutOfMemory log next = (Err faults.OutOfMemory, next)
     by_cases faults.NotIncreasing log next = absurd (not_of_asking q log next)
     by_cases faults.SocketFault log next = (next, refl)

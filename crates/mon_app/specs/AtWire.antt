@@ -30,10 +30,10 @@ hearing room (Ok heard) = heard_as room heard
 hearing room (Err fault) = []
 
 -- what was heard fits the room
-abbrev pub IsWithin : ℕ → AnyHeard → Type 0
-IsWithin room (heard.Datagram len) = len ≤ room
-IsWithin room heard.Other = Unit {0}
-IsWithin room heard.Quiet = Unit {0}
+abbrev pub FitsRoom : ℕ → AnyHeard → Type 0
+FitsRoom room (heard.Datagram len) = len ≤ room
+FitsRoom room heard.Other = Unit {0}
+FitsRoom room heard.Quiet = Unit {0}
 
 -- a socket's count of failures after a call that answers a socket's fault exactly where the socket failed
 abbrev pub socket_failures : {A : Type 0} → Result A AppFault → ℕ → ℕ

@@ -11,6 +11,6 @@ abbrev pub instances_of : List Row → List Instance
 instances_of rows = map (λ r. r.instance) rows
 
 -- where the instance stands, or belongs
-abbrev pub Finds : List Instance → Instance → Result ℕ ℕ → Type 0
-Finds is i (Ok at) = HoldsAt (λ j. j ≡ i) is at
-Finds is i (Err at) = IsPlace instance_cmp is i at
+abbrev pub StandsAt : List Instance → Instance → Result ℕ ℕ → Type 0
+StandsAt is i (Ok at) = HoldsAt (λ j. j ≡ i) is at
+StandsAt is i (Err at) = IsPlace instance_cmp is i at

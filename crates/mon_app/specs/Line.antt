@@ -15,7 +15,7 @@ use Rattle.mon_app.specs.Offer.{Offer}
 use Rattle.mon_app.specs.Reading.{offers_of}
 
 -- The text is pairs of hex digits, in either case, for octets that begin with a spelling of the message.
-pub record Holds (text : List ℕ) (m : Message) : Type 0 where
+pub record HoldsMessage (text : List ℕ) (m : Message) : Type 0 where
   pub bytes : List ℕ
   pub hex : decode_of text ≡ Ok bytes
   pub message : BeginsWithMessage bytes m
@@ -46,7 +46,7 @@ pub record Brings (text : List ℕ) (offers : List Offer) : Type 0 where
   pub bindings : List Binding
   pub stamp : Stamp
   pub others : List Binding
-  pub holds : Holds text message
+  pub holds : HoldsMessage text message
   pub response : IsResponse message.body (pos 0) bindings
   pub stamped : IsStamped bindings stamp others
   pub samples : offers ≡ offers_of stamp others
@@ -60,7 +60,7 @@ pub record IsNoMessage (text : List ℕ) : Type 0 where
 -- The text holds a message that is no response.
 pub record IsNoResponse (text : List ℕ) : Type 0 where
   pub message : Message
-  pub holds : Holds text message
+  pub holds : HoldsMessage text message
   pub other : (status : ℤ) (bindings : List Binding) → IsResponse message.body status bindings → ⊥
 
 -- The text holds a response with an error status.
@@ -68,7 +68,7 @@ pub record HasError (text : List ℕ) : Type 0 where
   pub message : Message
   pub status : ℤ
   pub bindings : List Binding
-  pub holds : Holds text message
+  pub holds : HoldsMessage text message
   pub response : IsResponse message.body status bindings
   pub failed : status ≢ pos 0
 
@@ -76,7 +76,7 @@ pub record HasError (text : List ℕ) : Type 0 where
 pub record HasNoStamp (text : List ℕ) : Type 0 where
   pub message : Message
   pub bindings : List Binding
-  pub holds : Holds text message
+  pub holds : HoldsMessage text message
   pub response : IsResponse message.body (pos 0) bindings
   pub unstamped : (stamp : Stamp) (others : List Binding) → IsStamped bindings stamp others → ⊥
 

@@ -42,20 +42,20 @@ abbrev pub IsHex : List ℕ → List ℕ → Type 0
 IsHex text octets = decode_of text ≡ Ok octets
 
 -- the numbers of an object identifier, with dots between them
-abbrev pub IsName : List ℕ → List ℕ → Type 0
-IsName text name = IsOid name × Spells text name
+abbrev pub IsDottedName : List ℕ → List ℕ → Type 0
+IsDottedName text name = IsOid name × Spells text name
 
 -- the text means this value, for a kind (RFC 2578 section 7.1)
-abbrev pub Means : ValueKind → List ℕ → Value → Type 0
-Means kinds.Integer text v = (z : ℤ) × IsInteger text z × (v ≡ values.Integer z)
-Means kinds.String text v = v ≡ values.Octets text
-Means kinds.Hex text v = (octets : List ℕ) × IsHex text octets × (v ≡ values.Octets octets)
-Means kinds.Oid text v = (name : List ℕ) × IsName text name × (v ≡ values.Name name)
-Means kinds.Ip text v = (octets : List ℕ) × IsDotted text octets × (v ≡ values.IpAddress octets)
-Means kinds.Counter32 text v = (n : ℕ) × IsUnsigned 32 text n × (v ≡ values.Counter32 n)
-Means kinds.Gauge32 text v = (n : ℕ) × IsUnsigned 32 text n × (v ≡ values.Gauge32 n)
-Means kinds.TimeTicks text v = (n : ℕ) × IsUnsigned 32 text n × (v ≡ values.TimeTicks n)
-Means kinds.Counter64 text v = (n : ℕ) × IsUnsigned 64 text n × (v ≡ values.Counter64 n)
+abbrev pub MeansValue : ValueKind → List ℕ → Value → Type 0
+MeansValue kinds.Integer text v = (z : ℤ) × IsInteger text z × (v ≡ values.Integer z)
+MeansValue kinds.String text v = v ≡ values.Octets text
+MeansValue kinds.Hex text v = (octets : List ℕ) × IsHex text octets × (v ≡ values.Octets octets)
+MeansValue kinds.Oid text v = (name : List ℕ) × IsDottedName text name × (v ≡ values.Name name)
+MeansValue kinds.Ip text v = (octets : List ℕ) × IsDotted text octets × (v ≡ values.IpAddress octets)
+MeansValue kinds.Counter32 text v = (n : ℕ) × IsUnsigned 32 text n × (v ≡ values.Counter32 n)
+MeansValue kinds.Gauge32 text v = (n : ℕ) × IsUnsigned 32 text n × (v ≡ values.Gauge32 n)
+MeansValue kinds.TimeTicks text v = (n : ℕ) × IsUnsigned 32 text n × (v ≡ values.TimeTicks n)
+MeansValue kinds.Counter64 text v = (n : ℕ) × IsUnsigned 64 text n × (v ≡ values.Counter64 n)
 
 -- why nothing of this meaning is given: there is none, or memory ran out
 abbrev pub IsFault : {A : Type 0} → (A → Type 0) → AppFault → Type 0

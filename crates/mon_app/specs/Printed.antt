@@ -81,7 +81,7 @@ answer_of (Ok reply) = bindings_in reply.body
 answer_of (Err fault) = Err fault
 
 -- The question was asked, this happened at the wire, and this is the answer.
-pub record IsAnswered (q : Asked) (log : List AtWire) (answer : Result (List Binding) AppFault) : Type 0 where
+pub record IsQuestionAnswered (q : Asked) (log : List AtWire) (answer : Result (List Binding) AppFault) : Type 0 where
   pub asked : Result Message AppFault
   pub asking : IsAsked q log asked
   pub answer_is : answer ≡ answer_of asked
@@ -96,5 +96,5 @@ Prints bytes (Err fault) (Err other) = other ≡ fault
 -- The question was asked, this happened at the wire, and the answer was printed so.
 pub record IsPrinted {T : Type 0} (bytes : T → List ℕ) (q : Asked) (log : List AtWire) (printed : Result T AppFault) : Type 0 where
   pub answer : Result (List Binding) AppFault
-  pub answered : IsAnswered q log answer
+  pub answered : IsQuestionAnswered q log answer
   pub text : Prints bytes answer printed

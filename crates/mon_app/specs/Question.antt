@@ -21,12 +21,12 @@ abbrev pub plain : PduKind → ℤ → List Binding → Body
 plain kind id bindings = Pdu (record { kind = kind; request_id = id; error_status = pos 0; error_index = pos 0; bindings = bindings })
 
 -- the PDU that asks (RFC 3416 section 3)
-abbrev pub body_of : Asking → ℤ → List Binding → Body
-body_of Get id bindings = plain pdu.Get id bindings
-body_of GetNext id bindings = plain pdu.GetNext id bindings
-body_of (GetBulk r) id bindings =
+abbrev pub asking_body : Asking → ℤ → List Binding → Body
+asking_body Get id bindings = plain pdu.Get id bindings
+asking_body GetNext id bindings = plain pdu.GetNext id bindings
+asking_body (GetBulk r) id bindings =
     Bulk (record { request_id = id; non_repeaters = r.non_repeaters; max_repetitions = r.max_repetitions; bindings = bindings })
-body_of (Set v) id bindings = plain pdu.Set id bindings
+asking_body (Set v) id bindings = plain pdu.Set id bindings
 
 -- a question as its parts
 pub record Asked : Type 0 where
@@ -54,7 +54,7 @@ asked_for v name = record { name = name; value = v }
 abbrev pub request_of : Asked → Message
 request_of q = record {
   community = q.community;
-  body = body_of q.asking q.request_id (map (asked_for (wanted_value q.asking)) q.names);
+  body = asking_body q.asking q.request_id (map (asked_for (wanted_value q.asking)) q.names);
 }
 
 -- the bindings have these names, in order

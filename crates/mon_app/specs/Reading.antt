@@ -20,7 +20,8 @@ use Rattle.mon_poller.specs.Stamp.{Stamp, engine_id_name, engine_boots_name, eng
 use Rattle.mon_app.specs.Offer.{Offer}
 use Rattle.mon_app.specs.declared.refusal.Refusal.{Refusal}
 use Rattle.mon_app.specs.declared.refusal.Refusal.TheVariants.{BadHex, BadMessage, NotAResponse, AgentError, BadStamp}
-use Rattle.mon_app.specs.Gives.{◌>>=◌, or_refuse}
+use Rattle.mon_oid.specs.Steps.{◌>>=◌}
+use Rattle.mon_app.specs.Gives.{or_refuse}
 
 -- what a value of the stamp is, else the refusal of the stamp
 abbrev pub or_bad_stamp : {A : Type 0} → Option A → Result A Refusal

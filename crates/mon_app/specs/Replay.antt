@@ -6,7 +6,7 @@ use Rattle.std.specs.Str.Lines.{strip_carriage_return}
 use Rattle.mon_app.specs.Offer.{Offer}
 use Rattle.mon_app.specs.declared.refusal.Refusal.{Refusal}
 use Rattle.mon_app.specs.declared.refusal.Refusal.TheVariants.{TooManyInstances}
-use Rattle.mon_app.specs.Gives.{◌>>=◌}
+use Rattle.mon_oid.specs.Steps.{◌>>=◌}
 use Rattle.mon_app.specs.Reading.{line_reading}
 use Rattle.mon_app.specs.Windows.{instances, rows_of}
 use Rattle.mon_app.specs.Text.{row_text, refused_line, end_line, samples_in}

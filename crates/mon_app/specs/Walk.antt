@@ -12,7 +12,7 @@ use Rattle.mon_app.specs.declared.question.Asking.TheVariants.{GetNext}
 use Rattle.mon_app.specs.declared.walking.Step.{Step}
 use Rattle.mon_app.specs.declared.walking.Step.TheVariants.{On, Past, Back}
 use Rattle.mon_app.specs.AtWire.{AtWire}
-use Rattle.mon_app.specs.Printed.{IsAnswered, binding_line}
+use Rattle.mon_app.specs.Printed.{IsQuestionAnswered, binding_line}
 use Rattle.mon_app.specs.Question.{Asked}
 
 -- the question for the variable after a name
@@ -20,17 +20,17 @@ abbrev pub question_after : List ℕ → ℕ → List ℕ → Asked
 question_after community request_id name = record { asking = GetNext; request_id = pos request_id; community = community; names = name ∷ [] }
 
 -- the question was answered by one variable binding, this one, or a fault came of it; and this happened at the wire
-abbrev pub IsNext : Asked → List AtWire → Result Binding AppFault → Type 0
-IsNext q log (Ok b) = IsAnswered q log (Ok (b ∷ []))
-IsNext q log (Err fault) = IsAnswered q log (Err fault)
+abbrev pub IsNextAsked : Asked → List AtWire → Result Binding AppFault → Type 0
+IsNextAsked q log (Ok b) = IsQuestionAnswered q log (Ok (b ∷ []))
+IsNextAsked q log (Err fault) = IsQuestionAnswered q log (Err fault)
 
 -- the walk is over: the agent has no further variable, or this one is not under the start
 abbrev pub IsPast : List ℕ → Binding → Type 0
 IsPast start b = (b.value ≡ EndOfMibView) ⊎ ¬ (IsPrefix start b.name)
 
 -- a variable under the start
-abbrev pub IsUnder : List ℕ → Binding → Type 0
-IsUnder start b = (b.value ≢ EndOfMibView) × IsPrefix start b.name
+abbrev pub IsUnderStart : List ℕ → Binding → Type 0
+IsUnderStart start b = (b.value ≢ EndOfMibView) × IsPrefix start b.name
 
 -- the name exceeds the last one
 abbrev pub Exceeds : List ℕ → Binding → Type 0
@@ -38,19 +38,19 @@ Exceeds last b = slice_cmp nat_cmp last b.name ≡ Less
 
 -- what a walk does about a variable binding that answers
 abbrev pub IsWalkStep : List ℕ → List ℕ → Binding → Step → Type 0
-IsWalkStep start last b On = IsUnder start b × Exceeds last b
+IsWalkStep start last b On = IsUnderStart start b × Exceeds last b
 IsWalkStep start last b Past = IsPast start b
-IsWalkStep start last b Back = IsUnder start b × ¬ (Exceeds last b)
+IsWalkStep start last b Back = IsUnderStart start b × ¬ (Exceeds last b)
 
 -- A turn of a walk, with the text before and after it: the line of one more variable, whose name is given; none at the walk's
 -- end; or a fault. Where memory runs out nothing is said of the text.
 abbrev pub IsTurn : Asked → List ℕ → List ℕ → List ℕ → List ℕ → List AtWire → Result (Option (List ℕ)) AppFault → Type 0
 IsTurn q start last before after log (Ok (Some name)) =
-    (b : Binding) × IsNext q log (Ok b) × IsWalkStep start last b On × (name ≡ b.name) × (after ≡ before ++ binding_line b)
-IsTurn q start last before after log (Ok None) = (b : Binding) × IsNext q log (Ok b) × IsWalkStep start last b Past × (after ≡ before)
-IsTurn q start last before after log (Err OutOfMemory) = (answer : Result Binding AppFault) × IsNext q log answer
-IsTurn q start last before after log (Err NotIncreasing) = (b : Binding) × IsNext q log (Ok b) × IsWalkStep start last b Back × (after ≡ before)
-IsTurn q start last before after log (Err other) = IsNext q log (Err other) × (after ≡ before)
+    (b : Binding) × IsNextAsked q log (Ok b) × IsWalkStep start last b On × (name ≡ b.name) × (after ≡ before ++ binding_line b)
+IsTurn q start last before after log (Ok None) = (b : Binding) × IsNextAsked q log (Ok b) × IsWalkStep start last b Past × (after ≡ before)
+IsTurn q start last before after log (Err OutOfMemory) = (answer : Result Binding AppFault) × IsNextAsked q log answer
+IsTurn q start last before after log (Err NotIncreasing) = (b : Binding) × IsNextAsked q log (Ok b) × IsWalkStep start last b Back × (after ≡ before)
+IsTurn q start last before after log (Err other) = IsNextAsked q log (Err other) × (after ≡ before)
 
 -- After this many turns, each with one more line: what happened at the wire, the text, and the last name. The first question is
 -- for the variable after the start, and each other one for the variable after the name that was answered.

@@ -4,7 +4,7 @@ ghost use Rattle.std.specs.Prelude.{◌≡◌, string_bytes};
 ghost use Rattle.mon_edge.specs.Told.{GoesOnBy};
 ghost use Rattle.mon_pdu.specs.declared.message.Body.TheVariants as bodies;
 ghost use Rattle.mon_app.specs.AtWire.{socket_failures};
-ghost use Rattle.mon_app.specs.Printed.{IsAnswered, IsPrinted, bindings_in};
+ghost use Rattle.mon_app.specs.Printed.{IsQuestionAnswered, IsPrinted, bindings_in};
 ghost use Rattle.mon_app.specs.Question.{asked_in};
 
 use crate::asking::send_request;
@@ -37,7 +37,7 @@ pub(crate) fn answers<W: Wire>(
     wire: &mut W,
     question: &Question<'_>,
 ) -> Result<Bindings, AppFault>
-    ensures answer { GoesOnBy (λ log. IsAnswered (asked_in question.now) log result) (W.told wire.old) (W.told wire.new) }
+    ensures answer { GoesOnBy (λ log. IsQuestionAnswered (asked_in question.now) log result) (W.told wire.old) (W.told wire.new) }
     ensures failures { W.failures wire.new ≡ socket_failures result (W.failures wire.old) }
 {
     let Message { body, .. } = send_request(alloc, wire, question)?;

@@ -5,7 +5,7 @@ ghost use Rattle.mon_ber.specs.declared.value.Value.{Value};
 ghost use Rattle.mon_app.specs.declared.refusal.Refusal.{Refusal};
 ghost use Rattle.mon_app.specs.declared.value.ValueKind.{ValueKind};
 ghost use Rattle.mon_app.specs.Line.{Says};
-ghost use Rattle.mon_app.specs.Meaning.{Means};
+ghost use Rattle.mon_app.specs.Meaning.{MeansValue};
 ghost use Rattle.mon_app.specs.Offer.{Offer};
 ghost use Rattle.mon_app.specs.Outcome.{IsReplay};
 ghost use Rattle.mon_app.specs.Reading.{hex_reading};
@@ -33,7 +33,7 @@ pub fn one_text()
 
 /// A text means one value at most, for a kind.
 pub fn one_value()
-    ensures { (kind : ValueKind) (text : List ℕ) (a b : Value) → Means kind text a → Means kind text b → a ≡ b }
+    ensures { (kind : ValueKind) (text : List ℕ) (a b : Value) → MeansValue kind text a → MeansValue kind text b → a ≡ b }
 {
     mon_oid::laws::one_reading();
 }

@@ -1,7 +1,7 @@
 //! A question to an agent: a Get, GetNext, GetBulk or Set request, and which messages reply to it.
 
 ghost use Rattle.std.specs.Prelude.{◌≡◌, IfOk, map};
-ghost use Rattle.mon_app.specs.Question.{body_of, plain, request_of, asked_in, wanted_value, asked_for, same_names, are_answers, is_reply};
+ghost use Rattle.mon_app.specs.Question.{asking_body, plain, request_of, asked_in, wanted_value, asked_for, same_names, are_answers, is_reply};
 
 use mon_ber::{Octets, Value};
 use mon_oid::Oid;
@@ -43,7 +43,7 @@ impl Asking<'_> {
 
     /// The PDU that asks.
     fn body(self, request_id: i32, bindings: Bindings) -> Body
-        ensures { result ≡ body_of self.entry request_id bindings }
+        ensures { result ≡ asking_body self.entry request_id bindings }
     {
         match self {
             Asking::Get => plain(PduKind::Get, request_id, bindings),

@@ -5,7 +5,7 @@ ghost use Rattle.std.specs.Str.Lines.{strip_carriage_return};
 ghost use Rattle.mon_app.specs.Offer.{Offer};
 ghost use Rattle.mon_app.specs.Gives.{Fails, Gives};
 ghost use Rattle.mon_app.specs.Reading.{message_in, message_reading, hex_reading};
-ghost use Rattle.mon_app.specs.Taken.{IsTaken};
+ghost use Rattle.mon_app.specs.Taken.{AreOffersTaken};
 ghost use Rattle.mon_app.specs.Replay.{verdict, accepted, refusals, refused_text, lines_of, lines_left, replayed};
 ghost use Rattle.mon_app.specs.Outcome.{IsReplay};
 ghost use Rattle.mon_app.specs.Windows.{rows_of};
@@ -60,7 +60,7 @@ fn read_line(alloc: Global, line: &[u8]) -> Result<Message, Refusal>
 fn take_message(alloc: Global, table: &mut Table, message: &Message) -> Result<(), Refusal>
     ensures size { table.new.size ≡ table.old.size }
     ensures ok { OnOk result ((taken : List Offer) → table.old.rows.items ≡ rows_of table.old.size taken
-        → IsTaken (verdict taken (message_reading message.now)) table.old.size taken table.new.rows.items) }
+        → AreOffersTaken (verdict taken (message_reading message.now)) table.old.size taken table.new.rows.items) }
     ensures err { IfErr result (λ e. (taken : List Offer) → table.old.rows.items ≡ rows_of table.old.size taken
         → Fails e (verdict taken (message_reading message.now))) }
     ensures same { IfErr result (λ e. e ≢ Refusal.OutOfMemory → table.new.rows.items ≡ table.old.rows.items) }
@@ -78,7 +78,7 @@ fn take_message(alloc: Global, table: &mut Table, message: &Message) -> Result<(
 fn take_line(alloc: Global, table: &mut Table, line: &[u8]) -> Result<(), Refusal>
     ensures size { table.new.size ≡ table.old.size }
     ensures ok { OnOk result ((taken : List Offer) → table.old.rows.items ≡ rows_of table.old.size taken
-        → IsTaken (verdict taken (hex_reading line.now)) table.old.size taken table.new.rows.items) }
+        → AreOffersTaken (verdict taken (hex_reading line.now)) table.old.size taken table.new.rows.items) }
     ensures err { IfErr result (λ e. (taken : List Offer) → table.old.rows.items ≡ rows_of table.old.size taken
         → Fails e (verdict taken (hex_reading line.now))) }
     ensures same { IfErr result (λ e. e ≢ Refusal.OutOfMemory → table.new.rows.items ≡ table.old.rows.items) }

@@ -1,7 +1,7 @@
 //! A wire over UDP and IPv4.
 
 ghost use Rattle.std.specs.Prelude.{◌≡◌, IfOk, length};
-ghost use Rattle.mon_app.specs.AtWire.{IsWithin};
+ghost use Rattle.mon_app.specs.AtWire.{FitsRoom};
 
 use crate::fault::{AppFault, SocketFault};
 use crate::wire::{Heard, Wire};
@@ -55,7 +55,7 @@ impl<R: Clock> SocketWire<'_, R> {
 
     /// Hears something in the rest of the wait.
     fn hear(&self, room: &mut [u8]) -> Result<Heard, SocketFault>
-        ensures { IfOk result (IsWithin (length room.new)) }
+        ensures { IfOk result (FitsRoom (length room.new)) }
     {
         let now = Instant::now(self.rt).map_err(failed)?;
         let passed = now.duration_since(self.began);

@@ -13,7 +13,7 @@ ghost use Rattle.mon_app.specs.Instance.{instance_cmp, named};
 ghost use Rattle.mon_app.specs.Reading.{offers_of};
 ghost use Rattle.mon_app.specs.Response.{stamp_in, offered_by};
 ghost use Rattle.mon_app.specs.Windows.{instances, rows_of, first_window};
-ghost use Rattle.mon_app.specs.Find.{Finds, instances_of};
+ghost use Rattle.mon_app.specs.Find.{StandsAt, instances_of};
 
 use crate::instance::Instance;
 use crate::response::Response;
@@ -159,7 +159,7 @@ fn find(rows: &[Row], engine: &Octets, name: &Oid) -> Result<usize, usize>
     ensures within { IfOk result (λ at. at < length rows.now) }
     ensures below { IfErr result (λ at. at ≤ length rows.now) }
     ensures found { IsStrictlySortedBy instance_cmp (instances_of rows.now)
-        → Finds (instances_of rows.now) (named engine.now name.now) result }
+        → StandsAt (instances_of rows.now) (named engine.now name.now) result }
 {
     rows.binary_search_by(|row| row.instance.compare(engine, name))
 }

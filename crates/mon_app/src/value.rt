@@ -3,7 +3,7 @@
 ghost use Rattle.std.specs.Prelude.{◌≡◌, ◌≢◌, Err, IfOk, IfErr, IfSome, IfNone, slice_index, ◌==◌};
 ghost use Rattle.std.specs.Net.Grammar.{IsDotted};
 ghost use Rattle.mon_app.specs.declared.fault.AppFault.TheVariants as faults;
-ghost use Rattle.mon_app.specs.Meaning.{IsFault, IsHex, IsInteger, IsName, IsUnsigned, Means, word_of};
+ghost use Rattle.mon_app.specs.Meaning.{IsFault, IsHex, IsInteger, IsDottedName, IsUnsigned, MeansValue, word_of};
 
 use crate::fault::AppFault;
 use hex::FromHexError;
@@ -75,8 +75,8 @@ impl ValueKind {
 /// # Errors
 /// `BadText` where the text means none, `OutOfMemory`.
 pub fn value_of(alloc: Global, kind: ValueKind, text: &str) -> Result<Value, AppFault>
-    ensures found { IfOk result (Means kind text.now) }
-    ensures fault { IfErr result (IsFault (Means kind text.now)) }
+    ensures found { IfOk result (MeansValue kind text.now) }
+    ensures fault { IfErr result (IsFault (MeansValue kind text.now)) }
 {
     Ok(match kind {
         ValueKind::Integer => Value::Integer(integer(text)?),
@@ -155,8 +155,8 @@ fn octets(alloc: Global, text: &str) -> Result<Octets, AppFault>
 
 /// The identifier of dotted numbers.
 fn identifier(alloc: Global, text: &str) -> Result<Oid, AppFault>
-    ensures found { IfOk result (IsName text.now) }
-    ensures fault { IfErr result (IsFault (IsName text.now)) }
+    ensures found { IfOk result (IsDottedName text.now) }
+    ensures fault { IfErr result (IsFault (IsDottedName text.now)) }
 {
     match Oid::parse(alloc, text) {
         Ok(name) => Ok(name),

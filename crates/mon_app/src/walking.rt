@@ -3,7 +3,7 @@
 ghost use Rattle.std.specs.Prelude.{◌≡◌, ◌<◌, ◌↔◌, IsTrue, string_bytes};
 ghost use Rattle.mon_edge.specs.Told.{GoesOnBy};
 ghost use Rattle.mon_app.specs.AtWire.{socket_failures};
-ghost use Rattle.mon_app.specs.Walk.{IsNext, IsWalkStep, IsTurn, IsWalk, question_after};
+ghost use Rattle.mon_app.specs.Walk.{IsNextAsked, IsWalkStep, IsTurn, IsWalk, question_after};
 
 use crate::client::answers;
 use crate::fault::AppFault;
@@ -110,7 +110,7 @@ fn after<'a, W: Wire>(
     request_id: u32,
 ) -> Result<Binding, AppFault>
     requires { request_id < 65536 }
-    ensures next { GoesOnBy (λ log. IsNext (question_after community.now request_id name.now) log result) (W.told wire.old) (W.told wire.new) }
+    ensures next { GoesOnBy (λ log. IsNextAsked (question_after community.now request_id name.now) log result) (W.told wire.old) (W.told wire.new) }
     ensures failures { W.failures wire.new ≡ socket_failures result (W.failures wire.old) }
 {
     let question = Question {

@@ -18,7 +18,7 @@ pub trait Wire {
     ghost use Rattle.std.specs.Prelude.{◌≡◌, ◌≤◌, ℕ, List, Option, length, IfOk};
     ghost use Rattle.mon_edge.specs.Counts.{failed_after};
     ghost use Rattle.mon_edge.specs.Told.{extended};
-    ghost use Rattle.mon_app.specs.AtWire.{AtWire, IsWithin, hearing, sending};
+    ghost use Rattle.mon_app.specs.AtWire.{AtWire, FitsRoom, hearing, sending};
 
     // What happened at it, in turn, where the wire tells that.
     ghost told: { Self → Option (List AtWire) };
@@ -35,5 +35,5 @@ pub trait Wire {
     fn receive(&mut self, room: &mut [u8]) -> Result<Heard, SocketFault>
         ensures told { told self.new ≡ extended (told self.old) (hearing room.new result) }
         ensures failures { failures self.new ≡ failed_after result (failures self.old) }
-        ensures within { IfOk result (IsWithin (length room.new)) };
+        ensures within { IfOk result (FitsRoom (length room.new)) };
 }

@@ -11,8 +11,9 @@ use Rattle.mon_ber.specs.declared.fault.BerFault.TheVariants.{OutOfMemory, Trunc
 use Rattle.mon_oid.specs.Oid.{IsOid}
 use Rattle.mon_ber.specs.Numbers.{IsBase128, IsSubidentifier, AreSubidentifiers, IsName}
 use Rattle.mon_ber.proofs.Steps.{bind_ok, guard, wanted, chosen, ok_is, pair_is}
-use Rattle.mon_ber.specs.Reading.{◌>>=◌, Fails, digits_at, subidentifier_at, subidentifiers_of, first_two, name_of}
-use Rattle.mon_ber.specs.Many.{behind}
+use Rattle.mon_oid.specs.Steps.{◌>>=◌}
+use Rattle.mon_ber.specs.Reading.{Fails, digits_at, subidentifier_at, subidentifiers_of, first_two, name_of}
+use Rattle.mon_ber.specs.Many.{with_front}
 
 -- an identifier, by its first two sub-identifiers and the others
 pub record Parts (a b : ℕ) (others : List ℕ) : Type 0 where
@@ -45,23 +46,23 @@ unfolding subidentifiers_of
 step room [] h = absurd (omega arith)
 step room (b ∷ bs) h = refl
 
-regroup : (front : List ℕ) (n : ℕ) (read : Result (List ℕ) BerFault) → behind front (read >>= λ ns. Ok (n ∷ ns)) ≡ behind (front ++ n ∷ []) read
+regroup : (front : List ℕ) (n : ℕ) (read : Result (List ℕ) BerFault) → with_front front (read >>= λ ns. Ok (n ∷ ns)) ≡ with_front (front ++ n ∷ []) read
 regroup front n (Ok ns) = ap (λ (xs : List ℕ). Ok xs) (sym (append_assoc front (n ∷ []) ns))
 regroup front n (Err f) = refl
 
-module _ (front bytes : List ℕ) (total : Result (List ℕ) BerFault) (so_far : behind front (subidentifiers_of (128 - length front) bytes) ≡ total) where
+module _ (front bytes : List ℕ) (total : Result (List ℕ) BerFault) (so_far : with_front front (subidentifiers_of (128 - length front) bytes) ≡ total) where
   pub goes_on : (longer : List ℕ) (n : ℕ) (after : List ℕ) → longer ≡ front ++ n ∷ [] → length front < 128 → 0 < length bytes → subidentifier_at bytes ≡ Ok (n, after) → n < 2 ^ 32
-      → behind longer (subidentifiers_of (128 - length longer) after) ≡ total
+      → with_front longer (subidentifiers_of (128 - length longer) after) ≡ total
   goes_on longer n after is lt some h fits =
       let room : 128 - length front ≡ suc (128 - length longer) = omega (arith, length_push front n, ap length is) in
       let test : ltb n (2 ^ 32) ≡ true = lt-ltb n (2 ^ 32) fits in
-      let one : behind front (subidentifiers_of (128 - length front) bytes) ≡ behind longer (subidentifiers_of (128 - length longer) after) = rw (room, step (128 - length longer) bytes some, h, test) (regroup front n (subidentifiers_of (128 - length longer) after) ∙ ap (λ (xs : List ℕ). behind xs (subidentifiers_of (128 - length longer) after)) (sym is)) in
+      let one : with_front front (subidentifiers_of (128 - length front) bytes) ≡ with_front longer (subidentifiers_of (128 - length longer) after) = rw (room, step (128 - length longer) bytes some, h, test) (regroup front n (subidentifiers_of (128 - length longer) after) ∙ ap (λ (xs : List ℕ). with_front xs (subidentifiers_of (128 - length longer) after)) (sym is)) in
       sym one ∙ so_far
 
   pub fails : (e : BerFault) → length front < 128 → 0 < length bytes → Fails e (subidentifier_at bytes) → Fails e total
   fails e lt some h =
       let room : 128 - length front ≡ suc (127 - length front) = omega arith in
-      let one : behind front (subidentifier_at bytes >>= then_others (127 - length front)) ≡ total = rw (room, step (127 - length front) bytes some) at so_far in
+      let one : with_front front (subidentifier_at bytes >>= then_others (127 - length front)) ≡ total = rw (room, step (127 - length front) bytes some) at so_far in
       elim e as (λ v. Fails v (subidentifier_at bytes) → Fails v total) [
         | OutOfMemory ↦ λ h. tt
         | Truncated ↦ λ h. sym one ∙ rw h refl
@@ -74,7 +75,7 @@ module _ (front bytes : List ℕ) (total : Result (List ℕ) BerFault) (so_far :
   pub too_large : (n : ℕ) (after : List ℕ) → length front < 128 → 0 < length bytes → subidentifier_at bytes ≡ Ok (n, after) → 2 ^ 32 ≤ n → total ≡ Err BadOid
   too_large n after lt some h large =
       let room : 128 - length front ≡ suc (127 - length front) = omega arith in
-      let one : behind front (subidentifier_at bytes >>= then_others (127 - length front)) ≡ total = rw (room, step (127 - length front) bytes some) at so_far in
+      let one : with_front front (subidentifier_at bytes >>= then_others (127 - length front)) ≡ total = rw (room, step (127 - length front) bytes some) at so_far in
       let test : ltb n (2 ^ 32) ≡ false = le-ltb n (2 ^ 32) large in
       sym one ∙ rw (h, test) refl
 
@@ -92,7 +93,7 @@ module _ (front bytes : List ℕ) (total : Result (List ℕ) BerFault) (so_far :
       sym so_far ∙ rw (none (128 - length front) bytes is) (ap (λ (xs : List ℕ). Ok xs) (append-nil front))
 
 -- what is read behind some has these too
-pub behind_longer : (front : List ℕ) (read : Result (List ℕ) BerFault) (all : List ℕ) → behind front read ≡ Ok all → length front ≤ length all
+pub behind_longer : (front : List ℕ) (read : Result (List ℕ) BerFault) (all : List ℕ) → with_front front read ≡ Ok all → length front ≤ length all
 behind_longer front (Ok xs) all is = omega (arith, length-append front xs, ap (λ (v : List ℕ). length v) (ok_is {E = BerFault} (front ++ xs) all is))
 behind_longer front (Err e) all is = absurd cc
 

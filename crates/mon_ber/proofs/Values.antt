@@ -12,7 +12,8 @@ use Rattle.mon_ber.specs.declared.value.Value.{Value}
 use Rattle.mon_ber.specs.declared.value.Value.TheVariants.{Integer, Octets, Null, Name, IpAddress, Counter32, Gauge32, TimeTicks, Opaque, Counter64, NoSuchObject, NoSuchInstance, EndOfMibView}
 use Rattle.mon_ber.specs.Numbers.{IsNumber}
 use Rattle.mon_ber.specs.Grammar.{octet_of, tag_of, IsContents, IsElement, Spells}
-use Rattle.mon_ber.specs.Reading.{◌>>=◌, Gives, number_of, in_i32, below, integer_of, unsigned_of, address_of, nothing_of, name_of, value_of, tag_at, contents_at, element_at, value_at, integer_at, name_at}
+use Rattle.mon_oid.specs.Steps.{◌>>=◌}
+use Rattle.mon_ber.specs.Reading.{Gives, number_of, in_i32, below, integer_of, unsigned_of, address_of, nothing_of, name_of, value_of, tag_at, contents_at, element_at, value_at, integer_at, name_at}
 use Rattle.mon_ber.proofs.Steps.{bind_ok, wanted, ok_is, pair_is}
 use Rattle.mon_ber.proofs.Numbers.{IsBytes, number_takes, number_again}
 use Rattle.mon_ber.proofs.Names.{name_takes, name_again}

@@ -1,5 +1,6 @@
 -- Reading from left to right, with the first fault that is met.
 use Rattle.std.specs.Prelude.{◌≡◌, ℕ, zero, suc, ◌+◌, ◌-◌, ◌*◌, ◌^◌, ℤ, pos, negsuc, List, [], ◌∷◌, length, take, drop, slice_index, Some, None, Result, Ok, Err, nat_lt, ◌==◌, if◌then◌else◌, ◌||◌}
+use Rattle.mon_oid.specs.Steps.{◌>>=◌}
 use Rattle.mon_ber.specs.declared.fault.BerFault.{BerFault}
 use Rattle.mon_ber.specs.declared.fault.BerFault.TheVariants.{OutOfMemory, Truncated, BadTag, BadLength, OutOfRange, BadOid}
 use Rattle.mon_ber.specs.declared.tag.Tag.{Tag}
@@ -8,13 +9,6 @@ use Rattle.mon_ber.specs.declared.value.Value.{Value}
 use Rattle.mon_ber.specs.declared.value.Value.TheVariants.{Integer, Octets, Null, Name, IpAddress, Counter32, Gauge32, TimeTicks, Opaque, Counter64, NoSuchObject, NoSuchInstance, EndOfMibView}
 use Rattle.mon_ber.specs.Numbers.{big_endian}
 use Rattle.mon_ber.specs.Grammar.{kind_of}
-
--- a step, and what follows it unless it failed
-infixl 10 ◌>>=◌
--- a step, and what follows it unless it failed
-abbrev pub ◌>>=◌ : {A B E : Type 0} → Result A E → (A → Result B E) → Result B E
-(Ok x) >>= f = f x
-(Err e) >>= f = Err e
 
 -- a call that failed so failed as reading does, unless memory ran out.
 abbrev pub Fails : {Y : Type 0} → BerFault → Result Y BerFault → Type 0

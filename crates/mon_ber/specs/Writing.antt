@@ -85,8 +85,8 @@ unfoldable pub size_for : ℕ → ℕ
 size_for n = 1 + length (length_octets n) + n
 
 -- a size, counted up to what no length says
-abbrev pub counted : ℕ → ℕ
-counted n = min n (2 ^ 32)
+abbrev pub size_counted : ℕ → ℕ
+size_counted n = min n (2 ^ 32)
 
 -- the value is in the range of its type
 abbrev pub IsValid : Value → Type 0

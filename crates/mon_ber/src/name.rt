@@ -3,7 +3,7 @@
 ghost use Rattle.std.specs.Prelude.{◌≡◌, ◌≢◌, ◌≤◌, ◌<◌, ◌-◌, ◌^◌, ℕ, List, Ok, length, IfOk, IsOk};
 ghost use Rattle.mon_oid.specs.Oid.{IsOid};
 ghost use Rattle.mon_ber.specs.Reading.{Gives, digits_at, subidentifier_at, subidentifiers_of, first_two, name_of};
-ghost use Rattle.mon_ber.specs.Many.{behind};
+ghost use Rattle.mon_ber.specs.Many.{with_front};
 
 use crate::fault::BerFault;
 use mon_oid::{Oid, laws};
@@ -62,10 +62,10 @@ fn first_two(number: u64) -> Result<(u32, u32), BerFault>
 fn with_others(mut parts: SmallVec<u32, 16>, bytes: &[u8]) -> Result<SmallVec<u32, 16>, BerFault>
     requires { IsOid parts.items }
     ensures gives { Gives (λ v. v.items) result
-        (behind parts.items (subidentifiers_of (128 - length parts.items) bytes.now)) }
+        (with_front parts.items (subidentifiers_of (128 - length parts.items) bytes.now)) }
     ensures valid { IfOk result (λ v. IsOid v.items) }
     ensures inline { (all : List ℕ) → 16 ≤ parts.capacity → length all ≤ 16
-        → behind parts.items (subidentifiers_of (128 - length parts.items) bytes.now) ≡ Ok all → IsOk result }
+        → with_front parts.items (subidentifiers_of (128 - length parts.items) bytes.now) ≡ Ok all → IsOk result }
 {
     laws::pushed();
     let mut rest = bytes;

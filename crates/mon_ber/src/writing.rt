@@ -8,7 +8,7 @@ ghost use Rattle.mon_ber.specs.declared.fault.BerFault.TheVariants.{OutOfMemory,
 ghost use Rattle.std.specs.List.{flat_map};
 ghost use Rattle.mon_oid.specs.Oid.{IsOid};
 ghost use Rattle.mon_ber.specs.Grammar.{octet_of, tag_of};
-ghost use Rattle.mon_ber.specs.Writing.{width, number_octets, digit, base128, name_octets, contents_of, size_for, counted, length_width, length_octets, element, written, HasLength};
+ghost use Rattle.mon_ber.specs.Writing.{width, number_octets, digit, base128, name_octets, contents_of, size_for, size_counted, length_width, length_octets, element, written, HasLength};
 
 use crate::fault::BerFault;
 use crate::tag::{INTEGER, OBJECT_IDENTIFIER, OCTET_STRING, Tag};
@@ -340,7 +340,7 @@ pub fn element_len(len: usize) -> usize
 /// How many octets an element takes, counted up to the limit, of contents that are counted so too.
 #[tactic(auto, unfolding(crate::specs::Writing::size_for))]
 pub fn element_size(len: usize) -> usize
-    ensures { result ≡ counted (size_for len) }
+    ensures { result ≡ size_counted (size_for len) }
 {
     if len >= LIMIT {
         return LIMIT;
@@ -351,7 +351,7 @@ pub fn element_size(len: usize) -> usize
 /// How many octets the value takes, counted up to the limit. It never fails.
 #[tactic(auto, using(crate::proofs::Written::written_size))]
 pub fn value_size(value: &Value) -> usize
-    ensures { result ≡ counted (length (written value.now)) }
+    ensures { result ≡ size_counted (length (written value.now)) }
 {
     element_size(contents_len(value))
 }

@@ -1,7 +1,7 @@
 -- Which faults reading has: none of noting.
 use Rattle.std.proofs.Common.{ℕ, ◌≤◌, Bool, true, false, cond, List, length, Result, Ok, Err, subst, arith}
 use Rattle.std.specs.Prelude.{IfErr, nat_lt, ◌==◌, ◌||◌}
-use Rattle.mon_ber.specs.Reading.{◌>>=◌}
+use Rattle.mon_oid.specs.Steps.{◌>>=◌}
 use Rattle.mon_layout.specs.declared.fault.LayoutFault.{LayoutFault}
 use Rattle.mon_layout.specs.declared.fault.LayoutFault.TheVariants as layout
 use Rattle.mon_layout.specs.Reading.{octet_at, field_at, u32_at, samples_at}

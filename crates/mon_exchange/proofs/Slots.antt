@@ -8,7 +8,7 @@ use Rattle.std.proofs.lemmas.Bool.{cases_eq, eq-eqb, eqb-true, ne_eqb}
 use Rattle.std.proofs.lemmas.List.{get_or-map, length-map, map-set, get_or-set_same, get_or-set_other}
 use Rattle.std.proofs.lemmas.List.Quantifiers.{position-Some}
 use Rattle.std.proofs.lemmas.List.Recursion.{is_position_or_len}
-use Rattle.mon_exchange.specs.Peers.{incarnation_in, known_incarnation, latest, numbers_of, peer_slot, unheard}
+use Rattle.mon_exchange.specs.Peers.{incarnation_in, known_incarnation, latest, peer_numbers, peer_slot, unheard}
 use Rattle.mon_exchange.specs.declared.peers.Peer.{Peer}
 
 turned : (b : Bool) (m n : ℕ) → cond (not b) m n ≡ cond b n m
@@ -25,10 +25,10 @@ position_mapped f q xs =
 -- a slot is a place, and there stands the number
 module _ (peers : List Peer) (station slot : ℕ) (is : peer_slot peers station ≡ Some slot) where
   pub slot_within : slot < length peers
-  slot_within = let p = position-Some (λ n. n == station) (numbers_of peers) slot 0 is in omega (arith, p.0, length-map peers (λ (p : Peer). p.number))
+  slot_within = let p = position-Some (λ n. n == station) (peer_numbers peers) slot 0 is in omega (arith, p.0, length-map peers (λ (p : Peer). p.number))
 
-  pub at_slot : get_or (numbers_of peers) slot 0 ≡ station
-  at_slot = eqb-true (get_or (numbers_of peers) slot 0) station (position-Some (λ n. n == station) (numbers_of peers) slot 0 is).1
+  pub at_slot : get_or (peer_numbers peers) slot 0 ≡ station
+  at_slot = eqb-true (get_or (peer_numbers peers) slot 0) station (position-Some (λ n. n == station) (peer_numbers peers) slot 0 is).1
 
 pub if_within : (peers : List Peer) (station : ℕ) (slot : Option ℕ) → slot ≡ peer_slot peers station → IfSome slot (λ k. k < length peers)
 if_within peers station None is = tt
@@ -39,7 +39,7 @@ module _ (peers : List Peer) (slot : ℕ) (lt : slot < length peers) (old : Peer
   abbrev pub heard : Peer
   heard = record { number = old.number; known = Some inc }
 
-  pub same_numbers : numbers_of (set peers slot heard) ≡ numbers_of peers
+  pub same_numbers : peer_numbers (set peers slot heard) ≡ peer_numbers peers
   same_numbers = map-set_same (λ (p : Peer). p.number) peers slot heard old (ap (λ (p : Peer). p.number) was)
 
   pub known_was : incarnation_in peers slot ≡ old.known
@@ -55,13 +55,13 @@ module _ (peers : List Peer) (slot : ℕ) (lt : slot < length peers) (old : Peer
   ]
 
 -- ---- by station
-pub same_slot : (old new : List Peer) (station : ℕ) → numbers_of new ≡ numbers_of old → peer_slot new station ≡ peer_slot old station
+pub same_slot : (old new : List Peer) (station : ℕ) → peer_numbers new ≡ peer_numbers old → peer_slot new station ≡ peer_slot old station
 same_slot old new station same = ap (λ numbers. position (λ n. n == station) numbers) same
 
 pub known_at : (peers : List Peer) (station slot : ℕ) → peer_slot peers station ≡ Some slot → known_incarnation peers station ≡ incarnation_in peers slot
 known_at peers station slot is = ap (option_and_then (incarnation_in peers)) is
 
-module _ (old new : List Peer) (same : numbers_of new ≡ numbers_of old) (station slot inc : ℕ) (is : peer_slot old station ≡ Some slot)
+module _ (old new : List Peer) (same : peer_numbers new ≡ peer_numbers old) (station slot inc : ℕ) (is : peer_slot old station ≡ Some slot)
     (known : (k : ℕ) → incarnation_in new k ≡ (if k == slot then Some inc else incarnation_in old k)) where
   own_known : known_incarnation new station ≡ Some inc
   own_known = known_at new station slot (same_slot old new station same ∙ is) ∙ known slot ∙ rw (eq-eqb slot slot refl) refl
@@ -70,7 +70,7 @@ module _ (old new : List Peer) (same : numbers_of new ≡ numbers_of old) (stati
   other_known y ne None none =
       ap (option_and_then (incarnation_in new)) (same_slot old new y same ∙ none) ∙ sym (ap (option_and_then (incarnation_in old)) none)
   other_known y ne (Some k) some =
-      let apart : k ≢ slot = (λ e. ne (sym (at_slot old y k some) ∙ ap (λ m. get_or (numbers_of old) m 0) e ∙ at_slot old station slot is)) in
+      let apart : k ≢ slot = (λ e. ne (sym (at_slot old y k some) ∙ ap (λ m. get_or (peer_numbers old) m 0) e ∙ at_slot old station slot is)) in
       known_at new y k (same_slot old new y same ∙ some) ∙ known k ∙ rw (ne_eqb k slot apart) refl ∙ sym (known_at old y k some)
 
   pub by_station : (y : ℕ) → known_incarnation new y ≡ (if y == station then Some inc else known_incarnation old y)
@@ -80,7 +80,7 @@ module _ (old new : List Peer) (same : numbers_of new ≡ numbers_of old) (stati
   ]
 
 -- the same, where the incarnation is the later of the known one and the claim's
-pub by_latest : (old new : List Peer) → numbers_of new ≡ numbers_of old → (station slot j : ℕ) → peer_slot old station ≡ Some slot
+pub by_latest : (old new : List Peer) → peer_numbers new ≡ peer_numbers old → (station slot j : ℕ) → peer_slot old station ≡ Some slot
     → ((k : ℕ) → incarnation_in new k ≡ (if k == slot then Some (latest (incarnation_in old slot) j) else incarnation_in old k))
     → (y : ℕ) → known_incarnation new y ≡ (if y == station then Some (latest (known_incarnation old y) j) else known_incarnation old y)
 by_latest old new same station slot j is known y = by_station old new same station slot (latest (incarnation_in old slot) j) is known y ∙ elim (cases_eq y station) [
@@ -89,7 +89,7 @@ by_latest old new same station slot j is known y = by_station old new same stati
 ]
 
 -- ---- peers of which no incarnation is known
-pub numbers_unheard : (numbers : List ℕ) → numbers_of (map unheard numbers) ≡ numbers
+pub numbers_unheard : (numbers : List ℕ) → peer_numbers (map unheard numbers) ≡ numbers
 numbers_unheard [] = refl
 numbers_unheard (n ∷ numbers) = ap (λ (l : List ℕ). n ∷ l) (numbers_unheard numbers)
 

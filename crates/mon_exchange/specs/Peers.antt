@@ -27,12 +27,12 @@ abbrev pub unheard : ℕ → Peer
 unheard number = record { number = number; known = None }
 
 -- the numbers of the peers
-abbrev pub numbers_of : List Peer → List ℕ
-numbers_of peers = map (λ p. p.number) peers
+abbrev pub peer_numbers : List Peer → List ℕ
+peer_numbers peers = map (λ p. p.number) peers
 
 -- the slot of a station: its place among the peers
 abbrev pub peer_slot : List Peer → ℕ → Option ℕ
-peer_slot peers station = position (λ number. number == station) (numbers_of peers)
+peer_slot peers station = position (λ number. number == station) (peer_numbers peers)
 
 -- the incarnation that is known of the peer in a slot
 abbrev pub incarnation_in : List Peer → ℕ → Option ℕ

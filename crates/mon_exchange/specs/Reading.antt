@@ -1,6 +1,6 @@
 -- Reading claims from left to right, with the first fault that is met.
 use Rattle.std.specs.Prelude.{◌≡◌, ℕ, Bool, List, length, slice_index, Option, None, Result, Ok, Err, nat_lt, ◌==◌, ◌||◌, ◌&&◌, if◌then◌else◌}
-use Rattle.mon_ber.specs.Reading.{◌>>=◌}
+use Rattle.mon_oid.specs.Steps.{◌>>=◌}
 use Rattle.mon_layout.specs.declared.fault.LayoutFault.{LayoutFault}
 use Rattle.mon_layout.specs.Reading.{octet_at, field_at, u32_at, one_by_one, samples_at}
 use Rattle.mon_exchange.specs.declared.claim.Claim.{Claim}

@@ -40,7 +40,7 @@ impl Model for Peers {
 }
 
 impl Peers {
-    ghost use Rattle.mon_exchange.specs.Peers.{IsWatchedAs, incarnation_in, known_incarnation, latest as latest_of, marks_after, noted_as as noted_of, numbers_of, peer_slot, unheard};
+    ghost use Rattle.mon_exchange.specs.Peers.{IsWatchedAs, incarnation_in, known_incarnation, latest as latest_of, marks_after, noted_as as noted_of, peer_numbers, peer_slot, unheard};
 
     /// The peers of these numbers, each in its place, of the station whose number is `own`. Of none an incarnation is known.
     /// Of a number that stands there twice the first place is its slot.
@@ -48,7 +48,7 @@ impl Peers {
         requires own { 1 ≤ own }
         requires few { length numbers.now ≤ 15 }
         ensures peers { IfOk result (λ p. p ≡ record { own = own; peers = map unheard numbers.now }) }
-        ensures numbers { IfOk result (λ p. numbers_of p.peers ≡ numbers.now) }
+        ensures numbers { IfOk result (λ p. peer_numbers p.peers ≡ numbers.now) }
         ensures unknown { IfOk result (λ p. (y : ℕ) → known_incarnation p.peers y ≡ None) }
     {
         let mut peers = Vec::with_capacity(alloc, numbers.len())?;
@@ -105,7 +105,7 @@ impl Peers {
 
         // The peers stay, and of the claim's station alone another incarnation may be known.
         ensures own { self.new.own ≡ self.old.own }
-        ensures numbers { numbers_of self.new.peers ≡ numbers_of self.old.peers }
+        ensures numbers { peer_numbers self.new.peers ≡ peer_numbers self.old.peers }
         ensures known { OnOk result ((y : ℕ) → known_incarnation self.new.peers y
             ≡ (if y == claim.now.station then Some (latest_of (known_incarnation self.old.peers y) claim.now.incarnation) else known_incarnation self.old.peers y)) }
 
@@ -135,7 +135,7 @@ impl Peers {
         requires { slot < length self.old.peers }
         ensures noted { result ≡ noted_of (incarnation_in self.old.peers slot) incarnation }
         ensures own { self.new.own ≡ self.old.own }
-        ensures numbers { numbers_of self.new.peers ≡ numbers_of self.old.peers }
+        ensures numbers { peer_numbers self.new.peers ≡ peer_numbers self.old.peers }
         ensures known { (k : ℕ) → incarnation_in self.new.peers k
             ≡ (if k == slot then Some (latest_of (incarnation_in self.old.peers slot) incarnation) else incarnation_in self.old.peers k) }
     {

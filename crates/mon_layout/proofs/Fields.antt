@@ -7,7 +7,7 @@ use Rattle.std.proofs.lemmas.List.{append-nil, get_or_append_left, get_or_past, 
 use Rattle.std.proofs.Math.Seq.{take-append_seam, drop-append_seam}
 use Rattle.std.proofs.lemmas.Nat.{be_bytes_4, from_be_bytes-to_be_bytes_4}
 use Rattle.mon_ber.proofs.Promised.{IsBytes, bind_ok, pair_is}
-use Rattle.mon_sample.specs.Record.{big_endian, octets_of, spelled, spelled_on}
+use Rattle.mon_sample.specs.Record.{low_octets, octets_of, spelled, spelled_on}
 use Rattle.mon_layout.specs.declared.fault.LayoutFault.TheVariants.{Truncated}
 use Rattle.mon_layout.specs.Reading.{octet_at, field_at, u32_at}
 
@@ -78,24 +78,24 @@ more_suc : (m n : ℕ) → more (suc m) n ≡ suc (more m n)
 more_suc m zero = refl
 more_suc m (suc n) = ap (λ k. suc k) (more_suc m n)
 
-back : (m k : ℕ) (o : List ℕ) → IsBytes o → big_endian (more m (length o)) (spelled_on k o) ≡ big_endian m k ++ o
-back m k [] b = sym (append-nil (big_endian m k))
+back : (m k : ℕ) (o : List ℕ) → IsBytes o → low_octets (more m (length o)) (spelled_on k o) ≡ low_octets m k ++ o
+back m k [] b = sym (append-nil (low_octets m k))
 back m k (x ∷ xs) b =
     let h : (k * 256 + x) / 256 ≡ k = omega (arith, b 0) in
     let l : (k * 256 + x) % 256 ≡ x = omega (arith, b 0) in
-    ap (λ (n : ℕ). big_endian n (spelled_on (k * 256 + x) xs)) (sym (more_suc m (length xs)))
+    ap (λ (n : ℕ). low_octets n (spelled_on (k * 256 + x) xs)) (sym (more_suc m (length xs)))
     ∙ back (suc m) (k * 256 + x) xs (λ i. b (suc i))
-    ∙ (λ i. (big_endian m (h i) ++ l i ∷ []) ++ xs)
-    ∙ append_assoc (big_endian m k) (x ∷ []) xs
+    ∙ (λ i. (low_octets m (h i) ++ l i ∷ []) ++ xs)
+    ∙ append_assoc (low_octets m k) (x ∷ []) xs
 
 -- 21 octets are those of the number that they spell
 pub record_back : (octets : List ℕ) → length octets ≡ 21 → IsBytes octets → octets_of (spelled octets) ≡ octets
 unfolding octets_of spelled
-record_back octets n b = ap (λ (k : ℕ). big_endian (more 0 k) (spelled_on 0 octets)) (sym n) ∙ back 0 0 octets b
+record_back octets n b = ap (λ (k : ℕ). low_octets (more 0 k) (spelled_on 0 octets)) (sym n) ∙ back 0 0 octets b
 
-length-big_endian : (n k : ℕ) → length (big_endian n k) ≡ n
+length-big_endian : (n k : ℕ) → length (low_octets n k) ≡ n
 length-big_endian zero k = refl
-length-big_endian (suc n) k = omega (arith, length-append (big_endian n (k / 256)) (k % 256 ∷ []), length-big_endian n (k / 256))
+length-big_endian (suc n) k = omega (arith, length-append (low_octets n (k / 256)) (k % 256 ∷ []), length-big_endian n (k / 256))
 
 pub length-octets_of : (s : ℕ) → length (octets_of s) ≡ 21
 unfolding octets_of

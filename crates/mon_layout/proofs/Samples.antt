@@ -6,7 +6,7 @@ use Rattle.std.specs.List.{AllByRecursion}
 use Rattle.std.specs.List.Sorted.{IsStrictlySortedBy}
 use Rattle.std.specs.Ordering.{nat_cmp}
 use Rattle.std.proofs.lemmas.Bool.{cases_Bool, cases_eq, cases_lt, and_parts, and_from, eqb-true, eq-eqb, ltb-true, lt-ltb}
-use Rattle.mon_ber.specs.Reading.{◌>>=◌}
+use Rattle.mon_oid.specs.Steps.{◌>>=◌}
 use Rattle.mon_ber.proofs.Promised.{IsBytes, bind_ok, wanted, ok_is, pair_is}
 use Rattle.mon_sample.specs.Kind.{kind_tag}
 use Rattle.mon_sample.specs.Key.{boots_of, time_of, tag_of, kind_of, IsSample, HasTag, HasStamp, HasValue}

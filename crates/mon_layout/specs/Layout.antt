@@ -5,7 +5,7 @@ use Rattle.std.specs.List.Sorted.{IsStrictlySortedBy}
 use Rattle.std.specs.Int.{w32, to_be_bytes}
 use Rattle.std.specs.Ordering.{nat_cmp}
 use Rattle.mon_sample.specs.Kind.{kind_tag, holds}
-use Rattle.mon_sample.specs.Key.{boots_of, time_of, tag_of, kind_of, value_of, IsSample}
+use Rattle.mon_sample.specs.Key.{boots_of, time_of, tag_of, kind_of, sample_value, IsSample}
 use Rattle.mon_sample.specs.Record.{octets_of}
 
 -- numbers, four octets each
@@ -27,4 +27,4 @@ pub record AreSamples (samples : List ℕ) : Type 0 where
 
 -- whether a number is a sample's: tag, boots, time and value are in range
 unfoldable pub is_sample_number : ℕ → Bool
-is_sample_number k = (kind_tag (kind_of k) == tag_of k) && (nat_lt (boots_of k) (2 ^ 31) && (nat_lt (time_of k) (2 ^ 31) && holds (kind_of k) (value_of k)))
+is_sample_number k = (kind_tag (kind_of k) == tag_of k) && (nat_lt (boots_of k) (2 ^ 31) && (nat_lt (time_of k) (2 ^ 31) && holds (kind_of k) (sample_value k)))

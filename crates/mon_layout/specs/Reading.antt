@@ -1,7 +1,7 @@
 -- Reading fields from left to right, with the first fault that is met.
 use Rattle.std.specs.Prelude.{◌≡◌, ℕ, zero, suc, Bool, true, List, [], ◌∷◌, ◌++◌, length, take, drop, Option, Some, None, Result, Ok, Err, nat_lt, if◌then◌else◌}
 use Rattle.std.specs.Int.{w32, from_be_bytes}
-use Rattle.mon_ber.specs.Reading.{◌>>=◌}
+use Rattle.mon_oid.specs.Steps.{◌>>=◌}
 use Rattle.mon_sample.specs.Record.{spelled}
 use Rattle.mon_layout.specs.declared.fault.LayoutFault.{LayoutFault}
 use Rattle.mon_layout.specs.declared.fault.LayoutFault.TheVariants.{OutOfMemory, Truncated, BadSample, NotRising}

@@ -18,11 +18,11 @@ use Rattle.mon_mib.specs.declared.change.Change.{Change}
 use Rattle.mon_mib.specs.declared.change.Change.TheVariants as set_to
 use Rattle.mon_mib.specs.Change.{changed, undoing, put, same_text}
 use Rattle.mon_mib.specs.Held.{Held, AreIndexes}
-use Rattle.mon_mib.specs.Sim.{IsPlace, Sim, indexes_of, interface_at, status_of, text_of, fixed_of, numbers_of, held_of, sys_text_of}
+use Rattle.mon_mib.specs.Sim.{IsPlaceOfIndex, Sim, indexes_of, interface_at, sim_status, text_of, fixed_of, sim_facts, held_of, sys_text_of}
 
 -- ---- the list with the other
 
-pub same_indexes : (ps : List Interface) (i k : ℕ) (q : Interface) → IsPlace ps i k → q.index ≡ i → indexes_of (set ps k q) ≡ indexes_of ps
+pub same_indexes : (ps : List Interface) (i k : ℕ) (q : Interface) → IsPlaceOfIndex ps i k → q.index ≡ i → indexes_of (set ps k q) ≡ indexes_of ps
 same_indexes [] i k q at e = refl
 same_indexes (p ∷ ps) i zero q at e = ap (λ n. n ∷ indexes_of ps) (e ∙ sym (at.is p))
 same_indexes (p ∷ ps) i (suc k) q at e = ap (λ ns. p.index ∷ ns) (same_indexes ps i k q (record { within = omega (arith, at.within); is = at.is }) e)
@@ -30,7 +30,7 @@ same_indexes (p ∷ ps) i (suc k) q at e = ap (λ ns. p.index ∷ ns) (same_inde
 tail_rises : (x : ℕ) (xs : List ℕ) → AllPairs (λ i j. i < j) (x ∷ xs) → AllPairs (λ i j. i < j) xs
 tail_rises x xs all = λ i j d lt within. all (suc i) (suc j) d (omega arith) (omega arith)
 
-over_head : (p : Interface) (ps : List Interface) (i k : ℕ) → AllPairs (λ i j. i < j) (indexes_of (p ∷ ps)) → IsPlace ps i k → p.index < i
+over_head : (p : Interface) (ps : List Interface) (i k : ℕ) → AllPairs (λ i j. i < j) (indexes_of (p ∷ ps)) → IsPlaceOfIndex ps i k → p.index < i
 over_head p ps i k rising at =
     let within : k < length (indexes_of ps) = subst (λ n. k < n) (sym (length-map ps (λ (q : Interface). q.index))) at.within in
     let over : p.index < get_or (indexes_of ps) k 0 = rising zero (suc k) 0 (omega arith) (omega arith) in
@@ -48,7 +48,7 @@ swapped false b x y r not_both = refl
 two_indexes : (n i j : ℕ) → n < i → nat_eq n j ≡ true → nat_eq i j ≡ true → ⊥
 two_indexes n i j lt a b = grind (arith, nat_tests)
 
-pub after : (ps : List Interface) (i k : ℕ) (q : Interface) → AllPairs (λ i j. i < j) (indexes_of ps) → IsPlace ps i k → q.index ≡ i
+pub after : (ps : List Interface) (i k : ℕ) (q : Interface) → AllPairs (λ i j. i < j) (indexes_of ps) → IsPlaceOfIndex ps i k → q.index ≡ i
     → (j : ℕ) → interface_at (set ps k q) j ≡ cond (nat_eq i j) (Some q) (interface_at ps j)
 after [] i k q rising at e j = absurd (omega (arith, at.within))
 after (p ∷ ps) i zero q rising at e j = same e (at.is p)
@@ -58,7 +58,7 @@ after (p ∷ ps) i zero q rising at e j = same e (at.is p)
     same e f = ap (λ n. cond (nat_eq n j) (Some q) (interface_at ps j)) e
         ∙ (twice (nat_eq i j) (Some q) (Some p) (interface_at ps j) ∙ ap (λ n. cond (nat_eq i j) (Some q) (cond (nat_eq n j) (Some p) (interface_at ps j))) (sym f))
 after (p ∷ ps) i (suc k) q rising at e j =
-    let rest : IsPlace ps i k = record { within = omega (arith, at.within); is = at.is } in
+    let rest : IsPlaceOfIndex ps i k = record { within = omega (arith, at.within); is = at.is } in
     ap (λ r. cond (nat_eq p.index j) (Some p) r) (after ps i k q (tail_rises p.index (indexes_of ps) rising) rest e j)
     ∙ swapped (nat_eq p.index j) (nat_eq i j) (Some p) (Some q) (interface_at ps j) (two_indexes p.index i j (over_head p ps i k rising rest))
 
@@ -68,14 +68,14 @@ itself n = grind (arith, nat_tests)
 other_index : (n i : ℕ) → n < i → nat_eq n i ≡ false
 other_index n i lt = grind (arith, nat_tests)
 
-pub here : (ps : List Interface) (i k : ℕ) (d : Interface) → AllPairs (λ i j. i < j) (indexes_of ps) → IsPlace ps i k → interface_at ps i ≡ Some (get_or ps k d)
+pub here : (ps : List Interface) (i k : ℕ) (d : Interface) → AllPairs (λ i j. i < j) (indexes_of ps) → IsPlaceOfIndex ps i k → interface_at ps i ≡ Some (get_or ps k d)
 here [] i k d rising at = absurd (omega (arith, at.within))
 here (p ∷ ps) i zero d rising at = ap (λ b. cond b (Some p) (interface_at ps i)) (ap (λ n. nat_eq n i) (at.is p) ∙ itself i)
 here (p ∷ ps) i (suc k) d rising at =
-    let rest : IsPlace ps i k = record { within = omega (arith, at.within); is = at.is } in
+    let rest : IsPlaceOfIndex ps i k = record { within = omega (arith, at.within); is = at.is } in
     ap (λ b. cond b (Some p) (interface_at ps i)) (other_index p.index i (over_head p ps i k rising rest)) ∙ here ps i k d (tail_rises p.index (indexes_of ps) rising) rest
 
-pub there : (ps : List Interface) (i k : ℕ) → IsPlace ps i k → Contains (indexes_of ps) i
+pub there : (ps : List Interface) (i k : ℕ) → IsPlaceOfIndex ps i k → Contains (indexes_of ps) i
 there [] i k at = absurd (omega (arith, at.within))
 there (p ∷ ps) i k at = (k, subst (λ n. k < n) (sym (length-map (p ∷ ps) (λ (q : Interface). q.index))) at.within, get_or-map (λ (q : Interface). q.index) (p ∷ ps) k p i at.within ∙ at.is p)
 
@@ -91,7 +91,7 @@ same_held e1 e2 e3 e4 e5 = cc
 abbrev each : {X : Type 0} → (Option Interface → X) → List Interface → ℕ → X
 each f ps j = f (interface_at ps j)
 
-module _ (sim : Sim) (i k : ℕ) (p q : Interface) (are : AreIndexes (indexes_of sim.interfaces)) (at : IsPlace sim.interfaces i k)
+module _ (sim : Sim) (i k : ℕ) (p q : Interface) (are : AreIndexes (indexes_of sim.interfaces)) (at : IsPlaceOfIndex sim.interfaces i k)
     (was : p ≡ get_or sim.interfaces k p) (index : q.index ≡ p.index) where
   named : q.index ≡ i
   named = index ∙ (ap (λ (r : Interface). r.index) was ∙ at.is p)
@@ -121,10 +121,10 @@ module _ (sim : Sim) (i k : ℕ) (p q : Interface) (are : AreIndexes (indexes_of
   pub status_made : (s : Status) → q ≡ record p { status = s }
       → held_of (record sim { interfaces = set sim.interfaces k q }) ≡ changed (set_to.Admin i s.admin s.since) (held_of sim)
   status_made s is = same_held (same_indexes sim.interfaces i k q at named)
-      (changed_at status_of ∙ ap (λ v. put nat_eq i v (each status_of sim.interfaces)) (ap (λ (r : Interface). r.status) is))
+      (changed_at sim_status ∙ ap (λ v. put nat_eq i v (each sim_status sim.interfaces)) (ap (λ (r : Interface). r.status) is))
       (unchanged (λ r. text_of r Alias) (ap (λ (r : Interface). r.alias) is))
       (unchanged fixed_of (fun_ext (λ w. fixed w)))
-      (unchanged numbers_of (fun_ext (λ m. ap (λ (r : Interface). numbers_of (Some r) m) is)))
+      (unchanged sim_facts (fun_ext (λ m. ap (λ (r : Interface). sim_facts (Some r) m) is)))
     where
       fixed : (w : IfText) → fixed_of (Some q) w ≡ fixed_of (Some p) w
       fixed Descr = ap (λ (r : Interface). r.descr) is
@@ -135,10 +135,10 @@ module _ (sim : Sim) (i k : ℕ) (p q : Interface) (are : AreIndexes (indexes_of
   pub alias_made : (text : List ℕ) → q ≡ record p { alias = text }
       → held_of (record sim { interfaces = set sim.interfaces k q }) ≡ changed (set_to.Alias i text) (held_of sim)
   alias_made text is = same_held (same_indexes sim.interfaces i k q at named)
-      (unchanged status_of (ap (λ (r : Interface). r.status) is))
+      (unchanged sim_status (ap (λ (r : Interface). r.status) is))
       (changed_at (λ r. text_of r Alias) ∙ ap (λ v. put nat_eq i v (each (λ r. text_of r Alias) sim.interfaces)) (ap (λ (r : Interface). r.alias) is))
       (unchanged fixed_of (fun_ext (λ w. fixed w)))
-      (unchanged numbers_of (fun_ext (λ m. ap (λ (r : Interface). numbers_of (Some r) m) is)))
+      (unchanged sim_facts (fun_ext (λ m. ap (λ (r : Interface). sim_facts (Some r) m) is)))
     where
       fixed : (w : IfText) → fixed_of (Some q) w ≡ fixed_of (Some p) w
       fixed Descr = ap (λ (r : Interface). r.descr) is
@@ -146,8 +146,8 @@ module _ (sim : Sim) (i k : ℕ) (p q : Interface) (are : AreIndexes (indexes_of
       fixed ShortName = ap (λ (r : Interface). r.name) is
       fixed Alias = refl
 
-  pub was_status : status_of (interface_at sim.interfaces i) ≡ p.status
-  was_status = ap status_of found
+  pub was_status : sim_status (interface_at sim.interfaces i) ≡ p.status
+  was_status = ap sim_status found
 
   pub was_alias : text_of (interface_at sim.interfaces i) Alias ≡ p.alias
   was_alias = ap (λ r. text_of r Alias) found
@@ -159,9 +159,9 @@ sim_of ps texts failures = record { interfaces = ps; texts = texts; failures = f
 
 module _ (ps : List Interface) (texts : SysTexts) (failures : ℕ) (middle sim : Sim) (i k : ℕ) (p q : Interface) (c : Change)
     (view : sim_of ps texts failures ≡ middle) (same : middle ≡ sim) (are : AreIndexes (indexes_of ps))
-    (place : IsPlace sim.interfaces i k) (was : p ≡ get_or ps k p) where
-  at : IsPlace ps i k
-  at = subst (λ (s : Sim). IsPlace s.interfaces i k) (sym (view ∙ same)) place
+    (place : IsPlaceOfIndex sim.interfaces i k) (was : p ≡ get_or ps k p) where
+  at : IsPlaceOfIndex ps i k
+  at = subst (λ (s : Sim). IsPlaceOfIndex s.interfaces i k) (sym (view ∙ same)) place
 
   pub still_indexes : q.index ≡ p.index → AreIndexes (indexes_of (set ps k q))
   still_indexes e = set_indexes (sim_of ps texts failures) i k p q are at was e
@@ -193,7 +193,7 @@ pub text_made : (ps : List Interface) (old new : SysTexts) (failures : ℕ) (sim
     → sim_of ps old failures ≡ sim → sys_text_of new ≡ put same_text which text (sys_text_of old) → c ≡ set_to.SysText which text
     → held_of (sim_of ps new failures) ≡ changed c (held_of sim)
 text_made ps old new failures sim c which text view is change =
-    ap (λ f. held (indexes_of ps) f (each status_of ps) (each (λ r. text_of r Alias) ps) (each fixed_of ps) (each numbers_of ps)) is
+    ap (λ f. held (indexes_of ps) f (each sim_status ps) (each (λ r. text_of r Alias) ps) (each fixed_of ps) (each sim_facts ps)) is
     ∙ (ap (λ z. changed (set_to.SysText which text) (held_of z)) view ∙ ap (λ d. changed d (held_of sim)) (sym change))
 
 pub on_err : {A E : Type 0} {P : Type 0} (r : Result A E) → P → OnErr r P

@@ -6,7 +6,7 @@ use Rattle.mon_mib.specs.declared.commit.Commit.TheVariants.{Done, CommitFailed,
 use Rattle.mon_mib.specs.declared.step.Step.{Step}
 use Rattle.mon_mib.specs.Assignment.{AreApart}
 use Rattle.mon_mib.specs.Change.{changed, undoing, one_failure}
-use Rattle.mon_mib.specs.Commit.{changes, undoings, IsFailedAfter, IsUndone, IsCommitted, failures_of, failures_after, undo_failures}
+use Rattle.mon_mib.specs.Commit.{changes, undoings, IsFailedAfter, IsUndone, IsCommitted, failures_by_then, failures_after, undo_failures}
 use Rattle.mon_mib.specs.Held.{Held}
 use Rattle.mon_mib.proofs.Swapping.{changes_push}
 use Rattle.mon_mib.proofs.Undoing.{undoings_push, front_apart}
@@ -60,7 +60,7 @@ module _ {D : Type 0} (held : D → Held) (refuses : D → Change → Type 0) wh
   }
 
   pub failures_are : (done : List Step) (before after : Held) (number : ℕ) (r : Commit) (count old : ℕ) → IsUndone held refuses done before after number r
-      → count ≡ one_failure old → undo_failures r count ≡ failures_of r old
+      → count ≡ one_failure old → undo_failures r count ≡ failures_by_then r old
   failures_are done before after number Done count old is e = absurd is
   failures_are done before after number (CommitFailed n) count old is e = e
   failures_are done before after number (UndoFailed n standing) count old is e = ap (failures_after standing.items) e

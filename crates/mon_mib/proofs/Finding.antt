@@ -12,7 +12,7 @@ use Rattle.std.proofs.lemmas.List.Elements.{Contains-get_or}
 use Rattle.mon_mib.specs.declared.object.Object.{Object}
 use Rattle.mon_mib.specs.Objects.{objects, prefix_of}
 use Rattle.mon_mib.specs.Order.{name_cmp}
-use Rattle.mon_mib.specs.Next.{IsServed}
+use Rattle.mon_mib.specs.Next.{IsServedName}
 use Rattle.mon_mib.proofs.Candidates.{not_shorter}
 use Rattle.mon_mib.proofs.Unique.{itself}
 
@@ -31,7 +31,7 @@ found_at items place d p x r rest same within own stripped is = (
 pub none_found : (items : List Object) (place : ℕ) (d : Object) (p x : List ℕ) (r : Option (Bor (List ℕ))) → items ≡ objects
     → p ≡ prefix_of (get_or items place d) → IsStripped x p r → r ≡ None
     → AllWithin (λ o. (rest : List ℕ) → name_cmp (prefix_of o ++ rest) x ≡ Less) objects 0 place
-    → AllWithin (λ o. name_cmp x (prefix_of o) ≡ Less) objects (place + 1) (length objects) → ¬ (IsServed x)
+    → AllWithin (λ o. name_cmp x (prefix_of o) ≡ Less) objects (place + 1) (length objects) → ¬ (IsServedName x)
 none_found items place d p x r same own stripped is before behind s = by_place s.listed
   where
     rest : List ℕ

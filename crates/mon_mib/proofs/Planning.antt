@@ -15,7 +15,7 @@ use Rattle.mon_mib.specs.declared.facts.SysText.TheVariants.{Contact, SystemName
 use Rattle.mon_mib.specs.declared.object.Object.{Object}
 use Rattle.mon_mib.specs.declared.object.Object.TheVariants as served
 use Rattle.mon_mib.specs.declared.step.Step.{Step}
-use Rattle.mon_mib.specs.Assignment.{IsChange, IsAssignment, IsLast, IsStep, IsPlan, AreApart, scalar_of}
+use Rattle.mon_mib.specs.Assignment.{IsChange, IsAskedChange, IsLast, IsNumberedAssignment, IsSetPlan, AreApart, scalar_of}
 use Rattle.mon_mib.specs.Change.{same_target, same_text}
 use Rattle.mon_mib.specs.Known.{Known, instances}
 use Rattle.mon_mib.specs.Objects.{prefix_of}
@@ -56,7 +56,7 @@ module _ (k : Known) where
   one_target o q i j v w (set.Alias n text) (set.Admin m t r) at also is was e = cc
   one_target o q i j v w (set.Alias n text) (set.Alias m other) at also is was e = (is.0 ∙ sym was.0, sym is.1 ∙ (same_index n m e ∙ was.1))
 
-  two_targets : (a b : Binding) (c d : Change) → IsAssignment k a c → IsAssignment k b d → b.name ≢ a.name → same_target c d ≡ false
+  two_targets : (a b : Binding) (c d : Change) → IsAskedChange k a c → IsAskedChange k b d → b.name ≢ a.name → same_target c d ≡ false
   two_targets a b c d is was other = by_test (same_target c d) refl
     where
       by_test : (t : Bool) → same_target c d ≡ t → t ≡ false
@@ -73,10 +73,10 @@ module _ (k : Known) where
       back : (i + 1) + (j - (i + 1)) ≡ j
       back = omega arith
 
-  pub apart : (bs : List Binding) (steps : List Step) → AllPairs (λ s t. s.index < t.index) steps → All (IsStep k bs) steps → AreApart steps
+  pub apart : (bs : List Binding) (steps : List Step) → AllPairs (λ s t. s.index < t.index) steps → All (IsNumberedAssignment k bs) steps → AreApart steps
   apart bs steps rising each i j d lt within =
-      let s : IsStep k bs (get_or steps i d) = each i d (omega arith) in
-      let t : IsStep k bs (get_or steps j d) = each j d within in
+      let s : IsNumberedAssignment k bs (get_or steps i d) = each i d (omega arith) in
+      let t : IsNumberedAssignment k bs (get_or steps j d) = each j d within in
       let up : (get_or steps i d).index < (get_or steps j d).index = rising i j d lt within in
       two_targets s.binding t.binding (get_or steps i d).change (get_or steps j d).change s.assigns t.assigns
       (λ same. s.last.last (later bs s.place t.place t.binding (λ c. c.name ≡ s.binding.name) (before s.place t.place (get_or steps i d).index (get_or steps j d).index s.number t.number up) t.last.within t.last.is same))
@@ -87,7 +87,7 @@ module _ (k : Known) where
   -- ---- one binding more
 
   module _ (sees : List ℕ → Type 0) (bs : List Binding) (n : ℕ) (steps : List Step) (b : Binding) (c : Change) (to : IsPlannedTo k sees bs n steps)
-      (within : n < length bs) (is : get_or bs n b ≡ b) (judged : IsAccepted k sees b × IsAssignment k b c) where
+      (within : n < length bs) (is : get_or bs n b ≡ b) (judged : IsAccepted k sees b × IsAskedChange k b c) where
     more_accepted : All (IsAccepted k sees) (take (n + 1) bs)
     more_accepted = rw (take_more bs n b within) (All-push (IsAccepted k sees) (take n bs) (get_or bs n b) to.accepted (subst (IsAccepted k sees) (sym is) judged.0))
 
@@ -102,7 +102,7 @@ module _ (k : Known) where
           accepted = more_accepted;
           below = All-push (λ (s : Step). s.index ≤ n + 1) steps step weaker (omega arith);
           rising = all_pairs_push (λ (s t : Step). s.index < t.index) steps step to.rising (λ i d lt. let le : (get_or steps i d).index ≤ n = to.below i d lt in omega arith);
-          each = All-push (IsStep k bs) steps step to.each (record { place = n; binding = b; last = is_last; number = refl; assigns = judged.1 });
+          each = All-push (IsNumberedAssignment k bs) steps step to.each (record { place = n; binding = b; last = is_last; number = refl; assigns = judged.1 });
           all = all step;
         }
       where
@@ -146,15 +146,15 @@ module _ (k : Known) where
         → items ≡ steps → IsPlannedTo k sees bs (n + 1) items
     passed_when r items exact some e = subst (IsPlannedTo k sees bs (n + 1)) (sym e) (passed (subst (Any (λ c. c.name ≡ b.name)) all_later (exact.0 some)))
 
-  pub finished : (sees : List ℕ → Type 0) (bs : List Binding) (n : ℕ) (steps : List Step) → length bs ≤ n → IsPlannedTo k sees bs n steps → IsPlan k bs steps
+  pub finished : (sees : List ℕ → Type 0) (bs : List Binding) (n : ℕ) (steps : List Step) → length bs ≤ n → IsPlannedTo k sees bs n steps → IsSetPlan k bs steps
   finished sees bs n steps le to = record { rising = to.rising; each = to.each; all = λ j b last. to.all j b (omega (arith, last.within)) last }
 
   pub all_accepted : (sees : List ℕ → Type 0) (bs : List Binding) (n : ℕ) (steps : List Step) → length bs ≤ n → IsPlannedTo k sees bs n steps → All (IsAccepted k sees) bs
   all_accepted sees bs n steps le to = subst (All (IsAccepted k sees)) (take_all n bs le) to.accepted
 
-pub plan_made : {E : Type 0} (k : Known) (bs : List Binding) (steps : List Step) (r : Result (List Step) E) → IfOk r (λ plan. plan ≡ steps) → IsPlan k bs steps
-    → IfOk r (λ plan. IsPlan k bs plan)
-plan_made k bs steps (Ok plan) is made = subst (IsPlan k bs) (sym is) made
+pub plan_made : {E : Type 0} (k : Known) (bs : List Binding) (steps : List Step) (r : Result (List Step) E) → IfOk r (λ plan. plan ≡ steps) → IsSetPlan k bs steps
+    → IfOk r (λ plan. IsSetPlan k bs plan)
+plan_made k bs steps (Ok plan) is made = subst (IsSetPlan k bs) (sym is) made
 plan_made k bs steps (Err e) is made = tt
 
 pub on_ok : {A E : Type 0} {P : Type 0} (r : Result A E) → P → IfOk r (λ _. P)

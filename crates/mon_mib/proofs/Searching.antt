@@ -10,7 +10,7 @@ use Rattle.std.specs.List.Sorted.{IsBinarySearchResult, IsSearchInRange, IsParti
 use Rattle.std.proofs.lemmas.Cmp.{by_ranked, ranked}
 use Rattle.std.proofs.lemmas.List.{get_or-map, length-map}
 use Rattle.mon_mib.specs.declared.interface.Interface.{Interface}
-use Rattle.mon_mib.specs.Sim.{indexes_of, interface_at, is_over, IsPlace}
+use Rattle.mon_mib.specs.Sim.{indexes_of, interface_at, is_over, IsPlaceOfIndex}
 use Rattle.mon_mib.proofs.Applying.{here}
 use Rattle.mon_mib.proofs.Simulated.{found}
 
@@ -24,7 +24,7 @@ equal_is a b e = by_ranked (a < b) (a ≡ b) (b < a) (nat_cmp a b) (ranked a b (
     greater p q = cc
 
 pub search_found : (ps : List Interface) (i k : ℕ) (r : Result ℕ ℕ) → IsBinarySearchResult (λ (p : Interface). nat_cmp p.index i) ps r → IsSearchInRange r (length ps)
-    → r ≡ Ok k → IsPlace ps i k
+    → r ≡ Ok k → IsPlaceOfIndex ps i k
 search_found ps i k r found within is =
     let at = subst (IsBinarySearchResult (λ (p : Interface). nat_cmp p.index i) ps) is found in
     let low = subst (λ s. IsSearchInRange s (length ps)) is within in
@@ -82,7 +82,7 @@ search_none (q ∷ qs) i k r rising found is (j, lt, at) =
 
 -- ---- by its index
 
-pub at_index : (ps : List Interface) (i k : ℕ) (p : Interface) → AllPairs (λ n m. n < m) (indexes_of ps) → IsPlace ps i k → p ≡ get_or ps k p → Some p ≡ interface_at ps i
+pub at_index : (ps : List Interface) (i k : ℕ) (p : Interface) → AllPairs (λ n m. n < m) (indexes_of ps) → IsPlaceOfIndex ps i k → p ≡ get_or ps k p → Some p ≡ interface_at ps i
 at_index ps i k p rising at is = ap Some is ∙ sym (here ps i k p rising at)
 
 pub no_index : (ps : List Interface) (i : ℕ) → ¬ (Contains (indexes_of ps) i) → None ≡ interface_at ps i

@@ -9,7 +9,7 @@ use Rattle.mon_mib.specs.declared.column.Column.TheVariants.{IfIndex, IfDescr, I
 use Rattle.mon_mib.specs.declared.object.Object.{Object}
 use Rattle.mon_mib.specs.declared.object.Object.TheVariants as served
 use Rattle.mon_mib.specs.Held.{facts_at}
-use Rattle.mon_mib.specs.Known.{Known, scalar_value, column_value, value_of}
+use Rattle.mon_mib.specs.Known.{Known, scalar_value, column_value, variable_value}
 use Rattle.mon_mib.specs.Objects.{scalar_syntax, column_syntax, syntax_of}
 
 scalar : (k : Known) (s : Scalar) → tag_of (scalar_value k s) ≡ scalar_syntax s
@@ -59,7 +59,7 @@ column k f i IfHighSpeed = refl
 column k f i IfAlias = refl
 column k f i IfCounterDiscontinuityTime = refl
 
-pub typed : (k : Known) (o : Object) (i : ℕ) → tag_of (value_of k o i) ≡ syntax_of o
-unfolding value_of
+pub typed : (k : Known) (o : Object) (i : ℕ) → tag_of (variable_value k o i) ≡ syntax_of o
+unfolding variable_value
 typed k (served.Scalar s) i = scalar k s
 typed k (served.Column c) i = column k (facts_at k.held i k.moment) i c

@@ -10,7 +10,7 @@ use Rattle.mon_mib.specs.Assignment.{AreApart}
 use Rattle.mon_mib.specs.Change.{changed, undoing, same_target, one_failure}
 use Rattle.mon_mib.specs.Commit.{changes, undoings, failures_after, IsRefusedOnce, IsLeft}
 use Rattle.mon_mib.specs.Held.{Held}
-use Rattle.mon_mib.specs.Undone.{IsTaken, IsBack, Stands}
+use Rattle.mon_mib.specs.Undone.{IsUndoneOrStands, IsBack, IsListedStanding}
 use Rattle.mon_mib.proofs.Swapping.{undone, same_place, turned, IsClear, through, undoing_through, changes_push}
 
 -- ---- lists
@@ -180,7 +180,7 @@ module _ {D : Type 0} (held : D → Held) (refuses : D → Change → Type 0) (f
         undo_clear k d lt = ap (λ c. same_target c (get_or at.left k d).change) undo_is
             ∙ (same_place last.step.change (get_or at.left k d).change (changes last.front before) ∙ step_clear k d lt)
 
-    pub stayed : (new : D) (after : List ℕ) → Stands held refuses failed u old new standing after → IsAtUndo us after new
+    pub stayed : (new : D) (after : List ℕ) → IsListedStanding held refuses failed u old new standing after → IsAtUndo us after new
     stayed new after stands = record {
       rest = last.front;
       left = at.left ++ last.step ∷ [];
@@ -204,12 +204,12 @@ module _ {D : Type 0} (held : D → Held) (refuses : D → Change → Type 0) (f
         undo_is = ap (λ (s : Step). s.change) last.is ∙ undoing_through last.step.change last.front before (front_clear last.front last.step rest_apart)
 
   pub one_back : (undos us : List Step) (u : Step) (standing : List ℕ) (old new : D) (after : List ℕ) → undos ≡ us ++ u ∷ [] → IsAtUndo undos standing old
-      → IsTaken held refuses failed u old new standing after → IsAtUndo us after new
+      → IsUndoneOrStands held refuses failed u old new standing after → IsAtUndo us after new
   one_back undos us u standing old new after split at taken =
       let there : IsAtUndo (us ++ u ∷ []) standing old = subst (λ l. IsAtUndo l standing old) split at in
       by_case there (last_of there.rest before us u there.undos_are) taken
     where
-      by_case : (there : IsAtUndo (us ++ u ∷ []) standing old) → IsLastOf there.rest before us u → IsTaken held refuses failed u old new standing after → IsAtUndo us after new
+      by_case : (there : IsAtUndo (us ++ u ∷ []) standing old) → IsLastOf there.rest before us u → IsUndoneOrStands held refuses failed u old new standing after → IsAtUndo us after new
       by_case there last (inl back) = went_back us u standing old there last new after back
       by_case there last (inr stands) = stayed us u standing old there last new after stands
 
@@ -246,7 +246,7 @@ not_nil xs some e = some (ap length e)
 
 module _ {D : Type 0} (held : D → Held) (refuses : D → Change → Type 0) (failed : D → ℕ) where
   pub failures_step : (u : Step) (old new : D) (standing after : List ℕ) (count : ℕ) → failed old ≡ failures_after standing count
-      → IsTaken held refuses failed u old new standing after → failed new ≡ failures_after after count
+      → IsUndoneOrStands held refuses failed u old new standing after → failed new ≡ failures_after after count
   failures_step u old new standing after count so_far (inl back) = back.failures ∙ (so_far ∙ ap (λ l. failures_after l count) (sym back.listed))
   failures_step u old new standing after count so_far (inr stands) =
       stands.failures ∙ (ap one_failure so_far ∙ (sym (failures_push standing u.index count) ∙ ap (λ l. failures_after l count) (sym stands.listed)))

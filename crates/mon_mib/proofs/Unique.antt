@@ -12,7 +12,7 @@ use Rattle.mon_mib.specs.declared.got.Got.TheVariants.{Found, NoObject, NoInstan
 use Rattle.mon_mib.specs.declared.object.Object.{Object}
 use Rattle.mon_mib.specs.Objects.{prefix_of, objects}
 use Rattle.mon_mib.specs.Order.{name_cmp}
-use Rattle.mon_mib.specs.Known.{Known, instances, value_of, variable}
+use Rattle.mon_mib.specs.Known.{Known, instances, variable_value, variable}
 use Rattle.mon_mib.specs.Next.{IsVariable, IsNext, IsGot}
 use Rattle.mon_mib.proofs.Search.{objects_apart}
 use Rattle.mon_mib.proofs.Starts.{apart}
@@ -114,10 +114,10 @@ module _ (k : Known) where
   -- ---- Get
 
   pub found : (x : List ℕ) (o : Object) (i : ℕ) (v : Value) → Contains objects o → Contains (instances k.held o) i
-      → x ≡ prefix_of o ++ i ∷ [] → v ≡ value_of k o i → IsGot k x (Found v)
+      → x ≡ prefix_of o ++ i ∷ [] → v ≡ variable_value k o i → IsGot k x (Found v)
   found x o i v served there named is = record { object = o; instance = i; served = served; there = there; is = both named is }
     where
-      both : x ≡ prefix_of o ++ i ∷ [] → v ≡ value_of k o i → record { name = x; value = v } ≡ variable k o i
+      both : x ≡ prefix_of o ++ i ∷ [] → v ≡ variable_value k o i → record { name = x; value = v } ≡ variable k o i
       both named is = rw (named, is) refl
 
   pub no_instance : (x : List ℕ) (o : Object) (rest : List ℕ) → Contains objects o → x ≡ prefix_of o ++ rest
@@ -127,7 +127,7 @@ module _ (k : Known) where
 
   -- a value was read there, or none is
   pub read : (x : List ℕ) (o : Object) (i : ℕ) (r : Option Value) (v : Value) → Contains objects o → x ≡ prefix_of o ++ i ∷ [] → r ≡ Some v
-      → IfSome r (λ _. Contains (instances k.held o) i) → (Contains (instances k.held o) i → r ≡ Some (value_of k o i)) → IsGot k x (Found v)
+      → IfSome r (λ _. Contains (instances k.held o) i) → (Contains (instances k.held o) i → r ≡ Some (variable_value k o i)) → IsGot k x (Found v)
   read x o i r v served named is in_instances exact =
       let there : Contains (instances k.held o) i = subst (λ q. IfSome q (λ _. Contains (instances k.held o) i)) is in_instances in
       found x o i v served there named (inside (sym is ∙ exact there))
@@ -136,7 +136,7 @@ module _ (k : Known) where
       inside e = cc
 
   pub missing : (x : List ℕ) (o : Object) (i : ℕ) (r : Option Value) → Contains objects o → x ≡ prefix_of o ++ i ∷ [] → r ≡ None
-      → (Contains (instances k.held o) i → r ≡ Some (value_of k o i)) → IsGot k x NoInstance
+      → (Contains (instances k.held o) i → r ≡ Some (variable_value k o i)) → IsGot k x NoInstance
   missing x o i r served named is exact =
       no_instance x o (i ∷ []) served named (λ j same there. never (sym is ∙ exact (subst (Contains (instances k.held o)) (sym (head_is same)) there)))
     where

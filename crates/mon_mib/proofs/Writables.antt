@@ -9,14 +9,14 @@ use Rattle.mon_mib.specs.declared.column.Column.TheVariants.{IfIndex, IfDescr, I
 use Rattle.mon_mib.specs.declared.object.Object.{Object}
 use Rattle.mon_mib.specs.declared.object.Object.TheVariants as served
 use Rattle.mon_mib.specs.declared.writable.Writable.{Writable}
-use Rattle.mon_mib.specs.Objects.{prefix_of, objects, access_of}
+use Rattle.mon_mib.specs.Objects.{prefix_of, objects, max_access_of}
 use Rattle.mon_mib.specs.Refusal.{IsWritable}
 use Rattle.mon_mib.specs.Tried.{object_of, writable_of}
 use Rattle.mon_mib.proofs.Unique.{one_object}
 
 abbrev Agrees : Object → Option Writable → Type 0
-Agrees o (Some w) = (o ≡ object_of w) × (access_of o ≡ ReadWrite)
-Agrees o None = access_of o ≡ ReadOnly
+Agrees o (Some w) = (o ≡ object_of w) × (max_access_of o ≡ ReadWrite)
+Agrees o None = max_access_of o ≡ ReadOnly
 
 scalar_agrees : (s : Scalar) → Agrees (served.Scalar s) (writable_of (served.Scalar s))
 scalar_agrees SysDescr = refl
@@ -76,15 +76,15 @@ never e = cc
 pub under_one : (x rest : List ℕ) (o : Object) (w : Writable) → Contains objects o → x ≡ prefix_of o ++ rest → writable_of o ≡ Some w
     → (x ≡ prefix_of (object_of w) ++ rest) × IsWritable x (object_of w)
 under_one x rest o w listed named is =
-    let both : (o ≡ object_of w) × (access_of o ≡ ReadWrite) = subst (Agrees o) is (agrees o) in
+    let both : (o ≡ object_of w) × (max_access_of o ≡ ReadWrite) = subst (Agrees o) is (agrees o) in
     let there : x ≡ prefix_of (object_of w) ++ rest = named ∙ ap (λ q. prefix_of q ++ rest) both.0 in
-    (there, record { listed = subst (Contains objects) both.0 listed; under = (rest, there); access = subst (λ q. access_of q ≡ ReadWrite) both.0 both.1 })
+    (there, record { listed = subst (Contains objects) both.0 listed; under = (rest, there); access = subst (λ q. max_access_of q ≡ ReadWrite) both.0 both.1 })
 
 pub under_none : (x rest : List ℕ) (o q : Object) → Contains objects o → x ≡ prefix_of o ++ rest → writable_of o ≡ None → IsWritable x q → ⊥
 under_none x rest o q listed named is writable =
     let same : o ≡ q = one_object o q listed writable.listed rest writable.under.0 (sym named ∙ writable.under.1) in
-    let closed : access_of o ≡ ReadOnly = subst (Agrees o) is (agrees o) in
-    never (sym closed ∙ (ap access_of same ∙ writable.access))
+    let closed : max_access_of o ≡ ReadOnly = subst (Agrees o) is (agrees o) in
+    never (sym closed ∙ (ap max_access_of same ∙ writable.access))
 
 pub if_none : {A : Type 0} {P : Type 0} (r : Option A) → P → IfNone r P
 if_none None p = p

@@ -34,7 +34,7 @@ IsChange k o i v (set.Admin index status since) = (o ≡ served.Column IfAdminSt
 IsChange k o i v (set.Alias index text) = (o ≡ served.Column IfAlias) × (index ≡ i) × (v ≡ ber.Octets text)
 
 -- the change that a binding asks for, whose name is a variable's
-pub record IsAssignment (k : Known) (b : Binding) (c : Change) : Type 0 where
+pub record IsAskedChange (k : Known) (b : Binding) (c : Change) : Type 0 where
   pub object : Object
   pub instance : ℕ
   pub served : Contains objects object
@@ -49,17 +49,17 @@ pub record IsLast (bindings : List Binding) (j : ℕ) (b : Binding) : Type 0 whe
   pub last : ¬ (Any (λ c. c.name ≡ b.name) (drop (j + 1) bindings))
 
 -- the assignment of such a binding, with the binding's number, counted from 1
-pub record IsStep (k : Known) (bindings : List Binding) (s : Step) : Type 0 where
+pub record IsNumberedAssignment (k : Known) (bindings : List Binding) (s : Step) : Type 0 where
   pub place : ℕ
   pub binding : Binding
   pub last : IsLast bindings place binding
   pub number : s.index ≡ place + 1
-  pub assigns : IsAssignment k binding s.change
+  pub assigns : IsAskedChange k binding s.change
 
 -- the assignments of all of them, in their order
-pub record IsPlan (k : Known) (bindings : List Binding) (steps : List Step) : Type 0 where
+pub record IsSetPlan (k : Known) (bindings : List Binding) (steps : List Step) : Type 0 where
   pub rising : AllPairs (λ s t. s.index < t.index) steps
-  pub each : All (IsStep k bindings) steps
+  pub each : All (IsNumberedAssignment k bindings) steps
   pub all : (j : ℕ) (b : Binding) → IsLast bindings j b → (s : Step) × Contains steps s × (s.index ≡ j + 1)
 
 -- no two change the same thing

@@ -62,7 +62,7 @@ module _ {D : Type 0} (held : D → Held) (refuses : D → Change → Type 0) wh
   IsUndone done before after number (UndoFailed failed standing) = (failed ≡ number) × IsLeft done before after standing.items
 
   -- what assigning has come to
-  pub record IsStopped (steps : List Step) (before : Held) (number : ℕ) (P : List Step → Type 0) : Type 0 where
+  pub record IsCommitProgress (steps : List Step) (before : Held) (number : ℕ) (P : List Step → Type 0) : Type 0 where
     pub done : List Step
     pub failed : IsFailedAfter done steps before number
     pub holds : P done
@@ -70,14 +70,14 @@ module _ {D : Type 0} (held : D → Held) (refuses : D → Change → Type 0) wh
   -- what assigning gave, and what the device holds after it: every change, what it held before, or what could not be undone
   abbrev pub IsCommitted : List Step → Held → Held → Commit → Type 0
   IsCommitted steps before after Done = after ≡ changes steps before
-  IsCommitted steps before after (CommitFailed failed) = IsStopped steps before failed (λ _. after ≡ before)
-  IsCommitted steps before after (UndoFailed failed standing) = IsStopped steps before failed (λ done. IsLeft done before after standing.items)
+  IsCommitted steps before after (CommitFailed failed) = IsCommitProgress steps before failed (λ _. after ≡ before)
+  IsCommitted steps before after (UndoFailed failed standing) = IsCommitProgress steps before failed (λ done. IsLeft done before after standing.items)
 
 -- the count of failures then
-abbrev pub failures_of : Commit → ℕ → ℕ
-failures_of Done count = count
-failures_of (CommitFailed failed) count = one_failure count
-failures_of (UndoFailed failed standing) count = failures_after standing.items (one_failure count)
+abbrev pub failures_by_then : Commit → ℕ → ℕ
+failures_by_then Done count = count
+failures_by_then (CommitFailed failed) count = one_failure count
+failures_by_then (UndoFailed failed standing) count = failures_after standing.items (one_failure count)
 
 -- the failures of the undoing alone
 abbrev pub undo_failures : Commit → ℕ → ℕ

@@ -9,12 +9,12 @@ abbrev pub no_counts : Counters
 no_counts = record { in_packets = 0; bad_versions = 0; bad_communities = 0; parse_errors = 0; silent_drops = 0 }
 
 -- what a counter has come to
-abbrev pub count_of : Counters → Counter → ℕ
-count_of c InPackets = c.in_packets
-count_of c BadVersions = c.bad_versions
-count_of c BadCommunities = c.bad_communities
-count_of c ParseErrors = c.parse_errors
-count_of c SilentDrops = c.silent_drops
+abbrev pub counter_value : Counters → Counter → ℕ
+counter_value c InPackets = c.in_packets
+counter_value c BadVersions = c.bad_versions
+counter_value c BadCommunities = c.bad_communities
+counter_value c ParseErrors = c.parse_errors
+counter_value c SilentDrops = c.silent_drops
 
 -- one more, after 4294967295 comes 0 (Counter32, RFC 2578 section 7.1.6)
 abbrev pub one_more : ℕ → ℕ

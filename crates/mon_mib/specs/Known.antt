@@ -82,9 +82,9 @@ column_value k f i IfAlias = Octets (text_at k.held i Alias)
 column_value k f i IfCounterDiscontinuityTime = TimeTicks f.discontinuity
 
 -- the value of the object's variable of an instance
-unfoldable pub value_of : Known → Object → ℕ → Value
-value_of k (served.Scalar s) i = scalar_value k s
-value_of k (served.Column c) i = column_value k (facts_at k.held i k.moment) i c
+unfoldable pub variable_value : Known → Object → ℕ → Value
+variable_value k (served.Scalar s) i = scalar_value k s
+variable_value k (served.Column c) i = column_value k (facts_at k.held i k.moment) i c
 
 -- the instances of an object's variables
 abbrev pub instances : Held → Object → List ℕ
@@ -93,7 +93,7 @@ instances h (served.Column c) = h.indexes
 
 -- the variable of an object and an instance: its name is the object's with the instance after it (RFC 2578 section 7.7)
 abbrev pub variable : Known → Object → ℕ → Binding
-variable k o i = record { name = prefix_of o ++ i ∷ []; value = value_of k o i }
+variable k o i = record { name = prefix_of o ++ i ∷ []; value = variable_value k o i }
 
 -- all variables, in the order of their names
 abbrev pub vars : Known → List Binding

@@ -38,7 +38,7 @@ abbrev pub IsUnder : Object → List ℕ → Type 0
 IsUnder o x = (rest : List ℕ) × (x ≡ prefix_of o ++ rest)
 
 -- the name is under one of the served objects
-pub record IsServed (x : List ℕ) : Type 0 where
+pub record IsServedName (x : List ℕ) : Type 0 where
   pub object : Object
   pub listed : Contains objects object
   pub under : IsUnder object x
@@ -46,5 +46,5 @@ pub record IsServed (x : List ℕ) : Type 0 where
 -- the value at a name, or which exception there is (RFC 3416 section 4.2.1)
 abbrev pub IsGot : Known → List ℕ → Got → Type 0
 IsGot k x (Found v) = IsVariable objects k (record { name = x; value = v })
-IsGot k x NoInstance = IsServed x × ((b : Binding) → IsVariable objects k b → b.name ≢ x)
-IsGot k x NoObject = ¬ (IsServed x)
+IsGot k x NoInstance = IsServedName x × ((b : Binding) → IsVariable objects k b → b.name ≢ x)
+IsGot k x NoObject = ¬ (IsServedName x)

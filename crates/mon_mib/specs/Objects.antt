@@ -81,9 +81,9 @@ column_access IfAlias = ReadWrite
 column_access other = ReadOnly
 
 -- what may be done with the variables of an object
-abbrev pub access_of : Object → MaxAccess
-access_of (served.Scalar s) = scalar_access s
-access_of (served.Column c) = column_access c
+abbrev pub max_access_of : Object → MaxAccess
+max_access_of (served.Scalar s) = scalar_access s
+max_access_of (served.Column c) = column_access c
 
 -- the tag of their values (SYNTAX, RFC 2578 section 7.1)
 abbrev pub scalar_syntax : Scalar → Tag

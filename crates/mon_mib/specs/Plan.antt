@@ -4,7 +4,7 @@ use Rattle.mon_mib.specs.declared.step.Step.{Step}
 use Rattle.mon_mib.specs.Assignment.{AreApart}
 
 -- each step has room to be undone, and to stand, and no two change the same thing
-pub record HasRoom (steps undos : List Step) (standing : List ℕ) (undo_room standing_room : ℕ) : Type 0 where
+pub record HasRoomToUndo (steps undos : List Step) (standing : List ℕ) (undo_room standing_room : ℕ) : Type 0 where
   pub apart : AreApart steps
   pub no_undos : undos ≡ []
   pub none_standing : standing ≡ []

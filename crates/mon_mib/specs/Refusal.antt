@@ -13,7 +13,7 @@ use Rattle.mon_mib.specs.declared.set_status.SetStatus.{SetStatus}
 use Rattle.mon_mib.specs.declared.set_status.SetStatus.TheVariants.{NoAccess, WrongType, WrongLength, WrongValue, NoCreation, NotWritable}
 use Rattle.mon_mib.specs.declared.set_fault.SetFault.{SetFault}
 use Rattle.mon_mib.specs.declared.set_fault.SetFault.TheVariants.{OutOfMemory, Refused}
-use Rattle.mon_mib.specs.Objects.{objects, access_of, syntax_of}
+use Rattle.mon_mib.specs.Objects.{objects, max_access_of, syntax_of}
 use Rattle.mon_mib.specs.Known.{Known}
 use Rattle.mon_mib.specs.Next.{IsVariable, IsUnder}
 use Rattle.mon_mib.specs.Status.{admin_number}
@@ -22,7 +22,7 @@ use Rattle.mon_mib.specs.Status.{admin_number}
 pub record IsWritable (x : List ℕ) (o : Object) : Type 0 where
   pub listed : Contains objects o
   pub under : IsUnder o x
-  pub access : access_of o ≡ ReadWrite
+  pub access : max_access_of o ≡ ReadWrite
 
 -- the most octets of an object's texts: 64 of ifAlias (RFC 2863 section 6), 255 of the system group's (RFC 3418 section 2)
 abbrev pub longest : Object → ℕ
@@ -59,7 +59,7 @@ order WrongValue = 4
 order NoCreation = 5
 
 -- the binding is refused for this, the first that holds
-pub record IsRefused (k : Known) (sees : List ℕ → Type 0) (b : Binding) (r : SetStatus) : Type 0 where
+pub record IsBindingRefused (k : Known) (sees : List ℕ → Type 0) (b : Binding) (r : SetStatus) : Type 0 where
   pub ground : IsGround k sees b r
   pub first : (q : SetStatus) → order q < order r → ¬ (IsGround k sees b q)
 
@@ -74,7 +74,7 @@ pub record IsFirstRefused (k : Known) (sees : List ℕ → Type 0) (bindings : L
   pub within : place < length bindings
   pub at : slice_index_or bindings place binding ≡ binding
   pub number : index ≡ place + 1
-  pub refused : IsRefused k sees binding status
+  pub refused : IsBindingRefused k sees binding status
   pub before : All (IsAccepted k sees) (take place bindings)
 
 -- the fault of a Set: out of memory, or the first refusal

@@ -29,7 +29,7 @@ abbrev pub interface_at : List Interface → ℕ → Option Interface
 interface_at interfaces index = find (λ p. nat_eq p.index index) interfaces
 
 -- an index is that of the interface at a place
-pub record IsPlace (interfaces : List Interface) (index place : ℕ) : Type 0 where
+pub record IsPlaceOfIndex (interfaces : List Interface) (index place : ℕ) : Type 0 where
   pub within : place < length interfaces
   pub is : (d : Interface) → (slice_index_or interfaces place d).index ≡ index
 
@@ -60,9 +60,9 @@ interface_facts p moment = record {
 }
 
 -- Its numbers, those of its status aside; what stands where there is no interface is asked by nobody.
-abbrev pub numbers_of : Option Interface → ℕ → Facts
-numbers_of (Some p) moment = record (interface_facts p moment) { admin = admin.Up; oper = oper.Up; last_change = 0 }
-numbers_of None moment = record {
+abbrev pub sim_facts : Option Interface → ℕ → Facts
+sim_facts (Some p) moment = record (interface_facts p moment) { admin = admin.Up; oper = oper.Up; last_change = 0 }
+sim_facts None moment = record {
   kind = pos 0;
   mtu = pos 0;
   speed = 0;
@@ -96,9 +96,9 @@ text_of (Some p) Alias = p.alias
 text_of None which = []
 
 -- its status
-abbrev pub status_of : Option Interface → Status
-status_of (Some p) = p.status
-status_of None = at_start
+abbrev pub sim_status : Option Interface → Status
+sim_status (Some p) = p.status
+sim_status None = at_start
 
 -- its texts that no Set changes
 abbrev pub fixed_of : Option Interface → IfText → List ℕ
@@ -113,10 +113,10 @@ abbrev pub held_of : Sim → Held
 held_of sim = record {
   indexes = indexes_of sim.interfaces;
   sys_text = sys_text_of sim.texts;
-  status = λ index. status_of (interface_at sim.interfaces index);
+  status = λ index. sim_status (interface_at sim.interfaces index);
   alias = λ index. text_of (interface_at sim.interfaces index) Alias;
   fixed_text = λ index which. fixed_of (interface_at sim.interfaces index) which;
-  numbers = λ index moment. numbers_of (interface_at sim.interfaces index) moment;
+  numbers = λ index moment. sim_facts (interface_at sim.interfaces index) moment;
 }
 
 -- whether an index is above a number, or any where there is none

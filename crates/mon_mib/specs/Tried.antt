@@ -22,9 +22,9 @@ use Rattle.mon_mib.specs.declared.step.Step.{Step}
 use Rattle.mon_mib.specs.declared.writable.Writable.{Writable}
 use Rattle.mon_mib.specs.declared.writable.Writable.TheVariants as writable
 use Rattle.mon_mib.specs.Objects.{syntax_of}
-use Rattle.mon_mib.specs.Assignment.{IsChange, IsAssignment, IsLast, IsStep, scalar_of}
+use Rattle.mon_mib.specs.Assignment.{IsChange, IsAskedChange, IsLast, IsNumberedAssignment, scalar_of}
 use Rattle.mon_mib.specs.Known.{Known, instances}
-use Rattle.mon_mib.specs.Refusal.{longest, octet_count, IsNoStatus, IsAccepted, IsRefused, order}
+use Rattle.mon_mib.specs.Refusal.{longest, octet_count, IsNoStatus, IsAccepted, IsBindingRefused, order}
 use Rattle.mon_mib.specs.Status.{admin_number}
 
 -- the object that a Set may change
@@ -85,9 +85,9 @@ IsTried k o rest v (Err (Refused r)) = IsRefusedAt k o rest v r
 
 -- whether a binding is accepted, and what it changes, or why it is refused
 abbrev pub IsJudged : Known → (List ℕ → Type 0) → Binding → Result Change BindingFault → Type 0
-IsJudged k sees b (Ok c) = IsAccepted k sees b × IsAssignment k b c
+IsJudged k sees b (Ok c) = IsAccepted k sees b × IsAskedChange k b c
 IsJudged k sees b (Err OutOfMemory) = Unit {0}
-IsJudged k sees b (Err (Refused r)) = IsRefused k sees b r
+IsJudged k sees b (Err (Refused r)) = IsBindingRefused k sees b r
 
 -- the same of the binding of a number
 abbrev pub fault_at : BindingFault → ℕ → SetFault
@@ -99,5 +99,5 @@ pub record IsPlannedTo (k : Known) (sees : List ℕ → Type 0) (bindings : List
   pub accepted : All (IsAccepted k sees) (take n bindings)
   pub below : All (λ s. s.index ≤ n) steps
   pub rising : AllPairs (λ s t. s.index < t.index) steps
-  pub each : All (IsStep k bindings) steps
+  pub each : All (IsNumberedAssignment k bindings) steps
   pub all : (j : ℕ) (b : Binding) → j < n → IsLast bindings j b → (s : Step) × Contains steps s × (s.index ≡ j + 1)

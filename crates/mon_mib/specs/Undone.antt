@@ -13,12 +13,12 @@ module _ {D : Type 0} (held : D → Held) (refuses : D → Change → Type 0) (f
     pub listed : after ≡ before
 
   -- that was refused, and the binding's number is listed
-  pub record Stands (undo : Step) (old new : D) (before after : List ℕ) : Type 0 where
+  pub record IsListedStanding (undo : Step) (old new : D) (before after : List ℕ) : Type 0 where
     pub holds : held new ≡ held old
     pub refused : refuses old undo.change
     pub failures : failed new ≡ one_failure (failed old)
     pub listed : after ≡ before ++ undo.index ∷ []
 
   -- a change was undone, or it stands and is listed
-  abbrev pub IsTaken : Step → D → D → List ℕ → List ℕ → Type 0
-  IsTaken undo old new before after = IsBack undo old new before after ⊎ Stands undo old new before after
+  abbrev pub IsUndoneOrStands : Step → D → D → List ℕ → List ℕ → Type 0
+  IsUndoneOrStands undo old new before after = IsBack undo old new before after ⊎ IsListedStanding undo old new before after

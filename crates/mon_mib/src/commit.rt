@@ -4,9 +4,9 @@ ghost use Rattle.std.specs.Prelude.{◌≡◌, ℕ, ◌+◌, ◌<◌, ◌≤◌,
 ghost use Rattle.mon_mib.specs.declared.step.Step.{Step as AnyStep};
 ghost use Rattle.mon_mib.specs.Assignment.{AreApart};
 ghost use Rattle.mon_mib.specs.Change.{changed, undoing, one_failure};
-ghost use Rattle.mon_mib.specs.Commit.{changes, undoings, IsUndone, IsCommitted, failures_of, undo_failures};
+ghost use Rattle.mon_mib.specs.Commit.{changes, undoings, IsUndone, IsCommitted, failures_by_then, undo_failures};
 ghost use Rattle.mon_mib.specs.Held.{Held};
-ghost use Rattle.mon_mib.specs.Undone.{IsTaken};
+ghost use Rattle.mon_mib.specs.Undone.{IsUndoneOrStands};
 
 use crate::device::Device;
 use crate::set_plan::SetPlan;
@@ -31,7 +31,7 @@ pub enum Commit {
 /// Assigns one after another. Where one fails, those before are undone.
 pub(crate) fn assign_all<D: Device>(device: &mut D, plan: SetPlan) -> Commit
     ensures outcome { IsCommitted D.held D.refuses plan (D.held device.old) (D.held device.new) result }
-    ensures failures { D.failed device.new ≡ failures_of result (D.failed device.old) }
+    ensures failures { D.failed device.new ≡ failures_by_then result (D.failed device.old) }
 {
     let SetPlan {
         steps,
@@ -101,7 +101,7 @@ fn undo_all<D: Device>(
 /// Undoes one assignment, or lists the binding's number.
 fn undo_one<D: Device>(device: &mut D, undo: Step, standing: &mut Vec<usize>)
     requires { vec_len standing.old < vec_capacity standing.old }
-    ensures how { IsTaken D.held D.refuses D.failed undo device.old device.new standing.old.items standing.new.items }
+    ensures how { IsUndoneOrStands D.held D.refuses D.failed undo device.old device.new standing.old.items standing.new.items }
     ensures len { vec_len standing.new ≤ vec_len standing.old + 1 }
     ensures capacity { vec_capacity standing.old ≤ vec_capacity standing.new }
 {

@@ -1,5 +1,5 @@
 ghost use Rattle.std.specs.Prelude.{◌≡◌};
-ghost use Rattle.mon_mib.specs.Counters.{count_of, counted, no_counts};
+ghost use Rattle.mon_mib.specs.Counters.{counter_value, counted, no_counts};
 
 /// What is counted of the messages that an agent receives (the snmp group, RFC 3418 section 2).
 #[derive(Clone, Copy, Debug, PartialEq, Eq)]
@@ -47,7 +47,7 @@ impl Counters {
 
     /// What a counter has come to.
     pub fn value(&self, counter: Counter) -> u32
-        ensures { result ≡ count_of self.now counter }
+        ensures { result ≡ counter_value self.now counter }
     {
         match counter {
             Counter::InPackets => self.in_packets,

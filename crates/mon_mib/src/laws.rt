@@ -11,7 +11,7 @@ ghost use Rattle.mon_mib.specs.declared.object.Object.{Object as AnyObject};
 ghost use Rattle.mon_mib.specs.declared.change.Change.{Change as AnyChange};
 ghost use Rattle.mon_mib.specs.Change.{changed, undoing, same_target};
 ghost use Rattle.mon_mib.specs.Held.{Held, AreIndexes};
-ghost use Rattle.mon_mib.specs.Known.{Known, value_of, vars};
+ghost use Rattle.mon_mib.specs.Known.{Known, variable_value, vars};
 ghost use Rattle.mon_mib.specs.Next.{IsVariable, IsNext, IsGot};
 ghost use Rattle.mon_mib.specs.Objects.{objects, prefix_of, syntax_of};
 ghost use Rattle.mon_mib.specs.Order.{start_of, IsFrom, name_cmp, is_before};
@@ -40,7 +40,7 @@ pub fn variables()
 
 /// Each value has the tag of its object's syntax.
 pub fn typed()
-    ensures { (k : Known) (o : AnyObject) (i : ℕ) → tag_of (value_of k o i) ≡ syntax_of o }
+    ensures { (k : Known) (o : AnyObject) (i : ℕ) → tag_of (variable_value k o i) ≡ syntax_of o }
 {}
 
 /// A name is that of one variable at most.

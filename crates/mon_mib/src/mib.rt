@@ -3,8 +3,8 @@ ghost use Rattle.std.specs.List.{AllWithin};
 ghost use Rattle.std.specs.declared.cmp.Ordering.TheVariants.{Less};
 ghost use Rattle.mon_mib.specs.Counters.{no_counts};
 ghost use Rattle.mon_mib.specs.Held.{AreIndexes, IsAbove, IsLeastOf, text_at};
-ghost use Rattle.mon_mib.specs.Known.{known_of, instances, value_of, scalar_value, column_value};
-ghost use Rattle.mon_mib.specs.Next.{IsGot, IsNext, IsServed};
+ghost use Rattle.mon_mib.specs.Known.{known_of, instances, variable_value, scalar_value, column_value};
+ghost use Rattle.mon_mib.specs.Next.{IsGot, IsNext, IsServedName};
 ghost use Rattle.mon_mib.specs.Objects.{objects, prefix_of};
 ghost use Rattle.mon_mib.specs.Order.{IsFrom, name_cmp};
 ghost use Rattle.mon_vacm.specs.View.{IsInView};
@@ -140,7 +140,7 @@ impl<D: Device + Drop> Mib<D> {
     }
 
     /// The value of the variable of an object and an instance, or None where there is no such variable.
-    #[tactic(auto, unfolding(crate::specs::Known::value_of))]
+    #[tactic(auto, unfolding(crate::specs::Known::variable_value))]
     fn value(
         &self,
         alloc: Global,
@@ -149,7 +149,7 @@ impl<D: Device + Drop> Mib<D> {
         moment: Moment,
     ) -> Result<Option<Value>, AllocError>
         ensures there { Contains (instances (D.held self.now.device) object) instance
-            → IfOk result (λ value. value ≡ Some (value_of (known_of self.now.settings self.now.counters (D.held self.now.device) moment) object instance)) }
+            → IfOk result (λ value. value ≡ Some (variable_value (known_of self.now.settings self.now.counters (D.held self.now.device) moment) object instance)) }
         ensures found { IfOk result (λ value. IfSome value (λ _. Contains (instances (D.held self.now.device) object) instance)) }
     {
         match object {
@@ -258,7 +258,7 @@ impl<D: Device + Drop> Mib<D> {
 /// The served object that a name is under, and what of the name stands after the object's own.
 pub(crate) fn find_object(name: &[u32]) -> Option<(Object, &[u32])>
     ensures some { IfSome result (λ found. Contains objects found.0 × (name.now ≡ prefix_of found.0 ++ found.1.now)) }
-    ensures none { IfNone result (¬ (IsServed name.now)) }
+    ensures none { IfNone result (¬ (IsServedName name.now)) }
 {
     let object = all_objects()[candidate_place(name)];
     let Some(rest) = name.strip_prefix(object.prefix()) else {

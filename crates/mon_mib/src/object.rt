@@ -1,5 +1,5 @@
 ghost use Rattle.std.specs.Prelude.{◌≡◌, ◌++◌, ◌∷◌, [], IfOk};
-ghost use Rattle.mon_mib.specs.Objects.{prefix_of, access_of, syntax_of, objects};
+ghost use Rattle.mon_mib.specs.Objects.{prefix_of, max_access_of, syntax_of, objects};
 ghost use Rattle.mon_mib.specs.Tried.{writable_of};
 
 use crate::column::Column;
@@ -88,7 +88,7 @@ impl Object {
 
     /// Whether a Set may change its variables (MAX-ACCESS, RFC 2578 section 7.3).
     pub fn access(self) -> MaxAccess
-        ensures { result ≡ access_of self }
+        ensures { result ≡ max_access_of self }
     {
         match self {
             Object::Scalar(scalar) => scalar.access(),

@@ -21,13 +21,13 @@ pub struct SetPlan {
 impl Model for SetPlan {
     ghost use Rattle.std.specs.Prelude.{List, vec_capacity};
     ghost use Rattle.mon_mib.specs.declared.step.Step.{Step};
-    ghost use Rattle.mon_mib.specs.Plan.{HasRoom};
+    ghost use Rattle.mon_mib.specs.Plan.{HasRoomToUndo};
 
     ghost Value = { List Step };
 
     ghost view = { λ p. p.steps.items };
 
-    ghost invariant = { λ p. HasRoom p.steps.items p.undos.items p.standing.items (vec_capacity p.undos) (vec_capacity p.standing) };
+    ghost invariant = { λ p. HasRoomToUndo p.steps.items p.undos.items p.standing.items (vec_capacity p.undos) (vec_capacity p.standing) };
 }
 
 impl SetPlan {

@@ -5,8 +5,8 @@ ghost use Rattle.mon_mib.specs.declared.binding_fault.BindingFault.{BindingFault
 ghost use Rattle.mon_mib.specs.declared.object.Object.{Object as AnyObject};
 ghost use Rattle.mon_mib.specs.declared.object.Object.TheVariants as served;
 ghost use Rattle.mon_mib.specs.declared.column.Column.TheVariants.{IfAdminStatus, IfAlias};
-ghost use Rattle.mon_mib.specs.Assignment.{scalar_of, IsPlan};
-ghost use Rattle.mon_mib.specs.Commit.{IsCommitted, failures_of};
+ghost use Rattle.mon_mib.specs.Assignment.{scalar_of, IsSetPlan};
+ghost use Rattle.mon_mib.specs.Commit.{IsCommitted, failures_by_then};
 ghost use Rattle.mon_mib.specs.Held.{facts_at};
 ghost use Rattle.mon_mib.specs.Known.{known_of};
 ghost use Rattle.mon_mib.specs.Objects.{prefix_of};
@@ -53,7 +53,7 @@ impl<D: Device + Drop> Mib<D> {
         moment: Moment,
     ) -> Result<SetPlan, SetFault>
         ensures plan { let known = known_of self.now.settings self.now.counters (D.held self.now.device) moment in
-            IfOk result (λ plan. IsPlan known bindings.now plan) }
+            IfOk result (λ plan. IsSetPlan known bindings.now plan) }
         ensures accepted { let known = known_of self.now.settings self.now.counters (D.held self.now.device) moment in
             IfOk result (λ _. All (IsAccepted known (IsInView policy.now.families access.entry.view.now)) bindings.now) }
         ensures refused { let known = known_of self.now.settings self.now.counters (D.held self.now.device) moment in
@@ -74,7 +74,7 @@ impl<D: Device + Drop> Mib<D> {
     /// undoing fails too, the others are still undone. It takes no memory: the plan has the room.
     pub fn commit(&mut self, plan: SetPlan) -> Commit
         ensures outcome { IsCommitted D.held D.refuses plan (D.held self.old.device) (D.held self.new.device) result }
-        ensures failures { D.failed self.new.device ≡ failures_of result (D.failed self.old.device) }
+        ensures failures { D.failed self.new.device ≡ failures_by_then result (D.failed self.old.device) }
         ensures settings { self.new.settings ≡ self.old.settings }
         ensures counters { self.new.counters ≡ self.old.counters }
     {

@@ -2,7 +2,7 @@ ghost use Rattle.std.specs.Prelude.{◌≡◌, ◌<◌, ◌↔◌, IsTrue, IsOk,
 ghost use Rattle.std.specs.Option.{option_copied};
 ghost use Rattle.mon_mib.specs.Change.{one_failure};
 ghost use Rattle.mon_mib.specs.Held.{AreIndexes};
-ghost use Rattle.mon_mib.specs.Sim.{held_of, indexes_of, interface_at, is_over, IsPlace};
+ghost use Rattle.mon_mib.specs.Sim.{held_of, indexes_of, interface_at, is_over, IsPlaceOfIndex};
 
 use crate::change::Change;
 use crate::device::Device;
@@ -125,7 +125,7 @@ impl Device for SimDevice {
 impl SimDevice {
     /// The place of the interface of an index. Where the device lacks it, that is a failure.
     fn place(&mut self, index: u32) -> Result<usize, DeviceFault>
-        ensures found { IfOk result (IsPlace self.old.interfaces index) }
+        ensures found { IfOk result (IsPlaceOfIndex self.old.interfaces index) }
         ensures same { OnOk result (self.new ≡ self.old) }
         ensures lacking { OnErr result (¬ (Contains (indexes_of self.old.interfaces) index)) }
         ensures counted { OnErr result (self.new ≡ record self.old { failures = one_failure self.old.failures }) }
@@ -141,7 +141,7 @@ impl SimDevice {
 /// The place of the interface of an index, where indexes rise.
 fn place_of(interfaces: &[Interface], index: u32) -> Option<usize>
     requires { AreIndexes (indexes_of interfaces.now) }
-    ensures found { IfSome result (IsPlace interfaces.now index) }
+    ensures found { IfSome result (IsPlaceOfIndex interfaces.now index) }
     ensures missing { IfNone result (¬ (Contains (indexes_of interfaces.now) index)) }
 {
     match interfaces.binary_search_by_key(&index, |p| p.index) {

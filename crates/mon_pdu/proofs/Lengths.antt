@@ -7,22 +7,22 @@ use Rattle.std.proofs.lemmas.Int.{to_z-of_z}
 use Rattle.std.proofs.lemmas.Bool.{cases_lt}
 use Rattle.std.proofs.lemmas.List.{length-append, append_assoc, take_more, flat_map_more}
 use Rattle.mon_ber.specs.declared.value.Value.TheVariants.{Integer, Octets, Name}
-use Rattle.mon_ber.specs.Writing.{contents_of, written, size_for, counted}
+use Rattle.mon_ber.specs.Writing.{contents_of, written, size_for, size_counted}
 use Rattle.mon_ber.proofs.Promised.{length-element, written_size, size_longer}
 use Rattle.mon_pdu.specs.declared.message.Binding.{Binding}
 use Rattle.mon_pdu.specs.declared.message.Body.{Body}
 use Rattle.mon_pdu.specs.declared.message.Message.{Message}
 use Rattle.mon_pdu.specs.Grammar.{tag_of, first_of, second_of, third_of, bindings_of}
-use Rattle.mon_pdu.specs.Writing.{binding_contents, written_binding, list_contents, written_list, numbers_of, body_contents, written_body, message_contents, written_message, IsValidBinding}
+use Rattle.mon_pdu.specs.Writing.{binding_contents, written_binding, list_contents, written_list, leading_integers, body_contents, written_body, message_contents, written_message, IsValidBinding}
 
 -- counting further than the limit makes no difference
-pub counted_twice : (n : ℕ) → counted (size_for (counted n)) ≡ counted (size_for n)
+pub counted_twice : (n : ℕ) → size_counted (size_for (size_counted n)) ≡ size_counted (size_for n)
 counted_twice n =
     elim (cases_lt n (2 ^ 32)) [
-      | inl lt ↦ (let is : counted n ≡ n = omega arith in ap (λ (k : ℕ). counted (size_for k)) is)
+      | inl lt ↦ (let is : size_counted n ≡ n = omega arith in ap (λ (k : ℕ). size_counted (size_for k)) is)
       | inr le ↦ (
-          let is : counted n ≡ 2 ^ 32 = omega arith in
-          ap (λ (k : ℕ). counted (size_for k)) is ∙ omega (arith, le, size_longer n, size_longer (2 ^ 32)))
+          let is : size_counted n ≡ 2 ^ 32 = omega arith in
+          ap (λ (k : ℕ). size_counted (size_for k)) is ∙ omega (arith, le, size_longer n, size_longer (2 ^ 32)))
     ]
 
 pub binding_length : (b : Binding) → length (written_binding b) ≡ size_for (length (binding_contents b))
@@ -44,8 +44,8 @@ message_length m = length-element 0x30 (message_contents m)
 pub binding_total : (b : Binding) → length (binding_contents b) ≡ length (written (Name b.name)) + length (written b.value)
 binding_total b = length-append (written (Name b.name)) (written b.value)
 
-pub body_total : (body : Body) → length (body_contents body) ≡ length (numbers_of body) + size_for (length (list_contents (bindings_of body)))
-body_total body = omega (arith, length-append (numbers_of body) (written_list (bindings_of body)), list_length (bindings_of body))
+pub body_total : (body : Body) → length (body_contents body) ≡ length (leading_integers body) + size_for (length (list_contents (bindings_of body)))
+body_total body = omega (arith, length-append (leading_integers body) (written_list (bindings_of body)), list_length (bindings_of body))
 
 pub message_total : (m : Message) → length (message_contents m) ≡ length (written (Integer (pos 1))) + size_for (length m.community) + size_for (length (body_contents m.body))
 message_total m = total (written (Integer (pos 1))) (written (Octets m.community)) (written_body m.body) (size_for (length m.community)) (size_for (length (body_contents m.body))) (written_size (Octets m.community)) (body_length m.body)
@@ -73,19 +73,19 @@ each_fits (b ∷ bs) zero d lt h = omega (arith, h, flat_length b bs, binding_le
 each_fits (b ∷ bs) (suc i) d lt h = each_fits bs i d (omega arith) (omega (arith, h, flat_length b bs))
 
 -- a step of the loop that counts the bindings
-pub one_more : (bs : List Binding) (i len : ℕ) (b : Binding) (inside outside new : ℕ) → i < length bs → b ≡ get_or bs i b → len ≡ counted (length (list_contents (take i bs)))
-    → inside ≡ counted (length (binding_contents b)) → outside ≡ counted (size_for inside) → new ≡ counted (len + outside) → new ≡ counted (length (list_contents (take (i + 1) bs)))
+pub one_more : (bs : List Binding) (i len : ℕ) (b : Binding) (inside outside new : ℕ) → i < length bs → b ≡ get_or bs i b → len ≡ size_counted (length (list_contents (take i bs)))
+    → inside ≡ size_counted (length (binding_contents b)) → outside ≡ size_counted (size_for inside) → new ≡ size_counted (len + outside) → new ≡ size_counted (length (list_contents (take (i + 1) bs)))
 one_more bs i len b inside outside new lt is so_far e f g =
     let more : list_contents (take (i + 1) bs) ≡ list_contents (take i bs) ++ written_binding b =
     ap list_contents (take_more bs i b lt) ∙ sym (flat_map_more written_binding [] (take i bs) (get_or bs i b)) ∙ ap (λ (x : Binding). list_contents (take i bs) ++ written_binding x) (sym is) in
-    let size : outside ≡ counted (length (written_binding b)) = f ∙ ap (λ (n : ℕ). counted (size_for n)) e ∙ counted_twice (length (binding_contents b)) ∙ ap counted (sym (binding_length b)) in
+    let size : outside ≡ size_counted (length (written_binding b)) = f ∙ ap (λ (n : ℕ). size_counted (size_for n)) e ∙ counted_twice (length (binding_contents b)) ∙ ap size_counted (sym (binding_length b)) in
     rw more (omega (arith, length-append (list_contents (take i bs)) (written_binding b), so_far, size, g))
 
 -- a signed number that is passed to a call is read through its bits
 pub passed : (z : ℤ) → FitsSigned w32 z → cast_signed w32 (cast_unsigned w32 z) ≡ z
 passed z fits = to_z-of_z w32 z fits
 
-pub numbers_total : (body : Body) → length (numbers_of body) ≡ length (written (Integer (first_of body))) + length (written (Integer (second_of body))) + length (written (Integer (third_of body)))
+pub numbers_total : (body : Body) → length (leading_integers body) ≡ length (written (Integer (first_of body))) + length (written (Integer (second_of body))) + length (written (Integer (third_of body)))
 numbers_total body = omega (arith, length-append (written (Integer (first_of body)) ++ written (Integer (second_of body))) (written (Integer (third_of body))), length-append (written (Integer (first_of body))) (written (Integer (second_of body))))
 
 -- three numbers that are passed on, behind what was there

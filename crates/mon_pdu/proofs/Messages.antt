@@ -5,9 +5,10 @@ use Rattle.std.proofs.lemmas.List.{append-nil, nil_from_length}
 use Rattle.mon_ber.specs.declared.fault.BerFault.{BerFault}
 use Rattle.mon_ber.specs.declared.value.Value.TheVariants.{Integer}
 use Rattle.mon_ber.specs.Grammar.{IsLength, IsElement, Spells}
-use Rattle.mon_ber.specs.Reading.{◌>>=◌, contents_at, element_at, integer_at, name_at, value_at}
+use Rattle.mon_oid.specs.Steps.{◌>>=◌}
+use Rattle.mon_ber.specs.Reading.{contents_at, element_at, integer_at, name_at, value_at}
 use Rattle.mon_ber.specs.Sequence.{AreSpelled}
-use Rattle.mon_ber.specs.Many.{many, behind}
+use Rattle.mon_ber.specs.Many.{many, with_front}
 use Rattle.mon_ber.proofs.Promised.{bind_ok, wanted, chosen, ok_is, pair_is, IsBytes, contents_takes, contents_again, element_takes, element_again, value_takes, value_again, integer_at_takes, integer_at_again, name_at_takes, name_at_again, IsBytes-after, IsBytes-inside, element_some, stops, many_take, many_again, no_more}
 use Rattle.mon_pdu.specs.declared.fault.PduFault.{PduFault}
 use Rattle.mon_pdu.specs.declared.fault.PduFault.TheVariants.{OutOfMemory, Truncated, BadTag, BadLength, OutOfRange, BadOid, BadVersion, UnknownPdu}
@@ -21,7 +22,7 @@ use Rattle.mon_pdu.specs.Grammar.{IsBinding, first_of, second_of, third_of, bind
 use Rattle.mon_pdu.specs.Reading.{Fails, lifted, ended, binding_at, list_at, made_of, body_of, behind_tag, body_at}
 
 -- a loop ends where one of them can't be read
-pub fails : (front : List Binding) (room : ℕ) (bytes : List ℕ) (total : Result (List Binding) PduFault) → behind front (many binding_at Truncated room bytes) ≡ total
+pub fails : (front : List Binding) (room : ℕ) (bytes : List ℕ) (total : Result (List Binding) PduFault) → with_front front (many binding_at Truncated room bytes) ≡ total
     → (e : PduFault) → 0 < room → 0 < length bytes → Fails e (binding_at bytes) → Fails e total
 fails front room bytes total so_far OutOfMemory some left h = tt
 fails front room bytes total so_far Truncated some left h = stops binding_at Truncated front room bytes total so_far Truncated some left h

@@ -15,7 +15,7 @@ use Rattle.mon_pdu.specs.declared.message.Binding.{Binding}
 use Rattle.mon_pdu.specs.declared.message.Body.{Body}
 use Rattle.mon_pdu.specs.declared.message.Message.{Message}
 use Rattle.mon_pdu.specs.Grammar.{tag_of, first_of, second_of, third_of, bindings_of, IsBinding, IsList, IsBody, IsMessage}
-use Rattle.mon_pdu.specs.Writing.{binding_contents, written_binding, list_contents, written_list, numbers_of, body_contents, written_body, message_contents, written_message, HasLength, IsValidBinding, IsValid}
+use Rattle.mon_pdu.specs.Writing.{binding_contents, written_binding, list_contents, written_list, leading_integers, body_contents, written_body, message_contents, written_message, HasLength, IsValidBinding, IsValid}
 use Rattle.mon_pdu.proofs.Lengths.{binding_length, list_length, body_length, message_length, binding_total, numbers_total, flat_length}
 
 -- ---- octets in parts
@@ -143,7 +143,7 @@ module _ (value_shortest : (bytes : List ℕ) (v : Value) → IsBytes bytes → 
       let list = list_shortest is.list (bindings_of body) (octets_right is.third is.list inside3) is.spelled_list in
       let lengths : length contents ≡ length is.first + (length is.second + (length is.third + length is.list)) =
       omega (arith, length-append is.first others, length-append is.second (is.third ++ is.list), length-append is.third is.list) in
-      let total : length (body_contents body) ≡ length (numbers_of body) + length (written_list (bindings_of body)) = length-append (numbers_of body) (written_list (bindings_of body)) in
+      let total : length (body_contents body) ≡ length (leading_integers body) + length (written_list (bindings_of body)) = length-append (leading_integers body) (written_list (bindings_of body)) in
       let le : length (body_contents body) ≤ length contents = omega (arith, total, numbers_total body, a, b, c, list, lengths) in
       rw (body_length body) (element_shortest (tag_of body) contents bytes (length (body_contents body)) fits is.element le)
 

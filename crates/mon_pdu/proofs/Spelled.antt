@@ -15,7 +15,7 @@ use Rattle.mon_pdu.specs.declared.message.Body.{Body}
 use Rattle.mon_pdu.specs.declared.message.Message.{Message}
 use Rattle.mon_pdu.specs.Grammar.{tag_of, first_of, second_of, third_of, bindings_of, IsBinding, IsList, IsBody, IsMessage}
 use Rattle.mon_pdu.specs.Reading.{message_at}
-use Rattle.mon_pdu.specs.Writing.{binding_contents, written_binding, list_contents, written_list, numbers_of, body_contents, written_body, message_contents, written_message, HasLength, IsValidBinding, IsValid}
+use Rattle.mon_pdu.specs.Writing.{binding_contents, written_binding, list_contents, written_list, leading_integers, body_contents, written_body, message_contents, written_message, HasLength, IsValidBinding, IsValid}
 use Rattle.mon_pdu.proofs.Lengths.{binding_length, binding_total, numbers_total, message_total, list_fits, body_fits, flat_length}
 use Rattle.mon_pdu.proofs.Whole.{message_again}
 
@@ -52,7 +52,7 @@ unfolding written_body
 body_spelled m is fits =
     let body : Body = m.body in
     let n : ℕ = length (body_contents body) in
-    let total : n ≡ length (numbers_of body) + length (written_list (bindings_of body)) = length-append (numbers_of body) (written_list (bindings_of body)) in
+    let total : n ≡ length (leading_integers body) + length (written_list (bindings_of body)) = length-append (leading_integers body) (written_list (bindings_of body)) in
     let numbers = numbers_total body in
     let a : List ℕ = written (Integer (first_of body)) in
     let b : List ℕ = written (Integer (second_of body)) in

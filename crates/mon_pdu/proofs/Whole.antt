@@ -7,7 +7,8 @@ use Rattle.mon_ber.specs.declared.fault.BerFault.{BerFault}
 use Rattle.mon_ber.specs.declared.fault.BerFault.TheVariants as ber
 use Rattle.mon_ber.specs.declared.value.Value.TheVariants.{Integer, Octets}
 use Rattle.mon_ber.specs.Grammar.{IsElement, Spells}
-use Rattle.mon_ber.specs.Reading.{◌>>=◌, contents_at, element_at, integer_at, name_at, value_at}
+use Rattle.mon_oid.specs.Steps.{◌>>=◌}
+use Rattle.mon_ber.specs.Reading.{contents_at, element_at, integer_at, name_at, value_at}
 use Rattle.mon_ber.specs.Many.{many}
 use Rattle.mon_ber.proofs.Promised.{bind_ok, wanted, chosen, ok_is, pair_is, IsBytes, element_takes, element_again, integer_at_takes, integer_at_again, octets_at_takes, octets_at_again, IsBytes-after, IsBytes-inside}
 use Rattle.mon_pdu.specs.declared.fault.PduFault.{PduFault}

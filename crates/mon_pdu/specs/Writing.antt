@@ -26,12 +26,12 @@ unfoldable pub written_list : List Binding → List ℕ
 written_list bs = element 0x30 (list_contents bs)
 
 -- the three INTEGERs that a PDU begins with
-abbrev pub numbers_of : Body → List ℕ
-numbers_of body = written (values.Integer (first_of body)) ++ written (values.Integer (second_of body)) ++ written (values.Integer (third_of body))
+abbrev pub leading_integers : Body → List ℕ
+leading_integers body = written (values.Integer (first_of body)) ++ written (values.Integer (second_of body)) ++ written (values.Integer (third_of body))
 
 -- the contents of a PDU
 abbrev pub body_contents : Body → List ℕ
-body_contents body = numbers_of body ++ written_list (bindings_of body)
+body_contents body = leading_integers body ++ written_list (bindings_of body)
 
 -- a PDU (RFC 3416 section 3)
 unfoldable pub written_body : Body → List ℕ

@@ -4,12 +4,12 @@ ghost use Rattle.std.specs.Prelude.{◌≡◌, FitsSigned, ℕ, ◌≤◌, ◌<�
 ghost use Rattle.std.specs.List.{flat_map, AllByRecursion};
 ghost use Rattle.std.specs.Int.{w32};
 ghost use Rattle.mon_ber.specs.declared.value.Value.TheVariants.{Integer};
-ghost use Rattle.mon_ber.specs.Writing.{written, element, counted, IsValid as IsValidValue};
+ghost use Rattle.mon_ber.specs.Writing.{written, element, size_counted, IsValid as IsValidValue};
 ghost use Rattle.mon_pdu.specs.declared.fault.PduFault.TheVariants.{OutOfMemory, BadLength};
 ghost use Rattle.mon_pdu.specs.declared.message.Binding.{Binding as AnyBinding};
 ghost use Rattle.mon_pdu.specs.Grammar.{tag_of, first_of, second_of, third_of, bindings_of, IsMessage};
 ghost use Rattle.mon_pdu.specs.Sizes.{with_bindings};
-ghost use Rattle.mon_pdu.specs.Writing.{HasLength, binding_contents, written_binding, list_contents, written_list, numbers_of, body_contents, written_body, message_contents, written_message, IsValidBinding, IsValid};
+ghost use Rattle.mon_pdu.specs.Writing.{HasLength, binding_contents, written_binding, list_contents, written_list, leading_integers, body_contents, written_body, message_contents, written_message, IsValidBinding, IsValid};
 
 use crate::fault::PduFault;
 use crate::message::{Binding, Body, Message};
@@ -52,7 +52,7 @@ fn look_at_value(value: &Value)
 /// How many octets the contents of a binding take, counted up to the limit.
 #[tactic(auto, using(crate::proofs::Lengths::binding_total))]
 fn binding_len(binding: &Binding) -> usize
-    ensures len { result ≡ counted (length (binding_contents binding.now)) }
+    ensures len { result ≡ size_counted (length (binding_contents binding.now)) }
     ensures valid { IsValidBinding binding.now }
 {
     let _parts = binding.name.parts();
@@ -63,7 +63,7 @@ fn binding_len(binding: &Binding) -> usize
 /// How many octets the bindings take, counted up to the limit.
 #[tactic(auto, using(crate::proofs::Lengths::binding_length, crate::proofs::Lengths::counted_twice))]
 fn list_len(bindings: &[Binding]) -> usize
-    ensures len { result ≡ counted (length (list_contents bindings.now)) }
+    ensures len { result ≡ size_counted (length (list_contents bindings.now)) }
     ensures valid { AllByRecursion IsValidBinding bindings.now }
 {
     let mut len = 0;
@@ -98,7 +98,7 @@ fn put_three(out: &mut Vec<u8>, first: i32, second: i32, third: i32)
 /// How many octets the numbers before the bindings take.
 #[tactic(auto, using(crate::proofs::Lengths::passed, crate::proofs::Lengths::numbers_total))]
 fn numbers_len(body: &Body) -> usize
-    ensures value { result ≡ length (numbers_of body.now) }
+    ensures value { result ≡ length (leading_integers body.now) }
     ensures small { result ≤ 45 }
     ensures fits { FitsSigned w32 (first_of body.now) × FitsSigned w32 (second_of body.now) × FitsSigned w32 (third_of body.now) }
 {
@@ -110,9 +110,9 @@ fn numbers_len(body: &Body) -> usize
 
 #[tactic(auto, using(crate::proofs::Lengths::passed))]
 fn put_numbers(out: &mut Vec<u8>, body: &Body)
-    requires room { vec_len out.old + length (numbers_of body.now) ≤ vec_capacity out.old }
-    ensures items { out.new.items ≡ out.old.items ++ numbers_of body.now }
-    ensures len { vec_len out.new ≡ vec_len out.old + length (numbers_of body.now) }
+    requires room { vec_len out.old + length (leading_integers body.now) ≤ vec_capacity out.old }
+    ensures items { out.new.items ≡ out.old.items ++ leading_integers body.now }
+    ensures len { vec_len out.new ≡ vec_len out.old + length (leading_integers body.now) }
     ensures capacity { vec_capacity out.old ≤ vec_capacity out.new }
 {
     match body {
@@ -128,8 +128,8 @@ fn put_numbers(out: &mut Vec<u8>, body: &Body)
 
 #[tactic(auto, using(crate::proofs::Lengths::body_total, crate::proofs::Lengths::counted_twice))]
 fn body_len(body: &Body, list: usize) -> usize
-    requires { list ≡ counted (length (list_contents (bindings_of body.now))) }
-    ensures len { result ≡ counted (length (body_contents body.now)) }
+    requires { list ≡ size_counted (length (list_contents (bindings_of body.now))) }
+    ensures len { result ≡ size_counted (length (body_contents body.now)) }
     ensures fits { FitsSigned w32 (first_of body.now) × FitsSigned w32 (second_of body.now) × FitsSigned w32 (third_of body.now) }
 {
     (numbers_len(body) + element_size(list)).min(LIMIT)
@@ -137,8 +137,8 @@ fn body_len(body: &Body, list: usize) -> usize
 
 #[tactic(auto, using(crate::proofs::Lengths::message_total, crate::proofs::Lengths::counted_twice))]
 fn message_len(message: &Message, body: usize) -> usize
-    requires { body ≡ counted (length (body_contents message.now.body)) }
-    ensures { result ≡ counted (length (message_contents message.now)) }
+    requires { body ≡ size_counted (length (body_contents message.now.body)) }
+    ensures { result ≡ size_counted (length (message_contents message.now)) }
 {
     let community = element_size(message.community.as_slice().len());
     (integer_size(1) + community + element_size(body)).min(LIMIT)
@@ -154,9 +154,9 @@ struct Lengths {
 
 /// Measures the message from the inside out, each part once.
 fn lengths_of(message: &Message) -> Lengths
-    ensures list { result.list ≡ counted (length (list_contents (bindings_of message.now.body))) }
-    ensures body { result.body ≡ counted (length (body_contents message.now.body)) }
-    ensures message { result.message ≡ counted (length (message_contents message.now)) }
+    ensures list { result.list ≡ size_counted (length (list_contents (bindings_of message.now.body))) }
+    ensures body { result.body ≡ size_counted (length (body_contents message.now.body)) }
+    ensures message { result.message ≡ size_counted (length (message_contents message.now)) }
     ensures valid { IsValid message.now }
 {
     let list = list_len(message.body.bindings());
@@ -187,7 +187,7 @@ pub fn message_size(message: &Message) -> Result<usize, PduFault>
 /// How many octets a variable binding takes where it stands in a message, counted up to `LIMIT` of `mon_ber::writing`.
 #[tactic(auto, using(crate::proofs::Lengths::binding_length, crate::proofs::Lengths::counted_twice))]
 pub fn binding_size(binding: &Binding) -> usize
-    ensures { result ≡ counted (length (written_binding binding.now)) }
+    ensures { result ≡ size_counted (length (written_binding binding.now)) }
 {
     element_size(binding_len(binding))
 }
@@ -195,8 +195,8 @@ pub fn binding_size(binding: &Binding) -> usize
 /// How many octets `write_message` would write for this message with other variable bindings, which take `list` octets
 /// in all, counted up to `LIMIT` of `mon_ber::writing`. Takes the same time however many they are.
 pub fn size_with(message: &Message, list: usize) -> usize
-    ensures { (bindings : List AnyBinding) → list ≡ counted (length (list_contents bindings))
-        → result ≡ counted (length (written_message (with_bindings message.now bindings))) }
+    ensures { (bindings : List AnyBinding) → list ≡ size_counted (length (list_contents bindings))
+        → result ≡ size_counted (length (written_message (with_bindings message.now bindings))) }
 {
     let body = (numbers_len(&message.body) + element_size(list)).min(LIMIT);
     let community = element_size(message.community.as_slice().len());
@@ -245,8 +245,8 @@ fn put_list(out: &mut Vec<u8>, bindings: &[Binding], len: usize)
 #[tactic(auto, using(crate::proofs::Lengths::list_fits), unfolding(crate::specs::Writing::written_body, mon_ber::specs::Writing::element))]
 fn put_body(out: &mut Vec<u8>, body: &Body, lengths: Lengths)
     requires fits { length (body_contents body.now) < 2 ^ 32 }
-    requires body { lengths.body ≡ counted (length (body_contents body.now)) }
-    requires list { lengths.list ≡ counted (length (list_contents (bindings_of body.now))) }
+    requires body { lengths.body ≡ size_counted (length (body_contents body.now)) }
+    requires list { lengths.list ≡ size_counted (length (list_contents (bindings_of body.now))) }
     requires room { vec_len out.old + length (written_body body.now) ≤ vec_capacity out.old }
     ensures items { out.new.items ≡ out.old.items ++ written_body body.now }
     ensures len { vec_len out.new ≡ vec_len out.old + length (written_body body.now) }
@@ -260,9 +260,9 @@ fn put_body(out: &mut Vec<u8>, body: &Body, lengths: Lengths)
 #[tactic(auto, using(crate::proofs::Lengths::body_fits), unfolding(crate::specs::Writing::written_message, mon_ber::specs::Writing::element))]
 fn put_message(out: &mut Vec<u8>, message: &Message, lengths: Lengths)
     requires fits { HasLength message.now }
-    requires message { lengths.message ≡ counted (length (message_contents message.now)) }
-    requires body { lengths.body ≡ counted (length (body_contents message.now.body)) }
-    requires list { lengths.list ≡ counted (length (list_contents (bindings_of message.now.body))) }
+    requires message { lengths.message ≡ size_counted (length (message_contents message.now)) }
+    requires body { lengths.body ≡ size_counted (length (body_contents message.now.body)) }
+    requires list { lengths.list ≡ size_counted (length (list_contents (bindings_of message.now.body))) }
     requires room { vec_len out.old + length (written_message message.now) ≤ vec_capacity out.old }
     ensures items { out.new.items ≡ out.old.items ++ written_message message.now }
     ensures len { vec_len out.new ≡ vec_len out.old + length (written_message message.now) }

@@ -15,7 +15,8 @@ use Rattle.mon_poller.specs.declared.fault.ResponseFault.TheVariants.{WrongNames
 use Rattle.mon_poller.specs.declared.poller.Offered.{Offered}
 use Rattle.mon_poller.specs.declared.target.Object.{Object}
 use Rattle.mon_poller.specs.declared.target.Target.{Target}
-use Rattle.mon_poller.specs.Gives.{◌>>=◌, need}
+use Rattle.mon_oid.specs.Steps.{◌>>=◌}
+use Rattle.mon_poller.specs.Gives.{need}
 use Rattle.mon_poller.specs.Polls.{Open, Poll}
 use Rattle.mon_poller.specs.Target.{poll_names, no_target, target_at}
 use Rattle.mon_poller.specs.Stamp.{Stamp}

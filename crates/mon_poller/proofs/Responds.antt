@@ -8,7 +8,8 @@ use Rattle.mon_poller.specs.declared.addr.Addr.{Addr}
 use Rattle.mon_poller.specs.declared.fault.ResponseFault.{ResponseFault}
 use Rattle.mon_poller.specs.declared.fault.ResponseFault.TheVariants.{BadMessage, Stray, WrongSource, WrongCommunity}
 use Rattle.mon_poller.specs.declared.target.Target.{Target}
-use Rattle.mon_poller.specs.Gives.{◌>>=◌, or_refuse, need}
+use Rattle.mon_oid.specs.Steps.{◌>>=◌}
+use Rattle.mon_poller.specs.Gives.{or_refuse, need}
 use Rattle.mon_poller.specs.Polls.{Poll, Open, poll_of}
 use Rattle.mon_poller.specs.Target.{target_at}
 use Rattle.mon_poller.specs.Verdict.{awaited, response_pdu, same_addr}

@@ -10,7 +10,7 @@ use Rattle.mon_ber.proofs.Promised.{length-element, length-high_first, written_s
 use Rattle.mon_pdu.specs.declared.message.Binding.{Binding}
 use Rattle.mon_pdu.specs.declared.message.Message.{Message}
 use Rattle.mon_pdu.specs.Grammar.{bindings_of, first_of, second_of, third_of, tag_of}
-use Rattle.mon_pdu.specs.Writing.{binding_contents, body_contents, list_contents, message_contents, numbers_of, written_binding, written_body, written_list}
+use Rattle.mon_pdu.specs.Writing.{binding_contents, body_contents, list_contents, message_contents, leading_integers, written_binding, written_body, written_list}
 
 either : (c : Bool) (a b k : ℕ) → a ≤ k → b ≤ k → (if c then a else b) ≤ k
 either true a b k p q = p
@@ -75,7 +75,7 @@ list_size bs = length-element 0x30 (list_contents bs)
 
 -- a message with a short community and short bindings
 module _ (m : Message) (community : length m.community ≤ 512) (list : length (list_contents (bindings_of m.body)) ≤ 100000) where
-  numbers_few : length (numbers_of m.body) ≤ 45
+  numbers_few : length (leading_integers m.body) ≤ 45
   numbers_few =
       let a = written (Integer (first_of m.body)) in
       let b = written (Integer (second_of m.body)) in
@@ -88,7 +88,7 @@ module _ (m : Message) (community : length m.community ≤ 512) (list : length (
 
   body_few : length (written_body m.body) ≤ 100057
   body_few =
-      omega (arith, body_size, size_few (length (body_contents m.body)), length-append (numbers_of m.body) (written_list (bindings_of m.body)), numbers_few, list_size (bindings_of m.body), size_few (length (list_contents (bindings_of m.body))), list)
+      omega (arith, body_size, size_few (length (body_contents m.body)), length-append (leading_integers m.body) (written_list (bindings_of m.body)), numbers_few, list_size (bindings_of m.body), size_few (length (list_contents (bindings_of m.body))), list)
 
   pub message_few : length (message_contents m) < 2 ^ 32
   message_few =

@@ -2,7 +2,8 @@
 use Rattle.std.proofs.Common.{◌≡◌, Bool, true, false, not, refl, sym, ap, Result}
 use Rattle.mon_poller.specs.declared.fault.ResponseFault.{ResponseFault}
 use Rattle.mon_poller.specs.declared.fault.ResponseFault.TheVariants.{OutOfMemory, BadMessage, Stray, WrongSource, WrongCommunity, AgentError, WrongNames, BadStamp, OtherEngine}
-use Rattle.mon_poller.specs.Gives.{◌>>=◌, Fails}
+use Rattle.mon_oid.specs.Steps.{◌>>=◌}
+use Rattle.mon_poller.specs.Gives.{Fails}
 
 -- what fails in the first step fails
 pub fails_first : {A B : Type 0} (e : ResponseFault) (x : Result A ResponseFault) (f : A → Result B ResponseFault) → Fails e x → Fails e (x >>= f)

@@ -10,7 +10,8 @@ use Rattle.mon_poller.specs.declared.fault.ResponseFault.{ResponseFault}
 use Rattle.mon_poller.specs.declared.fault.ResponseFault.TheVariants.{OutOfMemory, BadMessage, Stray, WrongSource, WrongCommunity, AgentError, WrongNames, BadStamp, OtherEngine}
 use Rattle.mon_poller.specs.declared.target.Target.{Target}
 use Rattle.mon_poller.specs.Fault.{response_number}
-use Rattle.mon_poller.specs.Gives.{◌>>=◌, or_refuse, Gives, Fails}
+use Rattle.mon_oid.specs.Steps.{◌>>=◌}
+use Rattle.mon_poller.specs.Gives.{or_refuse, Gives, Fails}
 use Rattle.mon_poller.specs.Polls.{Poll, Open, Polls, closed, closed_by}
 use Rattle.mon_poller.specs.Target.{target_at}
 use Rattle.mon_poller.specs.Verdict.{awaited, poll_answer, response_verdict, to_offered, ends, id_of, response_pdu}

@@ -1,15 +1,10 @@
 -- What a call returned against what it should give.
 use Rattle.std.specs.Prelude.{◌≡◌, Result, Ok, Err, Option, Some, None, Bool, true, false, IsOk}
+use Rattle.mon_oid.specs.Steps.{◌>>=◌}
 use Rattle.mon_poller.specs.declared.fault.PollFault.{PollFault}
 use Rattle.mon_poller.specs.declared.fault.PollFault.TheVariants as start
 use Rattle.mon_poller.specs.declared.fault.ResponseFault.{ResponseFault}
 use Rattle.mon_poller.specs.declared.fault.ResponseFault.TheVariants.{OutOfMemory, BadMessage, Stray, WrongSource, WrongCommunity, AgentError, WrongNames, BadStamp, OtherEngine}
-
-infixl 10 ◌>>=◌
--- one step after the other: the second, if the first gave something
-abbrev pub ◌>>=◌ : {A B E : Type 0} → Result A E → (A → Result B E) → Result B E
-(Ok x) >>= f = f x
-(Err e) >>= f = Err e
 
 -- what is there, else this refusal
 abbrev pub or_refuse : {A E : Type 0} → E → Option A → Result A E

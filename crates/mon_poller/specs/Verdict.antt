@@ -26,7 +26,8 @@ use Rattle.mon_poller.specs.declared.poller.TimedOut.TheVariants.{Again, GivenUp
 use Rattle.mon_poller.specs.declared.target.Object.{Object}
 use Rattle.mon_poller.specs.declared.target.Target.{Target}
 use Rattle.mon_poller.specs.Fault.{response_number}
-use Rattle.mon_poller.specs.Gives.{◌>>=◌, or_refuse, need}
+use Rattle.mon_oid.specs.Steps.{◌>>=◌}
+use Rattle.mon_poller.specs.Gives.{or_refuse, need}
 use Rattle.mon_poller.specs.Polls.{Poll, Open, Polls, poll_of, closed_by}
 use Rattle.mon_poller.specs.Stamp.{Stamp, octets_in, stamp_number, sampled, mark_in}
 use Rattle.mon_poller.specs.Target.{poll_names, poll_octets, target_at}

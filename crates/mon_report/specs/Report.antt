@@ -5,7 +5,7 @@ use Rattle.std.specs.List.{flat_map}
 use Rattle.hex.specs.Hex.{encode_lower}
 use Rattle.mon_oid.specs.Oid.{dotted}
 use Rattle.mon_sample.specs.Kind.{kind_name, number_of}
-use Rattle.mon_sample.specs.Key.{boots_of, time_of, kind_of, value_of}
+use Rattle.mon_sample.specs.Key.{boots_of, time_of, kind_of, sample_value}
 use Rattle.mon_window.specs.Top.{rising}
 use Rattle.mon_window.specs.Window.{Samples}
 use Rattle.mon_rates.specs.declared.totals.Totals.{Totals}
@@ -38,7 +38,7 @@ stamps_text oldest newest = stamp_text (boots_of oldest) (time_of oldest) ++ cod
 
 -- a sample's kind and number
 abbrev pub value_text : ℕ → List ℕ
-value_text sample = kind_name (kind_of sample) ++ codes "=" ++ signed_decimal (number_of (kind_of sample) (value_of sample))
+value_text sample = kind_name (kind_of sample) ++ codes "=" ++ signed_decimal (number_of (kind_of sample) (sample_value sample))
 
 -- a rate in thousandths, with three digits after the point
 abbrev pub rate_text : Option ℕ → List ℕ

@@ -11,7 +11,7 @@ use Rattle.std.proofs.Math.Seq.{drop-cons}
 use Rattle.std.proofs.Math.ListN.{drop_of_length-le}
 use Rattle.std.proofs.lemmas.Nat.{be_bytes_4, be_bytes_8}
 use Rattle.mon_sample.specs.Key.{key}
-use Rattle.mon_sample.specs.Record.{big_endian, octets_of, spelled_on, spelled, layout, boots_at, time_at, mark_at, tag_at, value_at}
+use Rattle.mon_sample.specs.Record.{low_octets, octets_of, spelled_on, spelled, layout, boots_at, time_at, mark_at, tag_at, value_at}
 
 abbrev IsBytes : List ℕ → Type 0
 IsBytes octets = (i : ℕ) → get_or octets i 0 < 256
@@ -62,15 +62,15 @@ more m zero = m
 more m (suc n) = suc (more m n)
 
 -- the octets of a number whose lowest n octets are b's
-pub big_endian-append : (m n a b : ℕ) → b < weight n → big_endian (more m n) (a * weight n + b) ≡ big_endian m a ++ big_endian n b
-big_endian-append m zero a b h = let same : a * 1 + b ≡ a = omega (arith, h) in ap (big_endian m) same ∙ sym (append-nil (big_endian m a))
+pub big_endian-append : (m n a b : ℕ) → b < weight n → low_octets (more m n) (a * weight n + b) ≡ low_octets m a ++ low_octets n b
+big_endian-append m zero a b h = let same : a * 1 + b ≡ a = omega (arith, h) in ap (low_octets m) same ∙ sym (append-nil (low_octets m a))
 big_endian-append m (suc n) a b h =
     let e : a * (weight n * 256) ≡ (a * weight n) * 256 = sym (mul_assoc a (weight n) 256) in
     let high : (a * (weight n * 256) + b) / 256 ≡ a * weight n + b / 256 = shifted (a * weight n) b (a * (weight n * 256)) e in
     let low : (a * (weight n * 256) + b) % 256 ≡ b % 256 = lowest (a * weight n) b (a * (weight n * 256)) e in
-    (λ i. big_endian (more m n) (high i) ++ low i ∷ [])
+    (λ i. low_octets (more m n) (high i) ++ low i ∷ [])
     ∙ ap (λ l. l ++ b % 256 ∷ []) (big_endian-append m n a (b / 256) (omega (arith, h)))
-    ∙ append_assoc (big_endian m a) (big_endian n (b / 256)) (b % 256 ∷ [])
+    ∙ append_assoc (low_octets m a) (low_octets n (b / 256)) (b % 256 ∷ [])
   where
     shifted : (x b p : ℕ) → p ≡ x * 256 → (p + b) / 256 ≡ x + b / 256
     shifted x b p e = omega (arith, e)
@@ -78,13 +78,13 @@ big_endian-append m (suc n) a b h =
     lowest : (x b p : ℕ) → p ≡ x * 256 → (p + b) % 256 ≡ b % 256
     lowest x b p e = omega (arith, e)
 
-four_octets : (b : ℕ) → big_endian 4 b ≡ to_be_bytes w32 b
+four_octets : (b : ℕ) → low_octets 4 b ≡ to_be_bytes w32 b
 four_octets b =
     let d2 : b / 256 / 256 ≡ b / 65536 = omega arith in
     let d3 : b / 256 / 256 / 256 ≡ b / 16777216 = omega arith in
     λ i. d3 i % 256 ∷ d2 i % 256 ∷ b / 256 % 256 ∷ b % 256 ∷ []
 
-eight_octets : (b : ℕ) → big_endian 8 b ≡ to_be_bytes w64 b
+eight_octets : (b : ℕ) → low_octets 8 b ≡ to_be_bytes w64 b
 eight_octets b =
     let d2 : b / 256 / 256 ≡ b / 65536 = omega arith in
     let d3 : b / 256 / 256 / 256 ≡ b / 16777216 = ap (λ n. n / 256) d2 ∙ by16 b in
@@ -109,7 +109,7 @@ eight_octets b =
     by48 : (b : ℕ) → b / 281474976710656 / 256 ≡ b / 72057594037927936
     by48 b = omega arith
 
-one_octet : (g : ℕ) → g < 2 ^ 8 → big_endian 1 g ≡ g ∷ []
+one_octet : (g : ℕ) → g < 2 ^ 8 → low_octets 1 g ≡ g ∷ []
 one_octet g h = let same : g % 256 ≡ g = omega (arith, h) in λ i. same i ∷ []
 
 -- the fields one after another are the octets of the number
@@ -123,17 +123,17 @@ layout-key b t m g v ht hm hg hv =
     ∙ (λ i. (((four_octets b i ++ four_octets t i) ++ to_be_bytes w32 m) ++ g ∷ []) ++ to_be_bytes w64 v)
 
 -- ---- the number that octets spell
-spelled_rest : (n k : ℕ) (octets : List ℕ) → k < weight n → spelled_on 0 (big_endian n k ++ octets) ≡ spelled_on k octets
+spelled_rest : (n k : ℕ) (octets : List ℕ) → k < weight n → spelled_on 0 (low_octets n k ++ octets) ≡ spelled_on k octets
 spelled_rest zero k octets h = let none : 0 ≡ k = omega (arith, h) in ap (λ n. spelled_on n octets) none
 spelled_rest (suc n) k octets h =
     let again : k / 256 * 256 + k % 256 ≡ k = omega arith in
-    ap (spelled_on 0) (append_assoc (big_endian n (k / 256)) (k % 256 ∷ []) octets)
+    ap (spelled_on 0) (append_assoc (low_octets n (k / 256)) (k % 256 ∷ []) octets)
     ∙ spelled_rest n (k / 256) (k % 256 ∷ octets) (omega (arith, h))
     ∙ ap (λ n. spelled_on n octets) again
 
 pub spelled-octets_of : (k : ℕ) → k < 2 ^ 168 → spelled (octets_of k) ≡ k
 unfolding octets_of spelled
-spelled-octets_of k h = ap (spelled_on 0) (sym (append-nil (big_endian 21 k))) ∙ spelled_rest 21 k [] h
+spelled-octets_of k h = ap (spelled_on 0) (sym (append-nil (low_octets 21 k))) ∙ spelled_rest 21 k [] h
 
 pub key_below : (b t m g v : ℕ) → b < 2 ^ 32 → t < 2 ^ 32 → m < 2 ^ 32 → g < 2 ^ 8 → v < 2 ^ 64 → key b t m g v < 2 ^ 168
 key_below b t m g v hb ht hm hg hv = omega (arith, hb, ht, hm, hg, hv)

@@ -2,7 +2,7 @@ ghost use Rattle.std.specs.Prelude.{ℕ, ◌≡◌, ◌<◌, ◌+◌, ◌*◌, �
 ghost use Rattle.std.specs.Ordering.{nat_cmp};
 ghost use Rattle.std.specs.Cmp.Lexicographic.{slice_cmp};
 ghost use Rattle.mon_sample.specs.Kind.{holds, kind_tag, number_of};
-ghost use Rattle.mon_sample.specs.Key.{key, boots_of, time_of, mark_of, tag_of, kind_of, value_of, IsSample, HasTag, HasStamp, HasValue};
+ghost use Rattle.mon_sample.specs.Key.{key, boots_of, time_of, mark_of, tag_of, kind_of, sample_value, IsSample, HasTag, HasStamp, HasValue};
 ghost use Rattle.mon_sample.specs.Record.{octets_of, spelled, layout, boots_at, time_at, mark_at, tag_at, value_at};
 
 use crate::fault::SampleFault;
@@ -27,7 +27,7 @@ pub struct Sample {
 impl Model for Sample {
     ghost use Rattle.std.specs.Prelude.{ℕ};
     ghost use Rattle.mon_sample.specs.Kind.{kind_tag};
-    ghost use Rattle.mon_sample.specs.Key.{key, boots_of, time_of, mark_of, kind_of, value_of, AreFields};
+    ghost use Rattle.mon_sample.specs.Key.{key, boots_of, time_of, mark_of, kind_of, sample_value, AreFields};
     ghost use Rattle.mon_sample.specs.Digits.{fields_back};
 
     ghost Value = { ℕ };
@@ -36,7 +36,7 @@ impl Model for Sample {
 
     ghost invariant = { λ s. AreFields s.boots s.time s.mark s.kind s.value };
 
-    ghost inverse = { λ k. record { boots = boots_of k; time = time_of k; mark = mark_of k; kind = kind_of k; value = value_of k } };
+    ghost inverse = { λ k. record { boots = boots_of k; time = time_of k; mark = mark_of k; kind = kind_of k; value = sample_value k } };
 
     ghost inverse_ok = { λ a h. λ i. let e = fields_back a.boots a.time a.mark a.kind a.value h in record { boots = e.boots_back i; time = e.time_back i; mark = e.mark_back i; kind = e.kind_is i; value = e.value_back i } };
 }
@@ -92,15 +92,15 @@ impl Sample {
 
     /// The value modulo 2^64, in the range of its kind.
     pub fn value(&self) -> u64
-        ensures value { result ≡ value_of self.now }
-        ensures in_range { IsTrue (holds (kind_of self.now) (value_of self.now)) }
+        ensures value { result ≡ sample_value self.now }
+        ensures in_range { IsTrue (holds (kind_of self.now) (sample_value self.now)) }
     {
         self.value
     }
 
     /// The number that the value means: of an INTEGER it is signed.
     pub fn number(&self) -> i128
-        ensures { result ≡ number_of (kind_of self.now) (value_of self.now) }
+        ensures { result ≡ number_of (kind_of self.now) (sample_value self.now) }
     {
         self.kind.number(self.value)
     }
@@ -188,7 +188,7 @@ fn digits_of(octets: &[u8; 21]) -> Parts
     ensures time { result.time ≡ time_of (spelled octets.now) }
     ensures mark { result.mark ≡ mark_of (spelled octets.now) }
     ensures tag { result.tag ≡ tag_of (spelled octets.now) }
-    ensures value { result.value ≡ value_of (spelled octets.now) }
+    ensures value { result.value ≡ sample_value (spelled octets.now) }
     ensures whole { key result.boots result.time result.mark result.tag result.value ≡ spelled octets.now }
     ensures octets { octets.now ≡ octets_of (spelled octets.now) }
 {

@@ -8,7 +8,7 @@ use Rattle.std.specs.Int.{w32, to_be_bytes, w16}
 use Rattle.std.specs.Cmp.Lexicographic.{pointwise, same_text, other_text}
 use Rattle.std.proofs.lemmas.Bool.{cases_Bool, ltb-false, le-ltb, cases_eq, cases_lt, eqb-true, eqb-false, ne_eqb, lt-ltb}
 use Rattle.std.proofs.lemmas.List.Concat.{flat_map-cons}
-use Rattle.mon_ber.specs.Reading.{◌>>=◌}
+use Rattle.mon_oid.specs.Steps.{◌>>=◌}
 use Rattle.mon_ber.proofs.Promised.{IsBytes, IsBytes-after, bind_ok, wanted, chosen, ok_is, pair_is}
 use Rattle.mon_board.specs.declared.instance.Instance.{Instance}
 use Rattle.mon_layout.specs.declared.fault.LayoutFault.{LayoutFault}

@@ -13,7 +13,7 @@ use Rattle.std.proofs.lemmas.List.{append-nil, length-append, get_or_default}
 use Rattle.std.proofs.lemmas.List.Elements.{All-get_or}
 use Rattle.std.proofs.Math.Seq.{drop-cons}
 use Rattle.std.proofs.Math.ListN.{drop_of_length-le}
-use Rattle.mon_ber.specs.Reading.{◌>>=◌}
+use Rattle.mon_oid.specs.Steps.{◌>>=◌}
 use Rattle.mon_sample.specs.Key.{boots_of, IsSample}
 use Rattle.mon_window.specs.Keep.{keep, of_epoch}
 use Rattle.mon_window.specs.Window.{Samples, AreSizes}

@@ -4,7 +4,7 @@ use Rattle.std.specs.Int.{w16, w32, to_be_bytes}
 use Rattle.std.specs.Cmp.Lexicographic.{pointwise}
 use Rattle.std.specs.Prelude.{nat_eq}
 use Rattle.std.specs.List.{list_all}
-use Rattle.mon_ber.specs.Reading.{◌>>=◌}
+use Rattle.mon_oid.specs.Steps.{◌>>=◌}
 use Rattle.mon_sample.specs.Key.{boots_of}
 use Rattle.mon_board.specs.declared.instance.Instance.{Instance}
 use Rattle.mon_layout.specs.declared.fault.LayoutFault.{LayoutFault}

@@ -27,7 +27,7 @@ use Rattle.mon_settings.specs.Interfaces.{interface_keys, long_in, growth_of, gr
 use Rattle.mon_settings.specs.Keys.{only, needed_at, default_at}
 use Rattle.mon_settings.specs.Leaf.{bounded, number_in, int_in, text_in, hex_in, oid_in, addr_in, model_in}
 use Rattle.mon_settings.specs.Lists.{list_at}
-use Rattle.mon_settings.specs.Tables.{community_of, group_of, access_of, family_of, policy_in}
+use Rattle.mon_settings.specs.Tables.{community_of, group_of, access_entry_of, family_of, policy_in}
 use Rattle.mon_settings.proofs.Policies.{policy_made, policy_accepted}
 use Rattle.mon_settings.proofs.Steps.{bind_from, bind_to, ok_same, needed_from, needed_to, default_from, default_to, only_from, only_to, list_from, list_to}
 
@@ -81,8 +81,8 @@ group_of-to t x h =
 pub group_of-is : (t : Members) (x : Group) → (group_of t ≡ Ok x) ↔ IsGroup t x
 group_of-is t x = (group_of-from t x, group_of-to t x)
 
-access_of-from : (t : Members) (x : AccessEntry) → access_of t ≡ Ok x → IsAccess t x
-unfolding access_of
+access_of-from : (t : Members) (x : AccessEntry) → access_entry_of t ≡ Ok x → IsAccess t x
+unfolding access_entry_of
 access_of-from t x h =
     let (v0, p0, h1) = bind_from (only (key.Group ∷ key.Model ∷ key.Read ∷ key.Write ∷ []) t) _ x h in
     let (v1, p1, h2) = bind_from (needed_at key.Group (text_in 1 32) t) _ x h1 in
@@ -99,8 +99,8 @@ access_of-from t x h =
       write = default_from key.Write (λ d. option_map Some (text_in 1 32 d)) t _ None p4;
     })
 
-access_of-to : (t : Members) (x : AccessEntry) → IsAccess t x → access_of t ≡ Ok x
-unfolding access_of
+access_of-to : (t : Members) (x : AccessEntry) → IsAccess t x → access_entry_of t ≡ Ok x
+unfolding access_entry_of
 access_of-to t x h =
     bind_to (only (key.Group ∷ key.Model ∷ key.Read ∷ key.Write ∷ []) t) _ tt x (only_to (key.Group ∷ key.Model ∷ key.Read ∷ key.Write ∷ []) t h.known)
     (bind_to (needed_at key.Group (text_in 1 32) t) _ x.group_name x (needed_to key.Group (text_in 1 32) t _ h.group)
@@ -109,7 +109,7 @@ access_of-to t x h =
     (bind_to (default_at key.Write None (λ d. option_map Some (text_in 1 32 d)) t) _ x.write_view x (default_to key.Write (λ d. option_map Some (text_in 1 32 d)) t _ None h.write)
     refl))))
 
-pub access_of-is : (t : Members) (x : AccessEntry) → (access_of t ≡ Ok x) ↔ IsAccess t x
+pub access_of-is : (t : Members) (x : AccessEntry) → (access_entry_of t ≡ Ok x) ↔ IsAccess t x
 access_of-is t x = (access_of-from t x, access_of-to t x)
 
 family_of-from : (t : Members) (x : Family) → family_of t ≡ Ok x → IsFamily t x
@@ -333,14 +333,14 @@ unfolding policy_in
 policy_from t p h =
     let (v0, p0, h1) = bind_from (list_at key.Community community_of t) _ p h in
     let (v1, p1, h2) = bind_from (list_at key.Group group_of t) _ p h1 in
-    let (v2, p2, h3) = bind_from (list_at key.Access access_of t) _ p h2 in
+    let (v2, p2, h3) = bind_from (list_at key.Access access_entry_of t) _ p h2 in
     let (v3, p3, h4) = bind_from (list_at key.View family_of t) _ p h3 in
     let made : Lists = record { communities = v0; groups = v1; accesses = v2; families = v3 } in
     let (same, is) = policy_accepted made p h4 in
     subst (λ (y : Lists). IsTables t y) same (record {
       communities = list_from key.Community community_of IsCommunity community_of-is t v0 p0;
       groups = list_from key.Group group_of IsGroup group_of-is t v1 p1;
-      accesses = list_from key.Access access_of IsAccess access_of-is t v2 p2;
+      accesses = list_from key.Access access_entry_of IsAccess access_of-is t v2 p2;
       families = list_from key.View family_of IsFamily family_of-is t v3 p3;
       policy = is;
     })
@@ -350,7 +350,7 @@ unfolding policy_in
 policy_to t p h =
     bind_to (list_at key.Community community_of t) _ p.communities p (list_to key.Community community_of IsCommunity community_of-is t p.communities h.communities)
     (bind_to (list_at key.Group group_of t) _ p.groups p (list_to key.Group group_of IsGroup group_of-is t p.groups h.groups)
-    (bind_to (list_at key.Access access_of t) _ p.accesses p (list_to key.Access access_of IsAccess access_of-is t p.accesses h.accesses)
+    (bind_to (list_at key.Access access_entry_of t) _ p.accesses p (list_to key.Access access_entry_of IsAccess access_of-is t p.accesses h.accesses)
     (bind_to (list_at key.View family_of t) _ p.families p (list_to key.View family_of IsFamily family_of-is t p.families h.families)
     (policy_made p h.policy))))
 

@@ -11,11 +11,12 @@ use Rattle.mon_settings.specs.declared.fault.SettingsFault.TheVariants as fault
 use Rattle.mon_settings.specs.Agent.{agent_keys, system_of, agent_of}
 use Rattle.mon_settings.specs.Interfaces.{interface_keys, long_in, growth_of, growth_at, interface_of, rise_from, rising, interfaces_in}
 use Rattle.mon_settings.specs.Key.{key_name}
-use Rattle.mon_settings.specs.Keys.{◌>>=◌, or_bad, needed, needed_at, or_default, default_at, has_only, only, Reads}
+use Rattle.mon_oid.specs.Steps.{◌>>=◌}
+use Rattle.mon_settings.specs.Keys.{or_bad, needed, needed_at, or_default, default_at, has_only, only, Reads}
 use Rattle.mon_settings.specs.Leaf.{number_in, int_in, text_in, hex_in, oid_in, addr_in, model_in}
 use Rattle.mon_settings.specs.Lists.{list_in, row, rows, list_at}
 use Rattle.mon_settings.specs.SettingsFault.{IsOfTree}
-use Rattle.mon_settings.specs.Tables.{communities_differ, knows_views, families_differ, community_of, group_of, access_of, family_of, policy_of, policy_in}
+use Rattle.mon_settings.specs.Tables.{communities_differ, knows_views, families_differ, community_of, group_of, access_entry_of, family_of, policy_of, policy_in}
 
 abbrev pub Own : {A : Type 0} → Result A SettingsFault → Type 0
 Own r = (e : SettingsFault) → r ≡ Err e → IsOfTree e
@@ -87,8 +88,8 @@ group_of-own t =
     bind_own (needed_at key.Group (text_in 1 32) t) _ (needed_own key.Group (text_in 1 32) t) (λ v2.
     λ e h. absurd cc)))
 
-access_of-own : (t : Members) → Own (access_of t)
-unfolding access_of
+access_of-own : (t : Members) → Own (access_entry_of t)
+unfolding access_entry_of
 access_of-own t =
     bind_own (only (key.Group ∷ key.Model ∷ key.Read ∷ key.Write ∷ []) t) _ (only_own (key.Group ∷ key.Model ∷ key.Read ∷ key.Write ∷ []) t) (λ v0.
     bind_own (needed_at key.Group (text_in 1 32) t) _ (needed_own key.Group (text_in 1 32) t) (λ v1.
@@ -159,7 +160,7 @@ unfolding policy_in
 policy_in-own t =
     bind_own (list_at key.Community community_of t) _ (list_own key.Community community_of community_of-own t) (λ v0.
     bind_own (list_at key.Group group_of t) _ (list_own key.Group group_of group_of-own t) (λ v1.
-    bind_own (list_at key.Access access_of t) _ (list_own key.Access access_of access_of-own t) (λ v2.
+    bind_own (list_at key.Access access_entry_of t) _ (list_own key.Access access_entry_of access_of-own t) (λ v2.
     bind_own (list_at key.View family_of t) _ (list_own key.View family_of family_of-own t) (λ v3.
     policy_of-own _))))
 

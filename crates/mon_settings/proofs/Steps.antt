@@ -14,7 +14,8 @@ use Rattle.toml.specs.Data.{Data, Items, no_items, item, Members, no_members, me
 use Rattle.mon_settings.specs.declared.key.Key.{Key}
 use Rattle.mon_settings.specs.declared.fault.SettingsFault.{SettingsFault}
 use Rattle.mon_settings.specs.Key.{key_name}
-use Rattle.mon_settings.specs.Keys.{◌>>=◌, or_bad, needed, needed_at, or_default, default_at, is_one_of, has_only, only}
+use Rattle.mon_oid.specs.Steps.{◌>>=◌}
+use Rattle.mon_settings.specs.Keys.{or_bad, needed, needed_at, or_default, default_at, is_one_of, has_only, only}
 use Rattle.mon_settings.specs.Lists.{list_in, row, rows, list_at}
 use Rattle.mon_settings.specs.Accepted.{KnowsOnly, Holds, HoldsOr, AreRows, HoldsRows}
 

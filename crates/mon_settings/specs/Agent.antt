@@ -12,7 +12,8 @@ use Rattle.mon_settings.specs.declared.key.Key.{Key}
 use Rattle.mon_settings.specs.declared.key.Key.TheVariants as key
 use Rattle.mon_settings.specs.declared.fault.SettingsFault.{SettingsFault}
 use Rattle.mon_settings.specs.declared.fault.SettingsFault.TheVariants as fault
-use Rattle.mon_settings.specs.Keys.{◌>>=◌, only, needed_at, default_at}
+use Rattle.mon_oid.specs.Steps.{◌>>=◌}
+use Rattle.mon_settings.specs.Keys.{only, needed_at, default_at}
 use Rattle.mon_settings.specs.Leaf.{int_in, text_in, hex_in, oid_in, addr_in}
 use Rattle.mon_settings.specs.Interfaces.{interfaces_in}
 use Rattle.mon_settings.specs.Tables.{policy_in}

@@ -8,7 +8,8 @@ use Rattle.mon_settings.specs.declared.key.Key.{Key}
 use Rattle.mon_settings.specs.declared.key.Key.TheVariants as key
 use Rattle.mon_settings.specs.declared.fault.SettingsFault.{SettingsFault}
 use Rattle.mon_settings.specs.declared.fault.SettingsFault.TheVariants as fault
-use Rattle.mon_settings.specs.Keys.{◌>>=◌, only, needed_at}
+use Rattle.mon_oid.specs.Steps.{◌>>=◌}
+use Rattle.mon_settings.specs.Keys.{only, needed_at}
 use Rattle.mon_settings.specs.Leaf.{number_in, int_in, text_in, hex_in}
 use Rattle.mon_settings.specs.Lists.{list_at}
 

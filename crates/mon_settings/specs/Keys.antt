@@ -1,18 +1,12 @@
 -- What a key of a table gives.
 use Rattle.std.specs.Prelude.{◌≡◌, ◌⊎◌, Bool, true, false, ◌&&◌, ◌||◌, ℕ, List, [], ◌∷◌, Option, Some, None, option_map, Result, Ok, Err, if◌then◌else◌}
 use Rattle.std.specs.Str.{bytes_eq}
+use Rattle.mon_oid.specs.Steps.{◌>>=◌}
 use Rattle.toml.specs.Data.{Data, Members, no_members, member, get_member}
 use Rattle.mon_settings.specs.declared.key.Key.{Key}
 use Rattle.mon_settings.specs.declared.fault.SettingsFault.{SettingsFault}
 use Rattle.mon_settings.specs.declared.fault.SettingsFault.TheVariants as fault
 use Rattle.mon_settings.specs.Key.{key_name}
-
--- one reading after another
-infixl 10 ◌>>=◌
--- a step, and what follows it unless it failed
-abbrev pub ◌>>=◌ : {A B : Type 0} → Result A SettingsFault → (A → Result B SettingsFault) → Result B SettingsFault
-Err e >>= f = Err e
-Ok a >>= f = f a
 
 -- what a value gives, or that it is bad
 abbrev pub or_bad : {A : Type 0} → Key → Option A → Result A SettingsFault

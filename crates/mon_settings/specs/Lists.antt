@@ -3,7 +3,8 @@ use Rattle.std.specs.Prelude.{ℕ, ◌+◌, nat_le, List, [], ◌∷◌, Option,
 use Rattle.toml.specs.Data.{Data, Items, no_items, item, Members, as_array, as_table}
 use Rattle.mon_settings.specs.declared.key.Key.{Key}
 use Rattle.mon_settings.specs.declared.fault.SettingsFault.{SettingsFault}
-use Rattle.mon_settings.specs.Keys.{or_bad, needed_at, ◌>>=◌}
+use Rattle.mon_oid.specs.Steps.{◌>>=◌}
+use Rattle.mon_settings.specs.Keys.{or_bad, needed_at}
 
 -- how many items there are
 abbrev pub count : Items → ℕ

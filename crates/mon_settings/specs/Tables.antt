@@ -14,7 +14,8 @@ use Rattle.mon_settings.specs.declared.key.Key.{Key}
 use Rattle.mon_settings.specs.declared.key.Key.TheVariants as key
 use Rattle.mon_settings.specs.declared.fault.SettingsFault.{SettingsFault}
 use Rattle.mon_settings.specs.declared.fault.SettingsFault.TheVariants as fault
-use Rattle.mon_settings.specs.Keys.{◌>>=◌, only, needed_at, default_at, optional_at}
+use Rattle.mon_oid.specs.Steps.{◌>>=◌}
+use Rattle.mon_settings.specs.Keys.{only, needed_at, default_at, optional_at}
 use Rattle.mon_settings.specs.Leaf.{text_in, hex_in, oid_in, model_in}
 use Rattle.mon_settings.specs.Lists.{list_at}
 
@@ -35,8 +36,8 @@ group_of t = do
   Ok (record { security_name = security; group_name = group })
 
 -- the views of a group under a security model
-unfoldable pub access_of : Members → Result AccessEntry SettingsFault
-access_of t = do
+unfoldable pub access_entry_of : Members → Result AccessEntry SettingsFault
+access_entry_of t = do
   known ← only (key.Group ∷ key.Model ∷ key.Read ∷ key.Write ∷ []) t
   group ← needed_at key.Group (text_in 1 32) t
   model ← needed_at key.Model model_in t
@@ -109,6 +110,6 @@ unfoldable pub policy_in : Members → Result Lists SettingsFault
 policy_in t = do
   communities ← list_at key.Community community_of t
   groups ← list_at key.Group group_of t
-  accesses ← list_at key.Access access_of t
+  accesses ← list_at key.Access access_entry_of t
   families ← list_at key.View family_of t
   policy_of (record { communities = communities; groups = groups; accesses = accesses; families = families })

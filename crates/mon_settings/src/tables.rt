@@ -51,11 +51,11 @@ impl Row for Group {
 }
 
 impl Row for AccessEntry {
-    ghost use Rattle.mon_settings.specs.Tables.{access_of};
+    ghost use Rattle.mon_settings.specs.Tables.{access_entry_of};
 
-    ghost row_of = { access_of };
+    ghost row_of = { access_entry_of };
 
-    #[tactic(auto, unfolding(crate::specs::Tables::access_of))]
+    #[tactic(auto, unfolding(crate::specs::Tables::access_entry_of))]
     fn read(alloc: Global, table: &Table) -> Result<Self, SettingsFault> {
         only(table, &[Key::Group, Key::Model, Key::Read, Key::Write])?;
         let group_name = name_at(alloc, table, Key::Group, 32)?;

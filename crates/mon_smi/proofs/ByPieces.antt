@@ -6,7 +6,7 @@ use Rattle.mon_smi.specs.declared.token.Token.{Token}
 use Rattle.mon_smi.specs.declared.token.Piece.{Piece}
 use Rattle.mon_smi.specs.declared.text_fault.TextFault.{TextFault}
 use Rattle.mon_smi.specs.declared.text_fault.TextFault.TheVariants.{OutOfMemory, Unclosed, Unexpected, Duplicate}
-use Rattle.mon_smi.specs.Tokens.{IsSpelled, IsComment, is_space, IsPiece, IsPieceOf, IsRead, NothingStands, bytes_of, token_of, tokens_of, AreTokens, IsStuck, IsFaultAt, IsFaultOfTokens}
+use Rattle.mon_smi.specs.Tokens.{IsSpelled, IsComment, is_space, IsPiece, IsPieceOf, IsTokenized, NothingStands, bytes_of, token_of, tokens_of, AreTokens, IsStuck, IsFaultAt, IsFaultOfTokens}
 use Rattle.mon_smi.specs.Scan.{piece_at}
 use Rattle.mon_smi.proofs.Taken.{TakenAs, Taken, spelled_at}
 use Rattle.mon_smi.proofs.Found.{piece, found_at, passed_at}
@@ -88,7 +88,7 @@ piece_some text p is = go p.kind p.len (takes text p is)
     go kind (suc n) is_piece = omega arith
 
 -- what is read goes on by the piece that stands behind it
-pub read_push : (ps : List Piece) (p : Piece) (text rest : List ℕ) → IsRead ps text rest → IsPiece p rest → IsRead (ps ++ p ∷ []) text (drop p.len rest)
+pub read_push : (ps : List Piece) (p : Piece) (text rest : List ℕ) → IsTokenized ps text rest → IsPiece p rest → IsTokenized (ps ++ p ∷ []) text (drop p.len rest)
 read_push [] p text rest read piece = (subst (λ (t : List ℕ). IsPiece p t) (sym read) piece, ap (λ t. drop p.len t) read)
 read_push (q ∷ qs) p text rest read piece = (read.0, read_push qs p (drop q.len text) rest read.1 piece)
 
@@ -112,7 +112,7 @@ drop_nothing (suc n) [] is = refl
 drop_nothing n (b ∷ bs) is = absurd (cc)
 
 -- of nothing nothing is left
-read_nothing : (ps : List Piece) (text rest : List ℕ) → text ≡ [] → IsRead ps text rest → rest ≡ []
+read_nothing : (ps : List Piece) (text rest : List ℕ) → text ≡ [] → IsTokenized ps text rest → rest ≡ []
 read_nothing [] text rest is read = sym read ∙ is
 read_nothing (p ∷ ps) text rest is read = read_nothing ps (drop p.len text) rest (drop_nothing p.len text is) read.1
 
@@ -121,7 +121,7 @@ same_piece : (text : List ℕ) (p q : Piece) → IsPiece p text → IsPiece q te
 same_piece text p q a b = one_piece p q (sym (again text p a) ∙ again text q b)
 
 -- a text that is read whole comes to no place where nothing stands
-pub never_stuck : (ps qs : List Piece) (text rest : List ℕ) → IsRead ps text [] → IsRead qs text rest → NothingStands rest → ⊥
+pub never_stuck : (ps qs : List Piece) (text rest : List ℕ) → IsTokenized ps text [] → IsTokenized qs text rest → NothingStands rest → ⊥
 never_stuck [] qs text rest whole read stuck =
     let none : length rest ≡ 0 = ap (λ (t : List ℕ). length t) (read_nothing qs text rest whole read) in
     let some : 0 < length rest = stuck.0 in
@@ -129,16 +129,16 @@ never_stuck [] qs text rest whole read stuck =
 never_stuck (p ∷ ps) [] text rest whole read stuck = stuck.1 p (subst (λ (t : List ℕ). IsPiece p t) read whole.0)
 never_stuck (p ∷ ps) (q ∷ qs) text rest whole read stuck =
     let same : q ≡ p = same_piece text q p read.0 whole.0 in
-    never_stuck ps qs (drop p.len text) rest whole.1 (subst (λ (r : Piece). IsRead qs (drop r.len text) rest) same read.1) stuck
+    never_stuck ps qs (drop p.len text) rest whole.1 (subst (λ (r : Piece). IsTokenized qs (drop r.len text) rest) same read.1) stuck
 
 -- a text has one list of pieces at most, but for one of no bytes
-pub one_list : (ps qs : List Piece) (text : List ℕ) → IsRead ps text [] → IsRead qs text [] → ((p : Piece) → IsPiece p [] → ⊥) → ps ≡ qs
+pub one_list : (ps qs : List Piece) (text : List ℕ) → IsTokenized ps text [] → IsTokenized qs text [] → ((p : Piece) → IsPiece p [] → ⊥) → ps ≡ qs
 one_list [] [] text a b none = refl
 one_list [] (q ∷ qs) text a b none = absurd (none q (subst (λ (t : List ℕ). IsPiece q t) a b.0))
 one_list (p ∷ ps) [] text a b none = absurd (none p (subst (λ (t : List ℕ). IsPiece p t) b a.0))
 one_list (p ∷ ps) (q ∷ qs) text a b none =
     let same : q ≡ p = same_piece text q p b.0 a.0 in
-    let rest = one_list ps qs (drop p.len text) a.1 (subst (λ (r : Piece). IsRead qs (drop r.len text) []) same b.1) none in
+    let rest = one_list ps qs (drop p.len text) a.1 (subst (λ (r : Piece). IsTokenized qs (drop r.len text) []) same b.1) none in
     ap (λ (r : Piece). r ∷ ps) (sym same) ∙ ap (λ (l : List Piece). q ∷ l) rest
 
 none_at_end : (p : Piece) → IsPiece p [] → ⊥
@@ -152,7 +152,7 @@ one_cut text a b is other = is.2 ∙ ap (λ (l : List Piece). tokens_of 0 l) (on
 -- so far these tokens are read, and this is left
 pub record IsSoFar (text : List ℕ) (tokens : List Token) (start : ℕ) (rest : List ℕ) : Type 0 where
   pub pieces : List Piece
-  pub read : IsRead pieces text rest
+  pub read : IsTokenized pieces text rest
   pub at : bytes_of pieces ≡ start
   pub are : tokens ≡ tokens_of 0 pieces
   pub within : start + length rest ≡ length text

@@ -5,7 +5,7 @@ use Rattle.std.specs.Char.{is_ascii_digit, is_ascii_alphabetic}
 use Rattle.std.proofs.lemmas.Bool.Decides.{nat_tests}
 use Rattle.mon_oid.specs.Oid.{IsOid, Spells, AreNumbers, dotted}
 use Rattle.mon_smi.specs.Words.{IsWord}
-use Rattle.mon_smi.specs.Names.{AreDistinct, IsNamed, Means, Stands, IsLost, IsCircular, IsFaultOfText}
+use Rattle.mon_smi.specs.Names.{AreDistinct, IsNamed, MeansNumbers, StandsFor, EndsUndefined, IsCircular, IsFaultOfNameText}
 use Rattle.mon_smi.specs.declared.definition.Definition.{Definition}
 use Rattle.mon_smi.specs.declared.fault.NamesFault.{NamesFault}
 use Rattle.mon_smi.specs.declared.fault.NamesFault.TheVariants.{OutOfMemory, Duplicate, Unknown, Cycle, TooDeep, BadIdentifier}
@@ -84,39 +84,39 @@ pub apart : (text q w rest : List ℕ) → Spells text q → IsNamed text w rest
 apart text q w rest spelled named =
     digit_no_letter (get_or text 0 0) (ap (λ (t : List ℕ). is_ascii_digit (get_or t 0 0)) spelled.is ∙ spelled_head q spelled.numbers) (named_head text w rest named)
 
-pub means_once : IsOneReading → (defs : List Definition) (text p q : List ℕ) → AreDistinct defs → Means defs text p → Means defs text q → p ≡ q
+pub means_once : IsOneReading → (defs : List Definition) (text p q : List ℕ) → AreDistinct defs → MeansNumbers defs text p → MeansNumbers defs text q → p ≡ q
 means_once one_reading defs text p q distinct a b =
     ⊎_elim
     (λ (a1 : Spells text p). ⊎_elim
     (λ (b1 : Spells text q). one_reading p q a1.numbers b1.numbers (sym a1.is ∙ b1.is))
-    (λ (b2 : (w rest known : List ℕ) × IsNamed text w rest × Stands defs w known × (q ≡ known ++ rest)). absurd (apart text p b2.0 b2.1 a1 b2.3)) b)
-    (λ (a2 : (w rest known : List ℕ) × IsNamed text w rest × Stands defs w known × (p ≡ known ++ rest)). ⊎_elim
+    (λ (b2 : (w rest known : List ℕ) × IsNamed text w rest × StandsFor defs w known × (q ≡ known ++ rest)). absurd (apart text p b2.0 b2.1 a1 b2.3)) b)
+    (λ (a2 : (w rest known : List ℕ) × IsNamed text w rest × StandsFor defs w known × (p ≡ known ++ rest)). ⊎_elim
     (λ (b1 : Spells text q). absurd (apart text q a2.0 a2.1 b1 a2.3))
-    (λ (b2 : (w rest known : List ℕ) × IsNamed text w rest × Stands defs w known × (q ≡ known ++ rest)).
+    (λ (b2 : (w rest known : List ℕ) × IsNamed text w rest × StandsFor defs w known × (q ≡ known ++ rest)).
     let same = named_once one_reading text a2.0 b2.0 a2.1 b2.1 a2.3 b2.3 in
-    let known = stands_once defs b2.0 a2.2 b2.2 distinct (subst (λ (w : List ℕ). Stands defs w a2.2) same.0 a2.4) b2.4 in
+    let known = stands_once defs b2.0 a2.2 b2.2 distinct (subst (λ (w : List ℕ). StandsFor defs w a2.2) same.0 a2.4) b2.4 in
     a2.5 ∙ (λ i. known i ++ same.1 i) ∙ sym b2.5) b)
     a
 
 -- whose name is lost or circular means nothing
-pub no_lost : IsOneReading → (defs : List Definition) (text q w rest : List ℕ) → AreDistinct defs → Means defs text q → IsNamed text w rest → (IsLost defs w ⊎ IsCircular defs w) → ⊥
+pub no_lost : IsOneReading → (defs : List Definition) (text q w rest : List ℕ) → AreDistinct defs → MeansNumbers defs text q → IsNamed text w rest → (EndsUndefined defs w ⊎ IsCircular defs w) → ⊥
 no_lost one_reading defs text q w rest distinct means named wrong =
     ⊎_elim
     (λ (a1 : Spells text q). apart text q w rest a1 named)
-    (λ (a2 : (v other known : List ℕ) × IsNamed text v other × Stands defs v known × (q ≡ known ++ other)).
+    (λ (a2 : (v other known : List ℕ) × IsNamed text v other × StandsFor defs v known × (q ≡ known ++ other)).
     let same = named_once one_reading text a2.0 w a2.1 rest a2.3 named in
-    let stands = subst (λ (v : List ℕ). Stands defs v a2.2) same.0 a2.4 in
+    let stands = subst (λ (v : List ℕ). StandsFor defs v a2.2) same.0 a2.4 in
     ⊎_elim (λ lost. not_lost defs w a2.2 distinct stands lost) (λ circular. not_circular defs w a2.2 distinct stands circular) wrong)
     means
 
-pub only_memory : IsOneReading → (e : NamesFault) (defs : List Definition) (text q : List ℕ) → AreDistinct defs → Means defs text q → IsOid q → IsFaultOfText e defs text → e ≡ OutOfMemory
+pub only_memory : IsOneReading → (e : NamesFault) (defs : List Definition) (text q : List ℕ) → AreDistinct defs → MeansNumbers defs text q → IsOid q → IsFaultOfNameText e defs text → e ≡ OutOfMemory
 only_memory one_reading OutOfMemory defs text q distinct means is fault = refl
 only_memory one_reading Duplicate defs text q distinct means is fault = absurd fault
 only_memory one_reading Unknown defs text q distinct means is fault =
     absurd (⊎_elim
     (λ formless. ⊎_elim (λ (a1 : Spells text q). formless.0 q a1)
-    (λ (a2 : (v other known : List ℕ) × IsNamed text v other × Stands defs v known × (q ≡ known ++ other)). formless.1 a2.0 a2.1 a2.3) means)
-    (λ (lost : (w rest : List ℕ) × IsNamed text w rest × IsLost defs w). no_lost one_reading defs text q lost.0 lost.1 distinct means lost.2 (inl lost.3))
+    (λ (a2 : (v other known : List ℕ) × IsNamed text v other × StandsFor defs v known × (q ≡ known ++ other)). formless.1 a2.0 a2.1 a2.3) means)
+    (λ (lost : (w rest : List ℕ) × IsNamed text w rest × EndsUndefined defs w). no_lost one_reading defs text q lost.0 lost.1 distinct means lost.2 (inl lost.3))
     fault)
 only_memory one_reading Cycle defs text q distinct means is fault = absurd (no_lost one_reading defs text q fault.0 fault.1 distinct means fault.2 (inr fault.3))
 only_memory one_reading TooDeep defs text q distinct means is fault =
@@ -126,6 +126,6 @@ only_memory one_reading TooDeep defs text q distinct means is fault =
     absurd (omega arith)
 only_memory one_reading BadIdentifier defs text q distinct means is fault = absurd (fault.3 (subst IsOid (means_once one_reading defs text q fault.0 distinct means fault.1) is))
 
-pub accepted : IsOneReading → (r : Result (List ℕ) NamesFault) (defs : List Definition) (text : List ℕ) → AreDistinct defs → IfErr r (λ e. IsFaultOfText e defs text) → (q : List ℕ) → Means defs text q → IsOid q → IsOkUnless r OutOfMemory
+pub accepted : IsOneReading → (r : Result (List ℕ) NamesFault) (defs : List Definition) (text : List ℕ) → AreDistinct defs → IfErr r (λ e. IsFaultOfNameText e defs text) → (q : List ℕ) → MeansNumbers defs text q → IsOid q → IsOkUnless r OutOfMemory
 accepted one_reading (Ok x) defs text distinct fault q means is = tt
 accepted one_reading (Err e) defs text distinct fault q means is = only_memory one_reading e defs text q distinct means is fault

@@ -9,7 +9,7 @@ use Rattle.mon_smi.specs.declared.kind.Kind.TheVariants.{Assign, Semicolon, Quot
 use Rattle.mon_smi.specs.declared.part.Part.TheVariants.{Text}
 use Rattle.mon_smi.specs.declared.definition.Definition.{Definition}
 use Rattle.mon_smi.specs.Lexemes.{Lexeme, word, number, mark, is_word, is_mark, begins_small, begins_capital}
-use Rattle.mon_smi.specs.Reading.{◌>>=◌, one, word_at, mark_at, begins, begins_word, name_at, type_at, object_type_at, convention_at, many, value_at, is_macro, up_to, identifier_at, object_at, macro_at, head_at, definition_at, is_convention, textual_at, type_body_at, assigned, passed_over, assignment_of, assignment_at, is_end, imported_at, imports_at, definitions_at, body_at, module_at}
+use Rattle.mon_smi.specs.Reading.{◌>>=◌, one, word_at, mark_at, begins, begins_word, name_at, type_at, object_type_at, convention_at, many, value_at, is_macro, up_to, identifier_at, object_at, macro_at, head_at, definition_at, is_convention, textual_at, type_body_at, assigned, passed_over, assignment_of, assignment_at, ends_module, imported_at, imports_at, definitions_at, module_body_at, module_at}
 use Rattle.mon_smi.specs.Grammar.{◌▸◌, IsThis, IsWordOf, IsFree, IsType, IsClause, IsObjectType, IsConvention, Are, IsValue, macros, IsHead, IsAssignment, AreImports, IsModule}
 use Rattle.mon_smi.proofs.ForRules.{same_is, word_is, mark_is, mark_self, Takes, Again, Any, bind_some, some_is, wanted, chosen, seq_takes, seq_again, one_takes, word_takes, word_again, mark_takes, word_of_again, type_takes, type_again, goes_on_type, is_clear, BehindName, Follows, BeginsAssign, object_type_takes, object_type_again, convention_takes, convention_again, maybe_leads, other_mark, or_parts, and_parts, not_false, this_word}
 use Rattle.mon_smi.proofs.ForValues.{TakesOne, pair_parts, many_takes, many_again, value_takes, value_again}
@@ -315,12 +315,12 @@ assignment_two text None is = let lens : length text ≡ suc (suc (length is.1))
 pub assignment_some : (text : List Lexeme) (a : Option Definition) → IsAssignment text a → 0 < length text
 assignment_some text a is = let two : 2 ≤ length text = assignment_two text a is in omega arith
 
-no_end : (ls : List Lexeme) → 2 ≤ length ls → is_end ls ≡ false
+no_end : (ls : List Lexeme) → 2 ≤ length ls → ends_module ls ≡ false
 no_end [] two = absurd (omega arith)
 no_end (l ∷ []) two = absurd (omega arith)
 no_end (l ∷ m ∷ ls) two = refl
 
-assignment_goes : (text : List Lexeme) (a : Option Definition) (rest : List Lexeme) → IsAssignment text a → Follows rest → is_end (text ++ rest) ≡ false
+assignment_goes : (text : List Lexeme) (a : Option Definition) (rest : List Lexeme) → IsAssignment text a → Follows rest → ends_module (text ++ rest) ≡ false
 assignment_goes text a rest is follows =
     let two : 2 ≤ length text = assignment_two text a is in
     let lens : length (text ++ rest) ≡ length text + length rest = length-append text rest in
@@ -328,7 +328,7 @@ assignment_goes text a rest is follows =
 
 -- ---- modules
 
-end_is : (ls : List Lexeme) → is_end ls ≡ true → ls ≡ word (codes "END") ∷ []
+end_is : (ls : List Lexeme) → ends_module ls ≡ true → ls ≡ word (codes "END") ∷ []
 end_is [] is = absurd (cc)
 end_is (l ∷ []) is = this_word (codes "END") l is
 end_is (l ∷ m ∷ ls) is = absurd (cc)
@@ -342,8 +342,8 @@ end_follows = record { brace = refl; paren = refl; behind_name = record { assign
 definitions_take : (ls : List Lexeme) (defs : List Definition) → definitions_at ls ≡ Some defs → (body : List Lexeme) × (xs : List (Option Definition)) × Are IsAssignment body xs × (defs ≡ flat_map option_to_list xs) × (ls ≡ body ++ the_end)
 unfolding definitions_at
 definitions_take ls defs is =
-    let x = bind_some (many assignment_at option_to_list is_end (length ls) ls) (λ all. Some all.0) defs is in
-    let t = many_takes assignment_at option_to_list is_end IsAssignment assignment_takes (length ls) ls x.0.0 x.0.1 x.1 in
+    let x = bind_some (many assignment_at option_to_list ends_module (length ls) ls) (λ all. Some all.0) defs is in
+    let t = many_takes assignment_at option_to_list ends_module IsAssignment assignment_takes (length ls) ls x.0.0 x.0.1 x.1 in
     (t.0, t.1, t.2, sym (some_is x.0.0 defs x.2) ∙ t.3, t.4 ∙ ap (λ (k : List Lexeme). t.0 ++ k) (end_is x.0.1 t.5))
 
 definitions_again : (body : List Lexeme) (xs : List (Option Definition)) → Are IsAssignment body xs → definitions_at (body ++ the_end) ≡ Some (flat_map option_to_list xs)
@@ -351,7 +351,7 @@ unfolding definitions_at
 definitions_again body xs are =
     let lens : length (body ++ the_end) ≡ length body + 1 = length-append body the_end in
     ap (λ (r : Option (List Definition × List Lexeme)). r >>= λ all. Some all.0)
-    (many_again assignment_at option_to_list is_end IsAssignment Follows assignment_again assignment_leads assignment_some assignment_goes (length (body ++ the_end)) body xs the_end are end_follows refl (omega arith))
+    (many_again assignment_at option_to_list ends_module IsAssignment Follows assignment_again assignment_leads assignment_some assignment_goes (length (body ++ the_end)) body xs the_end are end_follows refl (omega arith))
 
 imported_takes : (ls rest : List Lexeme) → begins_word (codes "IMPORTS") ls ≡ true → imported_at ls ≡ Some rest → (names : List Lexeme) × IsFree Semicolon names × (ls ≡ (word (codes "IMPORTS") ∷ names ++ mark Semicolon ∷ []) ++ rest)
 unfolding imported_at
@@ -397,11 +397,11 @@ imports_again imports rest is =
     other (l ∷ ls) none = not_false (is_word (codes "IMPORTS") l) (λ is_it. none ls (ap (λ (x : Lexeme). x ∷ ls) (word_is (codes "IMPORTS") l is_it)))
 
 pub module_takes : (ls : List Lexeme) (name : List ℕ) (defs : List Definition) → module_at ls ≡ Some (name, defs) → IsModule ls name defs
-unfolding module_at body_at
+unfolding module_at module_body_at
 module_takes ls name defs is =
-    let x = bind_some (name_at ls) (λ n. cond (begins_capital n.0) (body_at n.1 >>= λ ds. Some (n.0, ds)) None) (name, defs) is in
-    let w = wanted (begins_capital x.0.0) (body_at x.0.1 >>= λ ds. Some (x.0.0, ds)) (name, defs) x.2 in
-    let y = bind_some (body_at x.0.1) (λ ds. Some (x.0.0, ds)) (name, defs) w.1 in
+    let x = bind_some (name_at ls) (λ n. cond (begins_capital n.0) (module_body_at n.1 >>= λ ds. Some (n.0, ds)) None) (name, defs) is in
+    let w = wanted (begins_capital x.0.0) (module_body_at x.0.1 >>= λ ds. Some (x.0.0, ds)) (name, defs) x.2 in
+    let y = bind_some (module_body_at x.0.1) (λ ds. Some (x.0.0, ds)) (name, defs) w.1 in
     let p = pair_parts x.0.0 name y.0 defs y.2 in
     let a = bind_some (word_at (codes "DEFINITIONS") x.0.1) (λ k. mark_at Assign k >>= λ m. word_at (codes "BEGIN") m >>= λ n. imports_at n >>= definitions_at) y.0 y.1 in
     let b = bind_some (mark_at Assign a.0) (λ m. word_at (codes "BEGIN") m >>= λ n. imports_at n >>= definitions_at) y.0 a.2 in
@@ -430,17 +430,17 @@ module_takes ls name defs is =
     }
 
 pub module_again : (ls : List Lexeme) (name : List ℕ) (defs : List Definition) → IsModule ls name defs → module_at ls ≡ Some (name, defs)
-unfolding module_at body_at
+unfolding module_at module_body_at
 module_again ls name defs is =
     let capital : begins_capital name ≡ true = is.is_capital in
     let imports : imports_at (is.imports ++ (is.body ++ the_end)) ≡ Some (is.body ++ the_end) = imports_again is.imports (is.body ++ the_end) is.are_imports in
     let body : definitions_at (is.body ++ the_end) ≡ Some (flat_map option_to_list is.assignments) = definitions_again is.body is.assignments is.are_assignments in
     rw (is.whole, capital) (rw (imports, body) (ap (λ (l : List Definition). Some (name, l)) (sym is.in_order)))
 
-pub definitions_are : (ls : List Lexeme) (defs : List Definition) (rest : List Lexeme) → many assignment_at option_to_list is_end (length ls) ls ≡ Some (defs, rest) → definitions_at ls ≡ Some defs
+pub definitions_are : (ls : List Lexeme) (defs : List Definition) (rest : List Lexeme) → many assignment_at option_to_list ends_module (length ls) ls ≡ Some (defs, rest) → definitions_at ls ≡ Some defs
 unfolding definitions_at
 definitions_are ls defs rest is = ap (λ (r : Option (List Definition × List Lexeme)). r >>= λ all. Some all.0) is
 
-pub definitions_none : (ls : List Lexeme) → many assignment_at option_to_list is_end (length ls) ls ≡ None → definitions_at ls ≡ None
+pub definitions_none : (ls : List Lexeme) → many assignment_at option_to_list ends_module (length ls) ls ≡ None → definitions_at ls ≡ None
 unfolding definitions_at
 definitions_none ls is = ap (λ (r : Option (List Definition × List Lexeme)). r >>= λ all. Some all.0) is

@@ -9,7 +9,7 @@ use Rattle.mon_smi.specs.declared.part.Part.{Part}
 use Rattle.mon_smi.specs.declared.part.Part.TheVariants.{Syntax, Text, Access, Status, Word, Group}
 use Rattle.mon_smi.specs.Lexemes.{Lexeme, word, number, mark, code_of, same_text, is_word, is_mark, begins_capital, is_capital, is_any_word}
 use Rattle.mon_smi.specs.Reading.{◌>>=◌, one, word_at, mark_at, begins, begins_word, nested_at, group_at, is_pair, is_sequence_of, type_name_at, maybe_group, type_at, is_access, is_status, part_at, clause_at, optional_at, index_at, syntax_at, described_at, object_type_at, convention_at}
-use Rattle.mon_smi.specs.Grammar.{◌▸◌, IsThis, IsWordOf, IsNested, IsGroup, IsTypeName, IsMaybeGroup, IsType, accesses, statuses, IsPart, IsClause, IsOptional, IsIndex, IsSyntax, IsDescribed, IsObjectType, IsConvention}
+use Rattle.mon_smi.specs.Grammar.{◌▸◌, IsThis, IsWordOf, IsNested, IsBalanced, IsTypeName, IsMaybeGroup, IsType, accesses, statuses, IsClausePart, IsClause, IsOptional, IsIndex, IsSyntax, IsDescribed, IsObjectType, IsConvention}
 
 -- ---- tests
 
@@ -205,7 +205,7 @@ nested_again left right apart depth (l ∷ ls) rest is =
     positive : (n : ℕ) → (suc n == 0) ≡ false
     positive n = grind (arith, nat_tests)
 
-pub group_takes : (left right : Kind) → Takes (IsGroup left right) (group_at left right)
+pub group_takes : (left right : Kind) → Takes (IsBalanced left right) (group_at left right)
 unfolding group_at
 group_takes left right ls rest is =
     let x = bind_some (mark_at left ls) (nested_at left right 0) rest is in
@@ -213,7 +213,7 @@ group_takes left right ls rest is =
     let q = nested_takes left right 0 x.0 rest x.2 in
     (mark left ∷ q.0 ++ mark right ∷ [], (q.0, refl, q.1), p.2 ∙ ap (λ (k : List Lexeme). k ++ x.0) p.1 ∙ ap (λ (k : List Lexeme). mark left ∷ k) (q.2 ∙ sym (append_assoc q.0 (mark right ∷ []) rest)))
 
-pub group_again : (left right : Kind) → is_mark left (mark right) ≡ false → Again (IsGroup left right) Any (group_at left right)
+pub group_again : (left right : Kind) → is_mark left (mark right) ≡ false → Again (IsBalanced left right) Any (group_at left right)
 unfolding group_at
 group_again left right apart text rest is follows =
     let whole : text ++ rest ≡ mark left ∷ is.0 ++ mark right ∷ rest = ap (λ (k : List Lexeme). k ++ rest) is.1 ∙ ap (λ (k : List Lexeme). mark left ∷ k) (append_assoc is.0 (mark right ∷ []) rest) in
@@ -419,36 +419,36 @@ BehindPart Status rest = Unit {0}
 BehindPart Word rest = Unit {0}
 BehindPart Group rest = Unit {0}
 
-any_word_is : (l : Lexeme) → is_any_word l ≡ true → IsPart Word (l ∷ [])
+any_word_is : (l : Lexeme) → is_any_word l ≡ true → IsClausePart Word (l ∷ [])
 any_word_is (word w) is = (w, refl)
 any_word_is (number d) is = absurd (cc)
 any_word_is (mark k) is = absurd (cc)
 
-part_takes : (part : Part) → Takes (IsPart part) (part_at part)
+part_takes : (part : Part) → Takes (IsClausePart part) (part_at part)
 unfolding part_at
 part_takes Syntax = type_takes
 part_takes Text = mark_takes Quoted
 part_takes Access = one_takes is_access (IsWordOf accesses) among_access
 part_takes Status = one_takes is_status (IsWordOf statuses) among_status
-part_takes Word = one_takes is_any_word (IsPart Word) any_word_is
+part_takes Word = one_takes is_any_word (IsClausePart Word) any_word_is
 part_takes Group = group_takes LeftBrace RightBrace
 
-part_again : (part : Part) → Again (IsPart part) (BehindPart part) (part_at part)
+part_again : (part : Part) → Again (IsClausePart part) (BehindPart part) (part_at part)
 unfolding part_at
 part_again Syntax = type_again
 part_again Text = mark_again Quoted
 part_again Access = one_again is_access (IsWordOf accesses) (λ text is. word_of_again is_access accesses text (refl, (refl, (refl, (refl, (refl, tt))))) is)
 part_again Status = one_again is_status (IsWordOf statuses) (λ text is. word_of_again is_status statuses text (refl, (refl, (refl, tt))) is)
-part_again Word = one_again is_any_word (IsPart Word) (λ text is. (word is.0, is.1, refl))
+part_again Word = one_again is_any_word (IsClausePart Word) (λ text is. (word is.0, is.1, refl))
 part_again Group = group_again LeftBrace RightBrace refl
 
 pub clause_takes : (w : List ℕ) (part : Part) → Takes (IsClause w part) (clause_at w part)
 unfolding clause_at
-clause_takes w part = seq_takes (IsThis (word w)) (IsPart part) (word_at w) (part_at part) (word_takes w) (part_takes part)
+clause_takes w part = seq_takes (IsThis (word w)) (IsClausePart part) (word_at w) (part_at part) (word_takes w) (part_takes part)
 
 pub clause_again : (w : List ℕ) (part : Part) → Again (IsClause w part) (BehindPart part) (clause_at w part)
 unfolding clause_at
-clause_again w part = seq_again (IsThis (word w)) (IsPart part) Any (BehindPart part) (word_at w) (part_at part) (word_again w) (part_again part) (λ text rest is follows. tt)
+clause_again w part = seq_again (IsThis (word w)) (IsClausePart part) Any (BehindPart part) (word_at w) (part_at part) (word_again w) (part_again part) (λ text rest is follows. tt)
 
 -- a clause begins with its keyword
 pub clause_begins : (w : List ℕ) (part : Part) (text : List Lexeme) → IsClause w part text → (more : List Lexeme) × (text ≡ word w ∷ more)

@@ -16,7 +16,7 @@ use Rattle.mon_smi.specs.declared.text_fault.TextFault.{TextFault}
 use Rattle.mon_smi.specs.declared.text_fault.TextFault.TheVariants.{OutOfMemory, Unclosed, Unexpected, Duplicate}
 use Rattle.mon_smi.specs.Words.{is_part, IsWord}
 use Rattle.mon_smi.specs.Names.{AreDistinct, IsUndefined}
-use Rattle.mon_smi.specs.Tokens.{AreAll, AreDigits, IsNumber, IsSpelled, IsPieceOf, IsRead, token_of, tokens_of, AreTokens, IsFaultOfTokens, RisesFrom}
+use Rattle.mon_smi.specs.Tokens.{AreAll, AreDigits, IsNumberToken, IsSpelled, IsPieceOf, IsTokenized, token_of, tokens_of, AreTokens, IsFaultOfTokens, RisesFrom}
 use Rattle.mon_smi.specs.Lexemes.{AreTokensOf, lexemes}
 use Rattle.mon_smi.specs.Reading.{Fails, module_at}
 use Rattle.mon_smi.specs.Grammar.{Derives}
@@ -54,7 +54,7 @@ signed_ascii : (digits : List ℕ) → AreAll is_ascii_digit digits → (i : ℕ
 signed_ascii digits all zero = omega arith
 signed_ascii digits all (suc i) = digits_ascii digits all i
 
-pub number_utf8 : (text : List ℕ) → IsNumber text → IsUtf8 text
+pub number_utf8 : (text : List ℕ) → IsNumberToken text → IsUtf8 text
 number_utf8 text number =
     ⊎_elim (λ (digits : AreDigits text). IsUtf8-from_ascii text (digits_ascii text digits.1))
     (λ (signed : (digits : List ℕ) × (text ≡ 45 ∷ digits) × AreDigits digits). subst IsUtf8 (sym signed.1) (IsUtf8-from_ascii (45 ∷ signed.0) (signed_ascii signed.0 signed.2.1)))
@@ -66,7 +66,7 @@ piece_within : (kind : Option Kind) (n : ℕ) (rest : List ℕ) → IsPieceOf ki
 piece_within None n rest piece = piece.0
 piece_within (Some kind) n rest piece = piece.within
 
-tokens_at : (text : List ℕ) (ps : List Piece) (start : ℕ) (rest : List ℕ) → rest ≡ drop start text → start ≤ length text → IsRead ps rest [] → AreTokensOf text (tokens_of start ps)
+tokens_at : (text : List ℕ) (ps : List Piece) (start : ℕ) (rest : List ℕ) → rest ≡ drop start text → start ≤ length text → IsTokenized ps rest [] → AreTokensOf text (tokens_of start ps)
 tokens_at text [] start rest is within read = tt
 tokens_at text (p ∷ ps) start rest is within read =
     let below : p.len ≤ length rest = piece_within p.kind p.len rest read.0 in
@@ -91,7 +91,7 @@ tokens_at text (p ∷ ps) start rest is within read =
 pub tokens_stand : (text : List ℕ) (tokens : List Token) → AreTokens text tokens → AreTokensOf text tokens
 tokens_stand text tokens are = subst (λ (l : List Token). AreTokensOf text l) (sym are.2) (tokens_at text are.0 0 text refl (omega arith) are.1)
 
-rises : (ps : List Piece) (at start : ℕ) (rest : List ℕ) → at ≤ start → IsRead ps rest [] → RisesFrom at (tokens_of start ps)
+rises : (ps : List Piece) (at start : ℕ) (rest : List ℕ) → at ≤ start → IsTokenized ps rest [] → RisesFrom at (tokens_of start ps)
 rises [] at start rest le read = tt
 rises (p ∷ ps) at start rest le read =
     let some : 0 < p.len = piece_some rest p (again rest p read.0) in

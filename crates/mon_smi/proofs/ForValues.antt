@@ -11,7 +11,7 @@ use Rattle.mon_smi.specs.declared.kind.Kind.{Kind}
 use Rattle.mon_smi.specs.declared.kind.Kind.TheVariants.{LeftBrace, RightBrace, LeftParen, RightParen}
 use Rattle.mon_smi.specs.Tokens.{AreAll}
 use Rattle.mon_smi.specs.Lexemes.{Lexeme, word, number, mark}
-use Rattle.mon_smi.specs.Reading.{◌>>=◌, Fails, mark_at, begins, many, behind, number_from, number_of, sub_at, in_parens_at, component_at, parent_at, enough, single, numbers_at, value_at}
+use Rattle.mon_smi.specs.Reading.{◌>>=◌, Fails, mark_at, begins, many, with_front, number_from, number_of, sub_at, in_parens_at, component_at, parent_at, enough, single, numbers_at, value_at}
 use Rattle.mon_smi.specs.Grammar.{Are, spelled_from, IsSub, IsComponent, AreParts, IsValue}
 use Rattle.mon_smi.proofs.ForRules.{bind_some, some_is, wanted, chosen, mark_takes, Any}
 
@@ -55,7 +55,7 @@ module _ {X A : Type 0} (read : List Lexeme → Option (X × List Lexeme)) (emit
   unfolding many
   many_none ls is = rw is refl
 
-  regroup : (front : List A) (x : X) (r : Option (List A × List Lexeme)) → behind front (r >>= λ ys. Some (emit x ++ ys.0, ys.1)) ≡ behind (front ++ emit x) r
+  regroup : (front : List A) (x : X) (r : Option (List A × List Lexeme)) → with_front front (r >>= λ ys. Some (emit x ++ ys.0, ys.1)) ≡ with_front (front ++ emit x) r
   regroup front x (Some ys) = ap (λ (l : List A). Some (l, ys.1)) (sym (append_assoc front (emit x) ys.0))
   regroup front x None = refl
 
@@ -64,7 +64,7 @@ module _ {X A : Type 0} (read : List Lexeme → Option (X × List Lexeme)) (emit
     pub room : ℕ
     pub fits : left ≤ room
     pub within : left ≤ length ls
-    pub so_far : behind front (many read emit stop room (drop (length ls - left) ls)) ≡ many read emit stop (length ls) ls
+    pub so_far : with_front front (many read emit stop room (drop (length ls - left) ls)) ≡ many read emit stop (length ls) ls
 
   pub behind_start : (ls : List Lexeme) → IsBehind ls [] (length ls)
   behind_start ls =
@@ -73,10 +73,10 @@ module _ {X A : Type 0} (read : List Lexeme → Option (X × List Lexeme)) (emit
         room = length ls;
         fits = omega arith;
         within = omega arith;
-        so_far = ap (λ n. behind [] (many read emit stop (length ls) (drop n ls))) none ∙ plain (many read emit stop (length ls) ls);
+        so_far = ap (λ n. with_front [] (many read emit stop (length ls) (drop n ls))) none ∙ plain (many read emit stop (length ls) ls);
       }
     where
-      plain : (r : Option (List A × List Lexeme)) → behind [] r ≡ r
+      plain : (r : Option (List A × List Lexeme)) → with_front [] r ≡ r
       plain None = refl
       plain (Some x) = refl
 
@@ -94,15 +94,15 @@ module _ {X A : Type 0} (read : List Lexeme → Option (X × List Lexeme)) (emit
       let left_len : length rest ≡ left = dropped ls left so.within in
       let fits = so.fits in
       let room_is : so.room ≡ suc (so.room - 1) = omega arith in
-      let one : behind front (many read emit stop so.room rest) ≡ behind (front ++ emit x) (many read emit stop (so.room - 1) after) =
-      ap (λ n. behind front (many read emit stop n rest)) room_is ∙ ap (λ r. behind front r) (many_more (so.room - 1) rest goes)
-      ∙ ap (λ (r : Option (X × List Lexeme)). behind front (r >>= λ y. many read emit stop (so.room - 1) y.1 >>= λ ys. Some (emit y.0 ++ ys.0, ys.1))) found
+      let one : with_front front (many read emit stop so.room rest) ≡ with_front (front ++ emit x) (many read emit stop (so.room - 1) after) =
+      ap (λ n. with_front front (many read emit stop n rest)) room_is ∙ ap (λ r. with_front front r) (many_more (so.room - 1) rest goes)
+      ∙ ap (λ (r : Option (X × List Lexeme)). with_front front (r >>= λ y. many read emit stop (so.room - 1) y.1 >>= λ ys. Some (emit y.0 ++ ys.0, ys.1))) found
       ∙ regroup front x (many read emit stop (so.room - 1) after) in (
         record {
           room = so.room - 1;
           fits = omega arith;
           within = omega arith;
-          so_far = ap (λ (l : List Lexeme). behind more (many read emit stop (so.room - 1) l)) place ∙ ap (λ (f : List A). behind f (many read emit stop (so.room - 1) after)) is ∙ sym one ∙ so.so_far;
+          so_far = ap (λ (l : List Lexeme). with_front more (many read emit stop (so.room - 1) l)) place ∙ ap (λ (f : List A). with_front f (many read emit stop (so.room - 1) after)) is ∙ sym one ∙ so.so_far;
         },
         omega arith,
       )
@@ -115,10 +115,10 @@ module _ {X A : Type 0} (read : List Lexeme → Option (X × List Lexeme)) (emit
 
   pub behind_done : (ls : List Lexeme) (front : List A) (left : ℕ) → IsBehind ls front left → stop (drop (length ls - left) ls) ≡ true → many read emit stop (length ls) ls ≡ Some (front, drop (length ls - left) ls)
   behind_done ls front left so stops =
-      sym so.so_far ∙ ap (λ (r : Option (List A × List Lexeme)). behind front r) (many_stop so.room (drop (length ls - left) ls) stops) ∙ ap (λ (f : List A). Some (f, drop (length ls - left) ls)) (append-nil front)
+      sym so.so_far ∙ ap (λ (r : Option (List A × List Lexeme)). with_front front r) (many_stop so.room (drop (length ls - left) ls) stops) ∙ ap (λ (f : List A). Some (f, drop (length ls - left) ls)) (append-nil front)
 
   pub behind_failed : (ls : List Lexeme) (front : List A) (left : ℕ) → IsBehind ls front left → stop (drop (length ls - left) ls) ≡ false → read (drop (length ls - left) ls) ≡ None → many read emit stop (length ls) ls ≡ None
-  behind_failed ls front left so goes none = sym so.so_far ∙ ap (λ (r : Option (List A × List Lexeme)). behind front r) (fails so.room)
+  behind_failed ls front left so goes none = sym so.so_far ∙ ap (λ (r : Option (List A × List Lexeme)). with_front front r) (fails so.room)
     where
       fails : (room : ℕ) → many read emit stop room (drop (length ls - left) ls) ≡ None
       fails zero = many_none (drop (length ls - left) ls) goes

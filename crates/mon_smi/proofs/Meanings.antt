@@ -4,7 +4,7 @@ use Rattle.std.specs.Prelude.{IfOk, IfErr}
 use Rattle.std.proofs.lemmas.Str.Pattern.{IsSplitOnceResult, split_after, split_parts}
 use Rattle.mon_oid.specs.Oid.{IsOid, Spells}
 use Rattle.mon_smi.specs.Words.{is_part, IsWord}
-use Rattle.mon_smi.specs.Names.{IsNamed, Means, Stands, IsFaultOfName, IsFaultOfText}
+use Rattle.mon_smi.specs.Names.{IsNamed, MeansNumbers, StandsFor, IsFaultOfName, IsFaultOfNameText}
 use Rattle.mon_smi.specs.declared.definition.Definition.{Definition}
 use Rattle.mon_smi.specs.declared.fault.NamesFault.{NamesFault}
 use Rattle.mon_smi.specs.declared.fault.NamesFault.TheVariants.{OutOfMemory, Duplicate, Unknown, Cycle, TooDeep, BadIdentifier}
@@ -53,7 +53,7 @@ is_named text r x split is word rest spelled =
     (word, inr (x.1.now, parts.0, spelled))
 
 -- the fault of a name is that of the text
-pub fault_named : (e : NamesFault) (defs : List Definition) (text w rest : List ℕ) → IsNamed text w rest → IsFaultOfName e defs w rest → IsFaultOfText e defs text
+pub fault_named : (e : NamesFault) (defs : List Definition) (text w rest : List ℕ) → IsNamed text w rest → IsFaultOfName e defs w rest → IsFaultOfNameText e defs text
 fault_named OutOfMemory defs text w rest named fault = tt
 fault_named Duplicate defs text w rest named fault = fault
 fault_named Unknown defs text w rest named fault = inr (w, rest, named, fault)
@@ -61,11 +61,11 @@ fault_named Cycle defs text w rest named fault = (w, rest, named, fault)
 fault_named TooDeep defs text w rest named fault = (fault.0 ++ rest, inr (w, rest, fault.0, named, fault.1, refl), fault.2)
 fault_named BadIdentifier defs text w rest named fault = (fault.0 ++ rest, inr (w, rest, fault.0, named, fault.1, refl), fault.2, fault.3)
 
-pub faults_named : {A : Type 0} (r : Result A NamesFault) (defs : List Definition) (text w rest : List ℕ) → IsNamed text w rest → IfErr r (λ e. IsFaultOfName e defs w rest) → IfErr r (λ e. IsFaultOfText e defs text)
+pub faults_named : {A : Type 0} (r : Result A NamesFault) (defs : List Definition) (text w rest : List ℕ) → IsNamed text w rest → IfErr r (λ e. IsFaultOfName e defs w rest) → IfErr r (λ e. IsFaultOfNameText e defs text)
 faults_named (Ok x) defs text w rest named fault = tt
 faults_named (Err e) defs text w rest named fault = fault_named e defs text w rest named fault
 
 -- what a name means, its text means
-pub found_named : (r : Result (List ℕ) NamesFault) (defs : List Definition) (text w rest : List ℕ) → IsNamed text w rest → IfOk r (λ oid. IsOid oid × ((known : List ℕ) × Stands defs w known × (oid ≡ known ++ rest))) → IfOk r (λ oid. IsOid oid × Means defs text oid)
+pub found_named : (r : Result (List ℕ) NamesFault) (defs : List Definition) (text w rest : List ℕ) → IsNamed text w rest → IfOk r (λ oid. IsOid oid × ((known : List ℕ) × StandsFor defs w known × (oid ≡ known ++ rest))) → IfOk r (λ oid. IsOid oid × MeansNumbers defs text oid)
 found_named (Ok oid) defs text w rest named found = (found.0, inr (w, rest, found.1.0, named, found.1.1, found.1.2))
 found_named (Err e) defs text w rest named found = tt

@@ -12,17 +12,17 @@ use Rattle.mon_oid.specs.Oid.{IsOid, IsPrefix}
 use Rattle.mon_smi.specs.declared.definition.Definition.{Definition}
 use Rattle.mon_smi.specs.declared.fault.NamesFault.{NamesFault}
 use Rattle.mon_smi.specs.declared.fault.NamesFault.TheVariants.{OutOfMemory, Duplicate, Unknown, Cycle, TooDeep, BadIdentifier}
-use Rattle.mon_smi.specs.Names.{IsOneOf, AreDistinct, Stands, Leads, IsFaultOfName}
-use Rattle.mon_smi.specs.Nearest.{Covers, IsAsNear, IsKept, IsNearest, IsNameless, behind}
+use Rattle.mon_smi.specs.Names.{IsOneOf, AreDistinct, StandsFor, Leads, IsFaultOfName}
+use Rattle.mon_smi.specs.Nearest.{Covers, IsAsNear, IsEquallyNear, IsNearest, IsNameless, dotted_after}
 use Rattle.mon_smi.proofs.Chains.{at_split, only_one}
 use Rattle.mon_smi.proofs.Unique.{stands_once, not_lost, not_circular}
 
 -- what stands for two lists of numbers covers by its only one
-pub only_length : (defs : List Definition) (oid w known q : List ℕ) (m : ℕ) → AreDistinct defs → Stands defs w known → q ≡ known ++ [] → Covers defs oid w m → m ≡ length q
+pub only_length : (defs : List Definition) (oid w known q : List ℕ) (m : ℕ) → AreDistinct defs → StandsFor defs w known → q ≡ known ++ [] → Covers defs oid w m → m ≡ length q
 only_length defs oid w known q m distinct stands is covers =
     sym covers.4 ∙ ap length (stands_once defs w covers.0 known distinct covers.1 stands ∙ sym (append-nil known) ∙ sym is)
 
-pub only_prefix : (defs : List Definition) (oid w known q : List ℕ) (m : ℕ) → AreDistinct defs → Stands defs w known → q ≡ known ++ [] → Covers defs oid w m → IsPrefix q oid
+pub only_prefix : (defs : List Definition) (oid w known q : List ℕ) (m : ℕ) → AreDistinct defs → StandsFor defs w known → q ≡ known ++ [] → Covers defs oid w m → IsPrefix q oid
 only_prefix defs oid w known q m distinct stands is covers =
     subst (λ (p : List ℕ). IsPrefix p oid) (stands_once defs w covers.0 known distinct covers.1 stands ∙ sym (append-nil known) ∙ sym is) covers.3
 
@@ -88,7 +88,7 @@ pub pass_on : (defs xs : List Definition) (x : Definition) (oid : List ℕ) (bes
 pass_on defs xs x oid None best none = λ d m one covers. ⊎_elim (λ front. best d m front covers) (λ last. none m (subst (λ (e : Definition). Covers defs oid e.name m) last covers)) (one_of xs x d one)
 pass_on defs xs x oid (Some b) best none = (best.0, λ d m one covers. ⊎_elim (λ front. best.1 d m front covers) (λ last. absurd (none m (subst (λ (e : Definition). Covers defs oid e.name m) last covers))) (one_of xs x d one))
 
-pub keep_on : (defs xs : List Definition) (x : Definition) (oid : List ℕ) (best : Option (Bor (List ℕ) × ℕ)) (n : ℕ) → IsBest defs xs oid best → ((m : ℕ) → Covers defs oid x.name m → m ≡ n) → IsKept best x.name n → IsBest defs (xs ++ x ∷ []) oid best
+pub keep_on : (defs xs : List Definition) (x : Definition) (oid : List ℕ) (best : Option (Bor (List ℕ) × ℕ)) (n : ℕ) → IsBest defs xs oid best → ((m : ℕ) → Covers defs oid x.name m → m ≡ n) → IsEquallyNear best x.name n → IsBest defs (xs ++ x ∷ []) oid best
 keep_on defs xs x oid None n best only kept = absurd kept
 keep_on defs xs x oid (Some b) n best only kept = (
   best.0,
@@ -140,8 +140,8 @@ covers_within defs oid w n covers =
     omega (arith, whole, length-append covers.0 covers.3.0, n_is)
 
 -- one number more
-pub behind_push : (xs : List ℕ) (x : ℕ) → behind (xs ++ x ∷ []) ≡ behind xs ++ 46 ∷ decimal x
-behind_push xs x = flat_map-append (λ (part : ℕ). 46 ∷ decimal part) xs (x ∷ []) ∙ ap (λ (t : List ℕ). behind xs ++ t) (append-nil (46 ∷ decimal x))
+pub behind_push : (xs : List ℕ) (x : ℕ) → dotted_after (xs ++ x ∷ []) ≡ dotted_after xs ++ 46 ∷ decimal x
+behind_push xs x = flat_map-append (λ (part : ℕ). 46 ∷ decimal part) xs (x ∷ []) ∙ ap (λ (t : List ℕ). dotted_after xs ++ t) (append-nil (46 ∷ decimal x))
 
 -- one definition more is read
 take_item : (xs : List Definition) (i : ℕ) (x : Definition) → i < length xs → x ≡ get_or xs i x → take i xs ++ x ∷ [] ≡ take (i + 1) xs
@@ -152,10 +152,10 @@ step_pass defs i x oid w best lt is named so_far none =
     subst (λ (seen : List Definition). IsBest defs seen oid best) (take_item defs i x lt is)
     (pass_on defs (take i defs) x oid best so_far (λ m covers. none m (subst (λ (v : List ℕ). Covers defs oid v m) (sym named) covers)))
 
-pub step_keep : (defs : List Definition) (i : ℕ) (x : Definition) (oid w : List ℕ) (best : Option (Bor (List ℕ) × ℕ)) (n : ℕ) → i < length defs → x ≡ get_or defs i x → w ≡ x.name → IsBest defs (take i defs) oid best → ((m : ℕ) → Covers defs oid w m → m ≡ n) → IsKept best w n → IsBest defs (take (i + 1) defs) oid best
+pub step_keep : (defs : List Definition) (i : ℕ) (x : Definition) (oid w : List ℕ) (best : Option (Bor (List ℕ) × ℕ)) (n : ℕ) → i < length defs → x ≡ get_or defs i x → w ≡ x.name → IsBest defs (take i defs) oid best → ((m : ℕ) → Covers defs oid w m → m ≡ n) → IsEquallyNear best w n → IsBest defs (take (i + 1) defs) oid best
 step_keep defs i x oid w best n lt is named so_far only kept =
     subst (λ (seen : List Definition). IsBest defs seen oid best) (take_item defs i x lt is)
-    (keep_on defs (take i defs) x oid best n so_far (λ m covers. only m (subst (λ (v : List ℕ). Covers defs oid v m) (sym named) covers)) (subst (λ (v : List ℕ). IsKept best v n) named kept))
+    (keep_on defs (take i defs) x oid best n so_far (λ m covers. only m (subst (λ (v : List ℕ). Covers defs oid v m) (sym named) covers)) (subst (λ (v : List ℕ). IsEquallyNear best v n) named kept))
 
 pub step_turn : (defs : List Definition) (i : ℕ) (x : Definition) (oid : List ℕ) (best : Option (Bor (List ℕ) × ℕ)) (new : Bor (List ℕ) × ℕ) → i < length defs → x ≡ get_or defs i x → new.0.now ≡ x.name → IsBest defs (take i defs) oid best → Covers defs oid new.0.now new.1 → ((m : ℕ) → Covers defs oid new.0.now m → m ≡ new.1) → IfSome best (λ b. IsAsNear new.0.now new.1 b.0.now b.1) → IsBest defs (take (i + 1) defs) oid (Some new)
 step_turn defs i x oid best new lt is named so_far covers only nearer =

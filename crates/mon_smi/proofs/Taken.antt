@@ -6,7 +6,7 @@ use Rattle.std.proofs.lemmas.Bool.{eqb-true}
 use Rattle.std.proofs.lemmas.List.{take_at, drop_at}
 use Rattle.mon_smi.specs.Words.{GoesOn}
 use Rattle.mon_smi.specs.Tokens.{AreAll, AreDigits, IsSpelled, is_space, is_bit, IsPassed, IsComment}
-use Rattle.mon_smi.specs.Scan.{run_at, word_at, closes_at, comment_at, token, passed, signed, hyphen_at, quoted_at, closed_bits, bits_at, assign_at, dot_at, mark_at, behind_at, piece_at}
+use Rattle.mon_smi.specs.Scan.{run_at, word_at, closes_at, comment_at, token, passed, signed, hyphen_at, quoted_at, closed_bits, quoted_bits_at, assign_at, dot_at, mark_at, behind_at, piece_at}
 use Rattle.mon_smi.specs.declared.kind.Kind.{Kind}
 use Rattle.mon_smi.specs.declared.kind.Kind.TheVariants.{Word, Number, Quoted, Hex, Binary, Assign, Range, LeftBrace, RightBrace, LeftParen, RightParen, LeftBracket, RightBracket, Comma, Semicolon, Dot, Bar}
 use Rattle.mon_smi.specs.declared.token.Piece.{Piece}
@@ -93,7 +93,7 @@ take_two zero bs x y rest is = let lens : length bs ≡ length (x ∷ y ∷ rest
 take_two (suc d) [] x y rest is = let lens : 0 ≡ length (x ∷ y ∷ rest) = ap (λ (l : List ℕ). length l) is in absurd (omega arith)
 take_two (suc d) (b ∷ bs) x y rest is = let more = take_two d bs x y rest is in let below : suc (suc d) ≤ length bs = more.1 in (ap (λ (l : List ℕ). b ∷ l) more.0, omega arith)
 
-bits_taken : (bs : List ℕ) → IfSome (bits_at bs) (Taken (39 ∷ bs))
+bits_taken : (bs : List ℕ) → IfSome (quoted_bits_at bs) (Taken (39 ∷ bs))
 bits_taken bs = go (drop d bs) refl
   where
     d : ℕ
@@ -172,7 +172,7 @@ behind_taken : (b : ℕ) (bs : List ℕ) → IfSome (behind_at b bs) (Taken (b �
 behind_taken b bs =
     by_test (λ r. IfSome r (Taken (b ∷ bs))) (b == 45) (hyphen_at bs) _ (λ is. found_byte b 45 bs (hyphen_at bs) (hyphen_taken bs) is) (λ n1.
     by_test (λ r. IfSome r (Taken (b ∷ bs))) (b == 34) (quoted_at bs) _ (λ is. found_byte b 34 bs (quoted_at bs) (quoted_taken bs) is) (λ n2.
-    by_test (λ r. IfSome r (Taken (b ∷ bs))) (b == 39) (bits_at bs) _ (λ is. found_byte b 39 bs (bits_at bs) (bits_taken bs) is) (λ n3.
+    by_test (λ r. IfSome r (Taken (b ∷ bs))) (b == 39) (quoted_bits_at bs) _ (λ is. found_byte b 39 bs (quoted_bits_at bs) (bits_taken bs) is) (λ n3.
     by_test (λ r. IfSome r (Taken (b ∷ bs))) (b == 58) (assign_at bs) _ (λ is. found_byte b 58 bs (assign_at bs) (assign_taken bs) is) (λ n4.
     by_test (λ r. IfSome r (Taken (b ∷ bs))) (b == 46) (dot_at bs) (mark_at b) (λ is. found_byte b 46 bs (dot_at bs) (dot_taken bs) is) (λ n5. mark_taken b bs)))))
 

@@ -39,8 +39,8 @@ IsNested left right depth (l ∷ ls) =
     ⊎ ((l ≢ mark left) × (l ≢ mark right) × IsNested left right depth ls))
 
 -- a balanced group between these two marks
-abbrev pub IsGroup : Kind → Kind → List Lexeme → Type 0
-IsGroup left right ls = (inner : List Lexeme) × (ls ≡ mark left ∷ inner ++ mark right ∷ []) × IsNested left right 0 inner
+abbrev pub IsBalanced : Kind → Kind → List Lexeme → Type 0
+IsBalanced left right ls = (inner : List Lexeme) × (ls ≡ mark left ∷ inner ++ mark right ∷ []) × IsNested left right 0 inner
 
 -- the name of a type: two words, SEQUENCE OF a name, or one word with a capital letter first
 abbrev pub IsTypeName : List Lexeme → Type 0
@@ -51,7 +51,7 @@ IsTypeName ls = (ls ≡ word (codes "OCTET") ∷ word (codes "STRING") ∷ [])
 
 -- nothing, or a group in braces or in parentheses
 abbrev pub IsMaybeGroup : List Lexeme → Type 0
-IsMaybeGroup ls = (ls ≡ []) ⊎ (IsGroup LeftBrace RightBrace ls ⊎ IsGroup LeftParen RightParen ls)
+IsMaybeGroup ls = (ls ≡ []) ⊎ (IsBalanced LeftBrace RightBrace ls ⊎ IsBalanced LeftParen RightParen ls)
 
 -- a type's name, and at most one group after it
 abbrev pub IsType : List Lexeme → Type 0
@@ -66,17 +66,17 @@ abbrev pub statuses : List (List ℕ)
 statuses = codes "current" ∷ codes "deprecated" ∷ codes "obsolete" ∷ []
 
 -- what stands after the keyword of a clause
-abbrev pub IsPart : Part → List Lexeme → Type 0
-IsPart Syntax ls = IsType ls
-IsPart Text ls = IsThis (mark Quoted) ls
-IsPart Access ls = IsWordOf accesses ls
-IsPart Status ls = IsWordOf statuses ls
-IsPart Word ls = (text : List ℕ) × IsThis (word text) ls
-IsPart Group ls = IsGroup LeftBrace RightBrace ls
+abbrev pub IsClausePart : Part → List Lexeme → Type 0
+IsClausePart Syntax ls = IsType ls
+IsClausePart Text ls = IsThis (mark Quoted) ls
+IsClausePart Access ls = IsWordOf accesses ls
+IsClausePart Status ls = IsWordOf statuses ls
+IsClausePart Word ls = (text : List ℕ) × IsThis (word text) ls
+IsClausePart Group ls = IsBalanced LeftBrace RightBrace ls
 
 -- a keyword and what stands after it
 abbrev pub IsClause : List ℕ → Part → List Lexeme → Type 0
-IsClause keyword part = IsThis (word keyword) ▸ IsPart part
+IsClause keyword part = IsThis (word keyword) ▸ IsClausePart part
 
 -- nothing, or a clause
 abbrev pub IsOptional : List ℕ → Part → List Lexeme → Type 0

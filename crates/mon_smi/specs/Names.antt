@@ -30,17 +30,17 @@ Leads defs None (d ∷ ds) end = ⊥
 Leads defs (Some w) (d ∷ ds) end = IsOneOf defs d × (d.name ≡ w) × Leads defs d.parent ds end
 
 -- the numbers of a chain: the parent's come first
-abbrev pub numbers_of : List Definition → List ℕ
-numbers_of [] = []
-numbers_of (d ∷ ds) = numbers_of ds ++ d.numbers
+abbrev pub chain_numbers : List Definition → List ℕ
+chain_numbers [] = []
+chain_numbers (d ∷ ds) = chain_numbers ds ++ d.numbers
 
 -- the word stands for these numbers
-abbrev pub Stands : List Definition → List ℕ → List ℕ → Type 0
-Stands defs w q = (chain : List Definition) × Leads defs (Some w) chain None × (q ≡ numbers_of chain)
+abbrev pub StandsFor : List Definition → List ℕ → List ℕ → Type 0
+StandsFor defs w q = (chain : List Definition) × Leads defs (Some w) chain None × (q ≡ chain_numbers chain)
 
 -- the chain of the word's parents comes to a name that no definition has
-abbrev pub IsLost : List Definition → List ℕ → Type 0
-IsLost defs w = (chain : List Definition) × (p : List ℕ) × Leads defs (Some w) chain (Some p) × IsUndefined defs p
+abbrev pub EndsUndefined : List Definition → List ℕ → Type 0
+EndsUndefined defs w = (chain : List Definition) × (p : List ℕ) × Leads defs (Some w) chain (Some p) × IsUndefined defs p
 
 -- the chain of the word's parents comes to a name that it has passed
 abbrev pub IsCircular : List Definition → List ℕ → Type 0
@@ -51,9 +51,9 @@ abbrev pub IsNamed : List ℕ → List ℕ → List ℕ → Type 0
 IsNamed text w rest = IsWord w × (((text ≡ w) × (rest ≡ [])) ⊎ ((dotted : List ℕ) × (text ≡ w ++ 46 ∷ dotted) × Spells dotted rest))
 
 -- a text means numbers: those that it spells with dots, or those of a name with the rest after them
-abbrev pub Means : List Definition → List ℕ → List ℕ → Type 0
-Means defs text q = Spells text q
-    ⊎ ((w rest known : List ℕ) × IsNamed text w rest × Stands defs w known × (q ≡ known ++ rest))
+abbrev pub MeansNumbers : List Definition → List ℕ → List ℕ → Type 0
+MeansNumbers defs text q = Spells text q
+    ⊎ ((w rest known : List ℕ) × IsNamed text w rest × StandsFor defs w known × (q ≡ known ++ rest))
 
 -- a text that neither spells numbers nor is a name, with numbers after it or without
 abbrev pub IsFormless : List ℕ → Type 0
@@ -63,7 +63,7 @@ IsFormless text = ((q : List ℕ) → Spells text q → ⊥) × ((w rest : List 
 abbrev pub IsFaultOfWord : NamesFault → List Definition → List ℕ → Type 0
 IsFaultOfWord OutOfMemory defs w = Unit {0}
 IsFaultOfWord Duplicate defs w = ⊥
-IsFaultOfWord Unknown defs w = IsLost defs w
+IsFaultOfWord Unknown defs w = EndsUndefined defs w
 IsFaultOfWord Cycle defs w = IsCircular defs w
 IsFaultOfWord TooDeep defs w = ⊥
 IsFaultOfWord BadIdentifier defs w = ⊥
@@ -72,19 +72,19 @@ IsFaultOfWord BadIdentifier defs w = ⊥
 abbrev pub IsFaultOfName : NamesFault → List Definition → List ℕ → List ℕ → Type 0
 IsFaultOfName OutOfMemory defs w rest = Unit {0}
 IsFaultOfName Duplicate defs w rest = ⊥
-IsFaultOfName Unknown defs w rest = IsLost defs w
+IsFaultOfName Unknown defs w rest = EndsUndefined defs w
 IsFaultOfName Cycle defs w rest = IsCircular defs w
-IsFaultOfName TooDeep defs w rest = (known : List ℕ) × Stands defs w known × (128 < length (known ++ rest))
-IsFaultOfName BadIdentifier defs w rest = (known : List ℕ) × Stands defs w known × (length (known ++ rest) ≤ 128) × ¬ (IsOid (known ++ rest))
+IsFaultOfName TooDeep defs w rest = (known : List ℕ) × StandsFor defs w known × (128 < length (known ++ rest))
+IsFaultOfName BadIdentifier defs w rest = (known : List ℕ) × StandsFor defs w known × (length (known ++ rest) ≤ 128) × ¬ (IsOid (known ++ rest))
 
 -- why a text means no identifier
-abbrev pub IsFaultOfText : NamesFault → List Definition → List ℕ → Type 0
-IsFaultOfText OutOfMemory defs text = Unit {0}
-IsFaultOfText Duplicate defs text = ⊥
-IsFaultOfText Unknown defs text = IsFormless text ⊎ ((w rest : List ℕ) × IsNamed text w rest × IsLost defs w)
-IsFaultOfText Cycle defs text = (w rest : List ℕ) × IsNamed text w rest × IsCircular defs w
-IsFaultOfText TooDeep defs text = (q : List ℕ) × Means defs text q × (128 < length q)
-IsFaultOfText BadIdentifier defs text = (q : List ℕ) × Means defs text q × (length q ≤ 128) × ¬ (IsOid q)
+abbrev pub IsFaultOfNameText : NamesFault → List Definition → List ℕ → Type 0
+IsFaultOfNameText OutOfMemory defs text = Unit {0}
+IsFaultOfNameText Duplicate defs text = ⊥
+IsFaultOfNameText Unknown defs text = IsFormless text ⊎ ((w rest : List ℕ) × IsNamed text w rest × EndsUndefined defs w)
+IsFaultOfNameText Cycle defs text = (w rest : List ℕ) × IsNamed text w rest × IsCircular defs w
+IsFaultOfNameText TooDeep defs text = (q : List ℕ) × MeansNumbers defs text q × (128 < length q)
+IsFaultOfNameText BadIdentifier defs text = (q : List ℕ) × MeansNumbers defs text q × (length q ≤ 128) × ¬ (IsOid q)
 
 -- why definitions can't join those that are known
 abbrev pub IsFaultOfAdding : NamesFault → List Definition → List Definition → Type 0

@@ -176,8 +176,8 @@ many read emit stop (suc room) ls =
     (read ls >>= λ x. many read emit stop room x.1 >>= λ ys. Some (emit x.0 ++ ys.0, ys.1))
 
 -- what was read before, and what is still read
-abbrev pub behind : {A : Type 0} → List A → Option (List A × List Lexeme) → Option (List A × List Lexeme)
-behind front read = read >>= λ ys. Some (front ++ ys.0, ys.1)
+abbrev pub with_front : {A : Type 0} → List A → Option (List A × List Lexeme) → Option (List A × List Lexeme)
+with_front front read = read >>= λ ys. Some (front ++ ys.0, ys.1)
 
 -- ---- values
 
@@ -319,10 +319,10 @@ assignment_at ls = do
 -- ---- modules
 
 -- END is the last
-abbrev pub is_end : List Lexeme → Bool
-is_end [] = false
-is_end (l ∷ []) = is_word (codes "END") l
-is_end (l ∷ m ∷ ls) = false
+abbrev pub ends_module : List Lexeme → Bool
+ends_module [] = false
+ends_module (l ∷ []) = is_word (codes "END") l
+ends_module (l ∷ m ∷ ls) = false
 
 -- imports up to their semicolon
 unfoldable pub imported_at : List Lexeme → Option (List Lexeme)
@@ -337,12 +337,12 @@ imports_at ls = if begins_word (codes "IMPORTS") ls then imported_at ls else Som
 -- assignments up to END
 unfoldable pub definitions_at : List Lexeme → Option (List Definition)
 definitions_at ls = do
-  all ← many assignment_at option_to_list is_end (length ls) ls
+  all ← many assignment_at option_to_list ends_module (length ls) ls
   Some all.0
 
 -- what stands after a module's name
-unfoldable pub body_at : List Lexeme → Option (List Definition)
-body_at ls = do
+unfoldable pub module_body_at : List Lexeme → Option (List Definition)
+module_body_at ls = do
   defined ← word_at (codes "DEFINITIONS") ls
   assigned ← mark_at Assign defined
   begun ← word_at (codes "BEGIN") assigned
@@ -353,4 +353,4 @@ body_at ls = do
 unfoldable pub module_at : List Lexeme → Option (List ℕ × List Definition)
 module_at ls = do
   name ← name_at ls
-  if begins_capital name.0 then (body_at name.1 >>= λ defs. Some (name.0, defs)) else None
+  if begins_capital name.0 then (module_body_at name.1 >>= λ defs. Some (name.0, defs)) else None

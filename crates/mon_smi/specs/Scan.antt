@@ -74,8 +74,8 @@ closed_bits digits bits (b ∷ letter ∷ rest) =
     else None
 
 -- hex or binary digits between single quotes
-abbrev pub bits_at : List ℕ → Option Piece
-bits_at text = closed_bits (run_at is_ascii_hexdigit text) (run_at is_bit text) (drop (run_at is_ascii_hexdigit text) text)
+abbrev pub quoted_bits_at : List ℕ → Option Piece
+quoted_bits_at text = closed_bits (run_at is_ascii_hexdigit text) (run_at is_bit text) (drop (run_at is_ascii_hexdigit text) text)
 
 -- the mark of an assignment
 abbrev pub assign_at : List ℕ → Option Piece
@@ -103,7 +103,7 @@ abbrev pub behind_at : ℕ → List ℕ → Option Piece
 behind_at b bs =
     if b == 45 then hyphen_at bs else
     (if b == 34 then quoted_at bs else
-    (if b == 39 then bits_at bs else
+    (if b == 39 then quoted_bits_at bs else
     (if b == 58 then assign_at bs else
     (if b == 46 then dot_at bs else mark_at b))))
 

@@ -20,8 +20,8 @@ abbrev pub AreDigits : List ℕ → Type 0
 AreDigits digits = (0 < length digits) × AreAll is_ascii_digit digits
 
 -- digits, or a hyphen and digits
-abbrev pub IsNumber : List ℕ → Type 0
-IsNumber text = AreDigits text ⊎ ((digits : List ℕ) × (text ≡ 45 ∷ digits) × AreDigits digits)
+abbrev pub IsNumberToken : List ℕ → Type 0
+IsNumberToken text = AreDigits text ⊎ ((digits : List ℕ) × (text ≡ 45 ∷ digits) × AreDigits digits)
 
 -- a quote inside is written twice
 abbrev pub doubled : ℕ → List ℕ
@@ -44,7 +44,7 @@ is_bit b = b == 48 || b == 49
 -- the text is spelled as a token of this kind
 abbrev pub IsSpelled : Kind → List ℕ → Type 0
 IsSpelled Word text = IsWord text
-IsSpelled Number text = IsNumber text
+IsSpelled Number text = IsNumberToken text
 IsSpelled Quoted text = IsQuoted text
 IsSpelled Hex text = IsBits is_ascii_hexdigit 104 72 text
 IsSpelled Binary text = IsBits is_bit 98 66 text
@@ -62,7 +62,7 @@ IsSpelled Dot text = text ≡ codes "."
 IsSpelled Bar text = text ≡ codes "|"
 
 -- the first n bytes are a token of this kind, and no more bytes of the front are a token of any kind
-pub record IsLongest (kind : Kind) (n : ℕ) (text : List ℕ) : Type 0 where
+pub record IsLongestToken (kind : Kind) (n : ℕ) (text : List ℕ) : Type 0 where
   pub within : n ≤ length text
   pub spelled : IsSpelled kind (take n text)
   pub longest : (other : Kind) (m : ℕ) → m ≤ length text → IsSpelled other (take m text) → m ≤ n
@@ -114,16 +114,16 @@ IsPassed n text = (n ≤ length text)
 -- the longest token of this kind, or with no kind space or a comment, has this many bytes
 abbrev pub IsPieceOf : Option Kind → ℕ → List ℕ → Type 0
 IsPieceOf None n text = IsPassed n text
-IsPieceOf (Some kind) n text = IsLongest kind n text
+IsPieceOf (Some kind) n text = IsLongestToken kind n text
 
 -- at the front of the text stands this token, or with no kind this space or comment
 abbrev pub IsPiece : Piece → List ℕ → Type 0
 IsPiece piece text = IsPieceOf piece.kind piece.len text
 
 -- read from the left the text has these pieces, and then the rest
-abbrev pub IsRead : List Piece → List ℕ → List ℕ → Type 0
-IsRead [] text rest = text ≡ rest
-IsRead (p ∷ ps) text rest = IsPiece p text × IsRead ps (drop p.len text) rest
+abbrev pub IsTokenized : List Piece → List ℕ → List ℕ → Type 0
+IsTokenized [] text rest = text ≡ rest
+IsTokenized (p ∷ ps) text rest = IsPiece p text × IsTokenized ps (drop p.len text) rest
 
 -- something is left, and neither a token nor space nor a comment stands there
 abbrev pub NothingStands : List ℕ → Type 0
@@ -146,7 +146,7 @@ tokens_of start (p ∷ ps) = token_of start p.len p.kind ++ tokens_of (start + p
 
 -- these are the tokens of the text, read from the left to its end
 abbrev pub AreTokens : List ℕ → List Token → Type 0
-AreTokens text tokens = (pieces : List Piece) × IsRead pieces text [] × (tokens ≡ tokens_of 0 pieces)
+AreTokens text tokens = (pieces : List Piece) × IsTokenized pieces text [] × (tokens ≡ tokens_of 0 pieces)
 
 -- tokens have a byte at least, and each one begins where the one before it ends, or later
 abbrev pub RisesFrom : ℕ → List Token → Type 0
@@ -155,7 +155,7 @@ RisesFrom at (t ∷ ts) = (at ≤ t.span.start) × (t.span.start < t.span.end) �
 
 -- read from the left the text comes to this place, and nothing stands there
 abbrev pub IsStuck : List ℕ → ℕ → List ℕ → Type 0
-IsStuck text at rest = (pieces : List Piece) × IsRead pieces text rest × (bytes_of pieces ≡ at) × NothingStands rest
+IsStuck text at rest = (pieces : List Piece) × IsTokenized pieces text rest × (bytes_of pieces ≡ at) × NothingStands rest
 
 -- the fault at a place where nothing stands: it is in a string that isn't closed, or unexpected there
 abbrev pub IsFaultAt : TextFault → ℕ → List ℕ → Type 0

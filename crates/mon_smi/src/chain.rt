@@ -2,7 +2,7 @@
 
 ghost use Rattle.mon_oid.specs.Oid.{IsOid};
 ghost use Rattle.std.specs.Prelude.{◌≡◌, ℕ, List, ◌≤◌, ◌++◌, map, length, Some, None, IfOk, IfErr};
-ghost use Rattle.mon_smi.specs.Names.{Leads, numbers_of, Stands, IsFaultOfWord, IsFaultOfJoining, IsFaultOfName};
+ghost use Rattle.mon_smi.specs.Names.{Leads, chain_numbers, StandsFor, IsFaultOfWord, IsFaultOfJoining, IsFaultOfName};
 ghost use Rattle.mon_smi.specs.Places.{AreFound};
 
 use crate::definition::Definition;
@@ -44,8 +44,8 @@ fn chain<'a>(
 
 /// The numbers of a chain, with others after them.
 fn joined(alloc: Global, mut chain: Vec<&Definition>, rest: &[u32]) -> Result<Vec<u32>, NamesFault>
-    ensures found { IfOk result (λ v. (v.items ≡ numbers_of (map (λ d. d.now) chain.entry.items) ++ rest.now) × (length v.items ≤ 128)) }
-    ensures fault { IfErr result (λ e. IsFaultOfJoining e (numbers_of (map (λ d. d.now) chain.entry.items) ++ rest.now)) }
+    ensures found { IfOk result (λ v. (v.items ≡ chain_numbers (map (λ d. d.now) chain.entry.items) ++ rest.now) × (length v.items ≤ 128)) }
+    ensures fault { IfErr result (λ e. IsFaultOfJoining e (chain_numbers (map (λ d. d.now) chain.entry.items) ++ rest.now)) }
 {
     if rest.len() > 128 {
         return Err(NamesFault::TooDeep);
@@ -72,7 +72,7 @@ pub(crate) fn identifier_of(
     rest: &[u32],
 ) -> Result<Oid, NamesFault>
     requires { AreFound places.now defs.now }
-    ensures found { IfOk result (λ oid. IsOid oid × ((known : List ℕ) × Stands defs.now word.now known × (oid ≡ known ++ rest.now))) }
+    ensures found { IfOk result (λ oid. IsOid oid × ((known : List ℕ) × StandsFor defs.now word.now known × (oid ≡ known ++ rest.now))) }
     ensures fault { IfErr result (λ e. IsFaultOfName e defs.now word.now rest.now) }
 {
     let parents = chain(alloc, places, defs, word)?;

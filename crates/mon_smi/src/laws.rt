@@ -6,26 +6,26 @@ ghost use Rattle.mon_smi.specs.declared.token.Token.{Token as AnyToken};
 ghost use Rattle.mon_smi.specs.Tokens.{AreTokens, RisesFrom};
 ghost use Rattle.mon_smi.specs.Lexemes.{AreTokensOf};
 ghost use Rattle.mon_smi.specs.Grammar.{Derives};
-ghost use Rattle.mon_smi.specs.Names.{AreDistinct, Stands, Means, IsLost, IsCircular};
+ghost use Rattle.mon_smi.specs.Names.{AreDistinct, StandsFor, MeansNumbers, EndsUndefined, IsCircular};
 
 /// A name stands for one identifier at most.
 pub fn one_meaning()
-    ensures { (defs : List AnyDefinition) (w p q : List ℕ) → AreDistinct defs → Stands defs w p → Stands defs w q → p ≡ q }
+    ensures { (defs : List AnyDefinition) (w p q : List ℕ) → AreDistinct defs → StandsFor defs w p → StandsFor defs w q → p ≡ q }
 {}
 
 /// A name whose chain of parents ends at no definition stands for nothing.
 pub fn lost()
-    ensures { (defs : List AnyDefinition) (w q : List ℕ) → AreDistinct defs → Stands defs w q → ¬ (IsLost defs w) }
+    ensures { (defs : List AnyDefinition) (w q : List ℕ) → AreDistinct defs → StandsFor defs w q → ¬ (EndsUndefined defs w) }
 {}
 
 /// A name whose chain of parents comes to a name again stands for nothing.
 pub fn circular()
-    ensures { (defs : List AnyDefinition) (w q : List ℕ) → AreDistinct defs → Stands defs w q → ¬ (IsCircular defs w) }
+    ensures { (defs : List AnyDefinition) (w q : List ℕ) → AreDistinct defs → StandsFor defs w q → ¬ (IsCircular defs w) }
 {}
 
 /// A text means one list of numbers at most.
 pub fn one_reading()
-    ensures { (defs : List AnyDefinition) (text p q : List ℕ) → AreDistinct defs → Means defs text p → Means defs text q → p ≡ q }
+    ensures { (defs : List AnyDefinition) (text p q : List ℕ) → AreDistinct defs → MeansNumbers defs text p → MeansNumbers defs text q → p ≡ q }
 {
     mon_oid::laws::one_reading();
 }

@@ -6,7 +6,7 @@ ghost use Rattle.mon_smi.specs.Names.{AreDistinct};
 ghost use Rattle.mon_smi.specs.Grammar.{Derives};
 ghost use Rattle.mon_smi.specs.ModuleFaults.{AllBegin, IsTwice, IsFaultOfModule};
 ghost use Rattle.mon_smi.specs.declared.text_fault.TextFault.TheVariants.{OutOfMemory};
-ghost use Rattle.mon_smi.specs.Reading.{Gives, is_end, imported_at, imports_at, definitions_at, body_at, module_at};
+ghost use Rattle.mon_smi.specs.Reading.{Gives, ends_module, imported_at, imports_at, definitions_at, module_body_at, module_at};
 
 use crate::assignments::{assignment_at, up_to};
 use crate::definition::{Definition, Definitions, Module};
@@ -21,8 +21,8 @@ use crate::word::Word;
 use std::alloc::Global;
 
 /// Whether END comes next, as the last token.
-fn is_end(ls: &[Lexeme]) -> bool
-    ensures { result ≡ is_end ls.now }
+fn ends_module(ls: &[Lexeme]) -> bool
+    ensures { result ≡ ends_module ls.now }
 {
     let [last] = ls else {
         return false;
@@ -80,7 +80,7 @@ fn definitions_at(alloc: Global, ls: &[Lexeme]) -> Result<Body, TextFault>
         starts: Vec::new(alloc),
     };
     let mut left = ls.len();
-    while !is_end(last(ls, left)) {
+    while !ends_module(last(ls, left)) {
         let (definition, rest) = assignment_at(alloc, last(ls, left))?;
         keep(&mut body, definition, left)?;
         left = rest.len();
@@ -89,9 +89,9 @@ fn definitions_at(alloc: Global, ls: &[Lexeme]) -> Result<Body, TextFault>
 }
 
 /// A module after its name.
-#[tactic(auto, unfolding(crate::specs::Reading::body_at))]
-fn body_at(alloc: Global, ls: &[Lexeme]) -> Result<Body, TextFault>
-    ensures gives { Gives (λ body. body.defs.items) result (body_at ls.now) }
+#[tactic(auto, unfolding(crate::specs::Reading::module_body_at))]
+fn module_body_at(alloc: Global, ls: &[Lexeme]) -> Result<Body, TextFault>
+    ensures gives { Gives (λ body. body.defs.items) result (module_body_at ls.now) }
     ensures starts { IfOk result (λ body. AllBegin ls.now body.starts.items body.defs.items) }
 {
     let rest = word_at("DEFINITIONS", ls)?;
@@ -116,7 +116,7 @@ fn module_at(alloc: Global, ls: &[Lexeme]) -> Result<(Module, Vec<usize>), TextF
     if !begins_capital(name) {
         return Err(TextFault::Unexpected(first.span()));
     }
-    let body = body_at(alloc, rest)?;
+    let body = module_body_at(alloc, rest)?;
     let defs = Definitions::new(body.defs);
     let name = Word::from_str(alloc, name)?;
     Ok((Module { name, defs }, body.starts))

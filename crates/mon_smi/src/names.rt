@@ -1,7 +1,7 @@
 ghost use Rattle.std.specs.Prelude.{◌≡◌, ◌++◌, ℕ, List, string_bytes, IfOk, IfErr, OnOk, OnErr, IsOkUnless};
 ghost use Rattle.mon_oid.specs.Oid.{IsOid, Spells};
 ghost use Rattle.mon_smi.specs.BuiltIn.{built_in};
-ghost use Rattle.mon_smi.specs.Names.{AreDistinct, Means, IsFaultOfAdding, IsFaultOfText};
+ghost use Rattle.mon_smi.specs.Names.{AreDistinct, MeansNumbers, IsFaultOfAdding, IsFaultOfNameText};
 ghost use Rattle.mon_smi.specs.Nearest.{IsNameOf};
 ghost use Rattle.mon_smi.specs.Places.{AreFound};
 
@@ -69,9 +69,9 @@ impl Names {
     /// of parents ends at a name that is not defined, `Cycle` where the chain comes to a name that it
     /// has passed, `TooDeep` above 128 sub-identifiers, `BadIdentifier` where they are no identifier.
     pub fn resolve(&self, alloc: Global, text: &str) -> Result<Oid, NamesFault>
-        ensures found { IfOk result (λ oid. IsOid oid × Means self.now text.now oid) }
-        ensures accepted { (q : List ℕ) → Means self.now text.now q → IsOid q → IsOkUnless result NamesFault.OutOfMemory }
-        ensures fault { IfErr result (λ e. IsFaultOfText e self.now text.now) }
+        ensures found { IfOk result (λ oid. IsOid oid × MeansNumbers self.now text.now oid) }
+        ensures accepted { (q : List ℕ) → MeansNumbers self.now text.now q → IsOid q → IsOkUnless result NamesFault.OutOfMemory }
+        ensures fault { IfErr result (λ e. IsFaultOfNameText e self.now text.now) }
     {
         mon_oid::laws::one_reading();
         resolved(alloc, &self.places, self.defs.as_slice(), text)
@@ -94,8 +94,8 @@ fn resolved(
     text: &str,
 ) -> Result<Oid, NamesFault>
     requires { AreFound places.now defs.now }
-    ensures found { IfOk result (λ oid. IsOid oid × Means defs.now text.now oid) }
-    ensures fault { IfErr result (λ e. IsFaultOfText e defs.now text.now) }
+    ensures found { IfOk result (λ oid. IsOid oid × MeansNumbers defs.now text.now oid) }
+    ensures fault { IfErr result (λ e. IsFaultOfNameText e defs.now text.now) }
 {
     match Oid::parse(alloc, text) {
         Ok(oid) => Ok(oid),
@@ -115,8 +115,8 @@ fn named(
 ) -> Result<Oid, NamesFault>
     requires found { AreFound places.now defs.now }
     requires no_numbers { (q : List ℕ) → ¬ (Spells text.now q) }
-    ensures found { IfOk result (λ oid. IsOid oid × Means defs.now text.now oid) }
-    ensures fault { IfErr result (λ e. IsFaultOfText e defs.now text.now) }
+    ensures found { IfOk result (λ oid. IsOid oid × MeansNumbers defs.now text.now oid) }
+    ensures fault { IfErr result (λ e. IsFaultOfNameText e defs.now text.now) }
 {
     let Some((word, rest)) = text.split_once('.') else {
         if !is_word(text) {

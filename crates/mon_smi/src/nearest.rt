@@ -3,7 +3,7 @@
 ghost use Rattle.std.specs.Prelude.{◌≡◌, ◌++◌, ℕ, List, false, true, string_bytes, IfOk, IfSome, IfNone};
 ghost use Rattle.mon_smi.specs.Names.{AreDistinct};
 ghost use Rattle.mon_smi.specs.Places.{AreFound};
-ghost use Rattle.mon_smi.specs.Nearest.{Covers, IsAsNear, IsKept, IsNearest, IsNameless, IsNameOf, behind};
+ghost use Rattle.mon_smi.specs.Nearest.{Covers, IsAsNear, IsEquallyNear, IsNearest, IsNameless, IsNameOf, dotted_after};
 
 use crate::chain::identifier_of;
 use crate::definition::Definition;
@@ -33,7 +33,7 @@ pub(crate) fn name_of(
 
 /// The name, and the numbers with a dot before each.
 fn with_rest(alloc: Global, name: &str, rest: &[u32]) -> Result<String, AllocError>
-    ensures { IfOk result (λ text. string_bytes text ≡ name.now ++ behind rest.now) }
+    ensures { IfOk result (λ text. string_bytes text ≡ name.now ++ dotted_after rest.now) }
 {
     let mut text = String::from_str(alloc, name)?;
     for number in rest {
@@ -97,7 +97,7 @@ fn covered(
 
 /// Whether the best name so far is as near as this one.
 fn is_as_near(best: Option<(&str, usize)>, name: &str, len: usize) -> bool
-    ensures yes { result ≡ true → IsKept best.entry name.now len }
+    ensures yes { result ≡ true → IsEquallyNear best.entry name.now len }
     ensures no { result ≡ false → IfSome best.entry (λ b. IsAsNear name.now len b.0.now b.1) }
 {
     let Some((best_name, best_len)) = best else {

@@ -2,7 +2,7 @@
 
 ghost use Rattle.std.specs.Prelude.{◌≡◌, ◌<◌, ◌^◌};
 ghost use Rattle.mon_smi.specs.Tokens.{is_space};
-ghost use Rattle.mon_smi.specs.Scan.{token, passed, signed, hyphen_at, quoted_at, closed_bits, bits_at, assign_at, dot_at, mark_at, behind_at, piece_at};
+ghost use Rattle.mon_smi.specs.Scan.{token, passed, signed, hyphen_at, quoted_at, closed_bits, quoted_bits_at, assign_at, dot_at, mark_at, behind_at, piece_at};
 
 use crate::kind::Kind;
 use crate::scan::{
@@ -67,8 +67,8 @@ fn closed_bits(digits: usize, bits: usize, text: &[u8]) -> Option<Piece>
 }
 
 /// Hex or binary digits, after the first single quote.
-fn bits_at(text: &[u8]) -> Option<Piece>
-    ensures { result ≡ bits_at text.now }
+fn quoted_bits_at(text: &[u8]) -> Option<Piece>
+    ensures { result ≡ quoted_bits_at text.now }
 {
     let digits = hex_digits_len(text);
     closed_bits(digits, bits_len(text), behind(text, digits))
@@ -119,7 +119,7 @@ fn behind_at(first: u8, rest: &[u8]) -> Option<Piece>
     match first {
         b'-' => hyphen_at(rest),
         b'"' => quoted_at(rest),
-        b'\'' => bits_at(rest),
+        b'\'' => quoted_bits_at(rest),
         b':' => assign_at(rest),
         b'.' => dot_at(rest),
         _ => mark_at(first),

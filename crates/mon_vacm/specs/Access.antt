@@ -11,7 +11,7 @@ use Rattle.mon_vacm.specs.declared.model.SecurityModel.{SecurityModel}
 use Rattle.mon_vacm.specs.declared.model.SecurityModel.TheVariants as model
 use Rattle.mon_vacm.specs.declared.need.Need.{Need}
 use Rattle.mon_vacm.specs.declared.need.Need.TheVariants.{Read, Write}
-use Rattle.mon_vacm.specs.Borrowed.{◌>>=◌}
+use Rattle.mon_oid.specs.Steps.{◌>>=◌}
 use Rattle.mon_vacm.specs.Tables.{Lists}
 
 -- the security name of a community (snmpCommunityTable, RFC 3584 section 5.3)

@@ -1,6 +1,7 @@
 -- Results that borrow, and steps that may fail.
 use Rattle.std.specs.Prelude.{Result, Ok, Err, ℕ, List}
 use Rattle.std.specs.Borrow.{Bor}
+use Rattle.mon_oid.specs.Steps.{◌>>=◌}
 use Rattle.mon_vacm.specs.declared.access.Access.{Access}
 use Rattle.mon_vacm.specs.declared.access_entry.AccessEntry.{AccessEntry}
 use Rattle.mon_vacm.specs.declared.denied.Denied.{Denied}
@@ -19,10 +20,3 @@ entry_now (Err e) = Err e
 abbrev pub granted : Result Access Denied → Result (List ℕ) Denied
 granted (Ok access) = Ok access.view.now
 granted (Err e) = Err e
-
--- the next step, where the one before gave a value
-infixl 10 ◌>>=◌
--- a step, and what follows it unless it failed
-abbrev pub ◌>>=◌ : {A B E : Type 0} → Result A E → (A → Result B E) → Result B E
-(Ok x) >>= f = f x
-(Err e) >>= f = Err e

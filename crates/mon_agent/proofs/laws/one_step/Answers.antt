@@ -5,7 +5,7 @@ use Rattle.mon_vacm.specs.View.{IsInView}
 use Rattle.mon_mib.specs.Known.{Known}
 use Rattle.mon_mib.specs.Next.{IsNext}
 use Rattle.mon_mib.specs.Objects.{objects}
-use Rattle.mon_agent.specs.Step.{IsStep}
+use Rattle.mon_agent.specs.Step.{IsNextAnswer}
 use Rattle.mon_agent.proofs.laws.one_step.Goals as goal
 
 some_is : {a b : Binding} → Some a ≡ Some b → a ≡ b
@@ -19,7 +19,7 @@ returns c = λ k families view name a b p q. both (IsInView families view) name 
   where
     both : {k : Known} (sees : List ℕ → Type 0) (name : List ℕ) (a b : Binding)
         → ((r s : Option Binding) → IsNext objects k sees name r → IsNext objects k sees name s → r ≡ s)
-        → IsStep k sees name a → IsStep k sees name b → a ≡ b
+        → IsNextAnswer k sees name a → IsNextAnswer k sees name b → a ≡ b
     both sees name a b one (inl p) (inl q) = some_is (one (Some a) (Some b) p q)
     both sees name a b one (inl p) (inr q) = never (one None (Some a) q.0 p)
     both sees name a b one (inr p) (inl q) = never (one None (Some b) p.0 q)

@@ -6,10 +6,10 @@ use Rattle.mon_app.specs.declared.fault.AppFault.{AppFault}
 use Rattle.mon_app.specs.declared.fault.AppFault.TheVariants.{OutOfMemory, Timeout, FileFault, SocketFault, NotIncreasing, AgentStatus, BadText}
 use Rattle.mon_app.specs.declared.value.ValueKind.{ValueKind}
 use Rattle.mon_app.specs.declared.value.ValueKind.TheVariants.{Ip}
-use Rattle.mon_app.specs.Meaning.{IsFault, Means}
+use Rattle.mon_app.specs.Meaning.{IsFault, MeansValue}
 use Rattle.mon_app.proofs.value.value_of.Goals as goal
 
-refused : (text : List ℕ) (e : AppFault) → IsFault (IsDotted text) e → IsFault (Means Ip text) e
+refused : (text : List ℕ) (e : AppFault) → IsFault (IsDotted text) e → IsFault (MeansValue Ip text) e
 refused text OutOfMemory h = h
 refused text Timeout h = h
 refused text FileFault h = h
@@ -18,9 +18,9 @@ refused text NotIncreasing h = h
 refused text AgentStatus h = h
 refused text BadText h = λ v means. h means.0 means.1
 
-passed : (kind : ValueKind) (text : List ℕ) (r : Result Value AppFault) (e : AppFault) → kind ≡ Ip → IsErr r → IsErrAnd r (λ x. x ≡ e) → IsFault (IsDotted text) e → IfErr r (IsFault (Means kind text))
+passed : (kind : ValueKind) (text : List ℕ) (r : Result Value AppFault) (e : AppFault) → kind ≡ Ip → IsErr r → IsErrAnd r (λ x. x ≡ e) → IsFault (IsDotted text) e → IfErr r (IsFault (MeansValue kind text))
 passed kind text (Ok v) e is err same h = tt
-passed kind text (Err x) e is err same h = subst (λ k. IsFault (Means k text) x) (sym is) (subst (λ y. IsFault (Means Ip text) y) (sym same) (refused text e h))
+passed kind text (Err x) e is err same h = subst (λ k. IsFault (MeansValue k text) x) (sym is) (subst (λ y. IsFault (MeansValue Ip text) y) (sym same) (refused text e h))
 
 pub returns-in_err-address-in-Ip-clause-fault : goal.returns-in_err-address-in-Ip-clause-fault
 returns-in_err-address-in-Ip-clause-fault c =

@@ -1,6 +1,6 @@
 use Rattle.std.proofs.Common.{◌≡◌, sym, ap, ◌∙◌}
 use Rattle.mon_sample.specs.Digits.{gives_back}
-use Rattle.mon_sample.specs.Key.{key, boots_of, time_of, mark_of, tag_of, value_of}
+use Rattle.mon_sample.specs.Key.{key, boots_of, time_of, mark_of, tag_of, sample_value}
 use Rattle.mon_sample.specs.Record.{octets_of, spelled}
 use Rattle.mon_sample.proofs.Octets.{laid, layout-key, spelled_key}
 use Rattle.mon_sample.proofs.sample.digits_of.Goals as goal
@@ -17,7 +17,7 @@ returns c =
       time = sym (ap time_of whole ∙ back.1);
       mark = sym (ap mark_of whole ∙ back.2);
       tag = sym (ap tag_of whole ∙ back.3);
-      value = sym (ap value_of whole ∙ back.4);
+      value = sym (ap sample_value whole ∙ back.4);
       whole = sym whole;
       octets = here ∙ sym (layout-key p.boots p.time p.mark p.tag p.value f.time_fits f.mark_fits f.tag_fits f.value_fits) ∙ ap octets_of (sym whole);
     }

@@ -1,14 +1,14 @@
 use Rattle.std.proofs.Common.{◌<◌, rules, length}
 use Rattle.mon_vacm.specs.View.{IsInView}
 use Rattle.mon_mib.specs.Known.{known_of}
-use Rattle.mon_agent.specs.Step.{IsStep}
+use Rattle.mon_agent.specs.Step.{IsNextAnswer}
 use Rattle.mon_agent.proofs.Each.{one_more, rest_of, long_of}
 use Rattle.mon_agent.proofs.agent.Agent.step_all.Goals as goal
 
 pub loop-binding-preserved : goal.loop-binding-preserved
 loop-binding-preserved g c =
     let known = known_of c.args.self.now.mib.settings c.args.self.now.mib.counters (g.D.Device.held c.args.self.now.mib.device) c.args.moment in
-    let R = IsStep known (IsInView c.args.self.now.policy.families c.args.access.view.now) in
+    let R = IsNextAnswer known (IsInView c.args.self.now.policy.families c.args.access.view.now) in
     let at = c.loop-binding in
     let lt : at.binding-index < length at.binding-items = search rules in
     record {

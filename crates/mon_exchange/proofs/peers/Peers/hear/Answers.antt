@@ -1,6 +1,6 @@
 use Rattle.std.proofs.Common.{◌<◌, ℕ, Option, Some, length, sym, ap, ◌∙◌, arith}
 use Rattle.std.specs.Prelude.{◌==◌, if◌then◌else◌}
-use Rattle.mon_exchange.specs.Peers.{Peers, incarnation_in, latest, numbers_of}
+use Rattle.mon_exchange.specs.Peers.{Peers, incarnation_in, latest, peer_numbers}
 use Rattle.mon_exchange.proofs.Slots.{known_now, known_was, same_numbers}
 use Rattle.mon_exchange.proofs.peers.Peers.hear.Goals as goal
 
@@ -9,7 +9,7 @@ returns-clause-numbers c =
     let peers = c.self.inside.peers.items in
     let old = c.index_mut-peer.result.now in
     let lt : c.from.result < length peers = omega (arith, c.from.ensures, c.requires, ap (λ (p : Peers). length p.peers) c.self.view_is) in
-    same_numbers peers c.from.result lt old c.index_mut-peer.ensures.value c.latest.result ∙ ap (λ (p : Peers). numbers_of p.peers) c.self.view_is
+    same_numbers peers c.from.result lt old c.index_mut-peer.ensures.value c.latest.result ∙ ap (λ (p : Peers). peer_numbers p.peers) c.self.view_is
 
 pub returns-clause-known : goal.returns-clause-known
 returns-clause-known c = λ k.

@@ -1,6 +1,6 @@
 use Rattle.std.proofs.Common.{◌≡◌, ◌≤◌, ℕ, List, length, map, take, ap, ◌∙◌, arith}
 use Rattle.std.proofs.lemmas.List.{length-map, length-take, take_all}
-use Rattle.mon_exchange.specs.Peers.{known_incarnation, numbers_of, unheard}
+use Rattle.mon_exchange.specs.Peers.{known_incarnation, peer_numbers, unheard}
 use Rattle.mon_exchange.specs.declared.peers.Peer.{Peer}
 use Rattle.mon_exchange.proofs.Slots.{none_known, numbers_unheard}
 use Rattle.mon_exchange.proofs.peers.Peers.new.Goals as goal
@@ -18,7 +18,7 @@ invariant_of-result c =
 pub returns-clause-numbers : goal.returns-clause-numbers
 returns-clause-numbers c =
     let all = all_pushed c.args.numbers.now c.loop-number.number-index c.loop-number.peers.items (omega (arith, c.loop-number-test.false)) c.loop-number.invariant in
-    ap numbers_of all ∙ numbers_unheard c.args.numbers.now
+    ap peer_numbers all ∙ numbers_unheard c.args.numbers.now
 
 pub returns-clause-unknown : goal.returns-clause-unknown
 returns-clause-unknown c = λ y.

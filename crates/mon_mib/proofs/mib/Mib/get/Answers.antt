@@ -1,13 +1,13 @@
 use Rattle.std.proofs.Common.{◌≡◌, ◌++◌, ◌∷◌, [], sym, ◌∙◌, ap, get_or, subst}
 use Rattle.mon_mib.specs.Known.{Known, known_of}
-use Rattle.mon_mib.specs.Next.{IsGot, IsServed}
+use Rattle.mon_mib.specs.Next.{IsGot, IsServedName}
 use Rattle.mon_mib.specs.Objects.{prefix_of}
 use Rattle.mon_mib.proofs.Unique.{read, missing, no_instance, single, not_single}
 use Rattle.mon_mib.proofs.mib.Mib.get.Goals as goal
 use Rattle.mon_mib.proofs.mib.Mib.get.Goals.{in-Some-2, in-None}
 
 pub returns-in_default : goal.returns-in_default
-returns-in_default g c = subst (λ n. ¬ (IsServed n)) c.parts.ensures.parts c.in_default.ensures.none
+returns-in_default g c = subst (λ n. ¬ (IsServedName n)) c.parts.ensures.parts c.in_default.ensures.none
 
 pub returns-then-rest-ne1 : goal.returns-then-rest-ne1
 returns-then-rest-ne1 g c =

@@ -2,7 +2,7 @@ use Rattle.std.proofs.Common.{◌≡◌, List, ◌∙◌, ap, sym, subst}
 use Rattle.std.specs.Prelude.{Contains}
 use Rattle.mon_mib.specs.declared.interface.Interface.{Interface}
 use Rattle.mon_mib.specs.Held.{AreIndexes}
-use Rattle.mon_mib.specs.Sim.{Sim, indexes_of, IsPlace}
+use Rattle.mon_mib.specs.Sim.{Sim, indexes_of, IsPlaceOfIndex}
 use Rattle.mon_mib.proofs.sim_device.SimDevice.place.Goals as goal
 
 pub place_of-requires : goal.place_of-requires
@@ -16,4 +16,4 @@ returns-in_default-clause-lacking c =
 pub returns-clause-found : goal.returns-clause-found
 returns-clause-found c =
     let same : c.deref.result.now ≡ c.args.self.now.interfaces = c.deref.ensures.value ∙ ap (λ (s : Sim). s.interfaces) c.self.view_is in
-    subst (λ (ps : List Interface). IsPlace ps c.args.index c.in-Some.place) same c.in-Some.ensures.found
+    subst (λ (ps : List Interface). IsPlaceOfIndex ps c.args.index c.in-Some.place) same c.in-Some.ensures.found

@@ -1,0 +1,8 @@
+-- Steps that may fail, one after the other.
+use Rattle.std.specs.Prelude.{Result, Ok, Err}
+
+infixl 10 ◌>>=◌
+-- a step, and what follows it unless it failed
+abbrev pub ◌>>=◌ : {A B E : Type 0} → Result A E → (A → Result B E) → Result B E
+(Ok x) >>= f = f x
+(Err e) >>= f = Err e
