@@ -1,6 +1,8 @@
-//! Tests of what stations exchange and save: does what each line of standard input says, and prints a line for each, to be
+//! Tests of what is read and written, by agents and by stations: does what each line of standard input says, and prints a line for each, to be
 //! compared with the expected ones, which tests/attack/codec_rows writes from readers of another make.
 //!
+//!     value HEX         the value that these octets begin with, how many spell it, its size and its octets as they are written; or the fault
+//!     message HEX       the same of a message, by its fields
 //!     claim HEX         the claim that these octets spell, its size and its octets as they are written; or the fault
 //!     note HEX          what becomes of this claim at the station of number 1, and the incarnation then known of its station
 //!     known STATION     the incarnation that is known of this station
@@ -16,6 +18,7 @@
 mod claims;
 mod images;
 mod station;
+mod values;
 
 use station::Station;
 use std::alloc::Global;
@@ -57,6 +60,8 @@ fn rows<R: Input + Print>(rt: &R, alloc: Global) -> Option<()> {
 fn row(alloc: Global, station: &mut Station, line: &str) -> Option<String> {
     let (command, word) = line.split_once(' ')?;
     match command {
+        "value" => values::value_row(alloc, word),
+        "message" => values::message_row(alloc, word),
         "claim" => claims::row(alloc, word),
         "note" => station.note(alloc, word),
         "known" => station.known(alloc, word),

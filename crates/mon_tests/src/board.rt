@@ -161,32 +161,58 @@ fn watches_what_is_in_range(rt: HostRuntime) -> Result<(), Fail> {
     Ok(())
 }
 
+/// What becomes of a sample at this time, and what its instance's counter has then counted.
+fn taken(alloc: Global, board: &mut Board, instance: u16, time: u32) -> Result<String, Fail>
+    ensures { board.new.watch ≡ board.old.watch }
+{
+    let text = match take(board, instance, ticking(3, time)) {
+        Ok(Inserted::Added { at, dropped }) => {
+            let dropped = dropped.map(|sample| sample.time());
+            format!(in alloc; "added at {at}, {dropped:?} dropped")?
+        }
+        Ok(Inserted::Known) => String::from_str(alloc, "known")?,
+        Ok(Inserted::TooOld) => String::from_str(alloc, "too old")?,
+        Err(UnknownInstance) => String::from_str(alloc, "unknown")?,
+    };
+    let counted = totals(board, instance).map(|sums| sums.delta);
+    Ok(format!(in alloc; "{text}, {counted:?} counted")?)
+}
+
 #[test]
 fn takes_for_one_instance(rt: HostRuntime) -> Result<(), Fail> {
     let (mut board, _other) = match boards(rt.alloc())? {
         Ok(boards) => boards,
         Err(_) => panic!(rt; "a watch"),
     };
-    let added = |at, dropped| Ok(Inserted::Added { at, dropped });
-    let steps = [
-        (0, ticking(3, 100), added(0, None), 0),
-        (0, ticking(3, 110), added(0, Some(ticking(3, 100))), 0),
-        (0, ticking(3, 105), Ok(Inserted::TooOld), 0),
-        (1, ticking(3, 100), added(0, None), 0),
-        (1, ticking(3, 110), added(1, None), 10),
-        (1, ticking(3, 110), Ok(Inserted::Known), 10),
-        (2, ticking(3, 110), Err(UnknownInstance), 0),
-    ];
-    for (instance, sample, told, delta) in steps {
-        assert_eq!(rt; take(&mut board, instance, sample), told);
-        if let Some(sums) = totals(&board, instance) {
-            assert_eq!(rt; sums.delta, delta);
-        }
+    for (instance, time, want) in [
+        (0, 100, "added at 0, None dropped, Some(0) counted"),
+        (0, 110, "added at 0, Some(100) dropped, Some(0) counted"),
+        (0, 105, "too old, Some(0) counted"),
+        (1, 100, "added at 0, None dropped, Some(0) counted"),
+        (1, 110, "added at 1, None dropped, Some(10) counted"),
+        (1, 110, "known, Some(10) counted"),
+        (2, 110, "unknown, None counted"),
+    ] {
+        let told = taken(rt.alloc(), &mut board, instance, time)?;
+        assert_eq!(rt; told.as_str(), want, "at {time}");
     }
     assert_eq!(rt; (count(&board, 0), count(&board, 1)), (1, 2));
-    let name = Oid::parse(rt.alloc(), NAME)?;
-    assert_eq!(rt; board.find(&[128, 0, 0, 0, 2], &name), Some(1));
-    assert_eq!(rt; board.find(&[128, 0, 0, 0, 3], &name), None);
+    Ok(())
+}
+
+fn found(alloc: Global, board: &Board, last: u8) -> Result<Option<u16>, Fail> {
+    let name = Oid::parse(alloc, NAME)?;
+    Ok(board.find(&[128, 0, 0, 0, last], &name))
+}
+
+#[test]
+fn finds_what_is_watched(rt: HostRuntime) -> Result<(), Fail> {
+    let (board, _other) = match boards(rt.alloc())? {
+        Ok(boards) => boards,
+        Err(_) => panic!(rt; "a watch"),
+    };
+    assert_eq!(rt; found(rt.alloc(), &board, 2)?, Some(1));
+    assert_eq!(rt; found(rt.alloc(), &board, 3)?, None);
     Ok(())
 }
 

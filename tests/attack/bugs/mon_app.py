@@ -271,4 +271,24 @@ BUGS = {
         "    if last.compare(&found.name).is_lt() {",
         "    if !last.compare(&found.name).is_lt() {",
     ),
+    "always_one_text": (
+        'src/replaying.rt',
+        '    Ok(text.into_bytes())',
+        '    let _ = text.into_bytes(); Vec::from_slice(alloc, b"8000000001 1.3.6.1.2.1.2.2.1.10.1\\n  3 100 0 Counter32 7\\nend 1 instances 1 samples 0 refused\\n")',
+    ),
+    "swaps_boots_and_time": (
+        "src/response.rt",
+        "let (boots, time) = (self.boots, self.time);",
+        "let (time, boots) = (self.boots, self.time);",
+    ),
+    "walks_on_past_its_start": (
+        "src/walking.rt",
+        "|| !start.is_prefix_of(&found.name) {",
+        "|| !last.is_prefix_of(last) {",
+    ),
+    "wraps_at_32_bits": (
+        "src/value.rt",
+        "    let number = number(text)?;",
+        "    let number = number(text)? % 4294967296;",
+    ),
 }

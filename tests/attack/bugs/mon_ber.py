@@ -226,4 +226,19 @@ BUGS = {
         "        [a, b, c, d] => Ok([*a, *b, *c, *d]),",
         "        [a, b, c, d] => Ok([*d, *c, *b, *a]),",
     ),
+    "spare_first_octet_of_name": (
+        "src/name.rt",
+        "if bytes.first() == Some(&0x80) {",
+        "if bytes.first() == Some(&0x81) {",
+    ),
+    "counts_what_is_left": (
+        "src/reading.rt",
+        "Ok((value, bytes.len() - rest.len()))",
+        "Ok((value, rest.len()))",
+    ),
+    "size_of_contents_alone": (
+        "src/writing.rt",
+        "    Ok(element_len(len))",
+        "    Ok(len)",
+    ),
 }

@@ -136,4 +136,24 @@ BUGS = {
         "        self.items.push((instance, sample))?;",
         "        self.items.insert(0, (instance, sample))?;",
     ),
+    "owes_what_was_given": (
+        "src/marks.rt",
+        "        Some(other) => other.compare(sample).is_lt(),",
+        "        Some(other) => other.compare(sample).is_le(),",
+    ),
+    "takes_an_epoch_above_its_window": (
+        "src/watch.rt",
+        "    1 <= watched.epoch && watched.epoch <= watched.window && watched.window <= MOST_SAMPLES",
+        "    1 <= watched.epoch && watched.epoch <= MOST_SAMPLES && watched.window <= MOST_SAMPLES",
+    ),
+    "clears_a_neighbouring_slot": (
+        "src/marks.rt",
+        "    bits & !(1 << slot)",
+        "    bits & !(1 << (slot ^ 1))",
+    ),
+    "joins_the_first_to_all": (
+        "src/each.rt",
+        "        windows[i].join(&others[i]);",
+        "        windows[i].join(&others[0]);",
+    ),
 }

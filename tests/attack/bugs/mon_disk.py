@@ -171,4 +171,24 @@ BUGS = {
         "*failures = failures.saturating_add(1);",
         "*failures = failures.saturating_add(0);",
     ),
+    "always_no_more_generations": (
+        "src/keeper.rt",
+        "        if generation == u64::MAX {",
+        "        if generation <= u64::MAX {",
+    ),
+    "closes_the_first_slot": (
+        "src/keeper.rt",
+        "        close(&mut self.device, slot)?;",
+        "        close(&mut self.device, Slot::First)?;",
+    ),
+    "laid_out_open": (
+        "src/layout.rt",
+        "    disk.write_at(SLOT_SIZE, &[0; HEAD_SIZE])?;",
+        "    disk.write_at(SLOT_SIZE, &[0xA5; HEAD_SIZE])?;",
+    ),
+    "same_generation": (
+        "src/keeper.rt",
+        "        let octets = spell(alloc, generation + 1, body)?;",
+        "        let octets = spell(alloc, generation, body)?;",
+    ),
 }

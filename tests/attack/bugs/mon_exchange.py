@@ -156,4 +156,24 @@ BUGS = {
         "    if serial == u32::MAX { 1 } else { serial + 1 }",
         "    if serial == u32::MAX { serial } else { serial + 1 }",
     ),
+    "keeps_the_lesser_incarnation": (
+        "src/noted.rt",
+        "        Some(known) => known.max(incarnation),",
+        "        Some(known) => known.min(incarnation),",
+    ),
+    "passes_over_octets_that_are_left": (
+        "src/reading.rt",
+        "    if !rest.is_empty() {",
+        "    if rest.len() > 1 {",
+    ),
+    "takes_the_known_incarnation_for_a_new_one": (
+        "src/noted.rt",
+        "        Some(known) if known < incarnation => Noted::NewIncarnation,",
+        "        Some(known) if known <= incarnation => Noted::NewIncarnation,",
+    ),
+    "reads_another_version": (
+        "src/reading.rt",
+        "    octet_is(1, ExchangeFault::BadVersion, rest)",
+        "    octet_is(2, ExchangeFault::BadVersion, rest)",
+    ),
 }

@@ -151,4 +151,14 @@ BUGS = {
         "    if len >= LIMIT {\n        return Err(PduFault::BadLength);\n    }\n    Ok(element_len(len))",
         "    if len >= LIMIT {\n        return Err(PduFault::BadLength);\n    }\n    Ok(len)",
     ),
+    "tells_another_octet": (
+        "src/reading.rt",
+        "        None => Err(PduFault::UnknownPdu(*tag)),",
+        "        None => Err(PduFault::UnknownPdu(0)),",
+    ),
+    "leaves_an_octet_of_contents": (
+        "src/reading.rt",
+        "    if !rest.is_empty() {",
+        "    if rest.len() > 1 {",
+    ),
 }

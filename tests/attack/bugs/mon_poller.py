@@ -181,4 +181,24 @@ BUGS = {
         "                port: address.port(),",
         "                port: if address.port() == 161 { 162 } else { address.port() },",
     ),
+    "tells_an_oldest_of_none": (
+        "src/poller.rt",
+        "        least_id(&self.polls)",
+        "        least_id(&self.polls).or(Some(self.started))",
+    ),
+    "swaps_boots_and_time": (
+        "src/offers.rt",
+        "    let (boots, time) = (stamp.boots, stamp.time);",
+        "    let (boots, time) = (stamp.time, stamp.boots);",
+    ),
+    "takes_any_host": (
+        "src/awaiting.rt",
+        "    if from != target.address {",
+        "    if from.port != target.address.port {",
+    ),
+    "takes_an_integer_as_a_mark": (
+        "src/offers.rt",
+        "            [_, second, ..] => mark_in(&second.value),",
+        "            [_, second, ..] => stamp_number(&second.value),",
+    ),
 }

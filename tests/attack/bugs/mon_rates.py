@@ -46,4 +46,24 @@ BUGS = {
         "        Plan::Known | Plan::TooOld => totals,\n    }\n}\n\n/// The totals of the items after",
         "        Plan::Known | Plan::TooOld => totals.plus(totals),\n    }\n}\n\n/// The totals of the items after",
     ),
+    "counts_within_no_time": (
+        "src/totals.rt",
+        "&& a.time() < b.time()",
+        "&& a.time() <= b.time()",
+    ),
+    "no_rate_in_one_second": (
+        "src/totals.rt",
+        "if self.span == 0 {",
+        "if self.span <= 1 {",
+    ),
+    "sums_from_the_third": (
+        "src/totals.rt",
+        "for place in 1..samples.len() {",
+        "for place in 2..samples.len() {",
+    ),
+    "counts_gauges": (
+        "src/totals.rt",
+        "matches!(kind, Kind::Counter32 | Kind::Counter64)",
+        "matches!(kind, Kind::Counter32 | Kind::Counter64 | Kind::Gauge32)",
+    ),
 }

@@ -21,4 +21,25 @@ BUGS = {
     "end_without_a_line": ("src/line.rt", 'put(writer, ok, b" samples\\n")', 'put(writer, ok, b" samples")'),
     "alarms_of_later_instances": ("src/line.rt", "rule.instance() == instance", "rule.instance() >= instance"),
     "counts_instances_as_samples": ("src/report.rt", "count += board.items(i as u16).len() as u64;", "count += (board.items(i as u16).len() as u64).min(1);"),
+    "thresholds_swapped": ("src/line.rt", "i128::from(rule.rising())", "i128::from(rule.falling())"),
+    "samples_for_instances": (
+        "src/report.rt",
+        "write_end(writer, ok, instances, count_samples(board))",
+        "write_end(writer, ok, count_samples(board), instances)",
+    ),
+    "oldest_value": (
+        "src/line.rt",
+        "put_value(writer, ok, newest)",
+        "put_value(writer, ok, oldest)",
+    ),
+    "no_line_end": (
+        'src/report.rt',
+        'put(writer, ok, b"\\n")',
+        'put(writer, ok, b" ")',
+    ),
+    "newest_stamp_first": (
+        "src/line.rt",
+        "put_stamps(writer, ok, oldest, newest)",
+        "put_stamps(writer, ok, newest, oldest)",
+    ),
 }

@@ -126,4 +126,24 @@ BUGS = {
         'ImageFault::OtherWatch => "OtherWatch",',
         'ImageFault::OtherWatch => "BadImage",',
     ),
+    "calls_another_watch_a_bad_image": (
+        "src/reading.rt",
+        "    Err(ImageFault::OtherWatch)",
+        "    Err(ImageFault::BadImage)",
+    ),
+    "swaps_the_window_for_the_epoch": (
+        "src/writing.rt",
+        "    put_octet(out, watched.window as u8);",
+        "    put_octet(out, watched.epoch as u8);",
+    ),
+    "reads_an_epoch_of_0": (
+        "src/reading.rt",
+        "octet_within(1, window, ImageFault::BadImage, rest)?;",
+        "octet_within(0, window, ImageFault::BadImage, rest)?;",
+    ),
+    "takes_one_version_for_the_other": (
+        "src/reading.rt",
+        "    if version == 1 {",
+        "    if version == 2 {",
+    ),
 }

@@ -216,4 +216,19 @@ BUGS = {
         "    let rest = described_at(Part::Status, rest)?;",
         "    let rest = described_at(Part::Word, rest)?;",
     ),
+    "module_of_no_assignments": (
+        "src/modules.rt",
+        "    let defs = Definitions::new(body.defs);",
+        "    let defs = Definitions::new({ let mut read = body.defs; read.clear(); read });",
+    ),
+    "lets_129": (
+        "src/chain.rt",
+        "        if part.len() > room - numbers.len() {",
+        "        if part.len() > room + 1 - numbers.len() {",
+    ),
+    "cut_word": (
+        'src/scan.rt',
+        "    text[i] == b'-' && i + 1 < text.len() && is_part(text[i + 1])",
+        "    text[i] == b'-' && i + 1 < text.len()",
+    ),
 }

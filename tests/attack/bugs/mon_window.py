@@ -81,4 +81,19 @@ BUGS = {
         "    if share >= size {",
         "    if share >= size / 2 {",
     ),
+    "holds_one_less": (
+        "src/window.rt",
+        "Ok(Window { size, share, items })",
+        "Ok(Window { size: size.max(2) - 1, share: 1, items })",
+    ),
+    "searches_backwards": (
+        "src/window.rt",
+        "items.binary_search_by(|kept| kept.compare(sample))",
+        "items.binary_search_by(|kept| sample.compare(kept))",
+    ),
+    "calls_a_known_sample_too_old": (
+        "src/window.rt",
+        "Ok(_) => return Plan::Known,",
+        "Ok(_) => return Plan::TooOld,",
+    ),
 }

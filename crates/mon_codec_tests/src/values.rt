@@ -1,0 +1,64 @@
+//! Values and messages of SNMP: what octets are read as, and what is written of that.
+
+use mon_ber::{Value, read_value, size_of, write_value};
+use mon_pdu::{Body, Message, message_size, read_message, write_message};
+use std::alloc::Global;
+
+/// The value that these octets begin with, how many spell it, its size and its octets as they are written; or the fault.
+pub fn value_row(alloc: Global, digits: &str) -> Option<String> {
+    let octets = hex::decode(alloc, digits).ok()?;
+    match read_value(alloc, octets.as_slice()) {
+        Ok((value, spelled)) => value_told(alloc, &value, spelled),
+        Err(fault) => refused(alloc, fault.number(), fault.name()),
+    }
+}
+
+fn value_told(alloc: Global, value: &Value, spelled: usize) -> Option<String> {
+    let copy = value.try_clone(alloc).ok()?;
+    let written = write_value(alloc, &copy).ok()?;
+    let written = hex::encode(alloc, written.as_slice()).ok()?;
+    let size = size_of(value).ok()?;
+    format!(in alloc; "{value:?} {spelled} {size} {written}").ok()
+}
+
+/// The fields of the message that these octets begin with, its size and its octets as they are written; or the fault.
+pub fn message_row(alloc: Global, digits: &str) -> Option<String> {
+    let octets = hex::decode(alloc, digits).ok()?;
+    match read_message(alloc, octets.as_slice()) {
+        Ok(message) => message_told(alloc, &message),
+        Err(fault) => refused(alloc, fault.number(), fault.name()),
+    }
+}
+
+fn refused(alloc: Global, number: u8, name: &str) -> Option<String> {
+    format!(in alloc; "{number} {name}").ok()
+}
+
+fn message_told(alloc: Global, message: &Message) -> Option<String> {
+    let mut text = fields(alloc, message)?;
+    for binding in message.body.bindings() {
+        let name = binding.name.text(alloc).ok()?;
+        let value = &binding.value;
+        write!(text, " {name}={value:?}").ok()?;
+    }
+    let written = write_message(alloc, message).ok()?;
+    let written = hex::encode(alloc, written.as_slice()).ok()?;
+    let size = message_size(message).ok()?;
+    write!(text, " {size} {written}").ok()?;
+    Some(text)
+}
+
+/// The community in hex digits, the tag of the PDU and its three numbers.
+fn fields(alloc: Global, message: &Message) -> Option<String> {
+    let community = hex::encode(alloc, message.community.as_slice()).ok()?;
+    let tag = message.body.octet();
+    let (first, second, third) = numbers(&message.body);
+    format!(in alloc; "{community} {tag} {first} {second} {third}").ok()
+}
+
+fn numbers(body: &Body) -> (i32, i32, i32) {
+    match body {
+        Body::Pdu(pdu) => (pdu.request_id, pdu.error_status, pdu.error_index),
+        Body::Bulk(bulk) => (bulk.request_id, bulk.non_repeaters, bulk.max_repetitions),
+    }
+}
