@@ -3,6 +3,7 @@
 ghost use Rattle.std.specs.Prelude.{◌≤◌};
 
 use crate::answering::answers;
+use crate::choice::Choice;
 use crate::fault::Fault;
 use crate::listing::list;
 use crate::words::command;
@@ -88,17 +89,19 @@ fn run<R: Clock + Files + Net + Input + Print + Eprint + AllocGlobal>(
     rt: &R,
     matches: &ArgMatches<'_>,
 ) -> Result<(), Fault> {
-    match matches.subcommand() {
-        Some(("get", words)) => ask(rt, words, Asking::Get),
-        Some(("next", words)) => ask(rt, words, Asking::GetNext),
-        Some(("bulk", words)) => ask(rt, words, Asking::GetBulk(repeats(words))),
-        Some(("walk", words)) => walk(rt, words),
-        Some(("set", words)) => set(rt, words),
-        Some(("agent", words)) => agent(rt, words),
-        Some(("answer", words)) => answer(rt, words),
-        Some(("mib", words)) => mib(rt, words),
-        Some((_, words)) => replay(rt, size_of(words), words.get_flag("report")),
-        None => replay(rt, USUAL_SIZE, false),
+    let Some((name, words)) = matches.subcommand() else {
+        return replay(rt, USUAL_SIZE, false);
+    };
+    match Choice::named(name) {
+        Choice::Get => ask(rt, words, Asking::Get),
+        Choice::Next => ask(rt, words, Asking::GetNext),
+        Choice::Bulk => ask(rt, words, Asking::GetBulk(repeats(words))),
+        Choice::Walk => walk(rt, words),
+        Choice::Set => set(rt, words),
+        Choice::Agent => agent(rt, words),
+        Choice::Answer => answer(rt, words),
+        Choice::Mib => mib(rt, words),
+        Choice::Replay => replay(rt, size_of(words), words.get_flag("report")),
     }
 }
 

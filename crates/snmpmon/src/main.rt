@@ -4,6 +4,7 @@
 #![tactic(auto)]
 
 mod answering;
+mod choice;
 mod commands;
 mod fault;
 mod listing;
