@@ -13,7 +13,7 @@ use Rattle.mon_smi.specs.Tokens.{AreTokens}
 use Rattle.mon_smi.specs.Lexemes.{Lexeme, lexemes, lexeme_at}
 use Rattle.mon_smi.specs.Reading.{word_at, mark_at, imports_at, assignment_at}
 use Rattle.mon_smi.specs.Grammar.{Derives}
-use Rattle.mon_smi.specs.ModuleFaults.{Begins, AllBegin, HasTwice, IsTwice}
+use Rattle.mon_smi.specs.ModuleFaults.{Begins, AllBegin, HasTwice, IsLeftAt, IsTwice}
 use Rattle.mon_smi.proofs.ForRules.{word_takes, mark_takes}
 use Rattle.mon_smi.proofs.ForValues.{suffix}
 use Rattle.mon_smi.proofs.ForModules.{assignment_takes, imports_take}
@@ -46,7 +46,7 @@ all_push ls (m ∷ ns) [] n d begin more = absurd begin
 all_push ls (m ∷ ns) (e ∷ ds) n d begin more = (begin.0, all_push ls ns ds n d begin.1 more)
 
 -- an assignment that is read begins where it is read
-begins_here : (ls : List Lexeme) (left : ℕ) (d : Definition) (after : List Lexeme) → left ≤ length ls → assignment_at (drop (length ls - left) ls) ≡ Some (Some d, after) → Begins ls left d
+begins_here : (ls : List Lexeme) (left : ℕ) (d : Definition) (after : List Lexeme) → left ≤ length ls → assignment_at (drop (length ls - left) ls) ≡ Ok (Some d, after) → Begins ls left d
 begins_here ls left d after within found =
     let t = assignment_takes (drop (length ls - left) ls) (Some d) after found in
     let size : length (drop (length ls - left) ls) ≡ length ls - (length ls - left) = length-drop (length ls - left) ls in
@@ -54,7 +54,7 @@ begins_here ls left d after within found =
     (take (length ls - left) ls, t.0, after, sym (take-append-drop (length ls - left) ls) ∙ ap (λ (l : List Lexeme). take (length ls - left) ls ++ l) t.2, t.1, omega arith)
 
 pub all_next : (ls : List Lexeme) (ns more : List ℕ) (ds all : List Definition) (left : ℕ) (x : Option Definition) (after : List Lexeme) → AllBegin ls ns ds → left ≤ length ls
-    → assignment_at (drop (length ls - left) ls) ≡ Some (x, after) → all ≡ ds ++ option_to_list x → more ≡ ns ++ map (λ d. left) (option_to_list x) → AllBegin ls more all
+    → assignment_at (drop (length ls - left) ls) ≡ Ok (x, after) → all ≡ ds ++ option_to_list x → more ≡ ns ++ map (λ d. left) (option_to_list x) → AllBegin ls more all
 all_next ls ns more ds all left None after begin within found all_is more_is =
     subst (λ (l : List Definition). AllBegin ls more l) (sym (all_is ∙ append-nil ds)) (subst (λ (l : List ℕ). AllBegin ls l ds) (sym (more_is ∙ append-nil ns)) begin)
 all_next ls ns more ds all left (Some d) after begin within found all_is more_is =
@@ -62,7 +62,7 @@ all_next ls ns more ds all left (Some d) after begin within found all_is more_is
     (subst (λ (l : List ℕ). AllBegin ls l (ds ++ d ∷ [])) (sym more_is) (all_push ls ns ds left d begin (begins_here ls left d after within found)))
 
 -- the definitions of a module's body are those behind its imports
-pub body_begins : (ls a b c d : List Lexeme) (ns : List ℕ) (ds : List Definition) → word_at (codes "DEFINITIONS") ls ≡ Some a → mark_at Assign a ≡ Some b → word_at (codes "BEGIN") b ≡ Some c → imports_at c ≡ Some d → AllBegin d ns ds → AllBegin ls ns ds
+pub body_begins : (ls a b c d : List Lexeme) (ns : List ℕ) (ds : List Definition) → word_at (codes "DEFINITIONS") ls ≡ Ok a → mark_at Assign a ≡ Ok b → word_at (codes "BEGIN") b ≡ Ok c → imports_at c ≡ Ok d → AllBegin d ns ds → AllBegin ls ns ds
 body_begins ls a b c d ns ds first second third imports begin =
     let t = word_takes (codes "DEFINITIONS") ls a first in
     let u = mark_takes Assign a b second in
@@ -111,6 +111,27 @@ twice_at text name tokens starts defs span are is begin fault =
     let size : length (lexemes text (f.2 ∷ f.1)) ≡ length (b.1 ++ b.2) = length-map (f.2 ∷ f.1) (lexeme_at text) ∙ f.5 ∙ b.5 in
     let back : lexemes text (f.2 ∷ f.1) ≡ b.1 ++ b.2 = same_back (lexemes text tokens) (lexemes text f.0) (lexemes text (f.2 ∷ f.1)) b.0 (b.1 ++ b.2) cut b.3 size in
     (name, defs, fault.0, fault.1, is, fault.2, (f.0, f.1, f.2, b.1, b.2, subst (λ (l : List Token). AreTokens text l) f.3 are, f.4, back, b.4))
+
+-- the token with which so many are left stands at its place
+pub left_at : (tokens : List Token) (left : ℕ) (other : Token) → 0 < left → left ≤ length tokens → IsLeftAt tokens left (get_or tokens (length tokens - left) other).span
+left_at tokens left other some most =
+    let below : length tokens - left < length tokens = omega arith in
+    let here : drop (length tokens - left) tokens ≡ get_or tokens (length tokens - left) other ∷ drop (suc (length tokens - left)) tokens = drop-cons tokens (length tokens - left) other below in
+    let size : length (get_or tokens (length tokens - left) other ∷ drop (suc (length tokens - left)) tokens) ≡ length tokens - (length tokens - left) = ap (λ (l : List Token). length l) (sym here) ∙ length-drop (length tokens - left) tokens in (
+      take (length tokens - left) tokens,
+      drop (suc (length tokens - left)) tokens,
+      get_or tokens (length tokens - left) other,
+      sym (take-append-drop (length tokens - left) tokens) ∙ ap (λ (l : List Token). take (length tokens - left) tokens ++ l) here,
+      refl,
+      omega arith,
+    )
+
+-- no token has more left than there are, or none
+pub none_left : (tokens : List Token) (left : ℕ) (span : Span) → IsLeftAt tokens left span → (0 < left) × (left ≤ length tokens)
+none_left tokens left span is =
+    let size : length tokens ≡ length is.0 + length (is.2 ∷ is.1) = ap (λ (l : List Token). length l) is.3 ∙ length-append is.0 (is.2 ∷ is.1) in
+    let n : length (is.2 ∷ is.1) ≡ left = is.5 in
+    (omega arith, omega arith)
 
 -- the token of which so many are left, where a definition has its name again
 pub twice_found : (tokens : List Token) (starts : List ℕ) (defs : List Definition) (i : ℕ) (d : Definition) (other : Token) → IsAgain defs i d → (0 < get_or starts i 0) × (get_or starts i 0 ≤ length tokens) → IsTwice (Duplicate (get_or tokens (length tokens - get_or starts i 0) other).span) tokens starts defs

@@ -6,7 +6,7 @@ use Rattle.mon_smi.specs.declared.token.Token.{Token}
 use Rattle.mon_smi.specs.declared.token.Piece.{Piece}
 use Rattle.mon_smi.specs.declared.text_fault.TextFault.{TextFault}
 use Rattle.mon_smi.specs.declared.text_fault.TextFault.TheVariants.{OutOfMemory, Unclosed, Unexpected, Duplicate}
-use Rattle.mon_smi.specs.Tokens.{IsSpelled, IsComment, is_space, IsPiece, IsPieceOf, IsTokenized, NothingStands, bytes_of, token_of, tokens_of, AreTokens, IsStuck, IsFaultAt, IsFaultOfTokens}
+use Rattle.mon_smi.specs.Tokens.{char_len, IsSpelled, IsComment, is_space, IsPiece, IsPieceOf, IsTokenized, NothingStands, bytes_of, token_of, tokens_of, AreTokens, IsStuck, IsFaultAt, IsFaultOfTokens}
 use Rattle.mon_smi.specs.Scan.{piece_at}
 use Rattle.mon_smi.proofs.Taken.{TakenAs, Taken, spelled_at}
 use Rattle.mon_smi.proofs.Found.{piece, found_at, passed_at}
@@ -186,7 +186,7 @@ ended_at text tokens start (b ∷ bs) so none = absurd (omega arith)
 pub stuck_at : (text : List ℕ) (tokens : List Token) (start : ℕ) (rest : List ℕ) (e : TextFault) → IsSoFar text tokens start rest → 0 < length rest → piece_at rest ≡ None → IsFaultAt e start rest → IsFaultOfTokens e text
 stuck_at text tokens start rest OutOfMemory so some none fault = tt
 stuck_at text tokens start rest Unclosed so some none fault = (start, rest, (so.pieces, so.read, so.at, nothing_stands rest some none), fault)
-stuck_at text tokens start rest (Unexpected span) so some none fault = (rest, (so.pieces, so.read, so.at ∙ sym fault.0, nothing_stands rest some none), fault.1)
+stuck_at text tokens start rest (Unexpected span) so some none fault = (rest, (so.pieces, so.read, so.at ∙ sym fault.0, nothing_stands rest some none), fault.1 ∙ ap (λ n. n + char_len rest) (sym fault.0), fault.2)
 stuck_at text tokens start rest (Duplicate span) so some none fault = fault
 
 pub not_stuck : (text : List ℕ) (tokens : List Token) (at : ℕ) (rest : List ℕ) → AreTokens text tokens → IsStuck text at rest → ⊥

@@ -1,5 +1,5 @@
 -- Rules and readers: what is read was derived, and what is derived is read.
-use Rattle.std.proofs.Common.{◌≡◌, ℕ, zero, suc, ◌-◌, Bool, true, false, cond, List, [], ◌∷◌, ◌++◌, drop, Option, Some, None, sym, refl, ap, ◌∙◌, subst, arith, append_assoc, ◌⊎◌, ⊎_elim, inl, inr}
+use Rattle.std.proofs.Common.{◌≡◌, ℕ, zero, suc, ◌-◌, Bool, true, false, cond, List, [], ◌∷◌, ◌++◌, drop, Result, Ok, Err, sym, refl, ap, ◌∙◌, subst, arith, append_assoc, ◌⊎◌, ⊎_elim, inl, inr}
 use Rattle.std.specs.Prelude.{IsTrue, ◌||◌, ◌&&◌, ◌==◌, not, codes, if◌then◌else◌}
 use Rattle.std.proofs.lemmas.Bool.{eqb-true}
 use Rattle.std.proofs.lemmas.Bool.Decides.{nat_tests}
@@ -8,7 +8,8 @@ use Rattle.mon_smi.specs.declared.kind.Kind.TheVariants.{Word, Number, Quoted, H
 use Rattle.mon_smi.specs.declared.part.Part.{Part}
 use Rattle.mon_smi.specs.declared.part.Part.TheVariants.{Syntax, Text, Access, Status, Word, Group}
 use Rattle.mon_smi.specs.Lexemes.{Lexeme, word, number, mark, code_of, same_text, is_word, is_mark, begins_capital, is_capital, is_any_word}
-use Rattle.mon_smi.specs.Reading.{◌>>=◌, one, word_at, mark_at, begins, begins_word, nested_at, group_at, is_pair, is_sequence_of, type_name_at, maybe_group, type_at, is_access, is_status, part_at, clause_at, optional_at, index_at, syntax_at, described_at, object_type_at, convention_at}
+use Rattle.mon_oid.specs.Steps.{◌>>=◌}
+use Rattle.mon_smi.specs.Reading.{Read, one, word_at, mark_at, begins, begins_word, nested_at, group_at, is_pair, is_sequence_of, type_name_at, maybe_group, type_at, is_access, is_status, part_at, clause_at, optional_at, index_at, syntax_at, described_at, object_type_at, convention_at}
 use Rattle.mon_smi.specs.Grammar.{◌▸◌, IsThis, IsWordOf, IsNested, IsBalanced, IsTypeName, IsMaybeGroup, IsType, accesses, statuses, IsClausePart, IsClause, IsOptional, IsIndex, IsSyntax, IsDescribed, IsObjectType, IsConvention}
 
 -- ---- tests
@@ -87,59 +88,62 @@ mark_self k = same_number (code_of k)
 
 -- ---- readers of what follows
 
-abbrev pub Takes : (List Lexeme → Type 0) → (List Lexeme → Option (List Lexeme)) → Type 0
-Takes Is read = (ls rest : List Lexeme) → read ls ≡ Some rest → (text : List Lexeme) × Is text × (ls ≡ text ++ rest)
+abbrev pub Takes : (List Lexeme → Type 0) → (List Lexeme → Read (List Lexeme)) → Type 0
+Takes Is read = (ls rest : List Lexeme) → read ls ≡ Ok rest → (text : List Lexeme) × Is text × (ls ≡ text ++ rest)
 
-abbrev pub Again : (List Lexeme → Type 0) → (List Lexeme → Type 0) → (List Lexeme → Option (List Lexeme)) → Type 0
-Again Is F read = (text rest : List Lexeme) → Is text → F rest → read (text ++ rest) ≡ Some rest
+abbrev pub Again : (List Lexeme → Type 0) → (List Lexeme → Type 0) → (List Lexeme → Read (List Lexeme)) → Type 0
+Again Is F read = (text rest : List Lexeme) → Is text → F rest → read (text ++ rest) ≡ Ok rest
 
 -- whatever follows
 abbrev pub Any : List Lexeme → Type 0
 Any rest = Unit {0}
 
-pub bind_some : {A B : Type 0} (r : Option A) (f : A → Option B) (y : B) → (r >>= f) ≡ Some y → (x : A) × (r ≡ Some x) × (f x ≡ Some y)
-bind_some None f y is = absurd (cc)
-bind_some (Some x) f y is = (x, refl, is)
+pub bind_ok : {A B E : Type 0} (r : Result A E) (f : A → Result B E) (y : B) → (r >>= f) ≡ Ok y → (x : A) × (r ≡ Ok x) × (f x ≡ Ok y)
+bind_ok (Err e) f y is = absurd (cc)
+bind_ok (Ok x) f y is = (x, refl, is)
 
-pub some_is : {A : Type 0} (x y : A) → Some x ≡ Some y → x ≡ y
-some_is x y is = cc
+abbrev pub ok_of : {A : Type 0} → A → Read A
+ok_of x = Ok x
+
+pub ok_is : {A : Type 0} (x y : A) → ok_of x ≡ Ok y → x ≡ y
+ok_is x y is = cc
 
 -- a test that had to be true, or chose
-pub wanted : {A : Type 0} (t : Bool) (x : Option A) (y : A) → cond t x None ≡ Some y → (t ≡ true) × (x ≡ Some y)
-wanted true x y is = (refl, is)
-wanted false x y is = absurd (cc)
+pub wanted : {A E : Type 0} (t : Bool) (x : Result A E) (e : E) (y : A) → cond t x (Err e) ≡ Ok y → (t ≡ true) × (x ≡ Ok y)
+wanted true x e y is = (refl, is)
+wanted false x e y is = absurd (cc)
 
-pub chosen : {A : Type 0} (t : Bool) (x z : Option A) (y : A) → cond t x z ≡ Some y → ((t ≡ true) × (x ≡ Some y)) ⊎ ((t ≡ false) × (z ≡ Some y))
+pub chosen : {A E : Type 0} (t : Bool) (x z : Result A E) (y : A) → cond t x z ≡ Ok y → ((t ≡ true) × (x ≡ Ok y)) ⊎ ((t ≡ false) × (z ≡ Ok y))
 chosen true x z y is = inl (refl, is)
 chosen false x z y is = inr (refl, is)
 
-pub seq_takes : (A B : List Lexeme → Type 0) (a b : List Lexeme → Option (List Lexeme)) → Takes A a → Takes B b → Takes (A ▸ B) (λ ls. a ls >>= b)
+pub seq_takes : (A B : List Lexeme → Type 0) (a b : List Lexeme → Read (List Lexeme)) → Takes A a → Takes B b → Takes (A ▸ B) (λ ls. a ls >>= b)
 seq_takes A B a b ta tb ls rest is =
-    let x = bind_some (a ls) b rest is in
+    let x = bind_ok (a ls) b rest is in
     let p = ta ls x.0 x.1 in
     let q = tb x.0 rest x.2 in
     (p.0 ++ q.0, (p.0, q.0, refl, p.1, q.1), p.2 ∙ ap (λ (l : List Lexeme). p.0 ++ l) q.2 ∙ sym (append_assoc p.0 q.0 rest))
 
-pub seq_again : (A B F G : List Lexeme → Type 0) (a b : List Lexeme → Option (List Lexeme)) → Again A F a → Again B G b → ((text rest : List Lexeme) → B text → G rest → F (text ++ rest)) → Again (A ▸ B) G (λ ls. a ls >>= b)
+pub seq_again : (A B F G : List Lexeme → Type 0) (a b : List Lexeme → Read (List Lexeme)) → Again A F a → Again B G b → ((text rest : List Lexeme) → B text → G rest → F (text ++ rest)) → Again (A ▸ B) G (λ ls. a ls >>= b)
 seq_again A B F G a b aa ab leads text rest is follows =
     let front = is.0 in
     let back = is.1 in
     let whole : text ++ rest ≡ front ++ (back ++ rest) = ap (λ (l : List Lexeme). l ++ rest) is.2 ∙ append_assoc front back rest in
-    let first : a (front ++ (back ++ rest)) ≡ Some (back ++ rest) = aa front (back ++ rest) is.3 (leads back rest is.4 follows) in
-    ap (λ (l : List Lexeme). a l >>= b) whole ∙ ap (λ (r : Option (List Lexeme)). r >>= b) first ∙ ab back rest is.4 follows
+    let first : a (front ++ (back ++ rest)) ≡ Ok (back ++ rest) = aa front (back ++ rest) is.3 (leads back rest is.4 follows) in
+    ap (λ (l : List Lexeme). a l >>= b) whole ∙ ap (λ (r : Read (List Lexeme)). r >>= b) first ∙ ab back rest is.4 follows
 
 pub one_takes : (test : Lexeme → Bool) (Is : List Lexeme → Type 0) → ((l : Lexeme) → test l ≡ true → Is (l ∷ [])) → Takes Is (one test)
 one_takes test Is tests [] rest is = absurd (cc)
 one_takes test Is tests (l ∷ ls) rest is =
-    let w = wanted (test l) (Some ls) rest is in
-    (l ∷ [], tests l w.0, ap (λ (k : List Lexeme). l ∷ k) (some_is ls rest w.1))
+    let w = wanted (test l) (Ok ls) (l ∷ ls) rest is in
+    (l ∷ [], tests l w.0, ap (λ (k : List Lexeme). l ∷ k) (ok_is ls rest w.1))
 
 pub one_again : (test : Lexeme → Bool) (Is : List Lexeme → Type 0) → ((text : List Lexeme) → Is text → (l : Lexeme) × (text ≡ l ∷ []) × (test l ≡ true)) → Again Is Any (one test)
 one_again test Is tests text rest is follows =
     let t = tests text is in
     ap (λ (k : List Lexeme). one test (k ++ rest)) t.1 ∙ passes t.0 t.2
   where
-    passes : (l : Lexeme) → test l ≡ true → one test (l ∷ rest) ≡ Some rest
+    passes : (l : Lexeme) → test l ≡ true → one test (l ∷ rest) ≡ Ok rest
     passes l yes_case = rw yes_case refl
 
 pub word_takes : (w : List ℕ) → Takes (IsThis (word w)) (word_at w)
@@ -159,7 +163,7 @@ this_word w l is = ap (λ (x : Lexeme). x ∷ []) (word_is w l is)
 
 -- ---- groups
 
-nested_takes : (left right : Kind) (depth : ℕ) (ls rest : List Lexeme) → nested_at left right depth ls ≡ Some rest → (inner : List Lexeme) × IsNested left right depth inner × (ls ≡ inner ++ mark right ∷ rest)
+nested_takes : (left right : Kind) (depth : ℕ) (ls rest : List Lexeme) → nested_at left right depth ls ≡ Ok rest → (inner : List Lexeme) × IsNested left right depth inner × (ls ≡ inner ++ mark right ∷ rest)
 nested_takes left right depth [] rest is = absurd (cc)
 nested_takes left right depth (l ∷ ls) rest is =
     ⊎_elim
@@ -167,14 +171,14 @@ nested_takes left right depth (l ∷ ls) rest is =
     (l ∷ more.0, inl (mark_is left l opening.0, more.1), ap (λ (k : List Lexeme). l ∷ k) more.2))
     (λ other. ⊎_elim
     (λ closing. ⊎_elim
-    (λ last. ([], eqb-true depth 0 last.0, ap (λ (x : Lexeme). x ∷ ls) (mark_is right l closing.0) ∙ ap (λ (k : List Lexeme). mark right ∷ k) (some_is ls rest last.1)))
+    (λ last. ([], eqb-true depth 0 last.0, ap (λ (x : Lexeme). x ∷ ls) (mark_is right l closing.0) ∙ ap (λ (k : List Lexeme). mark right ∷ k) (ok_is ls rest last.1)))
     (λ inside. let more = nested_takes left right (depth - 1) ls rest inside.1 in
     (l ∷ more.0, inr (inl (depth - 1, mark_is right l closing.0, positive depth inside.0, more.1)), ap (λ (k : List Lexeme). l ∷ k) more.2))
-    (chosen (depth == 0) (Some ls) (nested_at left right (depth - 1) ls) rest closing.1))
+    (chosen (depth == 0) (Ok ls) (nested_at left right (depth - 1) ls) rest closing.1))
     (λ neither. let more = nested_takes left right depth ls rest neither.1 in
     (l ∷ more.0, inr (inr ((λ same. no_mark left l other.0 same), (λ same. no_mark right l neither.0 same), more.1)), ap (λ (k : List Lexeme). l ∷ k) more.2))
-    (chosen (is_mark right l) (cond (depth == 0) (Some ls) (nested_at left right (depth - 1) ls)) (nested_at left right depth ls) rest other.1))
-    (chosen (is_mark left l) (nested_at left right (suc depth) ls) (cond (is_mark right l) (cond (depth == 0) (Some ls) (nested_at left right (depth - 1) ls)) (nested_at left right depth ls)) rest is)
+    (chosen (is_mark right l) (cond (depth == 0) (Ok ls) (nested_at left right (depth - 1) ls)) (nested_at left right depth ls) rest other.1))
+    (chosen (is_mark left l) (nested_at left right (suc depth) ls) (cond (is_mark right l) (cond (depth == 0) (Ok ls) (nested_at left right (depth - 1) ls)) (nested_at left right depth ls)) rest is)
   where
     no_mark : (k : Kind) (x : Lexeme) → is_mark k x ≡ false → x ≡ mark k → ⊥
     no_mark k x no_case same = let yes_case : is_mark k x ≡ true = ap (is_mark k) same ∙ mark_self k in absurd (cc)
@@ -186,7 +190,7 @@ nested_takes left right depth (l ∷ ls) rest is =
 pub other_mark : (k : Kind) (l : Lexeme) → (l ≡ mark k → ⊥) → is_mark k l ≡ false
 other_mark k l other = not_false (is_mark k l) (λ is. other (mark_is k l is))
 
-nested_again : (left right : Kind) → is_mark left (mark right) ≡ false → (depth : ℕ) (inner rest : List Lexeme) → IsNested left right depth inner → nested_at left right depth (inner ++ mark right ∷ rest) ≡ Some rest
+nested_again : (left right : Kind) → is_mark left (mark right) ≡ false → (depth : ℕ) (inner rest : List Lexeme) → IsNested left right depth inner → nested_at left right depth (inner ++ mark right ∷ rest) ≡ Ok rest
 nested_again left right apart depth [] rest is = rw (apart, mark_self right, is) refl
 nested_again left right apart depth (l ∷ ls) rest is =
     ⊎_elim
@@ -208,7 +212,7 @@ nested_again left right apart depth (l ∷ ls) rest is =
 pub group_takes : (left right : Kind) → Takes (IsBalanced left right) (group_at left right)
 unfolding group_at
 group_takes left right ls rest is =
-    let x = bind_some (mark_at left ls) (nested_at left right 0) rest is in
+    let x = bind_ok (mark_at left ls) (nested_at left right 0) rest is in
     let p = mark_takes left ls x.0 x.1 in
     let q = nested_takes left right 0 x.0 rest x.2 in
     (mark left ∷ q.0 ++ mark right ∷ [], (q.0, refl, q.1), p.2 ∙ ap (λ (k : List Lexeme). k ++ x.0) p.1 ∙ ap (λ (k : List Lexeme). mark left ∷ k) (q.2 ∙ sym (append_assoc q.0 (mark right ∷ []) rest)))
@@ -283,12 +287,12 @@ type_name_again : Again IsTypeName BehindName type_name_at
 unfolding type_name_at
 type_name_again text rest is follows =
     ⊎_elim
-    (λ octets. subst (λ (t : List Lexeme). type_name_at (t ++ rest) ≡ Some rest) (sym octets) (rw follows.assign refl))
+    (λ octets. subst (λ (t : List Lexeme). type_name_at (t ++ rest) ≡ Ok rest) (sym octets) (rw follows.assign refl))
     (λ other1. ⊎_elim
-    (λ object. subst (λ (t : List Lexeme). type_name_at (t ++ rest) ≡ Some rest) (sym object) (rw follows.assign refl))
+    (λ object. subst (λ (t : List Lexeme). type_name_at (t ++ rest) ≡ Ok rest) (sym object) (rw follows.assign refl))
     (λ other2. ⊎_elim
-    (λ sequence. subst (λ (t : List Lexeme). type_name_at (t ++ rest) ≡ Some rest) (sym sequence.1) (let capital : begins_capital sequence.0 ≡ true = sequence.2 in rw capital refl))
-    (λ single. subst (λ (t : List Lexeme). type_name_at (t ++ rest) ≡ Some rest) (sym single.1)
+    (λ sequence. subst (λ (t : List Lexeme). type_name_at (t ++ rest) ≡ Ok rest) (sym sequence.1) (let capital : begins_capital sequence.0 ≡ true = sequence.2 in rw capital refl))
+    (λ single. subst (λ (t : List Lexeme). type_name_at (t ++ rest) ≡ Ok rest) (sym single.1)
     (let capital : begins_capital single.0 ≡ true = single.2 in
     rw (no_pair (codes "OCTET") (codes "STRING") single.0 rest is_string follows.clear, no_pair (codes "OBJECT") (codes "IDENTIFIER") single.0 rest is_identifier follows.clear, no_sequence single.0 rest follows.clear, capital) refl))
     other2)
@@ -326,17 +330,17 @@ type_name_takes : Takes IsTypeName type_name_at
 unfolding type_name_at
 type_name_takes ls rest is =
     ⊎_elim
-    (λ octets. (word (codes "OCTET") ∷ word (codes "STRING") ∷ [], inl refl, pair_is (codes "OCTET") (codes "STRING") ls octets.0 ∙ ap (λ (k : List Lexeme). word (codes "OCTET") ∷ word (codes "STRING") ∷ k) (some_is (drop 2 ls) rest octets.1)))
+    (λ octets. (word (codes "OCTET") ∷ word (codes "STRING") ∷ [], inl refl, pair_is (codes "OCTET") (codes "STRING") ls octets.0 ∙ ap (λ (k : List Lexeme). word (codes "OCTET") ∷ word (codes "STRING") ∷ k) (ok_is (drop 2 ls) rest octets.1)))
     (λ other1. ⊎_elim
-    (λ object. (word (codes "OBJECT") ∷ word (codes "IDENTIFIER") ∷ [], inr (inl refl), pair_is (codes "OBJECT") (codes "IDENTIFIER") ls object.0 ∙ ap (λ (k : List Lexeme). word (codes "OBJECT") ∷ word (codes "IDENTIFIER") ∷ k) (some_is (drop 2 ls) rest object.1)))
+    (λ object. (word (codes "OBJECT") ∷ word (codes "IDENTIFIER") ∷ [], inr (inl refl), pair_is (codes "OBJECT") (codes "IDENTIFIER") ls object.0 ∙ ap (λ (k : List Lexeme). word (codes "OBJECT") ∷ word (codes "IDENTIFIER") ∷ k) (ok_is (drop 2 ls) rest object.1)))
     (λ other2. ⊎_elim
     (λ sequence. let s = sequence_is ls sequence.0 in
-    (word (codes "SEQUENCE") ∷ word (codes "OF") ∷ word s.0 ∷ [], inr (inr (inl (s.0, refl, s.2))), s.1 ∙ ap (λ (k : List Lexeme). word (codes "SEQUENCE") ∷ word (codes "OF") ∷ word s.0 ∷ k) (some_is (drop 3 ls) rest sequence.1)))
+    (word (codes "SEQUENCE") ∷ word (codes "OF") ∷ word s.0 ∷ [], inr (inr (inl (s.0, refl, s.2))), s.1 ∙ ap (λ (k : List Lexeme). word (codes "SEQUENCE") ∷ word (codes "OF") ∷ word s.0 ∷ k) (ok_is (drop 3 ls) rest sequence.1)))
     (λ other3. let t = one_takes is_capital (λ text. (name : List ℕ) × (text ≡ word name ∷ []) × IsTrue (begins_capital name))
     (λ l test. let r = capital_is l test in (r.0, ap (λ (x : Lexeme). x ∷ []) r.1, r.2)) ls rest other3.1 in (t.0, inr (inr (inr t.1)), t.2))
-    (chosen (is_sequence_of ls) (Some (drop 3 ls)) (one is_capital ls) rest other2.1))
-    (chosen (is_pair (codes "OBJECT") (codes "IDENTIFIER") ls) (Some (drop 2 ls)) (cond (is_sequence_of ls) (Some (drop 3 ls)) (one is_capital ls)) rest other1.1))
-    (chosen (is_pair (codes "OCTET") (codes "STRING") ls) (Some (drop 2 ls)) (cond (is_pair (codes "OBJECT") (codes "IDENTIFIER") ls) (Some (drop 2 ls)) (cond (is_sequence_of ls) (Some (drop 3 ls)) (one is_capital ls))) rest is)
+    (chosen (is_sequence_of ls) (Ok (drop 3 ls)) (one is_capital ls) rest other2.1))
+    (chosen (is_pair (codes "OBJECT") (codes "IDENTIFIER") ls) (Ok (drop 2 ls)) (cond (is_sequence_of ls) (Ok (drop 3 ls)) (one is_capital ls)) rest other1.1))
+    (chosen (is_pair (codes "OCTET") (codes "STRING") ls) (Ok (drop 2 ls)) (cond (is_pair (codes "OBJECT") (codes "IDENTIFIER") ls) (Ok (drop 2 ls)) (cond (is_sequence_of ls) (Ok (drop 3 ls)) (one is_capital ls))) rest is)
 
 maybe_takes : Takes IsMaybeGroup maybe_group
 unfolding maybe_group
@@ -345,15 +349,15 @@ maybe_takes ls rest is =
     (λ braces. let t = group_takes LeftBrace RightBrace ls rest braces.1 in (t.0, inr (inl t.1), t.2))
     (λ other. ⊎_elim
     (λ parens. let t = group_takes LeftParen RightParen ls rest parens.1 in (t.0, inr (inr t.1), t.2))
-    (λ none. ([], inl refl, some_is ls rest none.1))
-    (chosen (begins LeftParen ls) (group_at LeftParen RightParen ls) (Some ls) rest other.1))
-    (chosen (begins LeftBrace ls) (group_at LeftBrace RightBrace ls) (cond (begins LeftParen ls) (group_at LeftParen RightParen ls) (Some ls)) rest is)
+    (λ none. ([], inl refl, ok_is ls rest none.1))
+    (chosen (begins LeftParen ls) (group_at LeftParen RightParen ls) (Ok ls) rest other.1))
+    (chosen (begins LeftBrace ls) (group_at LeftBrace RightBrace ls) (cond (begins LeftParen ls) (group_at LeftParen RightParen ls) (Ok ls)) rest is)
 
 maybe_again : Again IsMaybeGroup Follows maybe_group
 unfolding maybe_group
 maybe_again text rest is follows =
     ⊎_elim
-    (λ none. subst (λ (t : List Lexeme). maybe_group (t ++ rest) ≡ Some rest) (sym none) (rw (follows.brace, follows.paren) refl))
+    (λ none. subst (λ (t : List Lexeme). maybe_group (t ++ rest) ≡ Ok rest) (sym none) (rw (follows.brace, follows.paren) refl))
     (λ group. ⊎_elim
     (λ braces. let first : begins LeftBrace (text ++ rest) ≡ true = ap (λ (t : List Lexeme). begins LeftBrace (t ++ rest)) braces.1 in
     rw first (group_again LeftBrace RightBrace refl text rest braces tt))
@@ -463,14 +467,14 @@ unfolding optional_at
 optional_takes w part ls rest is =
     ⊎_elim
     (λ there. let t = clause_takes w part ls rest there.1 in (t.0, inr t.1, t.2))
-    (λ none. ([], inl refl, some_is ls rest none.1))
-    (chosen (begins_word w ls) (clause_at w part ls) (Some ls) rest is)
+    (λ none. ([], inl refl, ok_is ls rest none.1))
+    (chosen (begins_word w ls) (clause_at w part ls) (Ok ls) rest is)
 
 pub optional_again : (w : List ℕ) (part : Part) → Again (IsOptional w part) (BehindOptional w part) (optional_at w part)
 unfolding optional_at
 optional_again w part text rest is follows =
     ⊎_elim
-    (λ none. subst (λ (t : List Lexeme). optional_at w part (t ++ rest) ≡ Some rest) (sym none) (rw follows.0 refl))
+    (λ none. subst (λ (t : List Lexeme). optional_at w part (t ++ rest) ≡ Ok rest) (sym none) (rw follows.0 refl))
     (λ there.
     let b = clause_begins w part text there in
     let first : begins_word w (text ++ rest) ≡ true = ap (λ (t : List Lexeme). begins_word w (t ++ rest)) b.1 ∙ word_self w in

@@ -1,5 +1,5 @@
 -- Texts of modules: their tokens have texts, and a text derives one module at most.
-use Rattle.std.proofs.Common.{◌≡◌, ℕ, zero, suc, ◌+◌, ◌-◌, ◌<◌, ◌≤◌, true, List, [], ◌∷◌, ◌++◌, length, get_or, take, drop, Option, Some, None, Result, Ok, Err, rules, sym, refl, ap, ◌∙◌, subst, arith, length-drop, IsUtf8, ⊎_elim}
+use Rattle.std.proofs.Common.{◌≡◌, ℕ, zero, suc, ◌+◌, ◌-◌, ◌<◌, ◌≤◌, true, List, [], ◌∷◌, ◌++◌, length, get_or, take, drop, Option, Some, None, Result, Ok, Err, rules, sym, refl, ap, ◌∙◌, subst, arith, length-drop, IsUtf8, ⊎_elim, inl, inr}
 use Rattle.std.specs.Prelude.{IfOk, IfErr, IsOkUnless}
 use Rattle.std.specs.Char.{is_ascii_digit}
 use Rattle.std.proofs.lemmas.Str.{IsUtf8-from_ascii}
@@ -17,10 +17,12 @@ use Rattle.mon_smi.specs.declared.text_fault.TextFault.TheVariants.{OutOfMemory,
 use Rattle.mon_smi.specs.Words.{is_part, IsWord}
 use Rattle.mon_smi.specs.Names.{AreDistinct, IsUndefined}
 use Rattle.mon_smi.specs.Tokens.{AreAll, AreDigits, IsNumberToken, IsSpelled, IsPieceOf, IsTokenized, token_of, tokens_of, AreTokens, IsFaultOfTokens, RisesFrom}
-use Rattle.mon_smi.specs.Lexemes.{AreTokensOf, lexemes}
+use Rattle.mon_smi.specs.Lexemes.{Lexeme, AreTokensOf, lexemes}
+use Rattle.mon_smi.specs.declared.read_fault.ReadFault.{ReadFault}
+use Rattle.mon_smi.specs.declared.read_fault.ReadFault.TheVariants as read
 use Rattle.mon_smi.specs.Reading.{Fails, module_at}
 use Rattle.mon_smi.specs.Grammar.{Derives}
-use Rattle.mon_smi.specs.ModuleFaults.{AllBegin, IsFaultOfModule, IsTwice}
+use Rattle.mon_smi.specs.ModuleFaults.{AllBegin, IsNoModule, IsBrokenOff, IsFaultOfReading, IsFaultOfModule, IsTwice}
 use Rattle.mon_smi.proofs.ByPieces.{one_cut, not_stuck, piece_some, again}
 use Rattle.mon_smi.proofs.Chains.{distinct_push, again_twice}
 use Rattle.mon_smi.proofs.ForValues.{pair_parts}
@@ -106,10 +108,10 @@ tokens_rise text tokens are = subst (λ (l : List Token). RisesFrom 0 l) (sym ar
 
 -- ---- modules
 
-pub derived : (text : List ℕ) (tokens : List Token) (name : List ℕ) (defs : List Definition) → AreTokens text tokens → module_at (lexemes text tokens) ≡ Some (name, defs) → Derives text name defs
+pub derived : (text : List ℕ) (tokens : List Token) (name : List ℕ) (defs : List Definition) → AreTokens text tokens → module_at (lexemes text tokens) ≡ Ok (name, defs) → Derives text name defs
 derived text tokens name defs are is = record { tokens = tokens; cut = are; is_module = module_takes (lexemes text tokens) name defs is }
 
-read_of : (text : List ℕ) (tokens : List Token) (name : List ℕ) (defs : List Definition) → AreTokens text tokens → Derives text name defs → module_at (lexemes text tokens) ≡ Some (name, defs)
+read_of : (text : List ℕ) (tokens : List Token) (name : List ℕ) (defs : List Definition) → AreTokens text tokens → Derives text name defs → module_at (lexemes text tokens) ≡ Ok (name, defs)
 read_of text tokens name defs are is =
     ap (λ (l : List Token). module_at (lexemes text l)) (one_cut text tokens is.tokens are is.cut) ∙ module_again (lexemes text is.tokens) name defs is.is_module
 
@@ -120,15 +122,23 @@ one_module text v w a b one other =
 -- a text that is not cut into tokens, or whose tokens are no module, derives none
 pub no_tokens : (text : List ℕ) (e : TextFault) → IsFaultOfTokens e text → IsFaultOfModule e text
 no_tokens text OutOfMemory fault = tt
-no_tokens text Unclosed fault = λ name defs is. not_stuck text is.tokens fault.0 fault.1 is.cut fault.2
-no_tokens text (Unexpected span) fault = λ name defs is. not_stuck text is.tokens span.start fault.0 is.cut fault.1
+no_tokens text Unclosed fault = ((λ name defs is. not_stuck text is.tokens fault.0 fault.1 is.cut fault.2), inl fault)
+no_tokens text (Unexpected span) fault = ((λ name defs is. not_stuck text is.tokens span.start fault.0 is.cut fault.1), inl fault)
 no_tokens text (Duplicate span) fault = absurd fault
 
-pub no_module : (text : List ℕ) (tokens : List Token) (e : TextFault) → AreTokens text tokens → Fails e (module_at (lexemes text tokens)) → IsFaultOfModule e text
-no_module text tokens OutOfMemory are fault = tt
-no_module text tokens Unclosed are fault = λ name defs is. let read = read_of text tokens name defs are is in absurd (cc)
-no_module text tokens (Unexpected span) are fault = λ name defs is. let read = read_of text tokens name defs are is in absurd (cc)
-no_module text tokens (Duplicate span) are fault = absurd fault
+none_derived : (text : List ℕ) (tokens : List Token) (rest : List Lexeme) → AreTokens text tokens → module_at (lexemes text tokens) ≡ Err rest → IsNoModule text
+none_derived text tokens rest are is = λ name defs derives. let read = read_of text tokens name defs are derives in absurd (cc)
+
+pub broken : (text : List ℕ) (tokens : List Token) (rest : List Lexeme) (e : TextFault) → AreTokens text tokens → module_at (lexemes text tokens) ≡ Err rest → IsBrokenOff e tokens (length rest) → IsFaultOfModule e text
+broken text tokens rest OutOfMemory are is off = absurd off
+broken text tokens rest Unclosed are is off = (none_derived text tokens rest are is, inr (tokens, rest, are, is, off))
+broken text tokens rest (Unexpected span) are is off = (none_derived text tokens rest are is, inr (tokens, rest, are, is, off))
+broken text tokens rest (Duplicate span) are is off = absurd off
+
+-- what reading gives is the module's fault
+pub no_module : (text : List ℕ) (tokens : List Token) (f : ReadFault) (e : TextFault) → AreTokens text tokens → Fails f (module_at (lexemes text tokens)) → IsFaultOfReading e tokens f → IsFaultOfModule e text
+no_module text tokens read.OutOfMemory e are fails is = subst (λ x. IsFaultOfModule x text) (sym is) tt
+no_module text tokens (read.BrokenOff rest) e are fails is = broken text tokens rest.now e are fails is
 
 pub twice_there : (text name : List ℕ) (tokens : List Token) (starts : List ℕ) (defs : List Definition) (e : TextFault) → AreTokens text tokens → AllBegin (lexemes text tokens) starts defs → Derives text name defs → IsTwice e tokens starts defs → IsFaultOfModule e text
 twice_there text name tokens starts defs OutOfMemory are begin is fault = fault
@@ -140,8 +150,8 @@ twice_there text name tokens starts defs (Duplicate span) are begin is fault = t
 pub no_fault : {V : Type 0} (text name : List ℕ) (defs : List Definition) (r : Result V TextFault) → IfErr r (λ e. IsFaultOfModule e text) → Derives text name defs → AreDistinct defs → IsOkUnless r OutOfMemory
 no_fault text name defs (Ok v) fault is distinct = search rules
 no_fault text name defs (Err OutOfMemory) fault is distinct = search rules
-no_fault text name defs (Err Unclosed) fault is distinct = absurd (fault name defs is)
-no_fault text name defs (Err (Unexpected span)) fault is distinct = absurd (fault name defs is)
+no_fault text name defs (Err Unclosed) fault is distinct = absurd (fault.0 name defs is)
+no_fault text name defs (Err (Unexpected span)) fault is distinct = absurd (fault.0 name defs is)
 no_fault text name defs (Err (Duplicate span)) fault is distinct =
     let same = one_module text name fault.0 defs fault.1 is fault.4 in
     absurd (again_twice fault.1 fault.2 fault.3 fault.5 (subst AreDistinct same.1 distinct))

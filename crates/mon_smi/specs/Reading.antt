@@ -1,8 +1,9 @@
 -- Reading a module's tokens from the left.
 use Rattle.std.specs.Char.{is_ascii_digit}
-use Rattle.std.specs.Prelude.{◌≡◌, ℕ, zero, suc, ◌+◌, ◌-◌, ◌*◌, ◌^◌, List, [], ◌∷◌, ◌++◌, length, drop, option_to_list, Bool, false, not, ◌&&◌, ◌||◌, ◌==◌, nat_le, nat_lt, if◌then◌else◌, Option, Some, None, Result, Ok, Err, codes}
-use Rattle.mon_smi.specs.declared.text_fault.TextFault.{TextFault}
-use Rattle.mon_smi.specs.declared.text_fault.TextFault.TheVariants.{OutOfMemory, Unclosed, Unexpected, Duplicate}
+use Rattle.std.specs.Prelude.{◌≡◌, ℕ, zero, suc, ◌+◌, ◌-◌, ◌*◌, ◌^◌, List, [], ◌∷◌, ◌++◌, length, drop, option_to_list, Bool, false, not, ◌&&◌, ◌||◌, ◌==◌, nat_le, nat_lt, if◌then◌else◌, Option, Some, None, option_map, Result, Ok, Err, codes}
+use Rattle.mon_oid.specs.Steps.{◌>>=◌}
+use Rattle.mon_smi.specs.declared.read_fault.ReadFault.{ReadFault}
+use Rattle.mon_smi.specs.declared.read_fault.ReadFault.TheVariants.{OutOfMemory, BrokenOff}
 use Rattle.mon_smi.specs.declared.kind.Kind.{Kind}
 use Rattle.mon_smi.specs.declared.kind.Kind.TheVariants.{Quoted, Assign, LeftBrace, RightBrace, LeftParen, RightParen, Semicolon}
 use Rattle.mon_smi.specs.declared.definition.Definition.{Definition}
@@ -10,36 +11,36 @@ use Rattle.mon_smi.specs.declared.part.Part.{Part}
 use Rattle.mon_smi.specs.declared.part.Part.TheVariants.{Syntax, Text, Access, Status, Word, Group}
 use Rattle.mon_smi.specs.Lexemes.{Lexeme, is_word, is_mark, word_of, digits_of, begins_small, begins_capital, is_capital, is_any_word}
 
--- a step, and what follows it unless it failed
-infixl 10 ◌>>=◌
--- a step, and what follows it unless it failed
-abbrev pub ◌>>=◌ : {A B : Type 0} → Option A → (A → Option B) → Option B
-(Some x) >>= f = f x
-None >>= f = None
+-- what reading gives: something, or the tokens that were left where it broke off
+abbrev pub Read : Type 0 → Type 0
+Read A = Result A (List Lexeme)
 
--- a call that failed so failed as reading does, unless memory ran out
-abbrev pub Fails : {Y : Type 0} → TextFault → Option Y → Type 0
+-- what is there, or these tokens are left
+abbrev pub or_left : {A : Type 0} → List Lexeme → Option A → Read A
+or_left ls (Some x) = Ok x
+or_left ls None = Err ls
+
+-- a call that failed broke off where reading does, unless memory ran out
+abbrev pub Fails : {Y : Type 0} → ReadFault → Read Y → Type 0
 Fails OutOfMemory read = Unit {0}
-Fails Unclosed read = read ≡ None
-Fails (Unexpected span) read = read ≡ None
-Fails (Duplicate span) read = ⊥
+Fails (BrokenOff rest) read = read ≡ Err rest.now
 
 -- what a call returned, seen by view, is what reading gives, unless memory ran out
-abbrev pub Gives : {X Y : Type 0} → (X → Y) → Result X TextFault → Option Y → Type 0
-Gives view (Ok x) read = read ≡ Some (view x)
+abbrev pub Gives : {X Y : Type 0} → (X → Y) → Result X ReadFault → Read Y → Type 0
+Gives view (Ok x) read = read ≡ Ok (view x)
 Gives view (Err e) read = Fails e read
 
 -- one token that passes the test, and what follows it
-abbrev pub one : (Lexeme → Bool) → List Lexeme → Option (List Lexeme)
-one test [] = None
-one test (l ∷ ls) = if test l then Some ls else None
+abbrev pub one : (Lexeme → Bool) → List Lexeme → Read (List Lexeme)
+one test [] = Err []
+one test (l ∷ ls) = if test l then Ok ls else Err (l ∷ ls)
 
 -- this word
-abbrev pub word_at : List ℕ → List Lexeme → Option (List Lexeme)
+abbrev pub word_at : List ℕ → List Lexeme → Read (List Lexeme)
 word_at w ls = one (is_word w) ls
 
 -- this mark
-abbrev pub mark_at : Kind → List Lexeme → Option (List Lexeme)
+abbrev pub mark_at : Kind → List Lexeme → Read (List Lexeme)
 mark_at kind ls = one (is_mark kind) ls
 
 -- this mark comes next
@@ -55,19 +56,19 @@ begins_word w (l ∷ ls) = is_word w l
 -- a word, and what follows it
 abbrev pub name_at : List Lexeme → Option (List ℕ × List Lexeme)
 name_at [] = None
-name_at (l ∷ ls) = word_of l >>= λ w. Some (w, ls)
+name_at (l ∷ ls) = option_map (λ w. (w, ls)) (word_of l)
 
 -- ---- types and groups
 
 -- the rest of a group of which this many are open inside
-abbrev pub nested_at : Kind → Kind → ℕ → List Lexeme → Option (List Lexeme)
-nested_at left right depth [] = None
+abbrev pub nested_at : Kind → Kind → ℕ → List Lexeme → Read (List Lexeme)
+nested_at left right depth [] = Err []
 nested_at left right depth (l ∷ ls) =
     if is_mark left l then nested_at left right (suc depth) ls else
-    (if is_mark right l then (if depth == 0 then Some ls else nested_at left right (depth - 1) ls) else nested_at left right depth ls)
+    (if is_mark right l then (if depth == 0 then Ok ls else nested_at left right (depth - 1) ls) else nested_at left right depth ls)
 
 -- a balanced group, and what follows it
-unfoldable pub group_at : Kind → Kind → List Lexeme → Option (List Lexeme)
+unfoldable pub group_at : Kind → Kind → List Lexeme → Read (List Lexeme)
 group_at left right ls = do
   rest ← mark_at left ls
   nested_at left right 0 rest
@@ -86,20 +87,20 @@ is_sequence_of (a ∷ b ∷ []) = false
 is_sequence_of (a ∷ b ∷ c ∷ ls) = is_word (codes "SEQUENCE") a && (is_word (codes "OF") b && is_capital c)
 
 -- a type's name, and what follows it
-unfoldable pub type_name_at : List Lexeme → Option (List Lexeme)
+unfoldable pub type_name_at : List Lexeme → Read (List Lexeme)
 type_name_at ls =
-    if is_pair (codes "OCTET") (codes "STRING") ls then Some (drop 2 ls) else
-    (if is_pair (codes "OBJECT") (codes "IDENTIFIER") ls then Some (drop 2 ls) else
-    (if is_sequence_of ls then Some (drop 3 ls) else one is_capital ls))
+    if is_pair (codes "OCTET") (codes "STRING") ls then Ok (drop 2 ls) else
+    (if is_pair (codes "OBJECT") (codes "IDENTIFIER") ls then Ok (drop 2 ls) else
+    (if is_sequence_of ls then Ok (drop 3 ls) else one is_capital ls))
 
 -- a group in braces or parentheses, if one comes next
-unfoldable pub maybe_group : List Lexeme → Option (List Lexeme)
+unfoldable pub maybe_group : List Lexeme → Read (List Lexeme)
 maybe_group ls =
     if begins LeftBrace ls then group_at LeftBrace RightBrace ls else
-    (if begins LeftParen ls then group_at LeftParen RightParen ls else Some ls)
+    (if begins LeftParen ls then group_at LeftParen RightParen ls else Ok ls)
 
 -- a type, and what follows it
-unfoldable pub type_at : List Lexeme → Option (List Lexeme)
+unfoldable pub type_at : List Lexeme → Read (List Lexeme)
 type_at ls = do
   rest ← type_name_at ls
   maybe_group rest
@@ -115,7 +116,7 @@ abbrev pub is_status : Lexeme → Bool
 is_status l = is_word (codes "current") l || (is_word (codes "deprecated") l || is_word (codes "obsolete") l)
 
 -- what stands after the keyword of a clause
-unfoldable pub part_at : Part → List Lexeme → Option (List Lexeme)
+unfoldable pub part_at : Part → List Lexeme → Read (List Lexeme)
 part_at Syntax ls = type_at ls
 part_at Text ls = mark_at Quoted ls
 part_at Access ls = one is_access ls
@@ -124,35 +125,35 @@ part_at Word ls = one is_any_word ls
 part_at Group ls = group_at LeftBrace RightBrace ls
 
 -- a keyword with what belongs to it
-unfoldable pub clause_at : List ℕ → Part → List Lexeme → Option (List Lexeme)
+unfoldable pub clause_at : List ℕ → Part → List Lexeme → Read (List Lexeme)
 clause_at keyword part ls = do
   rest ← word_at keyword ls
   part_at part rest
 
 -- a clause, if its keyword comes next
-unfoldable pub optional_at : List ℕ → Part → List Lexeme → Option (List Lexeme)
-optional_at keyword part ls = if begins_word keyword ls then clause_at keyword part ls else Some ls
+unfoldable pub optional_at : List ℕ → Part → List Lexeme → Read (List Lexeme)
+optional_at keyword part ls = if begins_word keyword ls then clause_at keyword part ls else Ok ls
 
 -- AUGMENTS or INDEX with its group, if one of them comes next
-unfoldable pub index_at : List Lexeme → Option (List Lexeme)
+unfoldable pub index_at : List Lexeme → Read (List Lexeme)
 index_at ls = if begins_word (codes "AUGMENTS") ls then clause_at (codes "AUGMENTS") Group ls else optional_at (codes "INDEX") Group ls
 
 -- the type, the units and the access of an object
-unfoldable pub syntax_at : List Lexeme → Option (List Lexeme)
+unfoldable pub syntax_at : List Lexeme → Read (List Lexeme)
 syntax_at ls = do
   syntax ← clause_at (codes "SYNTAX") Syntax ls
   units ← optional_at (codes "UNITS") Text syntax
   clause_at (codes "MAX-ACCESS") Access units
 
 -- the status, the description and the reference
-unfoldable pub described_at : Part → List Lexeme → Option (List Lexeme)
+unfoldable pub described_at : Part → List Lexeme → Read (List Lexeme)
 described_at part ls = do
   status ← clause_at (codes "STATUS") part ls
   description ← clause_at (codes "DESCRIPTION") Text status
   optional_at (codes "REFERENCE") Text description
 
 -- all clauses of an OBJECT-TYPE
-unfoldable pub object_type_at : List Lexeme → Option (List Lexeme)
+unfoldable pub object_type_at : List Lexeme → Read (List Lexeme)
 object_type_at ls = do
   syntax ← syntax_at ls
   described ← described_at Status syntax
@@ -160,7 +161,7 @@ object_type_at ls = do
   optional_at (codes "DEFVAL") Group index
 
 -- all clauses of a TEXTUAL-CONVENTION
-unfoldable pub convention_at : List Lexeme → Option (List Lexeme)
+unfoldable pub convention_at : List Lexeme → Read (List Lexeme)
 convention_at ls = do
   hint ← optional_at (codes "DISPLAY-HINT") Text ls
   described ← described_at Word hint
@@ -169,15 +170,15 @@ convention_at ls = do
 -- ---- one after the other
 
 -- what reads one of them reads all up to where it stops, each giving what it emits
-unfoldable pub many : {X A : Type 0} → (List Lexeme → Option (X × List Lexeme)) → (X → List A) → (List Lexeme → Bool) → ℕ → List Lexeme → Option (List A × List Lexeme)
-many read emit stop zero ls = if stop ls then Some ([], ls) else None
+unfoldable pub many : {X A : Type 0} → (List Lexeme → Read (X × List Lexeme)) → (X → List A) → (List Lexeme → Bool) → ℕ → List Lexeme → Read (List A × List Lexeme)
+many read emit stop zero ls = if stop ls then Ok ([], ls) else Err ls
 many read emit stop (suc room) ls =
-    if stop ls then Some ([], ls) else
-    (read ls >>= λ x. many read emit stop room x.1 >>= λ ys. Some (emit x.0 ++ ys.0, ys.1))
+    if stop ls then Ok ([], ls) else
+    (read ls >>= λ x. many read emit stop room x.1 >>= λ ys. Ok (emit x.0 ++ ys.0, ys.1))
 
 -- what was read before, and what is still read
-abbrev pub with_front : {A : Type 0} → List A → Option (List A × List Lexeme) → Option (List A × List Lexeme)
-with_front front read = read >>= λ ys. Some (front ++ ys.0, ys.1)
+abbrev pub with_front : {A : Type 0} → List A → Read (List A × List Lexeme) → Read (List A × List Lexeme)
+with_front front read = read >>= λ ys. Ok (front ++ ys.0, ys.1)
 
 -- ---- values
 
@@ -193,23 +194,23 @@ number_of [] = None
 number_of (b ∷ bs) = number_from 0 (b ∷ bs)
 
 -- a number that is a sub-identifier
-unfoldable pub sub_at : List Lexeme → Option (ℕ × List Lexeme)
-sub_at [] = None
+unfoldable pub sub_at : List Lexeme → Read (ℕ × List Lexeme)
+sub_at [] = Err []
 sub_at (l ∷ ls) = do
-  digits ← digits_of l
-  n ← number_of digits
-  Some (n, ls)
+  digits ← or_left (l ∷ ls) (digits_of l)
+  n ← or_left (l ∷ ls) (number_of digits)
+  Ok (n, ls)
 
 -- a sub-identifier in parentheses
-unfoldable pub in_parens_at : List Lexeme → Option (ℕ × List Lexeme)
+unfoldable pub in_parens_at : List Lexeme → Read (ℕ × List Lexeme)
 in_parens_at ls = do
   inner ← mark_at LeftParen ls
   n ← sub_at inner
   rest ← mark_at RightParen n.1
-  Some (n.0, rest)
+  Ok (n.0, rest)
 
 -- a component: a number, or a word with a number in parentheses
-unfoldable pub component_at : List Lexeme → Option (ℕ × List Lexeme)
+unfoldable pub component_at : List Lexeme → Read (ℕ × List Lexeme)
 component_at ls = elim (name_at ls) [ Some x ↦ in_parens_at x.1 | None ↦ sub_at ls ]
 
 -- a word with no number of its own
@@ -226,15 +227,15 @@ abbrev pub single : ℕ → List ℕ
 single n = n ∷ []
 
 -- components up to the closing brace
-unfoldable pub numbers_at : List Lexeme → Option (List ℕ × List Lexeme)
+unfoldable pub numbers_at : List Lexeme → Read (List ℕ × List Lexeme)
 numbers_at ls = many component_at single (begins RightBrace) (length ls) ls
 
 -- a value in braces: the parent, if it is a word, and the numbers
-unfoldable pub value_at : List Lexeme → Option ((Option (List ℕ) × List ℕ) × List Lexeme)
+unfoldable pub value_at : List Lexeme → Read ((Option (List ℕ) × List ℕ) × List Lexeme)
 value_at ls = do
   inner ← mark_at LeftBrace ls
   numbers ← numbers_at (parent_at inner).1
-  if enough (parent_at inner).0 numbers.0 then (mark_at RightBrace numbers.1 >>= λ rest. Some (((parent_at inner).0, numbers.0), rest)) else None
+  if enough (parent_at inner).0 numbers.0 then (mark_at RightBrace numbers.1 >>= λ rest. Ok (((parent_at inner).0, numbers.0), rest)) else Err numbers.1
 
 -- ---- assignments
 
@@ -244,39 +245,39 @@ is_macro l = is_word (codes "MODULE-IDENTITY") l || (is_word (codes "OBJECT-IDEN
     || (is_word (codes "NOTIFICATION-GROUP") l || (is_word (codes "MODULE-COMPLIANCE") l || is_word (codes "AGENT-CAPABILITIES") l)))))
 
 -- all up to this mark
-abbrev pub up_to : Kind → List Lexeme → Option (List Lexeme)
-up_to kind [] = None
-up_to kind (l ∷ ls) = if is_mark kind l then Some (l ∷ ls) else up_to kind ls
+abbrev pub up_to : Kind → List Lexeme → Read (List Lexeme)
+up_to kind [] = Err []
+up_to kind (l ∷ ls) = if is_mark kind l then Ok (l ∷ ls) else up_to kind ls
 
 -- OBJECT IDENTIFIER
-unfoldable pub identifier_at : List Lexeme → Option (List Lexeme)
+unfoldable pub identifier_at : List Lexeme → Read (List Lexeme)
 identifier_at ls = do
   rest ← word_at (codes "OBJECT") ls
   word_at (codes "IDENTIFIER") rest
 
 -- OBJECT-TYPE with its clauses
-unfoldable pub object_at : List Lexeme → Option (List Lexeme)
+unfoldable pub object_at : List Lexeme → Read (List Lexeme)
 object_at ls = do
   rest ← word_at (codes "OBJECT-TYPE") ls
   object_type_at rest
 
 -- the keyword of a macro, and all up to its value
-unfoldable pub macro_at : List Lexeme → Option (List Lexeme)
+unfoldable pub macro_at : List Lexeme → Read (List Lexeme)
 macro_at ls = do
   rest ← one is_macro ls
   up_to Assign rest
 
 -- what stands between a value's name and its value
-unfoldable pub head_at : List Lexeme → Option (List Lexeme)
+unfoldable pub head_at : List Lexeme → Read (List Lexeme)
 head_at ls = if begins_word (codes "OBJECT") ls then identifier_at ls else (if begins_word (codes "OBJECT-TYPE") ls then object_at ls else macro_at ls)
 
 -- a value's assignment after its name
-unfoldable pub definition_at : List ℕ → List Lexeme → Option (Definition × List Lexeme)
+unfoldable pub definition_at : List ℕ → List Lexeme → Read (Definition × List Lexeme)
 definition_at name ls = do
   head ← head_at ls
   rest ← mark_at Assign head
   value ← value_at rest
-  Some (record { name = name; parent = value.0.0; numbers = value.0.1 }, value.1)
+  Ok (record { name = name; parent = value.0.0; numbers = value.0.1 }, value.1)
 
 -- a clause of a textual convention comes next, and no assignment of its keyword
 abbrev pub is_convention : List Lexeme → Bool
@@ -285,13 +286,13 @@ is_convention (a ∷ []) = false
 is_convention (a ∷ b ∷ ls) = is_word (codes "TEXTUAL-CONVENTION") a && ((is_word (codes "DISPLAY-HINT") b || is_word (codes "STATUS") b) && not (begins Assign ls))
 
 -- TEXTUAL-CONVENTION with its clauses
-unfoldable pub textual_at : List Lexeme → Option (List Lexeme)
+unfoldable pub textual_at : List Lexeme → Read (List Lexeme)
 textual_at ls = do
   rest ← word_at (codes "TEXTUAL-CONVENTION") ls
   convention_at rest
 
 -- a type's assignment after its name
-unfoldable pub type_body_at : List Lexeme → Option (List Lexeme)
+unfoldable pub type_body_at : List Lexeme → Read (List Lexeme)
 type_body_at ls = do
   rest ← mark_at Assign ls
   if is_convention rest then textual_at rest else type_at rest
@@ -304,17 +305,17 @@ assigned d = (Some d.0, d.1)
 abbrev pub passed_over : List Lexeme → Option Definition × List Lexeme
 passed_over rest = (None, rest)
 
--- what a name is assigned: a small letter first is a value, a capital one a type
-unfoldable pub assignment_of : List ℕ → List Lexeme → Option (Option Definition × List Lexeme)
-assignment_of name ls =
-    if begins_small name then (definition_at name ls >>= λ d. Some (assigned d)) else
-    (if begins_capital name then (type_body_at ls >>= λ rest. Some (passed_over rest)) else None)
+-- what a name is assigned, with which these tokens begin: a small letter first is a value, a capital one a type
+unfoldable pub assignment_of : List ℕ → List Lexeme → List Lexeme → Read (Option Definition × List Lexeme)
+assignment_of name whole ls =
+    if begins_small name then (definition_at name ls >>= λ d. Ok (assigned d)) else
+    (if begins_capital name then (type_body_at ls >>= λ rest. Ok (passed_over rest)) else Err whole)
 
 -- an assignment, and what follows it
-unfoldable pub assignment_at : List Lexeme → Option (Option Definition × List Lexeme)
+unfoldable pub assignment_at : List Lexeme → Read (Option Definition × List Lexeme)
 assignment_at ls = do
-  name ← name_at ls
-  assignment_of name.0 name.1
+  name ← or_left ls (name_at ls)
+  assignment_of name.0 ls name.1
 
 -- ---- modules
 
@@ -325,23 +326,23 @@ ends_module (l ∷ []) = is_word (codes "END") l
 ends_module (l ∷ m ∷ ls) = false
 
 -- imports up to their semicolon
-unfoldable pub imported_at : List Lexeme → Option (List Lexeme)
+unfoldable pub imported_at : List Lexeme → Read (List Lexeme)
 imported_at ls = do
   rest ← up_to Semicolon ls
   mark_at Semicolon rest
 
 -- the import clause, if it comes next
-unfoldable pub imports_at : List Lexeme → Option (List Lexeme)
-imports_at ls = if begins_word (codes "IMPORTS") ls then imported_at ls else Some ls
+unfoldable pub imports_at : List Lexeme → Read (List Lexeme)
+imports_at ls = if begins_word (codes "IMPORTS") ls then imported_at ls else Ok ls
 
 -- assignments up to END
-unfoldable pub definitions_at : List Lexeme → Option (List Definition)
+unfoldable pub definitions_at : List Lexeme → Read (List Definition)
 definitions_at ls = do
   all ← many assignment_at option_to_list ends_module (length ls) ls
-  Some all.0
+  Ok all.0
 
 -- what stands after a module's name
-unfoldable pub module_body_at : List Lexeme → Option (List Definition)
+unfoldable pub module_body_at : List Lexeme → Read (List Definition)
 module_body_at ls = do
   defined ← word_at (codes "DEFINITIONS") ls
   assigned ← mark_at Assign defined
@@ -350,7 +351,7 @@ module_body_at ls = do
   definitions_at rest
 
 -- a whole module: its name and its definitions
-unfoldable pub module_at : List Lexeme → Option (List ℕ × List Definition)
+unfoldable pub module_at : List Lexeme → Read (List ℕ × List Definition)
 module_at ls = do
-  name ← name_at ls
-  if begins_capital name.0 then (module_body_at name.1 >>= λ defs. Some (name.0, defs)) else None
+  name ← or_left ls (name_at ls)
+  if begins_capital name.0 then (module_body_at name.1 >>= λ defs. Ok (name.0, defs)) else Err ls

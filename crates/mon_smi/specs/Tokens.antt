@@ -1,5 +1,5 @@
 -- The tokens that a text is cut into: the words, numbers, strings and marks of ASN.1 (ITU-T X.208 section 8), as RFC 2578 section 3 uses them.
-use Rattle.std.specs.Prelude.{◌⊎◌, ◌≡◌, ◌≢◌, ℕ, ◌+◌, ◌<◌, ◌≤◌, List, [], ◌∷◌, ◌++◌, length, slice_index, take, drop, Bool, ◌||◌, ◌&&◌, ◌==◌, nat_le, IsTrue, if◌then◌else◌, Option, Some, None, codes}
+use Rattle.std.specs.Prelude.{◌⊎◌, ◌≡◌, ◌≢◌, ℕ, suc, ◌+◌, ◌<◌, ◌≤◌, List, [], ◌∷◌, ◌++◌, length, slice_index, take, drop, Bool, ◌||◌, ◌&&◌, ◌==◌, nat_le, nat_lt, IsTrue, if◌then◌else◌, Option, Some, None, codes}
 use Rattle.std.specs.List.{flat_map}
 use Rattle.std.specs.Char.{is_ascii_digit, is_ascii_hexdigit}
 use Rattle.mon_smi.specs.Words.{IsWord}
@@ -157,16 +157,26 @@ RisesFrom at (t ∷ ts) = (at ≤ t.span.start) × (t.span.start < t.span.end) �
 abbrev pub IsStuck : List ℕ → ℕ → List ℕ → Type 0
 IsStuck text at rest = (pieces : List Piece) × IsTokenized pieces text rest × (bytes_of pieces ≡ at) × NothingStands rest
 
--- the fault at a place where nothing stands: it is in a string that isn't closed, or unexpected there
+-- how many bytes at the front go on with a character (RFC 3629 section 3)
+abbrev pub continued : List ℕ → ℕ
+continued [] = 0
+continued (b ∷ bs) = if nat_le 128 b && nat_lt b 192 then suc (continued bs) else 0
+
+-- how many bytes the character at the front has
+abbrev pub char_len : List ℕ → ℕ
+char_len [] = 1
+char_len (b ∷ bs) = suc (continued bs)
+
+-- the fault at a place where nothing stands: it is in a string that isn't closed, or the character there is unexpected
 abbrev pub IsFaultAt : TextFault → ℕ → List ℕ → Type 0
 IsFaultAt OutOfMemory at rest = ⊥
 IsFaultAt Unclosed at rest = slice_index rest 0 ≡ 34
-IsFaultAt (Unexpected span) at rest = (span.start ≡ at) × (slice_index rest 0 ≢ 34)
+IsFaultAt (Unexpected span) at rest = (span.start ≡ at) × (span.end ≡ at + char_len rest) × (slice_index rest 0 ≢ 34)
 IsFaultAt (Duplicate span) at rest = ⊥
 
 -- why a text has no tokens: it comes to a place where nothing stands, which is in a string that isn't closed, or another one
 abbrev pub IsFaultOfTokens : TextFault → List ℕ → Type 0
 IsFaultOfTokens OutOfMemory text = Unit {0}
 IsFaultOfTokens Unclosed text = (at : ℕ) × (rest : List ℕ) × IsStuck text at rest × (slice_index rest 0 ≡ 34)
-IsFaultOfTokens (Unexpected span) text = (rest : List ℕ) × IsStuck text span.start rest × (slice_index rest 0 ≢ 34)
+IsFaultOfTokens (Unexpected span) text = (rest : List ℕ) × IsStuck text span.start rest × (span.end ≡ span.start + char_len rest) × (slice_index rest 0 ≢ 34)
 IsFaultOfTokens (Duplicate span) text = ⊥

@@ -7,8 +7,8 @@ use crate::definition::Definition;
 use crate::kind::Kind;
 use crate::lexeme::{Lexeme, begins_capital, begins_small};
 use crate::numbers::Numbers;
+use crate::read_fault::ReadFault;
 use crate::rules::{begins, begins_word, convention_at, mark_at, object_type_at, type_at, word_at};
-use crate::text_fault::TextFault;
 use crate::values::{name_at, value_at};
 use crate::word::Word;
 use std::alloc::Global;
@@ -27,20 +27,23 @@ fn is_macro(l: &Lexeme) -> bool
 }
 
 /// A macro's name.
-fn macro_name_at<'a, 's>(ls: &'a [Lexeme<'s>]) -> Result<&'a [Lexeme<'s>], TextFault>
+fn macro_name_at<'a, 's>(ls: &'a [Lexeme<'s>]) -> Result<&'a [Lexeme<'s>], ReadFault<'a, 's>>
     ensures { Gives (λ rest. rest.now) result (one is_macro ls.now) }
 {
     let [first, rest @ ..] = ls else {
-        return Err(TextFault::Unclosed);
+        return Err(ReadFault::BrokenOff(ls));
     };
     if is_macro(first) {
         return Ok(rest);
     }
-    Err(TextFault::Unexpected(first.span()))
+    Err(ReadFault::BrokenOff(ls))
 }
 
 /// The first such mark, and what follows it.
-pub(crate) fn up_to<'a, 's>(kind: Kind, ls: &'a [Lexeme<'s>]) -> Result<&'a [Lexeme<'s>], TextFault>
+pub(crate) fn up_to<'a, 's>(
+    kind: Kind,
+    ls: &'a [Lexeme<'s>],
+) -> Result<&'a [Lexeme<'s>], ReadFault<'a, 's>>
     ensures { Gives (λ rest. rest.now) result (up_to kind ls.now) }
 {
     let mut rest = ls;
@@ -50,12 +53,12 @@ pub(crate) fn up_to<'a, 's>(kind: Kind, ls: &'a [Lexeme<'s>]) -> Result<&'a [Lex
         }
         rest = after;
     }
-    Err(TextFault::Unclosed)
+    Err(ReadFault::BrokenOff(rest))
 }
 
 /// The words before an identifier's value.
 #[tactic(auto, unfolding(crate::specs::Reading::identifier_at))]
-fn identifier_at<'a, 's>(ls: &'a [Lexeme<'s>]) -> Result<&'a [Lexeme<'s>], TextFault>
+fn identifier_at<'a, 's>(ls: &'a [Lexeme<'s>]) -> Result<&'a [Lexeme<'s>], ReadFault<'a, 's>>
     ensures { Gives (λ rest. rest.now) result (identifier_at ls.now) }
 {
     let rest = word_at("OBJECT", ls)?;
@@ -64,7 +67,7 @@ fn identifier_at<'a, 's>(ls: &'a [Lexeme<'s>]) -> Result<&'a [Lexeme<'s>], TextF
 
 /// An OBJECT-TYPE.
 #[tactic(auto, unfolding(crate::specs::Reading::object_at))]
-fn object_at<'a, 's>(ls: &'a [Lexeme<'s>]) -> Result<&'a [Lexeme<'s>], TextFault>
+fn object_at<'a, 's>(ls: &'a [Lexeme<'s>]) -> Result<&'a [Lexeme<'s>], ReadFault<'a, 's>>
     ensures { Gives (λ rest. rest.now) result (object_at ls.now) }
 {
     let rest = word_at("OBJECT-TYPE", ls)?;
@@ -73,7 +76,7 @@ fn object_at<'a, 's>(ls: &'a [Lexeme<'s>]) -> Result<&'a [Lexeme<'s>], TextFault
 
 /// Another macro, up to its value.
 #[tactic(auto, unfolding(crate::specs::Reading::macro_at))]
-fn macro_at<'a, 's>(ls: &'a [Lexeme<'s>]) -> Result<&'a [Lexeme<'s>], TextFault>
+fn macro_at<'a, 's>(ls: &'a [Lexeme<'s>]) -> Result<&'a [Lexeme<'s>], ReadFault<'a, 's>>
     ensures { Gives (λ rest. rest.now) result (macro_at ls.now) }
 {
     let rest = macro_name_at(ls)?;
@@ -82,7 +85,7 @@ fn macro_at<'a, 's>(ls: &'a [Lexeme<'s>]) -> Result<&'a [Lexeme<'s>], TextFault>
 
 /// What stands between a value's name and its assignment mark.
 #[tactic(auto, unfolding(crate::specs::Reading::head_at))]
-fn head_at<'a, 's>(ls: &'a [Lexeme<'s>]) -> Result<&'a [Lexeme<'s>], TextFault>
+fn head_at<'a, 's>(ls: &'a [Lexeme<'s>]) -> Result<&'a [Lexeme<'s>], ReadFault<'a, 's>>
     ensures { Gives (λ rest. rest.now) result (head_at ls.now) }
 {
     if begins_word("OBJECT", ls) {
@@ -100,7 +103,7 @@ fn definition_at<'a, 's>(
     alloc: Global,
     name: &str,
     ls: &'a [Lexeme<'s>],
-) -> Result<(Definition, &'a [Lexeme<'s>]), TextFault>
+) -> Result<(Definition, &'a [Lexeme<'s>]), ReadFault<'a, 's>>
     ensures { Gives (λ x. (x.0, x.1.now)) result (definition_at name.now ls.now) }
 {
     let rest = head_at(ls)?;
@@ -136,7 +139,7 @@ fn is_convention(ls: &[Lexeme]) -> bool
 
 /// A textual convention.
 #[tactic(auto, unfolding(crate::specs::Reading::textual_at))]
-fn textual_at<'a, 's>(ls: &'a [Lexeme<'s>]) -> Result<&'a [Lexeme<'s>], TextFault>
+fn textual_at<'a, 's>(ls: &'a [Lexeme<'s>]) -> Result<&'a [Lexeme<'s>], ReadFault<'a, 's>>
     ensures { Gives (λ rest. rest.now) result (textual_at ls.now) }
 {
     let rest = word_at("TEXTUAL-CONVENTION", ls)?;
@@ -145,7 +148,7 @@ fn textual_at<'a, 's>(ls: &'a [Lexeme<'s>]) -> Result<&'a [Lexeme<'s>], TextFaul
 
 /// A type's assignment, after its name.
 #[tactic(auto, unfolding(crate::specs::Reading::type_body_at))]
-fn type_body_at<'a, 's>(ls: &'a [Lexeme<'s>]) -> Result<&'a [Lexeme<'s>], TextFault>
+fn type_body_at<'a, 's>(ls: &'a [Lexeme<'s>]) -> Result<&'a [Lexeme<'s>], ReadFault<'a, 's>>
     ensures { Gives (λ rest. rest.now) result (type_body_at ls.now) }
 {
     let rest = mark_at(Kind::Assign, ls)?;
@@ -155,15 +158,15 @@ fn type_body_at<'a, 's>(ls: &'a [Lexeme<'s>]) -> Result<&'a [Lexeme<'s>], TextFa
     type_at(rest)
 }
 
-/// An assignment of this name: a value's, or a type's, which is passed over.
+/// An assignment of this name, with which the whole begins: a value's, or a type's, which is passed over.
 #[tactic(auto, unfolding(crate::specs::Reading::assignment_of))]
 fn assignment_of<'a, 's>(
     alloc: Global,
     name: &str,
-    first: &Lexeme,
+    whole: &'a [Lexeme<'s>],
     ls: &'a [Lexeme<'s>],
-) -> Result<(Option<Definition>, &'a [Lexeme<'s>]), TextFault>
-    ensures { Gives (λ x. (x.0, x.1.now)) result (assignment_of name.now ls.now) }
+) -> Result<(Option<Definition>, &'a [Lexeme<'s>]), ReadFault<'a, 's>>
+    ensures { Gives (λ x. (x.0, x.1.now)) result (assignment_of name.now whole.now ls.now) }
 {
     if begins_small(name) {
         let (definition, rest) = definition_at(alloc, name, ls)?;
@@ -173,7 +176,7 @@ fn assignment_of<'a, 's>(
         let rest = type_body_at(ls)?;
         return Ok((None, rest));
     }
-    Err(TextFault::Unexpected(first.span()))
+    Err(ReadFault::BrokenOff(whole))
 }
 
 /// An assignment, and what follows it.
@@ -181,14 +184,14 @@ fn assignment_of<'a, 's>(
 pub(crate) fn assignment_at<'a, 's>(
     alloc: Global,
     ls: &'a [Lexeme<'s>],
-) -> Result<(Option<Definition>, &'a [Lexeme<'s>]), TextFault>
+) -> Result<(Option<Definition>, &'a [Lexeme<'s>]), ReadFault<'a, 's>>
     ensures { Gives (λ x. (x.0, x.1.now)) result (assignment_at ls.now) }
 {
     let [first, rest @ ..] = ls else {
-        return Err(TextFault::Unclosed);
+        return Err(ReadFault::BrokenOff(ls));
     };
     let Some(name) = first.word() else {
-        return Err(TextFault::Unexpected(first.span()));
+        return Err(ReadFault::BrokenOff(ls));
     };
-    assignment_of(alloc, name, first, rest)
+    assignment_of(alloc, name, ls, rest)
 }

@@ -16,7 +16,6 @@ use std::marker::Model;
 pub(crate) struct Lexeme<'a> {
     kind: Kind,
     text: &'a str,
-    span: Span,
 }
 
 impl<'a> Model for Lexeme<'a> {
@@ -61,7 +60,6 @@ fn lexeme_at(text: &[u8], token: Token) -> Lexeme
     Lexeme {
         kind: token.kind,
         text,
-        span: token.span,
     }
 }
 
@@ -98,11 +96,6 @@ fn same_text(text: &str, other: &str) -> bool
 }
 
 impl<'a> Lexeme<'a> {
-    /// Where the token stands.
-    pub fn span(&self) -> Span {
-        self.span
-    }
-
     /// Whether it is this word.
     pub fn is_word(&self, text: &str) -> bool
         ensures { result ≡ is_word text.now self.now }

@@ -1,7 +1,7 @@
 //! Cutting a text into tokens.
 
 ghost use Rattle.std.specs.Prelude.{◌≡◌, ◌<◌, ◌≤◌, ◌+◌, ◌^◌, ◌++◌, ℕ, List, length, IfOk, IfErr, OnOk, IsErr};
-ghost use Rattle.mon_smi.specs.Tokens.{token_of, AreTokens, IsStuck, IsFaultAt, IsFaultOfTokens};
+ghost use Rattle.mon_smi.specs.Tokens.{char_len, token_of, AreTokens, IsStuck, IsFaultAt, IsFaultOfTokens};
 ghost use Rattle.mon_smi.specs.declared.text_fault.TextFault.TheVariants.{OutOfMemory};
 
 use crate::pieces::piece_at;
@@ -13,7 +13,8 @@ use std::alloc::Global;
 /// The number of bytes of the character at the front.
 fn char_len(text: &[u8]) -> usize
     requires { 0 < length text.now }
-    ensures { result ≤ length text.now }
+    ensures within { result ≤ length text.now }
+    ensures len { result ≡ char_len text.now }
 {
     let mut len = 1;
     while len < text.len() && 0x80 <= text[len] && text[len] < 0xc0 {

@@ -19,6 +19,7 @@ mod numbers;
 mod part;
 mod pieces;
 mod places;
+mod read_fault;
 mod rules;
 mod scan;
 mod text;

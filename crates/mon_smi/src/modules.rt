@@ -1,10 +1,10 @@
 //! Reading modules.
 
-ghost use Rattle.std.specs.Prelude.{◌≡◌, ◌++◌, ℕ, List, option_to_list, map, length, slice_index, ◌<◌, ◌≤◌, IfOk, IfErr, OnOk, IsOkUnless};
+ghost use Rattle.std.specs.Prelude.{◌≡◌, Ok, ◌++◌, ℕ, List, option_to_list, map, length, slice_index, ◌<◌, ◌≤◌, IfOk, IfErr, OnOk, IsOkUnless};
 ghost use Rattle.mon_smi.specs.declared.definition.Definition.{Definition as AnyDefinition};
 ghost use Rattle.mon_smi.specs.Names.{AreDistinct};
 ghost use Rattle.mon_smi.specs.Grammar.{Derives};
-ghost use Rattle.mon_smi.specs.ModuleFaults.{AllBegin, IsTwice, IsFaultOfModule};
+ghost use Rattle.mon_smi.specs.ModuleFaults.{AllBegin, IsTwice, IsBrokenOff, IsFaultOfReading, IsFaultOfTokensRead, IsFaultOfModule};
 ghost use Rattle.mon_smi.specs.declared.text_fault.TextFault.TheVariants.{OutOfMemory};
 ghost use Rattle.mon_smi.specs.Reading.{Gives, ends_module, imported_at, imports_at, definitions_at, module_body_at, module_at};
 
@@ -14,11 +14,12 @@ use crate::kind::Kind;
 use crate::lexeme::{Lexeme, begins_capital, lexemes};
 use crate::lexer::tokens;
 use crate::places::first_twice;
+use crate::read_fault::ReadFault;
 use crate::rules::{begins_word, last, mark_at, word_at};
 use crate::text_fault::TextFault;
 use crate::token::Token;
 use crate::word::Word;
-use std::alloc::Global;
+use std::alloc::{AllocError, Global};
 
 /// Whether END comes next, as the last token.
 fn ends_module(ls: &[Lexeme]) -> bool
@@ -32,7 +33,7 @@ fn ends_module(ls: &[Lexeme]) -> bool
 
 /// What is imported, up to the semicolon.
 #[tactic(auto, unfolding(crate::specs::Reading::imported_at))]
-fn imported_at<'a, 's>(ls: &'a [Lexeme<'s>]) -> Result<&'a [Lexeme<'s>], TextFault>
+fn imported_at<'a, 's>(ls: &'a [Lexeme<'s>]) -> Result<&'a [Lexeme<'s>], ReadFault<'a, 's>>
     ensures { Gives (λ rest. rest.now) result (imported_at ls.now) }
 {
     let rest = up_to(Kind::Semicolon, ls)?;
@@ -41,7 +42,7 @@ fn imported_at<'a, 's>(ls: &'a [Lexeme<'s>]) -> Result<&'a [Lexeme<'s>], TextFau
 
 /// What is imported, or nothing.
 #[tactic(auto, unfolding(crate::specs::Reading::imports_at))]
-fn imports_at<'a, 's>(ls: &'a [Lexeme<'s>]) -> Result<&'a [Lexeme<'s>], TextFault>
+fn imports_at<'a, 's>(ls: &'a [Lexeme<'s>]) -> Result<&'a [Lexeme<'s>], ReadFault<'a, 's>>
     ensures { Gives (λ rest. rest.now) result (imports_at ls.now) }
 {
     if begins_word("IMPORTS", ls) {
@@ -58,10 +59,9 @@ struct Body {
 }
 
 /// Adds a definition that begins with this many tokens left, where there is one.
-fn keep(body: &mut Body, definition: Option<Definition>, left: usize) -> Result<(), TextFault>
+fn keep(body: &mut Body, definition: Option<Definition>, left: usize) -> Result<(), AllocError>
     ensures kept { OnOk result (body.new.defs.items ≡ body.old.defs.items ++ option_to_list definition) }
     ensures starts { OnOk result (body.new.starts.items ≡ body.old.starts.items ++ map (λ d. left) (option_to_list definition)) }
-    ensures memory { IfErr result (λ e. e ≡ OutOfMemory) }
 {
     if let Some(definition) = definition {
         body.defs.push(definition)?;
@@ -71,7 +71,7 @@ fn keep(body: &mut Body, definition: Option<Definition>, left: usize) -> Result<
 }
 
 /// The definitions up to END.
-fn definitions_at(alloc: Global, ls: &[Lexeme]) -> Result<Body, TextFault>
+fn definitions_at<'a, 's>(alloc: Global, ls: &'a [Lexeme<'s>]) -> Result<Body, ReadFault<'a, 's>>
     ensures gives { Gives (λ body. body.defs.items) result (definitions_at ls.now) }
     ensures starts { IfOk result (λ body. AllBegin ls.now body.starts.items body.defs.items) }
 {
@@ -90,7 +90,7 @@ fn definitions_at(alloc: Global, ls: &[Lexeme]) -> Result<Body, TextFault>
 
 /// A module after its name.
 #[tactic(auto, unfolding(crate::specs::Reading::module_body_at))]
-fn module_body_at(alloc: Global, ls: &[Lexeme]) -> Result<Body, TextFault>
+fn module_body_at<'a, 's>(alloc: Global, ls: &'a [Lexeme<'s>]) -> Result<Body, ReadFault<'a, 's>>
     ensures gives { Gives (λ body. body.defs.items) result (module_body_at ls.now) }
     ensures starts { IfOk result (λ body. AllBegin ls.now body.starts.items body.defs.items) }
 {
@@ -103,18 +103,21 @@ fn module_body_at(alloc: Global, ls: &[Lexeme]) -> Result<Body, TextFault>
 
 /// A module of these tokens, and how many are left where each definition begins.
 #[tactic(auto, unfolding(crate::specs::Reading::module_at))]
-fn module_at(alloc: Global, ls: &[Lexeme]) -> Result<(Module, Vec<usize>), TextFault>
+fn module_at<'a, 's>(
+    alloc: Global,
+    ls: &'a [Lexeme<'s>],
+) -> Result<(Module, Vec<usize>), ReadFault<'a, 's>>
     ensures gives { Gives (λ read. (read.0.name, read.0.defs)) result (module_at ls.now) }
     ensures starts { IfOk result (λ read. AllBegin ls.now read.1.items read.0.defs) }
 {
     let [first, rest @ ..] = ls else {
-        return Err(TextFault::Unclosed);
+        return Err(ReadFault::BrokenOff(ls));
     };
     let Some(name) = first.word() else {
-        return Err(TextFault::Unexpected(first.span()));
+        return Err(ReadFault::BrokenOff(ls));
     };
     if !begins_capital(name) {
-        return Err(TextFault::Unexpected(first.span()));
+        return Err(ReadFault::BrokenOff(ls));
     }
     let body = module_body_at(alloc, rest)?;
     let defs = Definitions::new(body.defs);
@@ -141,6 +144,43 @@ fn distinct(
     Ok(read)
 }
 
+/// Why these tokens are no module where this many of them are left.
+fn broken_off(tokens: &[Token], left: usize) -> TextFault
+    ensures { IsBrokenOff result tokens.now left }
+{
+    if left == 0 || tokens.len() < left {
+        return TextFault::Unclosed;
+    }
+    let first = tokens[tokens.len() - left];
+    TextFault::Unexpected(first.span)
+}
+
+/// Why these tokens are no module.
+fn fault_of(tokens: &[Token], fault: ReadFault) -> TextFault
+    ensures { IsFaultOfReading result tokens.now fault.entry }
+{
+    match fault {
+        ReadFault::OutOfMemory => TextFault::OutOfMemory,
+        ReadFault::BrokenOff(rest) => broken_off(tokens, rest.len()),
+    }
+}
+
+/// A module of these tokens, how many are left where each definition begins, and where they are no module the fault of the text.
+fn module_read(
+    alloc: Global,
+    tokens: &[Token],
+    ls: &[Lexeme],
+) -> Result<(Module, Vec<usize>), TextFault>
+    ensures gives { IfOk result (λ read. module_at ls.now ≡ Ok (read.0.name, read.0.defs)) }
+    ensures starts { IfOk result (λ read. AllBegin ls.now read.1.items read.0.defs) }
+    ensures fault { IfErr result (λ e. IsFaultOfTokensRead e tokens.now ls.now) }
+{
+    match module_at(alloc, ls) {
+        Ok(read) => Ok(read),
+        Err(fault) => Err(fault_of(tokens, fault)),
+    }
+}
+
 /// The module that a text is.
 fn module_of(alloc: Global, text: &str) -> Result<Module, TextFault>
     ensures found { IfOk result (λ m. Derives text.now m.name m.defs × AreDistinct m.defs) }
@@ -148,7 +188,7 @@ fn module_of(alloc: Global, text: &str) -> Result<Module, TextFault>
 {
     let tokens = tokens(alloc, text)?;
     let lexemes = lexemes(alloc, text.as_bytes(), tokens.as_slice())?;
-    let (read, starts) = module_at(alloc, lexemes.as_slice())?;
+    let (read, starts) = module_read(alloc, tokens.as_slice(), lexemes.as_slice())?;
     distinct(alloc, read, starts.as_slice(), tokens.as_slice())
 }
 

@@ -7,7 +7,7 @@ ghost use Rattle.mon_smi.specs.Lexemes.{is_capital, is_any_word};
 use crate::kind::Kind;
 use crate::lexeme::Lexeme;
 use crate::part::Part;
-use crate::text_fault::TextFault;
+use crate::read_fault::ReadFault;
 
 /// This many tokens at the end.
 pub(crate) fn last<'a, 's>(ls: &'a [Lexeme<'s>], left: usize) -> &'a [Lexeme<'s>]
@@ -21,32 +21,32 @@ pub(crate) fn last<'a, 's>(ls: &'a [Lexeme<'s>], left: usize) -> &'a [Lexeme<'s>
 pub(crate) fn word_at<'a, 's>(
     word: &str,
     ls: &'a [Lexeme<'s>],
-) -> Result<&'a [Lexeme<'s>], TextFault>
+) -> Result<&'a [Lexeme<'s>], ReadFault<'a, 's>>
     ensures { Gives (λ rest. rest.now) result (word_at word.now ls.now) }
 {
     let [first, rest @ ..] = ls else {
-        return Err(TextFault::Unclosed);
+        return Err(ReadFault::BrokenOff(ls));
     };
     if first.is_word(word) {
         return Ok(rest);
     }
-    Err(TextFault::Unexpected(first.span()))
+    Err(ReadFault::BrokenOff(ls))
 }
 
 /// This mark, and what follows it.
 pub(crate) fn mark_at<'a, 's>(
     kind: Kind,
     ls: &'a [Lexeme<'s>],
-) -> Result<&'a [Lexeme<'s>], TextFault>
+) -> Result<&'a [Lexeme<'s>], ReadFault<'a, 's>>
     ensures { Gives (λ rest. rest.now) result (mark_at kind ls.now) }
 {
     let [first, rest @ ..] = ls else {
-        return Err(TextFault::Unclosed);
+        return Err(ReadFault::BrokenOff(ls));
     };
     if first.is_mark(kind) {
         return Ok(rest);
     }
-    Err(TextFault::Unexpected(first.span()))
+    Err(ReadFault::BrokenOff(ls))
 }
 
 /// Whether this mark comes next.
@@ -74,7 +74,7 @@ fn nested_at<'a, 's>(
     left: Kind,
     right: Kind,
     ls: &'a [Lexeme<'s>],
-) -> Result<&'a [Lexeme<'s>], TextFault>
+) -> Result<&'a [Lexeme<'s>], ReadFault<'a, 's>>
     ensures { Gives (λ rest. rest.now) result (nested_at left right 0 ls.now) }
 {
     let mut depth: usize = 0;
@@ -90,7 +90,7 @@ fn nested_at<'a, 's>(
             depth -= 1;
         }
     }
-    Err(TextFault::Unclosed)
+    Err(ReadFault::BrokenOff(rest))
 }
 
 /// A group between these marks.
@@ -99,7 +99,7 @@ fn group_at<'a, 's>(
     left: Kind,
     right: Kind,
     ls: &'a [Lexeme<'s>],
-) -> Result<&'a [Lexeme<'s>], TextFault>
+) -> Result<&'a [Lexeme<'s>], ReadFault<'a, 's>>
     ensures { Gives (λ rest. rest.now) result (group_at left right ls.now) }
 {
     let rest = mark_at(left, ls)?;
@@ -127,21 +127,21 @@ fn is_sequence_of(ls: &[Lexeme]) -> bool
 }
 
 /// A word with a capital first letter.
-fn capital_at<'a, 's>(ls: &'a [Lexeme<'s>]) -> Result<&'a [Lexeme<'s>], TextFault>
+fn capital_at<'a, 's>(ls: &'a [Lexeme<'s>]) -> Result<&'a [Lexeme<'s>], ReadFault<'a, 's>>
     ensures { Gives (λ rest. rest.now) result (one is_capital ls.now) }
 {
     let [first, rest @ ..] = ls else {
-        return Err(TextFault::Unclosed);
+        return Err(ReadFault::BrokenOff(ls));
     };
     if first.is_capital() {
         return Ok(rest);
     }
-    Err(TextFault::Unexpected(first.span()))
+    Err(ReadFault::BrokenOff(ls))
 }
 
 /// A type's name.
 #[tactic(auto, unfolding(crate::specs::Reading::type_name_at))]
-fn type_name_at<'a, 's>(ls: &'a [Lexeme<'s>]) -> Result<&'a [Lexeme<'s>], TextFault>
+fn type_name_at<'a, 's>(ls: &'a [Lexeme<'s>]) -> Result<&'a [Lexeme<'s>], ReadFault<'a, 's>>
     ensures { Gives (λ rest. rest.now) result (type_name_at ls.now) }
 {
     if is_pair("OCTET", "STRING", ls) {
@@ -158,7 +158,7 @@ fn type_name_at<'a, 's>(ls: &'a [Lexeme<'s>]) -> Result<&'a [Lexeme<'s>], TextFa
 
 /// A group in braces or parentheses, or none.
 #[tactic(auto, unfolding(crate::specs::Reading::maybe_group))]
-fn maybe_group<'a, 's>(ls: &'a [Lexeme<'s>]) -> Result<&'a [Lexeme<'s>], TextFault>
+fn maybe_group<'a, 's>(ls: &'a [Lexeme<'s>]) -> Result<&'a [Lexeme<'s>], ReadFault<'a, 's>>
     ensures { Gives (λ rest. rest.now) result (maybe_group ls.now) }
 {
     if begins(Kind::LeftBrace, ls) {
@@ -172,7 +172,7 @@ fn maybe_group<'a, 's>(ls: &'a [Lexeme<'s>]) -> Result<&'a [Lexeme<'s>], TextFau
 
 /// A type.
 #[tactic(auto, unfolding(crate::specs::Reading::type_at))]
-pub(crate) fn type_at<'a, 's>(ls: &'a [Lexeme<'s>]) -> Result<&'a [Lexeme<'s>], TextFault>
+pub(crate) fn type_at<'a, 's>(ls: &'a [Lexeme<'s>]) -> Result<&'a [Lexeme<'s>], ReadFault<'a, 's>>
     ensures { Gives (λ rest. rest.now) result (type_at ls.now) }
 {
     let rest = type_name_at(ls)?;
@@ -191,16 +191,16 @@ fn is_access(l: &Lexeme) -> bool
 }
 
 /// How an object may be accessed.
-fn access_at<'a, 's>(ls: &'a [Lexeme<'s>]) -> Result<&'a [Lexeme<'s>], TextFault>
+fn access_at<'a, 's>(ls: &'a [Lexeme<'s>]) -> Result<&'a [Lexeme<'s>], ReadFault<'a, 's>>
     ensures { Gives (λ rest. rest.now) result (one is_access ls.now) }
 {
     let [first, rest @ ..] = ls else {
-        return Err(TextFault::Unclosed);
+        return Err(ReadFault::BrokenOff(ls));
     };
     if is_access(first) {
         return Ok(rest);
     }
-    Err(TextFault::Unexpected(first.span()))
+    Err(ReadFault::BrokenOff(ls))
 }
 
 /// Whether the word is one of the statuses.
@@ -211,34 +211,34 @@ fn is_status(l: &Lexeme) -> bool
 }
 
 /// Whether a definition is current.
-fn status_at<'a, 's>(ls: &'a [Lexeme<'s>]) -> Result<&'a [Lexeme<'s>], TextFault>
+fn status_at<'a, 's>(ls: &'a [Lexeme<'s>]) -> Result<&'a [Lexeme<'s>], ReadFault<'a, 's>>
     ensures { Gives (λ rest. rest.now) result (one is_status ls.now) }
 {
     let [first, rest @ ..] = ls else {
-        return Err(TextFault::Unclosed);
+        return Err(ReadFault::BrokenOff(ls));
     };
     if is_status(first) {
         return Ok(rest);
     }
-    Err(TextFault::Unexpected(first.span()))
+    Err(ReadFault::BrokenOff(ls))
 }
 
 /// A word.
-fn any_word_at<'a, 's>(ls: &'a [Lexeme<'s>]) -> Result<&'a [Lexeme<'s>], TextFault>
+fn any_word_at<'a, 's>(ls: &'a [Lexeme<'s>]) -> Result<&'a [Lexeme<'s>], ReadFault<'a, 's>>
     ensures { Gives (λ rest. rest.now) result (one is_any_word ls.now) }
 {
     let [first, rest @ ..] = ls else {
-        return Err(TextFault::Unclosed);
+        return Err(ReadFault::BrokenOff(ls));
     };
     if first.is_any_word() {
         return Ok(rest);
     }
-    Err(TextFault::Unexpected(first.span()))
+    Err(ReadFault::BrokenOff(ls))
 }
 
 /// What a clause says after its keyword.
 #[tactic(auto, unfolding(crate::specs::Reading::part_at))]
-fn part_at<'a, 's>(part: Part, ls: &'a [Lexeme<'s>]) -> Result<&'a [Lexeme<'s>], TextFault>
+fn part_at<'a, 's>(part: Part, ls: &'a [Lexeme<'s>]) -> Result<&'a [Lexeme<'s>], ReadFault<'a, 's>>
     ensures { Gives (λ rest. rest.now) result (part_at part ls.now) }
 {
     match part {
@@ -257,7 +257,7 @@ fn clause_at<'a, 's>(
     keyword: &str,
     part: Part,
     ls: &'a [Lexeme<'s>],
-) -> Result<&'a [Lexeme<'s>], TextFault>
+) -> Result<&'a [Lexeme<'s>], ReadFault<'a, 's>>
     ensures { Gives (λ rest. rest.now) result (clause_at keyword.now part ls.now) }
 {
     let rest = word_at(keyword, ls)?;
@@ -270,7 +270,7 @@ fn optional_at<'a, 's>(
     keyword: &str,
     part: Part,
     ls: &'a [Lexeme<'s>],
-) -> Result<&'a [Lexeme<'s>], TextFault>
+) -> Result<&'a [Lexeme<'s>], ReadFault<'a, 's>>
     ensures { Gives (λ rest. rest.now) result (optional_at keyword.now part ls.now) }
 {
     if begins_word(keyword, ls) {
@@ -281,7 +281,7 @@ fn optional_at<'a, 's>(
 
 /// How the rows of a table are named, or nothing.
 #[tactic(auto, unfolding(crate::specs::Reading::index_at))]
-fn index_at<'a, 's>(ls: &'a [Lexeme<'s>]) -> Result<&'a [Lexeme<'s>], TextFault>
+fn index_at<'a, 's>(ls: &'a [Lexeme<'s>]) -> Result<&'a [Lexeme<'s>], ReadFault<'a, 's>>
     ensures { Gives (λ rest. rest.now) result (index_at ls.now) }
 {
     if begins_word("AUGMENTS", ls) {
@@ -292,7 +292,7 @@ fn index_at<'a, 's>(ls: &'a [Lexeme<'s>]) -> Result<&'a [Lexeme<'s>], TextFault>
 
 /// What an object's values are, and how it may be accessed.
 #[tactic(auto, unfolding(crate::specs::Reading::syntax_at))]
-fn syntax_at<'a, 's>(ls: &'a [Lexeme<'s>]) -> Result<&'a [Lexeme<'s>], TextFault>
+fn syntax_at<'a, 's>(ls: &'a [Lexeme<'s>]) -> Result<&'a [Lexeme<'s>], ReadFault<'a, 's>>
     ensures { Gives (λ rest. rest.now) result (syntax_at ls.now) }
 {
     let rest = clause_at("SYNTAX", Part::Syntax, ls)?;
@@ -302,7 +302,10 @@ fn syntax_at<'a, 's>(ls: &'a [Lexeme<'s>]) -> Result<&'a [Lexeme<'s>], TextFault
 
 /// The status and the texts of a definition; which words its status may be, `status` says.
 #[tactic(auto, unfolding(crate::specs::Reading::described_at))]
-fn described_at<'a, 's>(status: Part, ls: &'a [Lexeme<'s>]) -> Result<&'a [Lexeme<'s>], TextFault>
+fn described_at<'a, 's>(
+    status: Part,
+    ls: &'a [Lexeme<'s>],
+) -> Result<&'a [Lexeme<'s>], ReadFault<'a, 's>>
     ensures { Gives (λ rest. rest.now) result (described_at status ls.now) }
 {
     let rest = clause_at("STATUS", status, ls)?;
@@ -312,7 +315,9 @@ fn described_at<'a, 's>(status: Part, ls: &'a [Lexeme<'s>]) -> Result<&'a [Lexem
 
 /// The clauses of an OBJECT-TYPE (RFC 2578 section 7).
 #[tactic(auto, unfolding(crate::specs::Reading::object_type_at))]
-pub(crate) fn object_type_at<'a, 's>(ls: &'a [Lexeme<'s>]) -> Result<&'a [Lexeme<'s>], TextFault>
+pub(crate) fn object_type_at<'a, 's>(
+    ls: &'a [Lexeme<'s>],
+) -> Result<&'a [Lexeme<'s>], ReadFault<'a, 's>>
     ensures { Gives (λ rest. rest.now) result (object_type_at ls.now) }
 {
     let rest = syntax_at(ls)?;
@@ -323,7 +328,9 @@ pub(crate) fn object_type_at<'a, 's>(ls: &'a [Lexeme<'s>]) -> Result<&'a [Lexeme
 
 /// The clauses of a TEXTUAL-CONVENTION (RFC 2579 section 3).
 #[tactic(auto, unfolding(crate::specs::Reading::convention_at))]
-pub(crate) fn convention_at<'a, 's>(ls: &'a [Lexeme<'s>]) -> Result<&'a [Lexeme<'s>], TextFault>
+pub(crate) fn convention_at<'a, 's>(
+    ls: &'a [Lexeme<'s>],
+) -> Result<&'a [Lexeme<'s>], ReadFault<'a, 's>>
     ensures { Gives (λ rest. rest.now) result (convention_at ls.now) }
 {
     let rest = optional_at("DISPLAY-HINT", Part::Text, ls)?;

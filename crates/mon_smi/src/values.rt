@@ -6,8 +6,8 @@ ghost use Rattle.mon_smi.specs.Reading.{Gives, name_at, number_of, sub_at, in_pa
 
 use crate::kind::Kind;
 use crate::lexeme::Lexeme;
+use crate::read_fault::ReadFault;
 use crate::rules::{begins, last, mark_at};
-use crate::text_fault::TextFault;
 use std::alloc::Global;
 
 /// A word, and what follows it.
@@ -47,24 +47,24 @@ fn number_of(digits: &[u8]) -> Option<u32>
 
 /// A sub-identifier, and what follows it.
 #[tactic(auto, unfolding(crate::specs::Reading::sub_at))]
-fn sub_at<'a, 's>(ls: &'a [Lexeme<'s>]) -> Result<(u32, &'a [Lexeme<'s>]), TextFault>
+fn sub_at<'a, 's>(ls: &'a [Lexeme<'s>]) -> Result<(u32, &'a [Lexeme<'s>]), ReadFault<'a, 's>>
     ensures { Gives (λ x. (x.0, x.1.now)) result (sub_at ls.now) }
 {
     let [first, rest @ ..] = ls else {
-        return Err(TextFault::Unclosed);
+        return Err(ReadFault::BrokenOff(ls));
     };
     let Some(digits) = first.digits() else {
-        return Err(TextFault::Unexpected(first.span()));
+        return Err(ReadFault::BrokenOff(ls));
     };
     match number_of(digits.as_bytes()) {
         Some(number) => Ok((number, rest)),
-        None => Err(TextFault::Unexpected(first.span())),
+        None => Err(ReadFault::BrokenOff(ls)),
     }
 }
 
 /// A sub-identifier in parentheses.
 #[tactic(auto, unfolding(crate::specs::Reading::in_parens_at))]
-fn in_parens_at<'a, 's>(ls: &'a [Lexeme<'s>]) -> Result<(u32, &'a [Lexeme<'s>]), TextFault>
+fn in_parens_at<'a, 's>(ls: &'a [Lexeme<'s>]) -> Result<(u32, &'a [Lexeme<'s>]), ReadFault<'a, 's>>
     ensures { Gives (λ x. (x.0, x.1.now)) result (in_parens_at ls.now) }
 {
     let rest = mark_at(Kind::LeftParen, ls)?;
@@ -75,7 +75,7 @@ fn in_parens_at<'a, 's>(ls: &'a [Lexeme<'s>]) -> Result<(u32, &'a [Lexeme<'s>]),
 
 /// A sub-identifier, or a word with one in parentheses.
 #[tactic(auto, unfolding(crate::specs::Reading::component_at))]
-fn component_at<'a, 's>(ls: &'a [Lexeme<'s>]) -> Result<(u32, &'a [Lexeme<'s>]), TextFault>
+fn component_at<'a, 's>(ls: &'a [Lexeme<'s>]) -> Result<(u32, &'a [Lexeme<'s>]), ReadFault<'a, 's>>
     ensures { Gives (λ x. (x.0, x.1.now)) result (component_at ls.now) }
 {
     match name_at(ls) {
@@ -100,7 +100,10 @@ fn parent_at<'a, 's>(ls: &'a [Lexeme<'s>]) -> (Option<&'a str>, &'a [Lexeme<'s>]
 }
 
 /// Sub-identifiers up to the closing brace, and how many tokens are left there.
-fn numbers_at(alloc: Global, ls: &[Lexeme]) -> Result<(Vec<u32>, usize), TextFault>
+fn numbers_at<'a, 's>(
+    alloc: Global,
+    ls: &'a [Lexeme<'s>],
+) -> Result<(Vec<u32>, usize), ReadFault<'a, 's>>
     ensures gives { Gives (λ x. (x.0.items, drop (length ls.now - x.1) ls.now)) result (numbers_at ls.now) }
     ensures within { IfOk result (λ x. x.1 ≤ length ls.now) }
 {
@@ -136,7 +139,7 @@ pub(crate) struct Value<'a> {
 pub(crate) fn value_at<'a, 's>(
     alloc: Global,
     ls: &'a [Lexeme<'s>],
-) -> Result<(Value<'a>, &'a [Lexeme<'s>]), TextFault>
+) -> Result<(Value<'a>, &'a [Lexeme<'s>]), ReadFault<'a, 's>>
     ensures { Gives (λ x. ((option_map (λ w. w.now) x.0.parent, x.0.numbers.items), x.1.now)) result (value_at ls.now) }
 {
     let inner = mark_at(Kind::LeftBrace, ls)?;
@@ -144,10 +147,7 @@ pub(crate) fn value_at<'a, 's>(
     let (numbers, left) = numbers_at(alloc, behind)?;
     let rest = last(behind, left);
     if !enough(parent, numbers.as_slice()) {
-        let [first, ..] = rest else {
-            return Err(TextFault::Unclosed);
-        };
-        return Err(TextFault::Unexpected(first.span()));
+        return Err(ReadFault::BrokenOff(rest));
     }
     let rest = mark_at(Kind::RightBrace, rest)?;
     Ok((Value { parent, numbers }, rest))
