@@ -5,5 +5,6 @@ pub mod Fault
 pub mod Growing
 pub mod Ready
 pub mod Reply
+pub mod Sent
 pub mod Silence
 pub mod Step
