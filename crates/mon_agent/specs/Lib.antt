@@ -7,4 +7,5 @@ pub mod Ready
 pub mod Reply
 pub mod Sent
 pub mod Silence
+pub mod State
 pub mod Step

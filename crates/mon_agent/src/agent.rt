@@ -38,23 +38,39 @@ const AUTHORIZATION_ERROR: i32 = 16;
 #[derive(Drop)]
 pub struct Agent<D: Drop> {
     /// Which community may do what with which names.
-    pub policy: Policy,
+    pub(crate) policy: Policy,
     /// The variables.
-    pub mib: Mib<D>,
+    pub(crate) mib: Mib<D>,
 }
 
 impl<D: Device + Drop> Agent<D> {
+    ghost use Rattle.mon_agent.specs.State.{policy_of, settings_of, counters_of, device_of};
+
     /// An agent with this policy and these settings over a device, which has counted nothing yet.
     pub fn new(policy: Policy, settings: Settings, device: D) -> Self
-        ensures policy { result.policy ≡ policy }
-        ensures settings { result.mib.settings ≡ settings }
-        ensures counters { result.mib.counters ≡ no_counts }
-        ensures device { result.mib.device ≡ device }
+        ensures policy { policy_of result ≡ policy }
+        ensures settings { settings_of result ≡ settings }
+        ensures counters { counters_of result ≡ no_counts }
+        ensures device { device_of result ≡ device }
     {
         Agent {
             policy,
             mib: Mib::new(settings, device),
         }
+    }
+
+    /// What the agent has counted.
+    pub fn counters(&self) -> Counters
+        ensures { result ≡ counters_of self.now }
+    {
+        self.mib.counters
+    }
+
+    /// What serves the texts that can be set, and the interfaces.
+    pub fn device(&self) -> &D
+        ensures { result.now ≡ device_of self.now }
+    {
+        &self.mib.device
     }
 
     /// What the agent does about a datagram at a moment. Every datagram counts in snmpInPkts before it is answered, and
@@ -70,13 +86,13 @@ impl<D: Device + Drop> Agent<D> {
         moment: Moment,
     ) -> Result<Reply, AgentFault>
         // The reply, and what becomes of the device: only a Set that is granted and refused in nothing changes it.
-        ensures answer { let known = known_of self.old.mib.settings (counted self.old.mib.counters InPackets) (D.held self.old.mib.device) moment in
-            IfOk result (IsAnswer D.held D.failed D.refuses self.old.policy known self.old.mib.device self.new.mib.device datagram.now) }
-        ensures counters { IfOk result (λ reply. self.new.mib.counters ≡ raised_by reply (counted self.old.mib.counters InPackets)) }
+        ensures answer { let known = known_of (settings_of self.old) (counted (counters_of self.old) InPackets) (D.held (device_of self.old)) moment in
+            IfOk result (IsAnswer D.held D.failed D.refuses (policy_of self.old) known (device_of self.old) (device_of self.new) datagram.now) }
+        ensures counters { IfOk result (λ reply. (counters_of self.new) ≡ raised_by reply (counted (counters_of self.old) InPackets)) }
 
         // The rest stays.
-        ensures policy { self.new.policy ≡ self.old.policy }
-        ensures settings { self.new.mib.settings ≡ self.old.mib.settings }
+        ensures policy { policy_of self.new ≡ policy_of self.old }
+        ensures settings { settings_of self.new ≡ settings_of self.old }
 
         // A fault changes nothing.
         ensures fault { OnErr result (self.new ≡ self.old) }
@@ -302,7 +318,10 @@ impl<D: Device + Drop> Agent<D> {
         ensures gaps { AreGaps (D.held self.now.mib.device) (IsInView self.now.policy.families (view_of access.entry)) gaps.new }
     {
         laws::one_step();
-        match self.mib.next_past(alloc, gaps, &self.policy, access, name, moment)? {
+        match self
+            .mib
+            .next_past(alloc, gaps, &self.policy, access, name, moment)?
+        {
             Some(binding) => Ok(binding),
             None => Ok(Binding {
                 name: name.try_clone(alloc)?,
