@@ -45,6 +45,20 @@ def all_excluded():
     return [family(f"0.3.9.9.9.9.9.9.9.9.{100_000 + i}", "0000", False) for i in range(COUNT)]
 
 
+def all_but_the_end():
+    """Each family matches a name everywhere but at its eleventh number."""
+    return [family(f"0.3.9.9.9.9.9.9.9.9.{100_000 + i}", "0020") for i in range(COUNT)]
+
+
+def one_excluded():
+    """Each family matches each row and is above the one before; the last hides what all others show."""
+    return all_shown()[:-1] + [family(f"0.3.9.9.9.9.9.9.9.9.{100_000 + COUNT}", "0000", False)]
+
+
+def all_shown():
+    return [family(f"0.3.9.9.9.9.9.9.9.9.{100_000 + i}", "0000") for i in range(COUNT)]
+
+
 def hidden_columns():
     """The whole tree, without each of the objects but the last; the other families hide rows of the first column."""
     hidden = [f"{table}.{column}" for table, column in COLUMNS] + SCALARS[:-1]
@@ -67,7 +81,10 @@ def few():
 SETTINGS = {
     "rows of other interfaces": rows_elsewhere,
     "masks that match but at the root": all_but_the_root,
+    "masks that match but at the end": all_but_the_end,
     "masks that match everywhere": all_excluded,
+    "the last of such masks hides": one_excluded,
+    "such masks, all shown": all_shown,
     "hidden columns": hidden_columns,
     "hidden odd rows": odd_rows,
     "one family": few,

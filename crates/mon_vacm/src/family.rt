@@ -31,12 +31,13 @@ impl Family {
         ensures { IsTrue result ↔ IsMatch self.now name.now }
     {
         let subtree = self.subtree.parts();
+        let mask = self.mask.as_slice();
         let parts = name.parts();
         if parts.len() < subtree.len() {
             return false;
         }
         for (i, part) in subtree.iter().enumerate() {
-            if parts[i] != *part && must_agree(self.mask.as_slice(), i) {
+            if parts[i] != *part && must_agree(mask, i) {
                 return false;
             }
         }

@@ -3,8 +3,8 @@
 BUGS = {
     "ignores_the_mask": (
         "src/family.rt",
-        "&& must_agree(self.mask.as_slice(), i) {",
-        "&& (must_agree(self.mask.as_slice(), i) || i < 8) {",
+        "&& must_agree(mask, i) {",
+        "&& (must_agree(mask, i) || i < 8) {",
     ),
     "mask_from_the_low_bit": (
         "src/family.rt",
