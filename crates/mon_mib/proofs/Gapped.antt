@@ -1,6 +1,6 @@
 -- Passing over what a view hides of an object.
 use Rattle.std.proofs.Common.{◌≡◌, ◌≢◌, ℕ, ◌<◌, ◌≤◌, List, [], ◌∷◌, ◌++◌, refl, sym, ◌∙◌, ap, subst, arith}
-use Rattle.std.specs.Prelude.{Option, Some, None, IfSome, All, Contains}
+use Rattle.std.specs.Prelude.{Option, Some, None, IfSome, Contains}
 use Rattle.std.specs.declared.cmp.Ordering.TheVariants.{Less}
 use Rattle.std.proofs.lemmas.List.Elements.{All-contains, Contains-push}
 use Rattle.mon_pdu.specs.declared.message.Binding.{Binding}

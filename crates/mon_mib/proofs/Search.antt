@@ -19,7 +19,6 @@ use Rattle.mon_mib.proofs.Starts.{start_exact, apart}
 use Rattle.mon_pdu.specs.declared.message.Binding.{Binding}
 use Rattle.mon_mib.specs.declared.object.Object.{Object}
 use Rattle.mon_mib.specs.Objects.{prefix_of, scalar_prefix, column_prefix, objects, all_before}
-use Rattle.mon_mib.specs.Held.{IsLeastOf}
 use Rattle.mon_mib.specs.Known.{Known, instances, variable}
 use Rattle.mon_mib.specs.Next.{IsVariable, IsLater, IsLeast, IsNext}
 

@@ -1,4 +1,4 @@
-use Rattle.std.proofs.Common.{◌≡◌, ◌++◌, ◌∷◌, [], Some, None, ◌∙◌, ap, subst}
+use Rattle.std.proofs.Common.{◌≡◌, Some, None, ◌∙◌, subst}
 use Rattle.mon_vacm.specs.View.{IsInView}
 use Rattle.mon_mib.specs.declared.start.Start.{Start}
 use Rattle.mon_mib.specs.Gaps.{IsLeastInView}
