@@ -5,5 +5,7 @@ pub mod Fault
 pub mod Growing
 pub mod Ready
 pub mod Reply
+pub mod Sent
 pub mod Silence
+pub mod State
 pub mod Step

@@ -6,24 +6,26 @@ ghost use Rattle.mon_pdu.specs.declared.message.Body.TheVariants as bodies;
 ghost use Rattle.mon_pdu.specs.declared.message.Message.{Message as AnyMessage};
 ghost use Rattle.mon_vacm.specs.declared.denied.Denied.TheVariants.{NoCommunity};
 ghost use Rattle.mon_vacm.specs.Tables.{Lists as AnyLists};
+ghost use Rattle.mon_vacm.specs.Borrowed.{view_of};
 ghost use Rattle.mon_vacm.specs.View.{IsInView};
 ghost use Rattle.mon_mib.specs.Counters.{counted, no_counts};
 ghost use Rattle.mon_mib.specs.declared.counters.Counter.TheVariants.{InPackets};
+ghost use Rattle.mon_mib.specs.Gaps.{AreGaps};
 ghost use Rattle.mon_mib.specs.Known.{Known as AnyKnown, known_of};
-ghost use Rattle.mon_agent.specs.Answer.{IsAnswer, IsReading, IsOfKind, cause_of, is_answered, is_request, need_of, need_of_kind, raised_by};
+ghost use Rattle.mon_agent.specs.Answer.{IsAnswer, IsReading, cause_of, is_answered, is_request, need_of, need_of_kind, raised_by};
 ghost use Rattle.mon_agent.specs.Bulk.{IsStepper};
 ghost use Rattle.mon_agent.specs.Ready.{IsReady, IsReadyFor, IsRoomy};
-ghost use Rattle.mon_agent.specs.Reply.{too_big};
+ghost use Rattle.mon_agent.specs.Sent.{IsReadOut, IsSentFor};
 ghost use Rattle.mon_agent.specs.Step.{AreFor, IsGetAnswer, IsSeen, IsNextAnswer, got_value};
 
 use crate::fault::AgentFault;
-use crate::growing::Growing;
+use crate::growing::{Growing, with_bindings};
 use crate::laws;
 use crate::ready::Ready;
 use crate::reply::{Reply, Silence};
-use crate::sending::{answered, returned, send};
+use crate::sending::{answered, returned, send, send_too_big};
 use mon_ber::{Octets, Value};
-use mon_mib::{Counter, Counters, Device, Got, Mib, Moment, Settings};
+use mon_mib::{Counter, Counters, Device, Gaps, Got, Mib, Moment, Settings};
 use mon_oid::Oid;
 use mon_pdu::{Binding, Body, Bulk, Message, Pdu, PduFault, PduKind, read_message};
 use mon_vacm::{Access, Denied, Need, Policy};
@@ -36,23 +38,39 @@ const AUTHORIZATION_ERROR: i32 = 16;
 #[derive(Drop)]
 pub struct Agent<D: Drop> {
     /// Which community may do what with which names.
-    pub policy: Policy,
+    pub(crate) policy: Policy,
     /// The variables.
-    pub mib: Mib<D>,
+    pub(crate) mib: Mib<D>,
 }
 
 impl<D: Device + Drop> Agent<D> {
+    ghost use Rattle.mon_agent.specs.State.{policy_of, settings_of, counters_of, device_of};
+
     /// An agent with this policy and these settings over a device, which has counted nothing yet.
     pub fn new(policy: Policy, settings: Settings, device: D) -> Self
-        ensures policy { result.policy ≡ policy }
-        ensures settings { result.mib.settings ≡ settings }
-        ensures counters { result.mib.counters ≡ no_counts }
-        ensures device { result.mib.device ≡ device }
+        ensures policy { policy_of result ≡ policy }
+        ensures settings { settings_of result ≡ settings }
+        ensures counters { counters_of result ≡ no_counts }
+        ensures device { device_of result ≡ device }
     {
         Agent {
             policy,
             mib: Mib::new(settings, device),
         }
+    }
+
+    /// What the agent has counted.
+    pub fn counters(&self) -> Counters
+        ensures { result ≡ counters_of self.now }
+    {
+        self.mib.counters
+    }
+
+    /// What serves the texts that can be set, and the interfaces.
+    pub fn device(&self) -> &D
+        ensures { result.now ≡ device_of self.now }
+    {
+        &self.mib.device
     }
 
     /// What the agent does about a datagram at a moment. Every datagram counts in snmpInPkts before it is answered, and
@@ -68,13 +86,13 @@ impl<D: Device + Drop> Agent<D> {
         moment: Moment,
     ) -> Result<Reply, AgentFault>
         // The reply, and what becomes of the device: only a Set that is granted and refused in nothing changes it.
-        ensures answer { let known = known_of self.old.mib.settings (counted self.old.mib.counters InPackets) (D.held self.old.mib.device) moment in
-            IfOk result (IsAnswer D.held D.failed D.refuses self.old.policy known self.old.mib.device self.new.mib.device datagram.now) }
-        ensures counters { IfOk result (λ reply. self.new.mib.counters ≡ raised_by reply (counted self.old.mib.counters InPackets)) }
+        ensures answer { let known = known_of (settings_of self.old) (counted (counters_of self.old) InPackets) (D.held (device_of self.old)) moment in
+            IfOk result (IsAnswer D.held D.failed D.refuses (policy_of self.old) known (device_of self.old) (device_of self.new) datagram.now) }
+        ensures counters { IfOk result (λ reply. (counters_of self.new) ≡ raised_by reply (counted (counters_of self.old) InPackets)) }
 
         // The rest stays.
-        ensures policy { self.new.policy ≡ self.old.policy }
-        ensures settings { self.new.mib.settings ≡ self.old.mib.settings }
+        ensures policy { policy_of self.new ≡ policy_of self.old }
+        ensures settings { settings_of self.new ≡ settings_of self.old }
 
         // A fault changes nothing.
         ensures fault { OnErr result (self.new ≡ self.old) }
@@ -135,8 +153,7 @@ impl<D: Device + Drop> Agent<D> {
         if need == Need::Write {
             return self.prepare_set(alloc, access, message, moment);
         }
-        let response = self.response(alloc, access, message, moment)?;
-        Ok(Ready::Answer(send(alloc, response, self.mib.settings.limit)?))
+        Ok(Ready::Answer(self.read(alloc, access, message, moment)?))
     }
 
     /// Does what it was about to do. Takes no memory.
@@ -155,66 +172,110 @@ impl<D: Device + Drop> Agent<D> {
         }
     }
 
-    /// The response to a request to read that is granted in a view.
-    fn response(
+    /// What is sent for a request to read that is granted in a view: its response, or tooBig, or nothing.
+    fn read(
         &self,
         alloc: Global,
         access: Access<'_>,
         message: Message,
         moment: Moment,
-    ) -> Result<Message, AllocError>
+    ) -> Result<Reply, AllocError>
         requires request { is_request message.body ≡ true }
         requires read { need_of message.body ≡ Need.Read }
-        ensures response { let known = known_of self.now.mib.settings self.now.mib.counters (D.held self.now.mib.device) moment in
-            IfOk result (IsReading known (IsInView self.now.policy.families access.entry.view.now) message) }
-        ensures small { IfOk result (λ reply. too_big reply ≡ too_big message) }
+        ensures { let known = known_of self.now.mib.settings self.now.mib.counters (D.held self.now.mib.device) moment in
+            IfOk result (IsReadOut known (IsInView self.now.policy.families (view_of access.entry)) message) }
     {
         let Message { community, body } = message;
         match body {
-            Body::Bulk(bulk) => self.bulk_response(alloc, access, community, bulk, moment),
-            Body::Pdu(pdu) => self.pdu_response(alloc, access, community, pdu, moment),
+            Body::Bulk(bulk) => self.read_bulk(alloc, access, community, bulk, moment),
+            Body::Pdu(pdu) => self.read_pdu(alloc, access, community, pdu, moment),
         }
     }
 
-    /// The response to a Get or GetNext.
-    fn pdu_response(
+    /// What is sent for a Get or GetNext.
+    fn read_pdu(
         &self,
         alloc: Global,
         access: Access<'_>,
         community: Octets,
         pdu: Pdu,
         moment: Moment,
-    ) -> Result<Message, AllocError>
+    ) -> Result<Reply, AllocError>
         requires answered { is_answered pdu.kind ≡ true }
         requires read { need_of_kind pdu.kind ≡ Need.Read }
         ensures { let known = known_of self.now.mib.settings self.now.mib.counters (D.held self.now.mib.device) moment in
             let message : AnyMessage = record { community = community; body = bodies.Pdu pdu } in
-            IfOk result (IsReading known (IsInView self.now.policy.families access.entry.view.now) message) }
+            IfOk result (IsReadOut known (IsInView self.now.policy.families (view_of access.entry)) message) }
     {
         let asked = pdu.bindings.into_vec();
-        let answers = self.answers(alloc, access, pdu.kind, asked, moment)?;
-        Ok(answered(community, pdu.request_id, answers))
+        let head = answered(community, pdu.request_id, Vec::new(alloc));
+        if pdu.kind == PduKind::Get {
+            self.read_names(alloc, access, head, asked, moment)
+        } else {
+            self.read_next(alloc, access, head, asked.as_slice(), moment)
+        }
     }
 
-    /// The answers to the names of a Get or GetNext.
-    fn answers(
+    /// What is sent for a Get, whose response without variable bindings this is.
+    fn read_names(
         &self,
         alloc: Global,
         access: Access<'_>,
-        kind: PduKind,
+        head: Message,
         asked: Vec<Binding>,
         moment: Moment,
-    ) -> Result<Vec<Binding>, AllocError>
-        requires answered { is_answered kind ≡ true }
-        requires read { need_of_kind kind ≡ Need.Read }
+    ) -> Result<Reply, AllocError>
         ensures { let known = known_of self.now.mib.settings self.now.mib.counters (D.held self.now.mib.device) moment in
-            IfOk result (λ answers. IsOfKind known (IsInView self.now.policy.families access.entry.view.now) kind asked.items answers.items) }
+            let R = IsGetAnswer known (IsInView self.now.policy.families (view_of access.entry)) in
+            IfOk result (IsSentFor self.now.mib.settings.limit R head asked.items) }
     {
-        if kind == PduKind::Get {
-            self.read_all(alloc, access, asked, moment)
+        let answers = self.read_all(alloc, access, asked, moment)?;
+        send(alloc, with_bindings(head, answers), self.mib.settings.limit)
+    }
+
+    /// What is sent for a GetNext, whose response without variable bindings this is. No name is answered after the response is
+    /// certain to be above the limit.
+    fn read_next(
+        &self,
+        alloc: Global,
+        access: Access<'_>,
+        head: Message,
+        asked: &[Binding],
+        moment: Moment,
+    ) -> Result<Reply, AllocError>
+        ensures { let known = known_of self.now.mib.settings self.now.mib.counters (D.held self.now.mib.device) moment in
+            let R = IsNextAnswer known (IsInView self.now.policy.families (view_of access.entry)) in
+            IfOk result (IsSentFor self.now.mib.settings.limit R head asked.now) }
+    {
+        mon_pdu::laws::grows();
+        laws::stepper();
+        let limit = self.mib.settings.limit;
+        let mut reply = Growing::new(alloc, head, limit);
+        let mut gaps = Gaps::new(alloc);
+        let all = self.extend(alloc, &mut reply, &mut gaps, access, asked, moment)?;
+        let reply = reply.into_message();
+        if all {
+            send(alloc, reply, limit)
         } else {
-            self.step_all(alloc, access, asked, moment)
+            send_too_big(alloc, reply, limit)
         }
+    }
+
+    /// What is sent for a GetBulk.
+    fn read_bulk(
+        &self,
+        alloc: Global,
+        access: Access<'_>,
+        community: Octets,
+        bulk: Bulk,
+        moment: Moment,
+    ) -> Result<Reply, AllocError>
+        ensures { let known = known_of self.now.mib.settings self.now.mib.counters (D.held self.now.mib.device) moment in
+            let message : AnyMessage = record { community = community; body = bodies.Bulk bulk } in
+            IfOk result (IsReadOut known (IsInView self.now.policy.families (view_of access.entry)) message) }
+    {
+        let response = self.bulk_response(alloc, access, community, bulk, moment)?;
+        send(alloc, response, self.mib.settings.limit)
     }
 
     /// The response to a GetBulk.
@@ -228,7 +289,7 @@ impl<D: Device + Drop> Agent<D> {
     ) -> Result<Message, AllocError>
         ensures { let known = known_of self.now.mib.settings self.now.mib.counters (D.held self.now.mib.device) moment in
             let message : AnyMessage = record { community = community; body = bodies.Bulk bulk } in
-            IfOk result (IsReading known (IsInView self.now.policy.families access.entry.view.now) message) }
+            IfOk result (IsReading known (IsInView self.now.policy.families (view_of access.entry)) message) }
     {
         mon_pdu::laws::grows();
         let head = answered(community, bulk.request_id, Vec::new(alloc));
@@ -241,19 +302,26 @@ impl<D: Device + Drop> Agent<D> {
     pub(crate) fn step(
         &self,
         alloc: Global,
+        gaps: &mut Gaps,
         access: Access<'_>,
         name: &Oid,
         moment: Moment,
     ) -> Result<Binding, AllocError>
+        requires { AreGaps (D.held self.now.mib.device) (IsInView self.now.policy.families (view_of access)) gaps.old }
         ensures step { let known = known_of self.now.mib.settings self.now.mib.counters (D.held self.now.mib.device) moment in
-            IfOk result (IsNextAnswer known (IsInView self.now.policy.families access.entry.view.now) name.now) }
+            IfOk result (IsNextAnswer known (IsInView self.now.policy.families (view_of access.entry)) name.now) }
         // It is the one that every right choice of answers has.
         ensures only { let known = known_of self.now.mib.settings self.now.mib.counters (D.held self.now.mib.device) moment in
-            (next : List ℕ → AnyBinding) → IsStepper known (IsInView self.now.policy.families access.entry.view.now) next
+            (next : List ℕ → AnyBinding) → IsStepper known (IsInView self.now.policy.families (view_of access.entry)) next
             → IfOk result (λ answer. answer ≡ next name.now) }
+        // What was found hidden stays known.
+        ensures gaps { AreGaps (D.held self.now.mib.device) (IsInView self.now.policy.families (view_of access.entry)) gaps.new }
     {
         laws::one_step();
-        match self.mib.next(alloc, &self.policy, access, name, moment)? {
+        match self
+            .mib
+            .next_past(alloc, gaps, &self.policy, access, name, moment)?
+        {
             Some(binding) => Ok(binding),
             None => Ok(Binding {
                 name: name.try_clone(alloc)?,
@@ -271,7 +339,7 @@ impl<D: Device + Drop> Agent<D> {
         moment: Moment,
     ) -> Result<Value, AllocError>
         ensures { let known = known_of self.now.mib.settings self.now.mib.counters (D.held self.now.mib.device) moment in
-            IfOk result (IsSeen known (IsInView self.now.policy.families access.entry.view.now) name.now) }
+            IfOk result (IsSeen known (IsInView self.now.policy.families (view_of access.entry)) name.now) }
     {
         if !self.policy.sees(access, name) {
             return Ok(Value::NoSuchObject);
@@ -288,29 +356,11 @@ impl<D: Device + Drop> Agent<D> {
         moment: Moment,
     ) -> Result<Vec<Binding>, AllocError>
         ensures { let known = known_of self.now.mib.settings self.now.mib.counters (D.held self.now.mib.device) moment in
-            IfOk result (λ answers. AreFor (IsGetAnswer known (IsInView self.now.policy.families access.entry.view.now)) asked.items answers.items) }
+            IfOk result (λ answers. AreFor (IsGetAnswer known (IsInView self.now.policy.families (view_of access.entry))) asked.items answers.items) }
     {
         let mut answers = asked;
         for binding in answers.iter_mut() {
             binding.value = self.value_at(alloc, access, &binding.name, moment)?;
-        }
-        Ok(answers)
-    }
-
-    /// For each variable binding of a GetNext the one after its name.
-    fn step_all(
-        &self,
-        alloc: Global,
-        access: Access<'_>,
-        asked: Vec<Binding>,
-        moment: Moment,
-    ) -> Result<Vec<Binding>, AllocError>
-        ensures { let known = known_of self.now.mib.settings self.now.mib.counters (D.held self.now.mib.device) moment in
-            IfOk result (λ answers. AreFor (IsNextAnswer known (IsInView self.now.policy.families access.entry.view.now)) asked.items answers.items) }
-    {
-        let mut answers = asked;
-        for binding in answers.iter_mut() {
-            *binding = self.step(alloc, access, &binding.name, moment)?;
         }
         Ok(answers)
     }

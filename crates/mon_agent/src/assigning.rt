@@ -3,6 +3,7 @@
 ghost use Rattle.std.specs.Prelude.{◌≡◌, ◌<◌, ◌≤◌, ◌^◌, ℕ, pos, length, IfOk, IfSome, IfNone};
 ghost use Rattle.mon_pdu.specs.Grammar.{bindings_of};
 ghost use Rattle.mon_pdu.specs.Writing.{written_message};
+ghost use Rattle.mon_vacm.specs.Borrowed.{view_of};
 ghost use Rattle.mon_vacm.specs.View.{IsInView};
 ghost use Rattle.mon_mib.specs.declared.commit.Commit.{Commit as AnyCommit};
 ghost use Rattle.mon_mib.specs.Commit.{IsCommitted, failures_by_then};
@@ -37,7 +38,7 @@ impl<D: Device + Drop> Agent<D> {
         moment: Moment,
     ) -> Result<Ready, AgentFault>
         ensures ready { let known = known_of self.now.mib.settings self.now.mib.counters (D.held self.now.mib.device) moment in
-            IfOk result (IsReadyToSet D.held D.failed D.refuses known (IsInView self.now.policy.families access.entry.view.now) self.now.mib.device message) }
+            IfOk result (IsReadyToSet D.held D.failed D.refuses known (IsInView self.now.policy.families (view_of access.entry)) self.now.mib.device message) }
         ensures room { IfOk result IsRoomy }
     {
         mon_pdu::laws::counts();

@@ -96,7 +96,7 @@ impl Growing {
 }
 
 /// The same message with other variable bindings.
-fn with_bindings(message: Message, bindings: Vec<Binding>) -> Message
+pub(crate) fn with_bindings(message: Message, bindings: Vec<Binding>) -> Message
     ensures { result ≡ with_bindings message bindings.items }
 {
     Message {

@@ -1,6 +1,7 @@
 //! Responses, and whether they are sent (RFC 3416 section 4.2).
 
 ghost use Rattle.std.specs.Prelude.{◌≡◌, ◌≤◌, ◌↔◌, pos, length, IfOk, IfSome, IfNone};
+ghost use Rattle.mon_pdu.specs.declared.message.Message.{Message as AnyMessage};
 ghost use Rattle.mon_pdu.specs.Grammar.{bindings_of, first_of};
 ghost use Rattle.mon_pdu.specs.Writing.{HasLength, written_message};
 ghost use Rattle.mon_agent.specs.Assigned.{returned};
@@ -72,10 +73,10 @@ pub(crate) fn send(alloc: Global, reply: Message, limit: i32) -> Result<Reply, A
     }
 }
 
-/// Sends tooBig in the place of a response that is above the limit, or nothing where tooBig is above it too.
+/// Sends tooBig in the place of any response of this community and request-id that is above the limit, or nothing where tooBig
+/// is above it too.
 pub(crate) fn send_too_big(alloc: Global, reply: Message, limit: i32) -> Result<Reply, AllocError>
-    requires { IsAboveLimit limit reply }
-    ensures { IfOk result (IsOut limit reply reply) }
+    ensures { (other : AnyMessage) → too_big reply ≡ too_big other → IsAboveLimit limit other → IfOk result (IsOut limit other other) }
 {
     let too_big = too_big(alloc, reply);
     match size_within(&too_big, limit) {

@@ -31,11 +31,11 @@ fn answer_again(
     agent: &mut Agent<SimDevice>,
     datagram: &[u8],
 ) -> Result<(Reply, bool), Fail> {
-    let before = agent.mib.counters;
+    let before = agent.counters();
     if let Ok(reply) = answer(alloc, agent, datagram, moment(0)?) {
         return Ok((reply, true));
     }
-    let same = agent.mib.counters == before;
+    let same = agent.counters() == before;
     Ok((answer(alloc, agent, datagram, moment(0)?)?, same))
 }
 
@@ -46,8 +46,8 @@ fn assigned(alloc: Global, set: &str) -> Result<String, Fail> {
     let set = hex::decode(alloc, set)?;
     let (answered, same) = answer_again(alloc, &mut agent, set.as_slice())?;
     let reply = hex::encode(alloc, sent(&answered))?;
-    let counted = agent.mib.counters.value(Counter::InPackets);
-    let name = hex::encode(alloc, agent.mib.device.sys_text(SysText::SystemName))?;
+    let counted = agent.counters().value(Counter::InPackets);
+    let name = hex::encode(alloc, agent.device().sys_text(SysText::SystemName))?;
     Ok(format!(in alloc; "{same} {reply} {counted} {name}")?)
 }
 

@@ -1,6 +1,7 @@
 //! Serving an agent at a port.
 
 ghost use Rattle.std.specs.Prelude.{◌≡◌, ◌⊎◌, Err, OnOk, OnErr, IfErr};
+ghost use Rattle.mon_agent.specs.State.{policy_of, settings_of, counters_of, device_of};
 ghost use Rattle.mon_mib.specs.Counters.{one_more};
 ghost use Rattle.mon_app.specs.AtWire.{socket_failures};
 ghost use Rattle.mon_app.specs.Served.{AnswersIt, IsLost, IsServed, IsUnanswered};
@@ -23,21 +24,21 @@ pub fn serve_one<P: Port, D: Device + Drop>(
     room: &mut [u8],
 ) -> Result<(), AppFault>
     // A served datagram counts as one message.
-    ensures counted { OnOk result (agent.new.mib.counters.in_packets ≡ one_more agent.old.mib.counters.in_packets) }
+    ensures counted { OnOk result ((counters_of agent.new).in_packets ≡ one_more (counters_of agent.old).in_packets) }
     // The agent's answer to the datagram that came, at the moment when it came, and what was sent for it.
-    ensures served { OnOk result (IsServed (AnswersIt D.held D.failed D.refuses agent.old.policy agent.old.mib.settings
-        agent.old.mib.counters agent.new.mib.counters agent.old.mib.device agent.new.mib.device) (P.told port.old) (P.told port.new)) }
+    ensures served { OnOk result (IsServed (AnswersIt D.held D.failed D.refuses (policy_of agent.old) (settings_of agent.old)
+        (counters_of agent.old) (counters_of agent.new) (device_of agent.old) (device_of agent.new)) (P.told port.old) (P.told port.new)) }
     // Where memory runs out nothing changes but that the datagram came.
     ensures memory { result ≡ Err AppFault.OutOfMemory → (agent.new ≡ agent.old) × IsUnanswered (P.told port.old) (P.told port.new) }
     // Where the port failed nothing came, or the reply was lost.
     ensures socket { result ≡ Err AppFault.SocketFault → ((agent.new ≡ agent.old) × (P.told port.new ≡ P.told port.old))
-        ⊎ IsLost (AnswersIt D.held D.failed D.refuses agent.old.policy agent.old.mib.settings
-        agent.old.mib.counters agent.new.mib.counters agent.old.mib.device agent.new.mib.device) (P.told port.old) (P.told port.new) }
+        ⊎ IsLost (AnswersIt D.held D.failed D.refuses (policy_of agent.old) (settings_of agent.old)
+        (counters_of agent.old) (counters_of agent.new) (device_of agent.old) (device_of agent.new)) (P.told port.old) (P.told port.new) }
     ensures fault { IfErr result (λ f. (f ≡ AppFault.OutOfMemory) ⊎ (f ≡ AppFault.SocketFault)) }
     ensures failures { P.failures port.new ≡ socket_failures result (P.failures port.old) }
     // The agent's policy and settings stay.
-    ensures policy { agent.new.policy ≡ agent.old.policy }
-    ensures settings { agent.new.mib.settings ≡ agent.old.mib.settings }
+    ensures policy { policy_of agent.new ≡ policy_of agent.old }
+    ensures settings { settings_of agent.new ≡ settings_of agent.old }
 {
     let received = port.receive(room)?;
     match agent.answer(alloc, &room[..received.len], received.moment)? {

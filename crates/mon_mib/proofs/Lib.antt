@@ -4,6 +4,7 @@ pub mod Both
 pub mod Candidates
 pub mod Counting
 pub mod Finding
+pub mod Gapped
 pub mod Identifiers
 pub mod Judging
 pub mod Planning

@@ -19,7 +19,6 @@ use Rattle.mon_mib.proofs.Starts.{start_exact, apart}
 use Rattle.mon_pdu.specs.declared.message.Binding.{Binding}
 use Rattle.mon_mib.specs.declared.object.Object.{Object}
 use Rattle.mon_mib.specs.Objects.{prefix_of, scalar_prefix, column_prefix, objects, all_before}
-use Rattle.mon_mib.specs.Held.{IsLeastOf}
 use Rattle.mon_mib.specs.Known.{Known, instances, variable}
 use Rattle.mon_mib.specs.Next.{IsVariable, IsLater, IsLeast, IsNext}
 
@@ -35,7 +34,7 @@ pub rises : (p : List ℕ) (i j : ℕ) → i ≤ j → name_cmp (p ++ j ∷ []) 
 rises [] i j le = not_below i j le
 rises (n ∷ p) i j le = λ is. rises p i j le (sym (equal_then n _) ∙ is)
 
-upward : (s : Start) (i j : ℕ) → IsFrom s i → i < j → IsFrom s j
+pub upward : (s : Start) (i j : ℕ) → IsFrom s i → i < j → IsFrom s j
 upward First i j from lt = tt
 upward (Above x) i j from lt = omega arith
 upward Nowhere i j from lt = from
@@ -78,43 +77,6 @@ module _ (k : Known) (sees : List ℕ → Type 0) (x : List ℕ) where
     covers = λ i there later. (start_exact (prefix_of o) x i).0 later.beyond;
     beyond = λ i from. (start_exact (prefix_of o) x i).1 from;
   }
-
-  pub passed : (o : Object) (s : Start) (i : ℕ) → IsAt o s → IsLeastOf (instances k.held o) (IsFrom s) (Some i)
-      → ¬ (sees (prefix_of o ++ i ∷ [])) → IsAt o (Above i)
-  passed o s i at least unseen = record {
-    covers = λ j there later. above j (least.2 j there (at.covers j there later)) later.in_view;
-    beyond = λ j lt. at.beyond j (upward s i j least.1 lt);
-  }
-    where
-      above : (j : ℕ) → i ≤ j → sees (prefix_of o ++ j ∷ []) → i < j
-      above j le seen = by_cases j le (λ e. unseen (subst (λ n. sees (prefix_of o ++ n ∷ [])) (sym e) seen))
-        where
-          by_cases : (j : ℕ) → i ≤ j → (i ≡ j → ⊥) → i < j
-          by_cases j le apart_from = grind (arith, apart_from)
-
-  pub found : (o : Object) (s : Start) (i : ℕ) → IsAt o s → IsLeastOf (instances k.held o) (IsFrom s) (Some i)
-      → sees (prefix_of o ++ i ∷ []) → IsNext (o ∷ []) k sees x (Some (variable k o i))
-  found o s i at least seen = record {
-    variable = record { object = o; instance = i; served = Contains-push [] o; there = least.0; is = refl };
-    later = record { beyond = at.beyond i least.1; in_view = seen };
-    least = λ c v later. no_less c v later;
-  }
-    where
-      no_less : (c : Binding) → IsVariable (o ∷ []) k c → IsLater sees x c → name_cmp c.name (prefix_of o ++ i ∷ []) ≢ Less
-      no_less c v later =
-          let same : v.object ≡ o = one o v.object v.served in
-          let there : Contains (instances k.held o) v.instance = subst (λ q. Contains (instances k.held q) v.instance) same v.there in
-          let is : c ≡ variable k o v.instance = v.is ∙ ap (λ q. variable k q v.instance) same in
-          let wanted : IsLater sees x (variable k o v.instance) = subst (IsLater sees x) is later in
-          subst (λ b. name_cmp b.name (prefix_of o ++ i ∷ []) ≢ Less) (sym is)
-          (rises (prefix_of o) i v.instance (least.2 v.instance there (at.covers v.instance there wanted)))
-
-  pub none : (o : Object) (s : Start) → IsAt o s → IsLeastOf (instances k.held o) (IsFrom s) None → IsNext (o ∷ []) k sees x None
-  none o s at least c v later =
-      let same : v.object ≡ o = one o v.object v.served in
-      let there : Contains (instances k.held o) v.instance = subst (λ q. Contains (instances k.held q) v.instance) same v.there in
-      let is : c ≡ variable k o v.instance = v.is ∙ ap (λ q. variable k q v.instance) same in
-      least v.instance there (at.covers v.instance there (subst (IsLater sees x) is later))
 
   -- ---- one object after another
 

@@ -4,6 +4,7 @@ pub mod Commit
 pub mod Counters
 pub mod DeviceFault
 pub mod Fuse
+pub mod Gaps
 pub mod Held
 pub mod Instances
 pub mod Known

@@ -7,12 +7,15 @@ ghost use Rattle.mon_mib.specs.Known.{known_of, instances, variable_value, scala
 ghost use Rattle.mon_mib.specs.Next.{IsGot, IsNext, IsServedName};
 ghost use Rattle.mon_mib.specs.Objects.{objects, prefix_of};
 ghost use Rattle.mon_mib.specs.Order.{IsFrom, name_cmp};
+ghost use Rattle.mon_mib.specs.Gaps.{AreGaps, IsLeastInView};
+ghost use Rattle.mon_vacm.specs.Borrowed.{view_of};
 ghost use Rattle.mon_vacm.specs.View.{IsInView};
 
 use crate::column::Column;
 use crate::counters::Counters;
 use crate::device::Device;
 use crate::facts::{Facts, IfText, SysText};
+use crate::gaps::{Gap, Gaps};
 use crate::got::Got;
 use crate::moment::Moment;
 use crate::object::{Object, all_objects};
@@ -79,11 +82,32 @@ impl<D: Device + Drop> Mib<D> {
         moment: Moment,
     ) -> Result<Option<Binding>, AllocError>
         ensures { let known = known_of self.now.settings self.now.counters (D.held self.now.device) moment in
-            IfOk result (IsNext objects known (IsInView policy.now.families access.entry.view.now) name.now) }
+            IfOk result (IsNext objects known (IsInView policy.now.families (view_of access.entry)) name.now) }
+    {
+        let mut gaps = Gaps::new(alloc);
+        self.next_past(alloc, &mut gaps, policy, access, name, moment)
+    }
+
+    /// The same, with the gaps that earlier searches in this view found, to which its own are added. So of many searches
+    /// each variable that the view hides is tried once.
+    pub fn next_past(
+        &self,
+        alloc: Global,
+        gaps: &mut Gaps,
+        policy: &Policy,
+        access: Access<'_>,
+        name: &Oid,
+        moment: Moment,
+    ) -> Result<Option<Binding>, AllocError>
+        requires { AreGaps (D.held self.now.device) (IsInView policy.now.families (view_of access)) gaps.old }
+        ensures next { let known = known_of self.now.settings self.now.counters (D.held self.now.device) moment in
+            IfOk result (IsNext objects known (IsInView policy.now.families (view_of access.entry)) name.now) }
+        ensures gaps { AreGaps (D.held self.now.device) (IsInView policy.now.families (view_of access.entry)) gaps.new }
     {
         let place = candidate_place(name.parts());
         for object in &all_objects()[place..] {
-            if let Some(binding) = self.next_of(alloc, *object, policy, access, name, moment)? {
+            let found = self.next_of(alloc, gaps, *object, policy, access, name, moment)?;
+            if let Some(binding) = found {
                 return Ok(Some(binding));
             }
         }
@@ -94,23 +118,79 @@ impl<D: Device + Drop> Mib<D> {
     fn next_of(
         &self,
         alloc: Global,
+        gaps: &mut Gaps,
         object: Object,
         policy: &Policy,
         access: Access<'_>,
         name: &Oid,
         moment: Moment,
     ) -> Result<Option<Binding>, AllocError>
-        ensures { let known = known_of self.now.settings self.now.counters (D.held self.now.device) moment in
-            IfOk result (IsNext (object ∷ []) known (IsInView policy.now.families access.entry.view.now) name.now) }
+        requires { AreGaps (D.held self.now.device) (IsInView policy.now.families (view_of access)) gaps.old }
+        ensures next { let known = known_of self.now.settings self.now.counters (D.held self.now.device) moment in
+            IfOk result (IsNext (object ∷ []) known (IsInView policy.now.families (view_of access.entry)) name.now) }
+        ensures gaps { AreGaps (D.held self.now.device) (IsInView policy.now.families (view_of access.entry)) gaps.new }
     {
-        let mut start = find_start(object.prefix(), name.parts());
-        while let Some(instance) = self.next_instance(object, start) {
+        let start = find_start(object.prefix(), name.parts());
+        let least = self.least_in_view(alloc, gaps, object, policy, access, start)?;
+        let Some(instance) = least else {
+            return Ok(None);
+        };
+        let own = object.name(alloc, instance)?;
+        let value = self.value(alloc, object, instance, moment)?.unwrap();
+        Ok(Some(Binding { name: own, value }))
+    }
+
+    /// The least instance of an object in view from a start on. Where the view hides some before it, that is one more gap.
+    fn least_in_view(
+        &self,
+        alloc: Global,
+        gaps: &mut Gaps,
+        object: Object,
+        policy: &Policy,
+        access: Access<'_>,
+        start: Start,
+    ) -> Result<Option<u32>, AllocError>
+        requires { AreGaps (D.held self.now.device) (IsInView policy.now.families (view_of access)) gaps.old }
+        ensures least { IfOk result (IsLeastInView (D.held self.now.device) (IsInView policy.now.families (view_of access.entry)) object start) }
+        ensures gaps { AreGaps (D.held self.now.device) (IsInView policy.now.families (view_of access.entry)) gaps.new }
+    {
+        if let Some(gap) = gaps.find(object, start) {
+            return Ok(gap.least);
+        }
+        let least = self.search(alloc, gaps, object, policy, access, start)?;
+        if least != self.next_instance(object, start) {
+            gaps.add(Gap {
+                object,
+                start,
+                least,
+            })?;
+        }
+        Ok(least)
+    }
+
+    /// The least instance of an object in view from a start on, by trying one after the other up to a gap.
+    fn search(
+        &self,
+        alloc: Global,
+        gaps: &Gaps,
+        object: Object,
+        policy: &Policy,
+        access: Access<'_>,
+        start: Start,
+    ) -> Result<Option<u32>, AllocError>
+        requires { AreGaps (D.held self.now.device) (IsInView policy.now.families (view_of access)) gaps.now }
+        ensures { IfOk result (IsLeastInView (D.held self.now.device) (IsInView policy.now.families (view_of access.entry)) object start) }
+    {
+        let mut rest = start;
+        while let Some(instance) = self.next_instance(object, rest) {
             let own = object.name(alloc, instance)?;
             if policy.sees(access, &own) {
-                let value = self.value(alloc, object, instance, moment)?.unwrap();
-                return Ok(Some(Binding { name: own, value }));
+                return Ok(Some(instance));
             }
-            start = Start::Above(instance);
+            rest = Start::Above(instance);
+            if let Some(gap) = gaps.find(object, rest) {
+                return Ok(gap.least);
+            }
         }
         Ok(None)
     }

@@ -12,6 +12,7 @@ ghost use Rattle.mon_mib.specs.Known.{known_of};
 ghost use Rattle.mon_mib.specs.Objects.{prefix_of};
 ghost use Rattle.mon_mib.specs.Refusal.{IsWritable, IsAccepted, IsSetFault};
 ghost use Rattle.mon_mib.specs.Tried.{object_of, IsTried, IsJudged, fault_at};
+ghost use Rattle.mon_vacm.specs.Borrowed.{view_of};
 ghost use Rattle.mon_vacm.specs.View.{IsInView};
 
 use crate::binding_fault::BindingFault;
@@ -55,9 +56,9 @@ impl<D: Device + Drop> Mib<D> {
         ensures plan { let known = known_of self.now.settings self.now.counters (D.held self.now.device) moment in
             IfOk result (λ plan. IsSetPlan known bindings.now plan) }
         ensures accepted { let known = known_of self.now.settings self.now.counters (D.held self.now.device) moment in
-            IfOk result (λ _. All (IsAccepted known (IsInView policy.now.families access.entry.view.now)) bindings.now) }
+            IfOk result (λ _. All (IsAccepted known (IsInView policy.now.families (view_of access.entry))) bindings.now) }
         ensures refused { let known = known_of self.now.settings self.now.counters (D.held self.now.device) moment in
-            IfErr result (IsSetFault known (IsInView policy.now.families access.entry.view.now) bindings.now) }
+            IfErr result (IsSetFault known (IsInView policy.now.families (view_of access.entry)) bindings.now) }
     {
         let mut steps = VecDeque::new(alloc);
         for (i, binding) in bindings.iter().enumerate() {
@@ -92,10 +93,10 @@ impl<D: Device + Drop> Mib<D> {
         moment: Moment,
     ) -> Result<Change, SetFault>
         ensures made { let known = known_of self.now.settings self.now.counters (D.held self.now.device) moment in
-            IfOk result (λ change. IsJudged known (IsInView policy.now.families access.entry.view.now) binding.now (Ok change)) }
+            IfOk result (λ change. IsJudged known (IsInView policy.now.families (view_of access.entry)) binding.now (Ok change)) }
         ensures refused { let known = known_of self.now.settings self.now.counters (D.held self.now.device) moment in
             IfErr result (λ fault. (why : AnyFault) × (fault ≡ fault_at why index)
-            × IsJudged known (IsInView policy.now.families access.entry.view.now) binding.now (Err why)) }
+            × IsJudged known (IsInView policy.now.families (view_of access.entry)) binding.now (Err why)) }
     {
         match self.assign(alloc, policy, access, binding, moment) {
             Ok(change) => Ok(change),
@@ -113,7 +114,7 @@ impl<D: Device + Drop> Mib<D> {
         moment: Moment,
     ) -> Result<Change, BindingFault>
         ensures { let known = known_of self.now.settings self.now.counters (D.held self.now.device) moment in
-            IsJudged known (IsInView policy.now.families access.entry.view.now) binding.now result }
+            IsJudged known (IsInView policy.now.families (view_of access.entry)) binding.now result }
     {
         if !policy.sees(access, &binding.name) {
             return Err(BindingFault::Refused(SetStatus::NoAccess));

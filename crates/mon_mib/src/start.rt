@@ -1,4 +1,4 @@
-ghost use Rattle.std.specs.Prelude.{◌≡◌};
+ghost use Rattle.std.specs.Prelude.{◌≡◌, ◌↔◌, ℕ, IsTrue};
 ghost use Rattle.mon_mib.specs.Order.{start_of};
 
 /// From which instance on the names of an object exceed a name.
@@ -10,6 +10,32 @@ pub(crate) enum Start {
     Above(u32),
     /// None does.
     Nowhere,
+}
+
+impl Start {
+    ghost use Rattle.mon_mib.specs.Order.{IsFrom};
+
+    /// Whether all instances from here on are also from another start on.
+    pub(crate) fn is_after(self, other: Start) -> bool
+        ensures { IsTrue result → (i : ℕ) → IsFrom self i → IsFrom other i }
+    {
+        match (self, other) {
+            (Start::Nowhere, _) | (_, Start::First) => true,
+            (Start::Above(own), Start::Above(last)) => last <= own,
+            _ => false,
+        }
+    }
+
+    /// Whether an instance is from here on.
+    pub(crate) fn has(self, instance: u32) -> bool
+        ensures { IsTrue result ↔ IsFrom self instance }
+    {
+        match self {
+            Start::First => true,
+            Start::Above(last) => last < instance,
+            Start::Nowhere => false,
+        }
+    }
 }
 
 /// From which instance on the names `prefix.i` exceed the name, in the order of RFC 3416 section 4.2.2.

@@ -1,7 +1,6 @@
 -- Results that borrow, and steps that may fail.
 use Rattle.std.specs.Prelude.{Result, Ok, Err, ℕ, List}
 use Rattle.std.specs.Borrow.{Bor}
-use Rattle.mon_oid.specs.Steps.{◌>>=◌}
 use Rattle.mon_vacm.specs.declared.access.Access.{Access}
 use Rattle.mon_vacm.specs.declared.access_entry.AccessEntry.{AccessEntry}
 use Rattle.mon_vacm.specs.declared.denied.Denied.{Denied}
@@ -16,7 +15,11 @@ abbrev pub entry_now : Result (Bor AccessEntry) Denied → Result AccessEntry De
 entry_now (Ok x) = Ok x.now
 entry_now (Err e) = Err e
 
+-- the name of a granted view
+abbrev pub view_of : Access → List ℕ
+view_of access = access.view.now
+
 -- the view that an answer grants
 abbrev pub granted : Result Access Denied → Result (List ℕ) Denied
-granted (Ok access) = Ok access.view.now
+granted (Ok access) = Ok (view_of access)
 granted (Err e) = Err e

@@ -6,8 +6,9 @@ ghost use Rattle.mon_vacm.specs.Borrowed.{granted};
 use crate::access::Access;
 use crate::denied::Denied;
 use crate::model::SecurityModel;
+use crate::names::is_named;
 use crate::need::Need;
-use crate::octets::Octets;
+use mon_ber::Octets;
 
 /// The views that a group has under a security model (vacmAccessTable, RFC 3415 section 4).
 #[derive(Drop)]
@@ -25,7 +26,7 @@ impl AccessEntry {
     pub(crate) fn is_of(&self, group: &[u8], model: SecurityModel) -> bool
         ensures { result ≡ (bytes_eq self.now.group_name group.now && is_model self.now.security_model model) }
     {
-        self.group_name.is(group) && self.security_model == model
+        is_named(&self.group_name, group) && self.security_model == model
     }
 
     /// The view that the entry names for a need, or `NoSuchView`.

@@ -1,4 +1,4 @@
-use crate::octets::Octets;
+use mon_ber::Octets;
 
 /// A community, and the security name that it stands for (snmpCommunityTable, RFC 3584 section 5.3).
 #[derive(Drop)]

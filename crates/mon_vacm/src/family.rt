@@ -1,7 +1,8 @@
 ghost use Rattle.std.specs.Prelude.{◌≡◌, ◌↔◌, ◌<◌, length, IsTrue};
 ghost use Rattle.mon_vacm.specs.View.{MustAgree, IsMatch, Applies, subtree_cmp};
 
-use crate::octets::Octets;
+use crate::names::is_named;
+use mon_ber::Octets;
 use mon_oid::Oid;
 use std::cmp::Ordering;
 
@@ -22,7 +23,7 @@ impl Family {
     pub(crate) fn applies(&self, view: &[u8], name: &Oid) -> bool
         ensures { IsTrue result ↔ Applies view.now name.now self.now }
     {
-        self.view_name.is(view) && self.matches(name)
+        self.matches(name) && is_named(&self.view_name, view)
     }
 
     /// Whether the name is as long as the subtree and agrees with it wherever it must.
@@ -30,12 +31,13 @@ impl Family {
         ensures { IsTrue result ↔ IsMatch self.now name.now }
     {
         let subtree = self.subtree.parts();
+        let mask = self.mask.as_slice();
         let parts = name.parts();
         if parts.len() < subtree.len() {
             return false;
         }
         for (i, part) in subtree.iter().enumerate() {
-            if parts[i] != *part && must_agree(self.mask.as_slice(), i) {
+            if parts[i] != *part && must_agree(mask, i) {
                 return false;
             }
         }
@@ -46,7 +48,7 @@ impl Family {
     pub(crate) fn is_of(&self, view: &[u8], subtree: &Oid) -> bool
         ensures { IsTrue result ↔ ((self.now.view_name ≡ view.now) × (self.now.subtree ≡ subtree.now)) }
     {
-        self.view_name.is(view) && self.subtree == *subtree
+        is_named(&self.view_name, view) && self.subtree == *subtree
     }
 
     /// Which of two families decides where both apply: the greater.

@@ -13,8 +13,8 @@ mod fault;
 mod group;
 pub mod laws;
 mod model;
+mod names;
 mod need;
-mod octets;
 mod policy;
 mod tables;
 
@@ -27,7 +27,7 @@ pub use family::Family;
 pub use fault::PolicyFault;
 pub use group::Group;
 pub use model::SecurityModel;
+pub use mon_ber::Octets;
 pub use need::Need;
-pub use octets::Octets;
 pub use policy::Policy;
 pub use tables::Tables;

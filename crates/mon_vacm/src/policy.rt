@@ -1,7 +1,7 @@
 ghost use Rattle.std.specs.Prelude.{◌≡◌, ◌↔◌, ◌≢◌, ◌++◌, ◌∷◌, [], List, All, IsTrue, IsOk, IfOk};
 ghost use Rattle.mon_vacm.specs.declared.family.Family.{Family as AnyFamily};
 ghost use Rattle.mon_vacm.specs.Access.{access_of};
-ghost use Rattle.mon_vacm.specs.Borrowed.{granted};
+ghost use Rattle.mon_vacm.specs.Borrowed.{granted, view_of};
 ghost use Rattle.mon_vacm.specs.Decision.{IsRight};
 ghost use Rattle.mon_vacm.specs.Tables.{lists_of, IsPolicy, AreCommunitiesDistinct, AreFamiliesDistinct, NamesViews};
 ghost use Rattle.mon_vacm.specs.View.{IsInView, IsBest};
@@ -76,7 +76,7 @@ impl Policy {
     /// Whether a name is in the granted view: of the view's families that match the name, the one with the longest and then
     /// greatest subtree is an included one (RFC 3415 section 4, vacmViewTreeFamilyTable).
     pub fn sees(&self, access: Access<'_>, name: &Oid) -> bool
-        ensures { IsTrue result ↔ IsInView self.now.families access.entry.view.now name.now }
+        ensures { IsTrue result ↔ IsInView self.now.families (view_of access.entry) name.now }
     {
         match deciding(self.tables.families.as_slice(), access.view, name) {
             Some(family) => family.included,
@@ -95,7 +95,7 @@ impl Policy {
     }
 
     fn judge_name(&self, access: Access<'_>, name: &Oid) -> Decision
-        ensures allowed { (result ≡ Decision.Allowed) ↔ IsInView self.now.families access.entry.view.now name.now }
+        ensures allowed { (result ≡ Decision.Allowed) ↔ IsInView self.now.families (view_of access.entry) name.now }
         ensures others { result ≢ Decision.Allowed → result ≡ Decision.NotInView }
     {
         if self.sees(access, name) {

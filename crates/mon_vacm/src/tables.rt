@@ -11,7 +11,8 @@ use crate::denied::Denied;
 use crate::family::Family;
 use crate::group::Group;
 use crate::model::SecurityModel;
-use crate::octets::Octets;
+use crate::names::is_named;
+use mon_ber::Octets;
 use mon_oid::Oid;
 
 /// The tables that make a policy, each in the order of its entries (RFC 3415 section 4).
@@ -58,13 +59,17 @@ impl Tables {
     fn community(&self, community: &[u8]) -> Option<&Community>
         ensures { option_copied result ≡ find (λ c. bytes_eq c.name community.now) self.now.communities.items }
     {
-        self.communities.iter().find(|c| c.name.is(community))
+        self.communities
+            .iter()
+            .find(|c| is_named(&c.name, community))
     }
 
     fn group(&self, security: &[u8]) -> Option<&Group>
         ensures { option_copied result ≡ find (λ g. bytes_eq g.security_name security.now) self.now.groups.items }
     {
-        self.groups.iter().find(|g| g.security_name.is(security))
+        self.groups
+            .iter()
+            .find(|g| is_named(&g.security_name, security))
     }
 
     fn entry_for(&self, group: &[u8], model: SecurityModel) -> Option<&AccessEntry>
@@ -116,7 +121,7 @@ impl Tables {
 fn has_community(communities: &[Community], community: &[u8]) -> bool
     ensures { IsTrue result ↔ Any (λ c. c.name ≡ community.now) communities.now }
 {
-    communities.iter().any(|c| c.name.is(community))
+    communities.iter().any(|c| is_named(&c.name, community))
 }
 
 fn has_family(families: &[Family], view: &[u8], subtree: &Oid) -> bool
@@ -128,7 +133,7 @@ fn has_family(families: &[Family], view: &[u8], subtree: &Oid) -> bool
 fn has_view(families: &[Family], view: &[u8]) -> bool
     ensures { IsTrue result ↔ HasView families.now view.now }
 {
-    families.iter().any(|f| f.view_name.is(view))
+    families.iter().any(|f| is_named(&f.view_name, view))
 }
 
 fn names_views(families: &[Family], entry: &AccessEntry) -> bool

@@ -93,8 +93,8 @@ BUGS = {
     ),
     "repeats_as_many_as_once_asked": (
         "src/bulk.rt",
-        "        self.repeat_all(alloc, reply, access, repeated.len(), rounds - 1, moment)",
-        "        self.repeat_all(alloc, reply, access, once.len(), rounds - 1, moment)",
+        "        let width = repeated.len();",
+        "        let width = once.len();",
     ),
     "sends_too_big_at_any_size": (
         "src/sending.rt",
@@ -155,5 +155,20 @@ BUGS = {
         "src/agent.rt",
         "        Reply::Silent(Silence::BadVersion) => counters.count(Counter::BadVersions),",
         "        Reply::Silent(Silence::BadVersion) => {}",
+    ),
+    "sends_what_was_cut": (
+        "src/agent.rt",
+        "            send_too_big(alloc, reply, limit)\n        }",
+        "            send(alloc, reply, limit)\n        }",
+    ),
+    "counts_nothing_of_what_it_tells": (
+        "src/agent.rt",
+        "        self.mib.counters\n    }",
+        "        Counters::new()\n    }",
+    ),
+    "sends_too_big_without_a_cut": (
+        "src/agent.rt",
+        "        if all {\n            send(",
+        "        if false && all {\n            send(",
     ),
 }

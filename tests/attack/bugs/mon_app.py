@@ -21,10 +21,10 @@ BUGS = {
         "                non_repeaters: repeats.non_repeaters,",
         "                non_repeaters: repeats.max_repetitions,",
     ),
-    "counts_a_drop_for_each": (
+    "answers_each_twice": (
         "src/serving.rt",
         "    match agent.answer(alloc, &room[..received.len], received.moment)? {",
-        "    agent.mib.counters.count(mon_mib::Counter::SilentDrops); match agent.answer(alloc, &room[..received.len], received.moment)? {",
+        "    agent.answer(alloc, &room[..received.len], received.moment)?; match agent.answer(alloc, &room[..received.len], received.moment)? {",
     ),
     "ends_lines_at_carriage_returns": (
         "src/replaying.rt",

@@ -311,4 +311,29 @@ BUGS = {
         "            Counter::BadCommunities => self.bad_communities = self.bad_communities.wrapping_add(1),",
         "            Counter::BadCommunities => self.bad_versions = self.bad_versions.wrapping_add(1),",
     ),
+    "takes_a_gap_of_another_object": (
+        "src/gaps.rt",
+        "        self.object == object && start.is_after(self.start) && has_end(start, self.least)",
+        "        start.is_after(self.start) && has_end(start, self.least)",
+    ),
+    "takes_a_gap_that_ends_before": (
+        "src/gaps.rt",
+        "        self.object == object && start.is_after(self.start) && has_end(start, self.least)",
+        "        self.object == object && start.is_after(self.start)",
+    ),
+    "keeps_a_gap_without_its_end": (
+        "src/mib.rt",
+        "            gaps.add(Gap {\n                object,\n                start,\n                least,\n            })?;",
+        "            gaps.add(Gap {\n                object,\n                start,\n                least: None,\n            })?;",
+    ),
+    "searches_on_from_the_gap_before": (
+        "src/mib.rt",
+        "            if let Some(gap) = gaps.find(object, rest) {",
+        "            if let Some(gap) = gaps.find(object, start) {",
+    ),
+    "an_instance_is_from_itself_on": (
+        "src/start.rt",
+        "            Start::Above(last) => last < instance,",
+        "            Start::Above(last) => last <= instance,",
+    ),
 }

@@ -1,15 +1,10 @@
 """Bugs of mon_vacm for planted_bugs: by a name the file, what stands there once, and the bug in its place."""
 
 BUGS = {
-    "copies_no_octets": (
-        "src/octets.rt",
-        "Vec::from_slice(alloc, bytes)?",
-        "Vec::from_slice(alloc, &bytes[..0])?",
-    ),
     "ignores_the_mask": (
         "src/family.rt",
-        "&& must_agree(self.mask.as_slice(), i) {",
-        "&& (must_agree(self.mask.as_slice(), i) || i < 8) {",
+        "&& must_agree(mask, i) {",
+        "&& (must_agree(mask, i) || i < 8) {",
     ),
     "mask_from_the_low_bit": (
         "src/family.rt",
@@ -25,11 +20,6 @@ BUGS = {
         "src/fault.rt",
         "self as u8",
         "PolicyFault::DuplicateFamily as u8",
-    ),
-    "shows_no_octets": (
-        "src/octets.rt",
-        "        self.bytes.as_slice()",
-        "        &self.bytes.as_slice()[..0]",
     ),
     "swaps_two_faults": (
         "src/policy.rt",
@@ -95,7 +85,7 @@ BUGS = {
     ),
     "matches_in_any_view": (
         "src/family.rt",
-        "        self.view_name.is(view) && self.matches(name)",
+        "        self.matches(name) && is_named(&self.view_name, view)",
         "        self.matches(name)",
     ),
     "calls_no_view_no_entry": (

@@ -30,4 +30,5 @@ loop-binding-preserved g c =
       long = omega (arith, ap length more, length-append at.reply.bindings (found ∷ []), at.invariant.long);
       put = λ next steps. more ∙ more_at next c.args.reply.now.bindings asked at.reply.bindings at.binding-index c.binding-item.result found lt
           (at.invariant.put next steps) (c.in_ok-found.ensures.only next steps ∙ ap (λ (b : Binding). next b.name) c.binding-item.is);
+      gaps = c.step.ensures.gaps;
     }

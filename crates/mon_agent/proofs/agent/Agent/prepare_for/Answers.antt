@@ -48,17 +48,17 @@ returns-clause-ready g c =
     let known = known_of c.args.self.now.mib.settings c.args.self.now.mib.counters (D.held device) c.args.moment in
     let m = c.args.message in
     let view = c.in-Ok.access.view.now in
-    let reply = c.in_ok-response.response in
+    let sent = c.in_ok-read.ensures in
+    let reply = sent.0 in
     let read : need_of m.body ≡ Read = search rules in
     let access : access_of policy m.community (need_of m.body) ≡ Ok view = search rules in
     let is_known : IsKnown policy m = search rules in
     let request : is_request m.body ≡ true = search rules in
-    let out : IsOut c.args.self.now.mib.settings.limit reply reply c.in_ok-send-2.field-0 = search rules in
-    out_answers D.held D.failed D.refuses policy known device device m reply c.in_ok-send-2.field-0 is_known request
+    out_answers D.held D.failed D.refuses policy known device device m reply c.in_ok-read.field-0 is_known request
     (inr (
       view,
       access,
       subst (λ n. IsGranted D.held D.failed D.refuses n known (IsInView policy.families view) device device m reply) (sym read)
-          (refl, c.in_ok-response.ensures.response),
+          (refl, sent.1),
     ))
-    c.in_ok-response.ensures.small out
+    sent.2 sent.3

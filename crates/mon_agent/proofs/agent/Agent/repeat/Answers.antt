@@ -9,7 +9,7 @@ returns-then-not-branch-clause-put g c = λ next steps.
     let found = c.in_ok-found.found in
     let before = c.args.reply.now.bindings in
     let width = c.args.width in
-    let wide : width ≤ length before = c.requires in
+    let wide : width ≤ length before = c.requires.width in
     let inside : at.counter < width = search rules in
     let lt : at.counter < length (last width before) = omega (arith, all_last next width before wide, inside) in
     let full : (c.push.new.self.bindings ≡ at.reply.bindings) × ¬ (FitsWith at.reply (at.reply.bindings ++ found ∷ [])) = search rules in
@@ -26,7 +26,7 @@ loop-preserved g c =
     let found = c.in_ok-found.found in
     let before = c.args.reply.now.bindings in
     let width = c.args.width in
-    let wide : width ≤ length before = c.requires in
+    let wide : width ≤ length before = c.requires.width in
     let inside : at.counter < width = search rules in
     let more : c.push.new.self.bindings ≡ at.reply.bindings ++ found ∷ [] = search rules in
     let name : c.name_before.result.now ≡ (get_or at.reply.bindings (length at.reply.bindings - width) found).name = c.name_before.ensures found in
@@ -39,13 +39,14 @@ loop-preserved g c =
           more ∙ more_at next before (last width before) at.reply.bindings at.counter found found lt (at.invariant.put next steps)
           (c.in_ok-found.ensures.only next steps
           ∙ (ap next name ∙ ap (λ b. next b.name) (name_back next before at.reply.bindings width at.counter found wide inside (at.invariant.put next steps))));
+      gaps = c.step.ensures.gaps;
     }
 
 pub returns-clause-put : goal.returns-clause-put
 returns-clause-put g c = λ next steps.
     let width = c.args.width in
     let before = c.args.reply.now.bindings in
-    let wide : width ≤ length before = c.requires in
+    let wide : width ≤ length before = c.requires.width in
     let ended : width ≤ c.loop.counter = search rules in
     c.loop.invariant.put next steps
     ∙ ap (λ l. before ++ answers next l) (all_taken c.loop.counter (last width before) (omega (arith, all_last next width before wide, ended)))

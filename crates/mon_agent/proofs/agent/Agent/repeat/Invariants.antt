@@ -1,6 +1,7 @@
 use Rattle.std.proofs.Common.{◌≡◌, ◌++◌, ◌≤◌, ℕ, List, length, map, take}
 use Rattle.mon_pdu.specs.declared.message.Binding.{Binding}
 use Rattle.mon_vacm.specs.View.{IsInView}
+use Rattle.mon_mib.specs.Gaps.{AreGaps}
 use Rattle.mon_mib.specs.Known.{known_of}
 use Rattle.mon_agent.specs.Bulk.{IsStepper, names_of}
 use Rattle.mon_agent.specs.Growing.{last}
@@ -15,4 +16,5 @@ invariant-loop g l = record {
   put : (let known = known_of l.self.mib.settings l.self.mib.counters (g.D.Device.held l.self.mib.device) l.moment in
       (next : List ℕ → Binding) → IsStepper known (IsInView l.self.policy.families l.access.view.now) next
       → l.reply.bindings ≡ l.fn.reply.bindings ++ map next (names_of (take l.counter (last l.width l.fn.reply.bindings))));
+  gaps : AreGaps (g.D.Device.held l.self.mib.device) (IsInView l.self.policy.families l.access.view.now) l.gaps;
 }

@@ -52,6 +52,7 @@ loop-preserved g c =
           ∙ (append_assoc at.reply.bindings (answers next round) (more_rounds next m (answers next round))
           ∙ (goes_on next at.reply.bindings (answers next round) m width (length-answers next round ∙ all_last next width at.reply.bindings at.invariant.wide)
           ∙ ap (λ l. l ++ more_rounds next m (last width l)) (sym put))));
+      gaps = c.repeat.ensures.gaps;
     }
 
 pub returns-clause-put : goal.returns-clause-put

@@ -1,6 +1,7 @@
 use Rattle.std.proofs.Common.{◌≡◌, ◌++◌, ◌-◌, ◌≤◌, ℕ, List, length}
 use Rattle.mon_pdu.specs.declared.message.Binding.{Binding}
 use Rattle.mon_vacm.specs.View.{IsInView}
+use Rattle.mon_mib.specs.Gaps.{AreGaps}
 use Rattle.mon_mib.specs.Known.{known_of}
 use Rattle.mon_agent.specs.Bulk.{IsStepper}
 use Rattle.mon_agent.specs.Growing.{last, more_rounds}
@@ -16,4 +17,5 @@ invariant-loop g l = record {
       (next : List ℕ → Binding) → IsStepper known (IsInView l.self.policy.families l.access.view.now) next
       → l.fn.reply.bindings ++ more_rounds next l.rounds (last l.width l.fn.reply.bindings)
       ≡ l.reply.bindings ++ more_rounds next (l.rounds - l.counter) (last l.width l.reply.bindings));
+  gaps : AreGaps (g.D.Device.held l.self.mib.device) (IsInView l.self.policy.families l.access.view.now) l.gaps;
 }

@@ -1,19 +1,36 @@
-use Rattle.std.proofs.Common.{◌≡◌, ◌++◌, ◌∷◌, [], subst}
+use Rattle.std.proofs.Common.{◌≡◌, Some, None, ◌∙◌, subst}
 use Rattle.mon_vacm.specs.View.{IsInView}
+use Rattle.mon_mib.specs.declared.start.Start.{Start}
+use Rattle.mon_mib.specs.Gaps.{IsLeastInView}
 use Rattle.mon_mib.specs.Known.{Known, known_of, variable_value}
 use Rattle.mon_mib.specs.Objects.{prefix_of}
-use Rattle.mon_mib.proofs.Search.{begins, found, same_value}
+use Rattle.mon_mib.specs.Order.{start_of}
+use Rattle.mon_mib.proofs.Gapped.{next_none, next_some}
+use Rattle.mon_mib.proofs.Search.{same_value}
 use Rattle.mon_mib.proofs.mib.Mib.next_of.Goals as goal
 
-pub loop-instance-init : goal.loop-instance-init
-loop-instance-init g c = rw (c.find_start-start.ensures, c.prefix.ensures, c.parts.ensures.parts) (begins
-    (known_of c.args.self.now.settings c.args.self.now.counters (g.D.Device.held c.args.self.now.device) c.args.moment)
-    (IsInView c.args.policy.now.families c.args.access.view.now) c.args.name.now c.args.object)
+pub returns-in_default-clause-next : goal.returns-in_default-clause-next
+returns-in_default-clause-next g c =
+    let held = g.D.Device.held c.args.self.now.device in
+    let known : Known = known_of c.args.self.now.settings c.args.self.now.counters held c.args.moment in
+    let sees = IsInView c.args.policy.now.families c.args.access.view.now in
+    let at : c.find_start-start.result ≡ start_of (prefix_of c.args.object) c.args.name.now =
+    c.find_start-start.ensures ∙ (λ i. start_of (c.prefix.ensures i) (c.parts.ensures.parts i)) in
+    next_none known sees c.args.name.now c.args.object
+    (subst (λ (s : Start). IsLeastInView held sees c.args.object s None) at
+    (subst (IsLeastInView held sees c.args.object c.find_start-start.result) c.in_default.is c.in_ok-least.ensures.least))
 
-pub returns-then-sees : goal.returns-then-sees
-returns-then-sees g c =
-    let known : Known = known_of c.args.self.now.settings c.args.self.now.counters (g.D.Device.held c.args.self.now.device) c.args.moment in
-    let seen : IsInView c.args.policy.now.families c.args.access.view.now (prefix_of c.args.object ++ c.in-Some.instance ∷ []) =
-    subst (IsInView c.args.policy.now.families c.args.access.view.now) c.in_ok-own.ensures (c.sees.ensures.0 c.if-sees.true) in
-    let value : c.unwrap-value.result ≡ variable_value known c.args.object c.in-Some.instance = same_value c.in_ok-value.field-0 c.unwrap-value.result (variable_value known c.args.object c.in-Some.instance) c.unwrap-value.ensures (c.in_ok-value.ensures.there c.in-Some.ensures.0) in
-    rw (c.in_ok-own.ensures, value) (found known (IsInView c.args.policy.now.families c.args.access.view.now) c.args.name.now c.args.object c.loop-instance.start c.in-Some.instance c.loop-instance.invariant c.in-Some.ensures seen)
+pub returns-clause-next : goal.returns-clause-next
+returns-clause-next g c =
+    let held = g.D.Device.held c.args.self.now.device in
+    let known : Known = known_of c.args.self.now.settings c.args.self.now.counters held c.args.moment in
+    let sees = IsInView c.args.policy.now.families c.args.access.view.now in
+    let i = c.in-Some.instance in
+    let at : c.find_start-start.result ≡ start_of (prefix_of c.args.object) c.args.name.now =
+    c.find_start-start.ensures ∙ (λ j. start_of (c.prefix.ensures j) (c.parts.ensures.parts j)) in
+    let least : IsLeastInView held sees c.args.object (start_of (prefix_of c.args.object) c.args.name.now) (Some i) =
+    subst (λ (s : Start). IsLeastInView held sees c.args.object s (Some i)) at
+    (subst (IsLeastInView held sees c.args.object c.find_start-start.result) c.in-Some.is c.in_ok-least.ensures.least) in
+    let value : c.unwrap-value.result ≡ variable_value known c.args.object i =
+    same_value c.in_ok-value.field-0 c.unwrap-value.result (variable_value known c.args.object i) c.unwrap-value.ensures (c.in_ok-value.ensures.there least.0) in
+    rw (c.in_ok-own.ensures, value) (next_some known sees c.args.name.now c.args.object i least)

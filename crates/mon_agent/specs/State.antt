@@ -1,0 +1,21 @@
+-- What contracts see of an agent.
+use Rattle.mon_vacm.specs.Tables.{Lists}
+use Rattle.mon_mib.specs.declared.counters.Counters.{Counters}
+use Rattle.mon_mib.specs.declared.settings.Settings.{Settings}
+use Rattle.mon_agent.specs.declared.agent.Agent.{Agent}
+
+-- which community may do what with which names
+abbrev pub policy_of : {D : Type 0} → Agent D → Lists
+policy_of agent = agent.policy
+
+-- what it serves as it was told at the start
+abbrev pub settings_of : {D : Type 0} → Agent D → Settings
+settings_of agent = agent.mib.settings
+
+-- what it has counted
+abbrev pub counters_of : {D : Type 0} → Agent D → Counters
+counters_of agent = agent.mib.counters
+
+-- its device
+abbrev pub device_of : {D : Type 0} → Agent D → D
+device_of agent = agent.mib.device
