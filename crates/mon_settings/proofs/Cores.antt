@@ -3,7 +3,6 @@ use Rattle.std.proofs.Common.{◌≡◌, ℕ, ◌≤◌, ◌<◌, List, length, 
 use Rattle.std.proofs.lemmas.Option.{slice_get_within}
 use Rattle.mon_board.specs.Watch.{Watch, IsWatch}
 use Rattle.mon_poller.specs.Target.{AreTargets}
-use Rattle.mon_poller.specs.declared.target.Object.{Object}
 use Rattle.mon_poller.specs.declared.target.Target.{Target}
 use Rattle.mon_settings.specs.StationCore.{Core, IsPolledAs, ArePolledAs, AreInstancesOf, ArePeersOf, IsCore}
 

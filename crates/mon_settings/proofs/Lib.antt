@@ -1,6 +1,7 @@
 pub mod Accepted
 pub mod Cores
 pub mod Distinct
+pub mod ForStations
 pub mod KeyNames
 pub mod Named
 pub mod NamedRows

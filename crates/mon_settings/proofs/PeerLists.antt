@@ -1,5 +1,5 @@
 -- The test of the numbers of peers is their condition.
-use Rattle.std.proofs.Common.{◌≡◌, ◌≢◌, ◌↔◌, ℕ, ◌==◌, ◌≤◌, nat_le, true, false, not, ◌&&◌, Bool, List, length, map, All, AllPairs, Ok, Err, Result, refl, sym, inl, inr, arith}
+use Rattle.std.proofs.Common.{◌≡◌, ◌≢◌, ◌↔◌, ℕ, ◌==◌, ◌≤◌, nat_le, true, false, not, Bool, List, length, map, Ok, Err, refl, sym, inl, inr, arith}
 use Rattle.std.specs.List.{list_all}
 use Rattle.std.proofs.lemmas.Bool.{and_parts, cases_Bool, false≢true}
 use Rattle.std.proofs.lemmas.Bool.Decides.{nat_tests}
@@ -9,7 +9,6 @@ use Rattle.mon_settings.specs.declared.station_tables.PeerRow.{PeerRow}
 use Rattle.mon_settings.specs.declared.station_tables.TargetRow.{TargetRow}
 use Rattle.mon_settings.specs.Station.{are_apart, are_peer_numbers, checked_peers}
 use Rattle.mon_settings.specs.StationCore.{ArePeersOf}
-use Rattle.mon_settings.specs.Tables.{all_pairs}
 use Rattle.mon_settings.proofs.Policies.{all_from, all_to, pairs_from, pairs_to}
 
 other_is : (a b : ℕ) → (not (a == b) ≡ true) ↔ (a ≢ b)

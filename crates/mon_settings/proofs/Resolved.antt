@@ -1,5 +1,5 @@
 -- What does not resolve is unknown.
-use Rattle.std.proofs.Common.{◌≡◌, ◌⊎◌, ℕ, List, Option, Some, None, Result, Ok, Err, refl, inl, inr}
+use Rattle.std.proofs.Common.{◌≡◌, ◌⊎◌, ℕ, List, Option, Some, None, Result, Err, refl, inl, inr}
 use Rattle.std.specs.Prelude.{IsOkUnless}
 use Rattle.mon_oid.specs.Oid.{IsOid}
 use Rattle.mon_smi.specs.Names.{MeansNumbers}

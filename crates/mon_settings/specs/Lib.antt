@@ -10,6 +10,7 @@ pub mod Placing
 pub mod Resolving
 pub mod SettingsFault
 pub mod Station
+pub mod StationAccepted
 pub mod StationCore
 pub mod StationTables
 pub mod Tables

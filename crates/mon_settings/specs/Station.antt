@@ -14,7 +14,6 @@ use Rattle.mon_settings.specs.declared.fault.SettingsFault.TheVariants as fault
 use Rattle.mon_settings.specs.declared.sizes.Sizes.{Sizes}
 use Rattle.mon_settings.specs.declared.station.Scalars.{Scalars as AnyScalars}
 use Rattle.mon_settings.specs.declared.station.StationSettings.{StationSettings}
-use Rattle.mon_settings.specs.declared.station_tables.AlarmRow.{AlarmRow}
 use Rattle.mon_settings.specs.declared.station_tables.PeerRow.{PeerRow}
 use Rattle.mon_settings.specs.declared.station_tables.TargetRow.{TargetRow}
 use Rattle.mon_settings.specs.Keys.{only, needed_at, default_at}

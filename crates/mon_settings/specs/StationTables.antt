@@ -2,7 +2,6 @@
 use Rattle.std.specs.Prelude.{ℕ, List, [], ◌∷◌, Option, Result, Ok, min}
 use Rattle.mon_oid.specs.Steps.{◌>>=◌}
 use Rattle.toml.specs.Data.{Members, as_integer}
-use Rattle.mon_settings.specs.declared.key.Key.{Key}
 use Rattle.mon_settings.specs.declared.key.Key.TheVariants as key
 use Rattle.mon_settings.specs.declared.fault.SettingsFault.{SettingsFault}
 use Rattle.mon_settings.specs.declared.sizes.Sizes.{Sizes}

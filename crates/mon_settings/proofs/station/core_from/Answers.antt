@@ -1,4 +1,4 @@
-use Rattle.std.proofs.Common.{◌≡◌, true, sym, subst, ap, ◌∙◌, map, rules}
+use Rattle.std.proofs.Common.{◌≡◌, true, sym, subst, rules}
 use Rattle.mon_poller.specs.Target.{AreTargets}
 use Rattle.mon_settings.specs.StationCore.{AreInstancesOf, ArePeersOf}
 use Rattle.mon_settings.proofs.station.core_from.Goals as goal
