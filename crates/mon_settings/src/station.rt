@@ -218,6 +218,7 @@ fn core_from(
 {
     let numbered = targets_from(alloc, instances.as_slice(), targets)?;
     let numbers = stations_of(alloc, peers)?;
+    // Every reading passes the tests from here on. That is seen by tests and not proved, so their arms answer what is always allowed.
     let watch = match Watch::new(instances, rules) {
         Ok(watch) => watch,
         Err(_) => return Err(SettingsFault::OutOfMemory),
