@@ -1,0 +1,7 @@
+mod Claimed
+mod Faults
+mod Handled
+mod Kept
+mod Offered
+mod Quiet
+mod Taken
