@@ -31,7 +31,8 @@ use Rattle.mon_station.specs.State.{State, IsAfter, IsHandled, setting_of}
 use Rattle.mon_station.specs.Step.{IsSettled, left_polls}
 use Rattle.mon_station.specs.Told.{IsAnswered, IsTold, resends, to_target}
 use Rattle.mon_station.specs.Verdict.{Setting, IsLawfulFault, fault_in, polls_after, response_pairs, share_fault, slot_of}
-use Rattle.mon_station.proofs.Faults.{ends_as, response_lawful, start_lawful}
+use Rattle.mon_station.proofs.Faults.{ends_as, response_lawful, response_memory, start_lawful}
+use Rattle.mon_poller.specs.declared.fault.ResponseFault.TheVariants as response
 use Rattle.mon_station.proofs.Quiet.{IsQuiet, quiet_after, quiet_fault}
 
 -- the same state with this poller
@@ -159,3 +160,14 @@ module _ (s : State) (settled : IsSettled s) where
 
   pub share_refused : (y : ℕ) → None ≡ slot_of (setting_of s).peers y → IsHandled (Share y) (Some (station.Exchange exchange.UnknownPeer)) s s
   share_refused y slot = refused s settled (Share y) (station.Exchange exchange.UnknownPeer) refl (ap share_fault (sym slot))
+
+-- ---- refused responses
+-- of a poller that keeps its targets
+pub only_polls : (s : State) (n : Poller) (p : Polls) → n ≡ with_polls s.poller p → with_poller s n ≡ left_polls s n.polls
+only_polls s n p is = ap (with_poller s) (is ∙ ap (with_polls s.poller) (sym (ap (λ (m : Poller). m.polls) is)))
+
+pub response_memory_stays : (s : State) (r : Option Message) (f : ResponseFault) (n : Poller) → (let x : Result Offered ResponseFault = Err f in n ≡ with_polls s.poller (after_response (ends x) r s.poller.polls)) → response_refusal f ≡ station.OutOfMemory
+    → with_poller s n ≡ s
+response_memory_stays s r f n is out =
+    let at : f ≡ response.OutOfMemory = response_memory f out in
+    ap (with_poller s) (is ∙ ap (λ (g : ResponseFault). let x : Result Offered ResponseFault = Err g in with_polls s.poller (after_response (ends x) r s.poller.polls)) at)

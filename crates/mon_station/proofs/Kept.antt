@@ -134,6 +134,10 @@ pub if_ok : {A F : Type 0} (r : Result A F) (P Q : A → Type 0) → IfOk r P �
 if_ok (Ok a) P Q h f = f a h
 if_ok (Err e) P Q h f = tt
 
+pub if_err : {A F : Type 0} (r : Result A F) (P Q : F → Type 0) → IfErr r P → ((e : F) → P e → Q e) → IfErr r Q
+if_err (Ok a) P Q h f = tt
+if_err (Err e) P Q h f = f e h
+
 pub if_ok_both : {A F : Type 0} (r : Result A F) (P Q R : A → Type 0) → IfOk r P → IfOk r Q → ((a : A) → P a → Q a → R a) → IfOk r R
 if_ok_both (Ok a) P Q R p q f = f a p q
 if_ok_both (Err e) P Q R p q f = tt

@@ -4,4 +4,5 @@ mod Handled
 mod Kept
 mod Offered
 mod Quiet
+mod Said
 mod Taken

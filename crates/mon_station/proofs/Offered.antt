@@ -2,6 +2,9 @@
 use Rattle.std.proofs.Common.{◌≡◌, ◌≤◌, ◌<◌, ℕ, List, [], ◌∷◌, ◌++◌, length, map, take, get_or, ◌+◌, Option, Some, None, refl, sym, ap, subst, ◌∙◌, arith}
 use Rattle.std.specs.List.{AllByRecursion}
 use Rattle.std.proofs.lemmas.List.{get_or-map, take_more}
+use Rattle.std.specs.FinSet as set
+use Rattle.mon_board.specs.Board.{is_marked, window_of}
+use Rattle.mon_board.specs.Rules.{rule_of}
 use Rattle.mon_board.specs.declared.instance.Instance.{Instance}
 use Rattle.mon_board.specs.declared.instance.Watched.{Watched}
 use Rattle.mon_board.specs.Instance.{instances_of, named}
@@ -70,12 +73,12 @@ shared s settled y k serial told slot next taken sends noted claims =
         lawful = ap share_fault (sym slot);
         after = record {
           setting = refl;
-          windows = λ i. nothing_joined _ _ i (settled.whole i);
+          windows = λ i. nothing_joined (rule_of s.board.watch) (window_of s.board) i (settled.whole i);
           polls = refl;
           incarnation = refl;
           serial = next ∙ ap (serial_past s.serial) same;
           known = λ y. refl;
-          marks = λ j i x. kept_own _ _ (settled.entries j i x);
+          marks = λ j i x. kept_own (is_marked s.board j i x) (set.contains (window_of s.board i) x) (settled.entries j i x);
         };
       },
       record {

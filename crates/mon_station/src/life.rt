@@ -37,11 +37,11 @@ impl Life {
     ghost use Rattle.mon_poller.specs.Verdict.{ReadsAs};
     ghost use Rattle.mon_pdu.specs.declared.message.Message.{Message as AnyMessage};
     ghost use Rattle.mon_exchange.specs.declared.fault.ExchangeFault.{ExchangeFault as AnyExchangeFault};
-    ghost use Rattle.std.specs.Prelude.{Option, Result, Ok};
+    ghost use Rattle.std.specs.Prelude.{Err, Option, Result, Ok};
     ghost use Rattle.mon_station.specs.ReadEvent.{IsNumbered, SaysAs, Said};
     ghost use Rattle.mon_station.specs.ReadEvent as read;
     ghost use Rattle.mon_station.specs.State.{state_of};
-    ghost use Rattle.mon_station.specs.Step.{IsSettled};
+    ghost use Rattle.mon_station.specs.Step.{IsSettled, left_polls};
     ghost use Rattle.mon_station.specs.Told.{IsAnswered, confirm_of, confirms, to_peer};
 
     /// What holds of every state, for the proofs of its callers. It does nothing.
@@ -104,6 +104,8 @@ impl Life {
     ) -> Result<Told, StationFault>
         ensures answered { (r : Option AnyMessage) → ReadsAs octets.now r → IsAnswered (state_of self.old) (state_of self.new) (read.FromAgent from r) result }
         ensures read { (r : Option AnyMessage) × ReadsAs octets.now r }
+        ensures refused { OnErr result (state_of self.new ≡ left_polls (state_of self.old) self.new.poller.polls) }
+        ensures memory { result ≡ Err StationFault.OutOfMemory → state_of self.new ≡ state_of self.old }
     {
         mon_poller::laws::offered();
         self.settled();
