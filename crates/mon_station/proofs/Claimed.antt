@@ -45,7 +45,7 @@ module _ (s : State) (settled : IsSettled s) (c : Claim) where
       (own : p.own ≡ s.peers.own) (numbers : peer_numbers p.peers ≡ peer_numbers s.peers.peers)
       (known : (y : ℕ) → known_incarnation p.peers y ≡ (if y == c.station then Some (latest (known_incarnation s.peers.peers y) c.incarnation) else known_incarnation s.peers.peers y))
       (marks : (k number : ℕ) → slot ≡ Some k → IsWatchedAs s.board.watch c.engine c.name number
-          → (j i x : ℕ) → is_marked b j i x ≡ marks_after noted_so k number c.samples (window_of s.board) (window_of b) (is_marked s.board) j i x) where
+      → (j i x : ℕ) → is_marked b j i x ≡ marks_after noted_so k number c.samples (window_of s.board) (window_of b) (is_marked s.board) j i x) where
     lawful : (o n : Option ℕ) → o ≡ slot → IsNumbered s.board.watch c n → claim_fault o n ≡ None
     lawful None n is numbered = absurd (there (sym is))
     lawful (Some k) None is numbered = absurd (watched (there, numbered))

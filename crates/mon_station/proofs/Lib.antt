@@ -4,5 +4,6 @@ mod Handled
 mod Kept
 mod Offered
 mod Quiet
+mod Runs
 mod Said
 mod Taken

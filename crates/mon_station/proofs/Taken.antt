@@ -93,7 +93,7 @@ module _ (read_back : (watch : Watch) (board again : Board) (incarnation read : 
   reopened w old new t is r i =
       let restored = r.begun.restored in
       let whole : (j : ℕ) → IsWhole (rule_of old.board.watch) (window_of old.board) j =
-          λ j. (λ k. (rule_of (is.watch k)).choice j (is.windows j k)) ∙ chosen_twice (rule_of t.watch) j (t.taken j) ∙ sym (is.windows j) in
+      λ j. (λ k. (rule_of (is.watch k)).choice j (is.windows j k)) ∙ chosen_twice (rule_of t.watch) j (t.taken j) ∙ sym (is.windows j) in
       let back = read_back w.watch old.board new.board old.incarnation restored.0 whole r.instances r.spells restored.1 in
       back.1 i ∙ ap ((rule_of w.watch).choice i) (is.windows i) ∙ from_window w.watch t i (has_sizes w.watch t.watch i) refl
 

@@ -9,10 +9,12 @@ mod fault;
 pub mod laws;
 mod life;
 mod opening;
+mod running;
 mod sharing;
 mod station;
 
 pub use event::{Event, Outgoing, OwnedEvent, To, Told};
 pub use fault::StationFault;
 pub use opening::Core;
+pub use running::{Answer, Outbox, OutboxFault, Run, Source, SourceFault};
 pub use station::Station;

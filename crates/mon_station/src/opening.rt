@@ -110,11 +110,7 @@ fn begin(alloc: Global, core: Core, body: Option<Vec<u8>>) -> Result<Life, Stati
 }
 
 /// The board that a life begins with, and its incarnation.
-fn restore(
-    alloc: Global,
-    watch: Watch,
-    body: Option<Vec<u8>>,
-) -> Result<(Board, u32), StationFault>
+fn restore(alloc: Global, watch: Watch, body: Option<Vec<u8>>) -> Result<(Board, u32), StationFault>
     ensures restored { IfOk result (λ r. IsRestoredFrom watch (option_map (λ v. v.items) body) r.0 r.1) }
     ensures watch { IfOk result (λ r. r.0.watch ≡ watch) }
     ensures unmarked { IfOk result (λ r. IsUnmarked r.0) }
@@ -128,11 +124,7 @@ fn restore(
 }
 
 /// The board of an image, and the incarnation after its own.
-fn restore_image(
-    alloc: Global,
-    watch: &Watch,
-    octets: &[u8],
-) -> Result<(Board, u32), StationFault>
+fn restore_image(alloc: Global, watch: &Watch, octets: &[u8]) -> Result<(Board, u32), StationFault>
     ensures restored { IfOk result (λ r. IsRestoredFrom watch.now (Some octets.now) r.0 r.1) }
     ensures positive { IfOk result (λ r. 1 ≤ r.1) }
     ensures fault { IfErr result (IsFaultOfBody watch.now (Some octets.now)) }

@@ -1,10 +1,8 @@
 //! Stations.
 
-ghost use Rattle.std.specs.Prelude.{◌≡◌, ◌≤◌, ◌<◌, ◌+◌, ◌-◌, ◌^◌, true, false, Err, OnErr, OnOk, IfErr, IfOk, length};
-ghost use Rattle.mon_disk.specs.declared.file.TheConstants.{SLOT_SIZE};
+ghost use Rattle.std.specs.Prelude.{◌≡◌, ◌≤◌, ℕ, true, false, Err, OnErr, OnOk, IfErr, IfNone, IfOk, IfSome, IsTrue};
+ghost use Rattle.std.specs.FinMap as map;
 ghost use Rattle.mon_disk.specs.Disk.{Leaves, LeavesSince};
-ghost use Rattle.mon_disk.specs.File.{found};
-ghost use Rattle.mon_disk.specs.Keeper.{found_generation};
 
 use crate::event::{Event, Told};
 use crate::fault::StationFault;
@@ -25,7 +23,7 @@ impl<D: Disk + Drop> Station<D> {
     ghost use Rattle.mon_disk.specs.Kept.{device_of, is_spoiled};
     ghost use Rattle.mon_station.specs.ReadEvent.{ReadEvent, ReadsAs, owned};
     ghost use Rattle.mon_station.specs.ReadEvent as read;
-    ghost use Rattle.mon_station.specs.Saved.{FindsRunning, FindsState, IsCausedBy, IsSaveFault, saved_octets};
+    ghost use Rattle.mon_station.specs.Saved.{FindsRunning, FindsState, IsCausedBy, IsSaveFault};
     ghost use Rattle.mon_station.specs.State.{setting_of, state_of, known_of};
     ghost use Rattle.mon_station.specs.Told.{IsAnswered};
     ghost use Rattle.mon_station.specs.Step.{IsRead, left_polls};
@@ -113,6 +111,15 @@ impl<D: Disk + Drop> Station<D> {
         ensures { result ≡ known_of (state_of self.now.life) peer }
     {
         self.life.peers.known(peer)
+    }
+
+    /// The request-id of the oldest open poll.
+    pub fn oldest(&self) -> Option<u32>
+        ensures there { IfSome result (λ id. IsTrue (map.contains_key (state_of self.now.life).poller.polls.open_polls id)) }
+        ensures least { IfSome result (λ id. (other : ℕ) → IsTrue (map.contains_key (state_of self.now.life).poller.polls.open_polls other) → id ≤ other) }
+        ensures none { IfNone result ((state_of self.now.life).poller.polls.open_polls ≡ map.empty) }
+    {
+        self.life.poller.oldest()
     }
 
     /// The disk.
