@@ -1,4 +1,5 @@
 pub mod Accepted
+pub mod Cores
 pub mod KeyNames
 pub mod Named
 pub mod Oids

@@ -6,4 +6,5 @@ pub mod Keys
 pub mod Leaf
 pub mod Lists
 pub mod SettingsFault
+pub mod StationCore
 pub mod Tables

@@ -11,9 +11,11 @@ pub mod laws;
 mod leaf;
 mod list;
 mod octets;
+mod station_core;
 mod tables;
 
 pub use agent::{AgentSettings, read_agent};
 pub use fault::SettingsFault;
 pub use key::Key;
 pub use mon_poller::Addr;
+pub use station_core::{Core, CoreParts};
