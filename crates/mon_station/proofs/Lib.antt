@@ -1,8 +1,10 @@
 mod Claimed
 mod Faults
+mod Few
 mod Handled
 mod Kept
 mod Offered
+mod Past
 mod Quiet
 mod Runs
 mod Said

@@ -1,9 +1,10 @@
 -- What a station holds in memory, and how an event changes it.
-use Rattle.std.specs.Prelude.{ℕ, ◌≡◌, Bool, List, [], ◌∷◌, ◌==◌, if◌then◌else◌, Option, Some, None, Ok, length}
+use Rattle.std.specs.Prelude.{ℕ, zero, suc, ◌≡◌, ◌+◌, Bool, List, [], ◌∷◌, ◌==◌, if◌then◌else◌, Option, Some, None, Ok, length}
 use Rattle.mon_board.specs.Board.{Board, window_of, is_marked}
 use Rattle.mon_board.specs.Owed.{kept_marks, owed_in}
 use Rattle.mon_board.specs.Rules.{rule_of}
 use Rattle.mon_board.specs.Windows.{joined}
+use Rattle.mon_window.specs.Top.{rising}
 use Rattle.mon_window.specs.Window.{Samples}
 use Rattle.mon_exchange.specs.declared.noted.Noted.{Noted}
 use Rattle.mon_exchange.specs.declared.sharing.Portion.{Portion}
@@ -41,6 +42,16 @@ known_of s y = known_incarnation s.peers.peers y
 -- what is owed to the peer in a slot, of each instance: what stands in its window and is not marked
 abbrev pub owed_to : State → ℕ → ℕ → Samples
 owed_to s slot = owed_in (window_of s.board) (is_marked s.board slot)
+
+-- how many samples that is, of the first so many instances
+abbrev pub owed_below : (ℕ → Samples) → ℕ → ℕ
+owed_below owed zero = 0
+owed_below owed (suc i) = owed_below owed i + length (rising (owed i))
+
+-- how many samples are owed to the station in this slot
+abbrev pub owed_count : State → Option ℕ → ℕ
+owed_count s None = 0
+owed_count s (Some slot) = owed_below (owed_to s slot) (length s.board.watch.instances)
 
 -- the portions in which it is offered
 abbrev pub portions_to : State → ℕ → List Portion

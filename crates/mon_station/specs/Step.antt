@@ -1,5 +1,6 @@
 -- What every step says besides its answer.
-use Rattle.std.specs.Prelude.{ℕ, ◌≡◌, Result, Ok, Err}
+use Rattle.std.specs.Prelude.{ℕ, ◌≡◌, ◌≤◌, length, Result, Ok, Err}
+use Rattle.mon_window.specs.Top.{rising}
 use Rattle.mon_board.specs.Board.{MarksEntries, window_of}
 use Rattle.mon_board.specs.Rules.{rule_of}
 use Rattle.mon_board.specs.Windows.{IsWhole}
@@ -21,7 +22,10 @@ IsRead watch event (Err f) = (f ≡ fault.OutOfMemory → ⊥) → (e : ReadEven
 abbrev pub left_polls : State → Polls → State
 left_polls s polls = record { board = s.board; poller = record { targets = s.poller.targets; polls = polls }; peers = s.peers; incarnation = s.incarnation; serial = s.serial }
 
--- what holds of every state: windows hold no more than their rule keeps, and only what stands in them is marked
+-- what holds of every state: windows hold no more than their rule keeps, only what stands in them is marked, no window has more than 64 samples, and at most 256
+-- instances are watched
 pub record IsSettled (s : State) : Type 0 where
   pub whole : (i : ℕ) → IsWhole (rule_of s.board.watch) (window_of s.board) i
   pub entries : MarksEntries s.board
+  pub few : (i : ℕ) → length (rising (window_of s.board i)) ≤ 64
+  pub most : length s.board.watch.instances ≤ 256

@@ -3,6 +3,7 @@
 ghost use Rattle.std.specs.Prelude.{◌≡◌, List, Some, ℕ};
 ghost use Rattle.mon_board.specs.Board.{window_of};
 ghost use Rattle.mon_board.specs.Rules.{rule_of};
+ghost use Rattle.mon_report.specs.Report.{report};
 ghost use Rattle.mon_station.specs.Lived.{IsLived, entries_of, last_state};
 ghost use Rattle.mon_station.specs.State.{State};
 ghost use Rattle.mon_station.specs.Taken as lives;
@@ -17,6 +18,9 @@ pub fn taken()
     ensures equal { (some others : List (Entry × State)) (s t : State) → IsLived some → IsLived others → last_state some ≡ Some s → last_state others ≡ Some t
         → s.board.watch ≡ t.board.watch → ((i : ℕ) → lives.taken (entries_of some) i ≡ lives.taken (entries_of others) i)
         → (i : ℕ) → window_of s.board i ≡ window_of t.board i }
+    ensures reports { (some others : List (Entry × State)) (s t : State) → IsLived some → IsLived others → last_state some ≡ Some s → last_state others ≡ Some t
+        → s.board.watch ≡ t.board.watch → ((i : ℕ) → lives.taken (entries_of some) i ≡ lives.taken (entries_of others) i)
+        → report s.board.watch (window_of s.board) ≡ report t.board.watch (window_of t.board) }
 {
     mon_saved::laws::one_image();
     mon_saved::laws::read_back();

@@ -15,6 +15,5 @@ mod station;
 
 pub use event::{Event, Outgoing, OwnedEvent, To, Told};
 pub use fault::StationFault;
-pub use opening::Core;
 pub use running::{Answer, Outbox, OutboxFault, Run, Source, SourceFault};
 pub use station::Station;

@@ -1,9 +1,12 @@
 //! One life of a station: what it does about an event that is no save and no share.
 
-ghost use Rattle.std.specs.Prelude.{◌≡◌, ◌≤◌, ◌<◌, ◌^◌, ◌∷◌, [], ℕ, All, IfOk, IfErr, None, OnErr, length, map, vec_capacity};
+ghost use Rattle.std.specs.Prelude.{◌≡◌, ◌≤◌, ◌<◌, ◌^◌, ◌∷◌, [], ℕ, All, IfOk, IfErr, IsOk, None, OnErr, length, map, vec_capacity};
 ghost use Rattle.mon_board.specs.Windows.{paired};
 ghost use Rattle.mon_exchange.specs.Claim.{IsClaim};
+ghost use Rattle.mon_board.specs.Instance.{instances_of};
 ghost use Rattle.mon_poller.specs.Target.{AreTargets};
+ghost use Rattle.mon_saved.specs.Image.{SpellsImage};
+ghost use Rattle.mon_saved.specs.Written.{image_of};
 ghost use Rattle.mon_station.specs.Verdict.{claim_pairs};
 
 use crate::event::{Outgoing, To, Told};
@@ -13,6 +16,7 @@ use mon_board::{Board, Pairs};
 use mon_exchange::{Claim, ClaimKind, ClaimRef, Peers, read_claim, write_claim};
 use mon_poller::{Addr, Poller, TimedOut};
 use mon_sample::Sample;
+use mon_saved::write_image;
 use std::alloc::{AllocError, Global};
 
 /// One life of a station: all that it holds in memory.
@@ -34,12 +38,13 @@ pub(crate) struct Life {
 
 impl Life {
     ghost use Rattle.std.specs.List.{AllByRecursion};
-    ghost use Rattle.mon_poller.specs.Verdict.{ReadsAs};
+    ghost use Rattle.mon_poller.specs.Verdict.{IsSentAgain, ReadsAs, timeout_verdict};
     ghost use Rattle.mon_pdu.specs.declared.message.Message.{Message as AnyMessage};
     ghost use Rattle.mon_exchange.specs.declared.fault.ExchangeFault.{ExchangeFault as AnyExchangeFault};
     ghost use Rattle.std.specs.Prelude.{Err, Option, Result, Ok};
     ghost use Rattle.mon_station.specs.ReadEvent.{IsNumbered, SaysAs, Said};
     ghost use Rattle.mon_station.specs.ReadEvent as read;
+    ghost use Rattle.mon_station.specs.Saved.{saved_octets};
     ghost use Rattle.mon_station.specs.State.{state_of};
     ghost use Rattle.mon_station.specs.Step.{IsSettled, left_polls};
     ghost use Rattle.mon_station.specs.Told.{IsAnswered, confirm_of, confirms, to_peer};
@@ -49,8 +54,18 @@ impl Life {
         ensures settled { IsSettled (state_of self.now) }
         ensures limited { AreTargets self.now.poller.targets }
     {
-        let _ = self.board.watch();
+        mon_window::laws::bound();
+        mon_window::laws::rising_list();
+        let _ = self.board.watch().instances();
         let _ = self.poller.targets();
+    }
+
+    /// The image of the windows and the incarnation.
+    pub(crate) fn image(&self, alloc: Global) -> Result<Vec<u8>, AllocError>
+        ensures written { IfOk result (λ octets. octets.items ≡ saved_octets (state_of self.now)) }
+        ensures spells { IfOk result (λ octets. SpellsImage octets.items (instances_of self.now.board.watch.instances) (image_of self.now.board self.now.incarnation)) }
+    {
+        write_image(alloc, &self.board, self.incarnation)
     }
 
     /// Starts a poll of the target of this number.
@@ -75,6 +90,7 @@ impl Life {
     /// The poll of this request-id was not answered in time. It takes no memory where it is not sent again.
     pub(crate) fn timeout(&mut self, alloc: Global, id: u32) -> Result<Told, StationFault>
         ensures answered { IsAnswered (state_of self.old) (state_of self.new) (read.Timeout id) result }
+        ensures spared { ¬ (IsSentAgain (timeout_verdict self.old.poller.targets self.old.poller.polls id)) → IsOk result }
         ensures refused { OnErr result (state_of self.new ≡ state_of self.old) }
     {
         self.settled();

@@ -3,9 +3,8 @@
 ghost use Rattle.std.specs.Prelude.{◌≡◌, ◌≤◌, Some, false, option_map, IfErr, IfOk};
 ghost use Rattle.mon_disk.specs.Disk.{Leaves, LeavesSince};
 ghost use Rattle.mon_disk.specs.Keeper.{found_body};
-ghost use Rattle.mon_poller.specs.Target.{AreTargets};
 ghost use Rattle.mon_saved.specs.Restored.{IsUnmarked};
-ghost use Rattle.mon_station.specs.Opened.{IsCore, setting_in};
+ghost use Rattle.mon_station.specs.Opened.{setting_in};
 ghost use Rattle.mon_station.specs.Saved.{IsBegun, IsFaultOfBody, IsRestoredFrom};
 ghost use Rattle.mon_station.specs.State.{state_of};
 
@@ -15,22 +14,10 @@ use crate::station::Station;
 use mon_board::{Board, Watch};
 use mon_disk::{Disk, Keeper};
 use mon_exchange::Peers;
-use mon_poller::{Poller, Target};
+use mon_poller::Poller;
 use mon_saved::read_image;
+use mon_settings::Core;
 use std::alloc::Global;
-
-/// What a station is set up with.
-#[derive(Drop)]
-pub struct Core {
-    /// What is watched.
-    pub watch: Watch,
-    /// The targets.
-    pub targets: Vec<Target>,
-    /// The station's own number, not 0.
-    pub own: u32,
-    /// The numbers of its peers.
-    pub peers: Vec<u32>,
-}
 
 impl<D: Disk + Drop> Station<D> {
     ghost use Rattle.mon_disk.specs.Kept.{device_of, is_spoiled};
@@ -43,7 +30,6 @@ impl<D: Disk + Drop> Station<D> {
     /// With the disk: `OutOfMemory`, a fault of the keeper, `Image` where the body that was found is no image of the watch's instances, and
     /// `NoMoreIncarnations`. The file may have been laid out, and it may hold the next incarnation.
     pub fn open(alloc: Global, core: Core, disk: D) -> Result<Self, (StationFault, D)>
-        requires { IsCore core }
         ensures setting { IfOk result (λ s. setting_of (state_of s.life) ≡ setting_in core) }
         // The life begins from the body that is found in what a read gives.
         ensures opened { D.is_honest disk → IfOk result (λ s. IsBegun (setting_in core) (found_body (D.seen disk)) (state_of s.life)) }
@@ -93,13 +79,13 @@ impl<D: Disk + Drop> Station<D> {
 
 /// The life that begins from the body that was found.
 fn begin(alloc: Global, core: Core, body: Option<Vec<u8>>) -> Result<Life, StationFault>
-    requires { IsCore core }
     ensures begun { IfOk result (λ l. IsBegun (setting_in core) (option_map (λ v. v.items) body) (state_of l)) }
     ensures fault { IfErr result (IsFaultOfBody core.watch (option_map (λ v. v.items) body)) }
 {
-    let (board, incarnation) = restore(alloc, core.watch, body)?;
-    let poller = Poller::new(alloc, core.targets)?;
-    let peers = Peers::new(alloc, core.own, core.peers.as_slice())?;
+    let parts = core.into_parts();
+    let (board, incarnation) = restore(alloc, parts.watch, body)?;
+    let poller = Poller::new(alloc, parts.targets)?;
+    let peers = Peers::new(alloc, parts.station, parts.peers.as_slice())?;
     Ok(Life {
         board,
         poller,

@@ -1,10 +1,11 @@
 //! Offers to a peer.
 
-ghost use Rattle.std.specs.Prelude.{◌≡◌, ◌<◌, Some, All, IfOk, OnErr, length, map};
+ghost use Rattle.std.specs.Prelude.{◌≡◌, ◌≤◌, ◌<◌, Some, All, IfOk, OnErr, length, map};
 ghost use Rattle.mon_exchange.specs.Claim.{IsClaim};
 ghost use Rattle.mon_exchange.specs.Peers.{peer_slot};
 ghost use Rattle.mon_exchange.specs.Portions.{IsPortion};
-ghost use Rattle.mon_station.specs.State.{serial_past};
+ghost use Rattle.mon_window.specs.Top.{rising};
+ghost use Rattle.mon_station.specs.State.{owed_below, owed_to, serial_past};
 
 use crate::event::{Outgoing, To, Told};
 use crate::fault::StationFault;
@@ -102,5 +103,36 @@ impl Life {
             to: To::Peer(peer),
             octets,
         })
+    }
+
+    /// How many samples are owed to the peer in this slot.
+    pub(crate) fn owed_count(&self, slot: u8) -> u32
+        requires { slot < 15 }
+        ensures { result ≡ owed_below (owed_to (state_of self.now) slot) (length self.now.board.watch.instances) }
+    {
+        self.settled();
+        let mut count = 0;
+        for place in 0..self.board.watch().instances().len() {
+            count += self.owed_at(slot, place as u16);
+        }
+        count
+    }
+
+    /// How many samples of an instance are owed to the peer in this slot.
+    fn owed_at(&self, slot: u8, instance: u16) -> u32
+        requires slot { slot < 15 }
+        requires instance { instance < length self.now.board.watch.instances }
+        ensures count { result ≡ length (rising (owed_to (state_of self.now) slot instance)) }
+        ensures few { result ≤ 64 }
+    {
+        mon_window::laws::rising_list();
+        self.settled();
+        let mut count = 0;
+        let mut after = None;
+        while let Some(sample) = self.board.owed(slot, instance, after) {
+            count += 1;
+            after = Some(sample);
+        }
+        count
     }
 }

@@ -1,15 +1,17 @@
 //! Stations.
 
-ghost use Rattle.std.specs.Prelude.{◌≡◌, ◌≤◌, ℕ, true, false, Err, OnErr, OnOk, IfErr, IfNone, IfOk, IfSome, IsTrue};
+ghost use Rattle.std.specs.Prelude.{◌≡◌, ◌≤◌, ◌<◌, ◌+◌, ◌-◌, ◌^◌, ℕ, true, false, Err, OnErr, OnOk, IfErr, IfNone, IfOk, IfSome, IsOk, IsTrue, length};
 ghost use Rattle.std.specs.FinMap as map;
+ghost use Rattle.mon_disk.specs.declared.file.TheConstants.{SLOT_SIZE};
+ghost use Rattle.mon_disk.specs.File.{found};
+ghost use Rattle.mon_disk.specs.Keeper.{found_generation};
 ghost use Rattle.mon_disk.specs.Disk.{Leaves, LeavesSince};
 
-use crate::event::{Event, Told};
+use crate::event::{Event, OwnedEvent, Told};
 use crate::fault::StationFault;
 use crate::life::{Life, told_none};
 use mon_board::Board;
 use mon_disk::{Disk, Keeper, KeeperFault};
-use mon_saved::write_image;
 use std::alloc::Global;
 
 /// A station: one life, and the keeper of its file.
@@ -23,9 +25,11 @@ impl<D: Disk + Drop> Station<D> {
     ghost use Rattle.mon_disk.specs.Kept.{device_of, is_spoiled};
     ghost use Rattle.mon_station.specs.ReadEvent.{ReadEvent, ReadsAs, owned};
     ghost use Rattle.mon_station.specs.ReadEvent as read;
-    ghost use Rattle.mon_station.specs.Saved.{FindsRunning, FindsState, IsCausedBy, IsSaveFault};
-    ghost use Rattle.mon_station.specs.State.{setting_of, state_of, known_of};
+    ghost use Rattle.mon_station.specs.Saved.{FindsRunning, FindsState, IsCausedBy, IsSaveFault, saved_octets};
+    ghost use Rattle.mon_station.specs.State.{known_of, owed_count, setting_of, state_of};
+    ghost use Rattle.mon_station.specs.Verdict.{slot_of};
     ghost use Rattle.mon_station.specs.Told.{IsAnswered};
+    ghost use Rattle.mon_poller.specs.Verdict.{IsSentAgain, timeout_verdict};
     ghost use Rattle.mon_station.specs.Step.{IsRead, left_polls};
 
     /// Handles an event. All memory is taken before anything is changed.
@@ -39,9 +43,15 @@ impl<D: Disk + Drop> Station<D> {
         ensures read { IsRead self.old.life.board.watch (owned event.entry) result }
         ensures setting { setting_of (state_of self.new.life) ≡ setting_of (state_of self.old.life) }
 
+        // At most 512 datagrams are sent.
+        ensures few { IfOk result (λ told. length told.sends.items ≤ 512) }
+
         // What is refused changes nothing but the open polls, and want of memory nothing at all.
         ensures refused { OnErr result (state_of self.new.life ≡ left_polls (state_of self.old.life) self.new.life.poller.polls) }
         ensures memory { result ≡ Err StationFault.OutOfMemory → (state_of self.new.life ≡ state_of self.old.life) × (self.new.keeper ≡ self.old.keeper) }
+
+        // A timeout at which nothing is sent takes no memory.
+        ensures spared { (id : ℕ) → owned event.entry ≡ OwnedEvent.Timeout id → ¬ (IsSentAgain (timeout_verdict self.old.life.poller.targets self.old.life.poller.polls id)) → IsOk result }
 
         // The file: no other event than a save changes it, and after one that was answered Ok a crash leaves a file in which it is found.
         ensures disk { (event.entry ≡ Event.Save → ⊥) → self.new.keeper ≡ self.old.keeper }
@@ -56,6 +66,8 @@ impl<D: Disk + Drop> Station<D> {
         ensures count { D.faults (device_of self.old.keeper) ≤ D.faults (device_of self.new.keeper) }
         ensures cause { IfErr result (IsCausedBy (D.faults (device_of self.old.keeper)) (D.faults (device_of self.new.keeper))) }
         ensures reopen { event.entry ≡ Event.Save → result ≡ Err (StationFault.Keeper KeeperFault.Reopen) → is_spoiled self.old.keeper ≡ true }
+        ensures no_more { D.is_honest (device_of self.old.keeper) → event.entry ≡ Event.Save → result ≡ Err (StationFault.Keeper KeeperFault.NoMoreGenerations) → found_generation (found SLOT_SIZE (D.seen (device_of self.old.keeper))) ≡ 2 ^ 64 - 1 }
+        ensures too_large { event.entry ≡ Event.Save → result ≡ Err (StationFault.Keeper KeeperFault.TooLarge) → SLOT_SIZE < length (saved_octets (state_of self.old.life)) + 17 }
         ensures spoiled { event.entry ≡ Event.Save → result ≡ Err (StationFault.Keeper KeeperFault.DiskFault) → is_spoiled self.new.keeper ≡ true }
     {
         match event {
@@ -82,10 +94,12 @@ impl<D: Disk + Drop> Station<D> {
         ensures count { D.faults (device_of self.old.keeper) ≤ D.faults (device_of self.new.keeper) }
         ensures cause { IfErr result (IsCausedBy (D.faults (device_of self.old.keeper)) (D.faults (device_of self.new.keeper))) }
         ensures reopen { result ≡ Err (StationFault.Keeper KeeperFault.Reopen) → is_spoiled self.old.keeper ≡ true }
+        ensures no_more { D.is_honest (device_of self.old.keeper) → result ≡ Err (StationFault.Keeper KeeperFault.NoMoreGenerations) → found_generation (found SLOT_SIZE (D.seen (device_of self.old.keeper))) ≡ 2 ^ 64 - 1 }
+        ensures too_large { result ≡ Err (StationFault.Keeper KeeperFault.TooLarge) → SLOT_SIZE < length (saved_octets (state_of self.old.life)) + 17 }
         ensures spoiled { result ≡ Err (StationFault.Keeper KeeperFault.DiskFault) → is_spoiled self.new.keeper ≡ true }
     {
         self.life.settled();
-        let image = write_image(alloc, &self.life.board, self.life.incarnation)?;
+        let image = self.life.image(alloc)?;
         match self.keeper.save(alloc, image.as_slice()) {
             Ok(()) => Ok(told_none(alloc)),
             Err(fault) => Err(StationFault::from(fault)),
@@ -111,6 +125,17 @@ impl<D: Disk + Drop> Station<D> {
         ensures { result ≡ known_of (state_of self.now.life) peer }
     {
         self.life.peers.known(peer)
+    }
+
+    /// How many samples a peer is owed: of what stands in the windows, all that no claim of it in the incarnation that is known has said.
+    /// A station that is no peer is owed nothing.
+    pub fn owed(&self, peer: u32) -> u32
+        ensures { result ≡ owed_count (state_of self.now.life) (slot_of (setting_of (state_of self.now.life)).peers peer) }
+    {
+        match self.life.peers.slot(peer) {
+            Some(slot) => self.life.owed_count(slot),
+            None => 0,
+        }
     }
 
     /// The request-id of the oldest open poll.
