@@ -1,6 +1,6 @@
 use Rattle.mon_smi.specs.ModuleFaults.{AllBegin}
 use Rattle.mon_smi.proofs.Begun.{body_begins, ok_on}
-use Rattle.mon_smi.proofs.modules.body_at.Goals as goal
+use Rattle.mon_smi.proofs.modules.module_body_at.Goals as goal
 
 pub returns-clause-starts : goal.returns-clause-starts
 returns-clause-starts c =
