@@ -1,6 +1,6 @@
 -- What an accepted claim leaves, and a refused one.
-use Rattle.std.proofs.Common.{◌≡◌, ◌≢◌, ◌⊎◌, inl, inr, ℕ, Bool, List, [], ◌∷◌, Option, Some, None, Result, Ok, Err, refl, sym, ap, subst, ◌∙◌, map}
-use Rattle.std.specs.Prelude.{◌==◌, ◌↔◌, if◌then◌else◌, slice_get}
+use Rattle.std.proofs.Common.{◌≡◌, ◌≢◌, ◌⊎◌, inl, inr, ℕ, Option, Some, None, Ok, refl, sym, ap, subst, ◌∙◌, map}
+use Rattle.std.specs.Prelude.{◌==◌, if◌then◌else◌}
 use Rattle.std.specs.List.{AllByRecursion}
 use Rattle.mon_board.specs.Board.{Board, is_marked, window_of}
 use Rattle.mon_board.specs.Rules.{rule_of}
@@ -15,8 +15,8 @@ use Rattle.mon_station.specs.declared.event.Told.{Told}
 use Rattle.mon_station.specs.declared.fault.StationFault.{StationFault}
 use Rattle.mon_station.specs.declared.fault.StationFault.TheVariants as station
 use Rattle.mon_station.specs.Fault.{exchange_refusal}
-use Rattle.mon_station.specs.ReadEvent.{ReadEvent, FromPeer, Said, IsNumbered}
-use Rattle.mon_station.specs.State.{State, IsHandled, known_of, marks_by, setting_of}
+use Rattle.mon_station.specs.ReadEvent.{FromPeer, Said, IsNumbered}
+use Rattle.mon_station.specs.State.{State, IsHandled, known_of, marks_by}
 use Rattle.mon_station.specs.Step.{IsSettled}
 use Rattle.mon_station.specs.Told.{IsTold, confirms, to_peer}
 use Rattle.mon_station.specs.Verdict.{claim_fault, claim_pairs}

@@ -1,7 +1,7 @@
 -- Faults of the parts, as the station's.
-use Rattle.std.proofs.Common.{◌≡◌, ◌⊎◌, inl, inr, ℕ, Option, Some, None, Result, Ok, Err, IsOk, refl, sym, ap, subst, ◌∙◌}
+use Rattle.std.proofs.Common.{◌≡◌, ℕ, Some, Result, Ok, Err, refl, sym, ap, subst, ◌∙◌}
 use Rattle.std.proofs.Common.{◌+◌, Bool, true, false, List, length}
-use Rattle.std.specs.Prelude.{nat_le, nat_lt, ◌==◌, if◌then◌else◌}
+use Rattle.std.specs.Prelude.{nat_le, ◌==◌, if◌then◌else◌}
 use Rattle.std.specs.FinMap as map
 use Rattle.mon_board.specs.Instance.{instances_of}
 use Rattle.mon_board.specs.Watch.{Watch}
@@ -13,20 +13,18 @@ use Rattle.mon_saved.specs.Image.{SpellsImage}
 use Rattle.mon_saved.specs.Reading as saved
 use Rattle.mon_saved.specs.Reading.{image_at}
 use Rattle.mon_station.specs.Saved.{IsFaultOfBody}
-use Rattle.mon_exchange.specs.declared.fault.ExchangeFault.{ExchangeFault}
-use Rattle.mon_exchange.specs.declared.fault.ExchangeFault.TheVariants as exchange
 use Rattle.mon_poller.specs.declared.fault.PollFault.{PollFault}
 use Rattle.mon_poller.specs.declared.fault.PollFault.TheVariants as poll
 use Rattle.mon_poller.specs.declared.fault.ResponseFault.{ResponseFault}
 use Rattle.mon_poller.specs.declared.fault.ResponseFault.TheVariants as response
 use Rattle.mon_poller.specs.declared.poller.Offered.{Offered}
-use Rattle.mon_poller.specs.Gives.{Fails, Gives, StartFails}
+use Rattle.mon_poller.specs.Gives.{Fails, StartFails}
 use Rattle.mon_poller.specs.Polls.{Polls}
-use Rattle.mon_poller.specs.Verdict.{ends, start_verdict, response_verdict}
+use Rattle.mon_poller.specs.Verdict.{ends, start_verdict}
 use Rattle.mon_station.specs.declared.fault.StationFault.{StationFault}
 use Rattle.mon_station.specs.declared.fault.StationFault.TheVariants as station
-use Rattle.mon_station.specs.Fault.{exchange_refusal, image_refusal, poll_refusal, response_refusal}
-use Rattle.mon_station.specs.ReadEvent.{ReadEvent, StartPoll, FromAgent}
+use Rattle.mon_station.specs.Fault.{image_refusal, poll_refusal, response_refusal}
+use Rattle.mon_station.specs.ReadEvent.{ReadEvent, StartPoll}
 use Rattle.mon_station.specs.Verdict.{Setting, IsLawfulFault, ends_poll, fault_in, verdict}
 
 -- a poll that was not started

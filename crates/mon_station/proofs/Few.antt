@@ -1,5 +1,5 @@
 -- How much there can be: samples in a window or owed, and datagrams that an event sends.
-use Rattle.std.proofs.Common.{ℕ, ◌≡◌, ◌≤◌, ◌<◌, ◌+◌, ◌*◌, add-one, zero, suc, Bool, true, false, List, [], ◌∷◌, ◌++◌, length, map, get_or, drop, Option, Some, None, Result, Ok, Err, IfOk, inl, inr, ◌⊎◌, refl, sym, ap, subst, ◌∙◌, arith, length-append, length-drop}
+use Rattle.std.proofs.Common.{ℕ, ◌≡◌, ◌≤◌, ◌<◌, ◌+◌, ◌*◌, add-one, zero, suc, Bool, true, false, List, [], ◌∷◌, length, map, get_or, drop, inl, inr, ◌⊎◌, refl, sym, ap, subst, arith, length-append, length-drop}
 use Rattle.std.specs.Prelude.{filter, not, if◌then◌else◌}
 use Rattle.std.specs.Cmp.{nat_cmp_total}
 use Rattle.std.specs.FinSet as set
@@ -17,23 +17,12 @@ use Rattle.mon_board.specs.Instance.{AreSized}
 use Rattle.mon_board.specs.Rules.{rule_of}
 use Rattle.mon_board.specs.Watch.{IsWatch, size_of, share_of}
 use Rattle.mon_board.specs.Windows.{IsWhole}
-use Rattle.mon_exchange.specs.declared.claim.Claim.{Claim}
-use Rattle.mon_exchange.specs.declared.claim.ClaimKind.{ClaimKind}
-use Rattle.mon_exchange.specs.declared.claim.ClaimKind.TheVariants.{Offer, Confirm}
 use Rattle.mon_exchange.specs.declared.sharing.Portion.{Portion}
-use Rattle.mon_exchange.specs.Peers.{peer_numbers}
 use Rattle.mon_exchange.specs.Portions.{or_empty, pieces, pieces_by, portion, portions_from, serial_after}
-use Rattle.mon_poller.specs.declared.poller.TimedOut.{TimedOut}
-use Rattle.mon_poller.specs.declared.poller.TimedOut.TheVariants.{Again, GivenUp, NotOpen}
-use Rattle.mon_poller.specs.Verdict.{timeout_verdict}
-use Rattle.mon_station.specs.declared.event.OwnedEvent.{OwnedEvent}
-use Rattle.mon_station.specs.declared.event.Told.{Told}
-use Rattle.mon_station.specs.declared.fault.StationFault.{StationFault}
-use Rattle.mon_station.specs.ReadEvent.{ReadEvent, ReadsAs, StartPoll, Timeout, FromAgent, FromPeer, Share, Save}
-use Rattle.mon_station.specs.State.{State, owed_below, owed_to, shared_in, shared_with}
-use Rattle.mon_station.specs.Step.{IsRead, IsSettled}
-use Rattle.mon_station.specs.Told.{IsAnswered, confirms, offers_from, resends, sends, to_peer}
-use Rattle.mon_station.specs.Verdict.{slot_of}
+use Rattle.mon_station.specs.declared.event.Outgoing.{Outgoing}
+use Rattle.mon_station.specs.State.{State, owed_below, owed_to, portions_to}
+use Rattle.mon_station.specs.Step.{IsSettled}
+use Rattle.mon_station.specs.Told.{offers_from, to_peer}
 
 -- ---- windows
 size_few : (ws : List Watched) → AreSized ws → (i : ℕ) → get_or (map (λ (w : Watched). w.window) ws) i 0 ≤ 64
@@ -94,37 +83,12 @@ offers_count : (s : State) (serial : ℕ) (ps : List Portion) → length (offers
 offers_count s serial [] = refl
 offers_count s serial (p ∷ ps) = ap suc (offers_count s (serial_after serial) ps)
 
--- ---- datagrams
-module _ (s : State) (settled : IsSettled s) where
-  shared_few : (slot : Option ℕ) → length (shared_in s slot) ≤ 512
-  shared_few None = omega arith
-  shared_few (Some slot) =
-      let n = length s.board.watch.instances in
-      let all : length (portions_from (owed_to s slot) 0 n) ≤ 2 * n = from_few (owed_to s slot) 0 n (owed_few s settled slot) in
-      one_at_least 512 (portions_from (owed_to s slot) 0 n) (omega (arith, all, settled.most)) (omega arith)
-
-  resent_few : (v : TimedOut) → length (resends v) ≤ 512
-  resent_few (Again target octets) = omega arith
-  resent_few GivenUp = omega arith
-  resent_few NotOpen = omega arith
-
-  confirmed_few : (kind : ClaimKind) (c : Claim) → length (map (to_peer c.station) (confirms s kind c)) ≤ 512
-  confirmed_few Offer c = omega arith
-  confirmed_few Confirm c = omega arith
-
-  sends_few : (e : ReadEvent) → length (sends s e) ≤ 512
-  sends_few (StartPoll target) = omega arith
-  sends_few (Timeout id) = resent_few (timeout_verdict s.poller.targets s.poller.polls id)
-  sends_few (FromAgent from read) = omega arith
-  sends_few (FromPeer (Err f)) = omega arith
-  sends_few (FromPeer (Ok said)) = confirmed_few said.claim.kind said.claim
-  sends_few (Share y) =
-      let offers = offers_from s s.serial (shared_with s y) in
-      omega (arith, length-map offers (to_peer y), offers_count s s.serial (shared_with s y), shared_few (slot_of (peer_numbers s.peers.peers) y))
-  sends_few Save = omega arith
-
-  -- an event that is told sends so many, since it reads as something
-  pub told_few : (event : OwnedEvent) (new : State) (result : Result Told StationFault) → IsRead s.board.watch event result → ((e : ReadEvent) → ReadsAs s.board.watch event e → IsAnswered s new e result)
-      → IfOk result (λ told. length told.sends.items ≤ 512)
-  told_few event new (Ok told) read answered = subst (λ n. n ≤ 512) (sym (ap length (answered read.0 read.1).1.sent)) (sends_few read.0)
-  told_few event new (Err f) read answered = tt
+-- ---- offers
+pub offers_few : (s : State) → IsSettled s → (slot y : ℕ) (outs : List Outgoing) → outs ≡ map (to_peer y) (offers_from s s.serial (portions_to s slot)) → length outs ≤ 512
+offers_few s settled slot y outs is =
+    let n = length s.board.watch.instances in
+    let portions = portions_from (owed_to s slot) 0 n in
+    let all : length portions ≤ 2 * n = from_few (owed_to s slot) 0 n (owed_few s settled slot) in
+    let some : length (portions_to s slot) ≤ 512 = one_at_least 512 portions (omega (arith, all, settled.most)) (omega arith) in
+    let offers = offers_from s s.serial (portions_to s slot) in
+    omega (arith, ap length is, length-map offers (to_peer y), offers_count s s.serial (portions_to s slot), some)

@@ -1,10 +1,8 @@
 -- What the handlers answer and leave, over plain states.
-use Rattle.std.proofs.Common.{◌≡◌, ◌<◌, ◌+◌, ℕ, Bool, true, false, List, [], ◌∷◌, ◌++◌, Option, Some, None, Result, Ok, Err, refl, sym, ap, subst, ◌∙◌, map}
-use Rattle.std.specs.Prelude.{◌↔◌, IsTrue}
+use Rattle.std.proofs.Common.{◌≡◌, ◌+◌, ℕ, Bool, true, List, [], ◌∷◌, Option, Some, None, Result, Ok, Err, refl, sym, ap, subst, ◌∙◌}
 use Rattle.std.specs.Result.{IsErrAnd}
 use Rattle.mon_board.specs.Board.{Board, KeepsMarks, window_of}
 use Rattle.mon_board.specs.Rules.{rule_of}
-use Rattle.mon_board.specs.Watch.{Watch}
 use Rattle.mon_board.specs.Windows.{joined}
 use Rattle.mon_pdu.specs.declared.message.Message.{Message}
 use Rattle.mon_poller.specs.declared.addr.Addr.{Addr}
@@ -13,7 +11,7 @@ use Rattle.mon_poller.specs.declared.fault.ResponseFault.{ResponseFault}
 use Rattle.mon_poller.specs.declared.poller.Offered.{Offered}
 use Rattle.mon_poller.specs.declared.poller.TimedOut.{TimedOut}
 use Rattle.mon_poller.specs.declared.poller.TimedOut.TheVariants.{Again, GivenUp, NotOpen}
-use Rattle.mon_poller.specs.Gives.{Fails, Gives, StartFails}
+use Rattle.mon_poller.specs.Gives.{Fails, StartFails}
 use Rattle.mon_poller.specs.Poller.{Poller}
 use Rattle.mon_poller.specs.Polls.{Polls, with_poll, timed}
 use Rattle.mon_poller.specs.Target.{poll_octets, target_at}
@@ -27,7 +25,7 @@ use Rattle.mon_disk.specs.declared.fault.KeeperFault.{KeeperFault}
 use Rattle.mon_disk.specs.declared.fault.KeeperFault.TheVariants as keeper
 use Rattle.mon_exchange.specs.declared.fault.ExchangeFault.TheVariants as exchange
 use Rattle.mon_station.specs.ReadEvent.{ReadEvent, StartPoll, Timeout, FromAgent, FromPeer, Share, Save}
-use Rattle.mon_station.specs.State.{State, IsAfter, IsHandled, setting_of}
+use Rattle.mon_station.specs.State.{State, IsHandled, setting_of}
 use Rattle.mon_station.specs.Step.{IsSettled, left_polls}
 use Rattle.mon_station.specs.Told.{IsAnswered, IsTold, resends, to_target}
 use Rattle.mon_station.specs.Verdict.{Setting, IsLawfulFault, fault_in, polls_after, response_pairs, share_fault, slot_of}

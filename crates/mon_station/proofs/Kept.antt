@@ -1,5 +1,6 @@
 -- What an opening finds after an opening and a save.
-use Rattle.std.proofs.Common.{ℕ, ◌≡◌, ◌≤◌, ◌<◌, ◌-◌, ◌^◌, ◌⊎◌, inl, inr, ⊎_elim, Bool, true, false, List, Option, Some, None, Result, Ok, Err, IfOk, IfErr, refl, sym, ap, subst, ◌∙◌, arith}
+use Rattle.std.proofs.Common.{ℕ, ◌≡◌, ◌≤◌, ◌<◌, ◌-◌, ◌^◌, ◌⊎◌, inl, inr, ⊎_elim, false, List, Option, Some, Result, Ok, Err, IfOk, IfErr, refl, sym, subst, ◌∙◌, arith}
+use Rattle.std.specs.Result.{IsErrAnd}
 use Rattle.std.proofs.lemmas.Bool.{cases_lt}
 use Rattle.mon_board.specs.Instance.{instances_of}
 use Rattle.mon_board.specs.Watch.{Watch}
@@ -7,7 +8,7 @@ use Rattle.mon_disk.specs.declared.fault.KeeperFault.{KeeperFault}
 use Rattle.mon_disk.specs.declared.fault.KeeperFault.TheVariants as keeper
 use Rattle.mon_disk.specs.Disk.{Leaves, LeavesSince}
 use Rattle.mon_disk.specs.Fault.{HasDiskCause}
-use Rattle.mon_disk.specs.Keeper.{FindsAs, FindsBody, IsAs, IsOpening, found_body, is_undamaged}
+use Rattle.mon_disk.specs.Keeper.{FindsAs, FindsBody, IsOpening, found_body, is_undamaged}
 use Rattle.mon_disk.proofs.Promised.{as_before, as_found, at_end, at_rest, both_as, chained, weaker}
 use Rattle.mon_saved.specs.Image.{SpellsImage}
 use Rattle.mon_saved.specs.Written.{image_of}
@@ -137,6 +138,11 @@ if_ok (Err e) P Q h f = tt
 pub if_err : {A F : Type 0} (r : Result A F) (P Q : F → Type 0) → IfErr r P → ((e : F) → P e → Q e) → IfErr r Q
 if_err (Ok a) P Q h f = tt
 if_err (Err e) P Q h f = f e h
+
+-- a fault that was passed on
+pub passed_on : {A F : Type 0} (r : Result A F) (f : F) (P : F → Type 0) → IsErrAnd r (λ g. g ≡ f) → P f → IfErr r P
+passed_on (Ok x) f P is h = absurd is
+passed_on (Err g) f P is h = subst P (sym is) h
 
 pub if_ok_both : {A F : Type 0} (r : Result A F) (P Q R : A → Type 0) → IfOk r P → IfOk r Q → ((a : A) → P a → Q a → R a) → IfOk r R
 if_ok_both (Ok a) P Q R p q f = f a p q

@@ -1,26 +1,25 @@
 -- Offers of portions.
-use Rattle.std.proofs.Common.{◌≡◌, ◌≤◌, ◌<◌, ℕ, List, [], ◌∷◌, ◌++◌, length, map, take, get_or, ◌+◌, Option, Some, None, refl, sym, ap, subst, ◌∙◌, arith}
+use Rattle.std.proofs.Common.{◌≡◌, ◌<◌, ℕ, List, [], ◌∷◌, ◌++◌, length, map, take, get_or, ◌+◌, Some, None, refl, sym, ap, subst, ◌∙◌}
 use Rattle.std.specs.List.{AllByRecursion}
 use Rattle.std.proofs.lemmas.List.{get_or-map, take_more}
 use Rattle.std.specs.FinSet as set
 use Rattle.mon_board.specs.Board.{is_marked, window_of}
 use Rattle.mon_board.specs.Rules.{rule_of}
-use Rattle.mon_board.specs.declared.instance.Instance.{Instance}
 use Rattle.mon_board.specs.declared.instance.Watched.{Watched}
-use Rattle.mon_board.specs.Instance.{instances_of, named}
+use Rattle.mon_board.specs.Instance.{named}
 use Rattle.mon_board.specs.Watch.{Watch}
 use Rattle.mon_exchange.specs.declared.claim.Claim.{Claim}
 use Rattle.mon_exchange.specs.declared.sharing.Portion.{Portion}
 use Rattle.mon_exchange.specs.Claim.{IsClaim}
-use Rattle.mon_exchange.specs.Peers.{peer_numbers, peer_slot}
+use Rattle.mon_exchange.specs.Peers.{peer_slot}
 use Rattle.mon_exchange.specs.Portions.{serial_after}
 use Rattle.mon_station.specs.declared.event.Outgoing.{Outgoing}
 use Rattle.mon_station.specs.declared.event.Told.{Told}
 use Rattle.mon_station.specs.ReadEvent.{Share}
-use Rattle.mon_station.specs.State.{State, IsHandled, known_of, portions_to, serial_past, setting_of, shared_in, shared_with}
+use Rattle.mon_station.specs.State.{State, IsHandled, portions_to, serial_past, shared_in, shared_with}
 use Rattle.mon_station.specs.Step.{IsSettled}
 use Rattle.mon_station.specs.Told.{IsTold, instance_at, offer_of, offers_from, to_peer}
-use Rattle.mon_station.specs.Verdict.{share_fault, slot_of}
+use Rattle.mon_station.specs.Verdict.{share_fault}
 use Rattle.mon_station.proofs.Quiet.{kept_own, nothing_joined}
 
 -- one portion more

@@ -1,11 +1,10 @@
 -- Events that add nothing, and what they leave.
-use Rattle.std.proofs.Common.{◌≡◌, ℕ, Bool, true, false, List, [], Option, Some, None, Result, Ok, Err, refl, sym, ap, ◌∙◌}
+use Rattle.std.proofs.Common.{◌≡◌, ℕ, Bool, true, false, [], Option, Some, Ok, Err, refl, sym, ap, ◌∙◌}
 use Rattle.std.specs.Prelude.{◌&&◌}
 use Rattle.std.specs.FinSet as set
-use Rattle.std.specs.Ordering.{nat_cmp}
 use Rattle.mon_window.specs.Window.{Samples}
 use Rattle.mon_window.proofs.Promised.{union_none}
-use Rattle.mon_board.specs.Board.{MarksEntries, is_marked, window_of}
+use Rattle.mon_board.specs.Board.{is_marked, window_of}
 use Rattle.mon_board.specs.Owed.{kept_marks}
 use Rattle.mon_board.specs.Rules.{rule_of}
 use Rattle.mon_board.specs.Windows.{IsWhole, KeepingRule, joined}

@@ -1,9 +1,8 @@
 -- A run, one turn after another.
-use Rattle.std.proofs.Common.{ℕ, ◌≡◌, List, [], ◌∷◌, ◌++◌, Option, Some, None, Result, Ok, Err, refl, sym, ap, subst, ◌∙◌, append_assoc, ◌+◌, ◌≤◌, length, zero-add, arith, ◌<◌, ◌^◌, ◌-◌, suc, add-one, inl, inr, ◌⊎◌, ⊎_elim}
-use Rattle.mon_disk.specs.declared.fault.KeeperFault.{KeeperFault}
+use Rattle.std.proofs.Common.{ℕ, ◌≡◌, List, [], ◌∷◌, ◌++◌, Option, Some, None, Result, Ok, Err, refl, sym, ap, subst, ◌∙◌, append_assoc, ◌+◌, ◌≤◌, length, zero-add, arith, ◌<◌, ◌^◌, ◌-◌, suc, add-one, inl, inr, ⊎_elim}
 use Rattle.mon_disk.specs.declared.fault.KeeperFault.TheVariants as keeper
 use Rattle.mon_disk.specs.Disk.{Leaves}
-use Rattle.mon_disk.specs.Keeper.{FindsAs, FindsBody, IsAs}
+use Rattle.mon_disk.specs.Keeper.{FindsAs, IsAs}
 use Rattle.mon_disk.proofs.Promised.{as_body_of, as_then, itself}
 use Rattle.mon_edge.specs.Counts.{failed_after, next_count}
 use Rattle.mon_edge.specs.Told.{extended}

@@ -1,21 +1,19 @@
 -- How events read, and what is refused without being read.
-use Rattle.std.proofs.Common.{◌≡◌, ℕ, List, Option, Some, None, Result, Ok, Err, IfOk, IfErr, refl, sym, ap, subst, ◌∙◌}
+use Rattle.std.proofs.Common.{◌≡◌, ℕ, List, Option, Some, Result, Ok, Err, IfOk, IfErr, refl, sym, ap, subst, ◌∙◌}
 use Rattle.mon_board.specs.Watch.{Watch}
 use Rattle.mon_exchange.specs.declared.claim.Claim.{Claim}
 use Rattle.mon_exchange.specs.declared.fault.ExchangeFault.{ExchangeFault}
 use Rattle.mon_exchange.specs.declared.fault.ExchangeFault.TheVariants as exchange
 use Rattle.mon_exchange.specs.Claim.{SpellsClaim}
 use Rattle.mon_exchange.specs.Reading.{Fails, Gives, claim_at}
-use Rattle.mon_station.specs.declared.event.Event.{Event}
 use Rattle.mon_station.specs.declared.event.OwnedEvent.{OwnedEvent}
 use Rattle.mon_station.specs.declared.event.Told.{Told}
 use Rattle.mon_station.specs.declared.fault.StationFault.{StationFault}
 use Rattle.mon_station.specs.declared.fault.StationFault.TheVariants as station
 use Rattle.mon_station.specs.Fault.{exchange_refusal}
-use Rattle.mon_station.specs.ReadEvent.{IsNumbered, ReadEvent, ReadsAs, Said, SaysAs, FromPeer, owned}
-use Rattle.mon_station.specs.State.{State, IsHandled, setting_of}
+use Rattle.mon_station.specs.ReadEvent.{IsNumbered, ReadEvent, ReadsAs, Said, SaysAs, FromPeer}
+use Rattle.mon_station.specs.State.{State, IsHandled}
 use Rattle.mon_station.specs.Step.{IsRead, IsSettled}
-use Rattle.mon_station.specs.Told.{IsAnswered}
 use Rattle.mon_station.proofs.Claimed.{said_as}
 use Rattle.mon_station.proofs.Handled.{refused}
 

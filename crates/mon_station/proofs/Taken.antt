@@ -1,5 +1,5 @@
 -- What was taken, and what it leaves in the windows.
-use Rattle.std.proofs.Common.{ℕ, zero, suc, ◌≡◌, Bool, true, false, List, [], ◌∷◌, Option, Some, None, refl, sym, ap, subst, ◌∙◌, map}
+use Rattle.std.proofs.Common.{ℕ, zero, suc, ◌≡◌, Bool, true, false, List, [], ◌∷◌, Option, Some, None, refl, sym, ap, subst, ◌∙◌}
 use Rattle.std.specs.Prelude.{◌==◌, ◌&&◌, if◌then◌else◌}
 use Rattle.std.specs.FinSet as set
 use Rattle.std.proofs.lemmas.Bool.{eqb-true}
@@ -12,7 +12,7 @@ use Rattle.mon_board.specs.Instance.{instances_of}
 use Rattle.mon_board.specs.Rules.{rule_of}
 use Rattle.mon_board.specs.Watch.{Watch, size_of, share_of}
 use Rattle.mon_board.specs.Windows.{IsWhole, KeepingRule, set_of}
-use Rattle.mon_poller.specs.Polls.{Polls, no_polls}
+use Rattle.mon_poller.specs.Polls.{no_polls}
 use Rattle.mon_saved.specs.declared.image.Image.{Image}
 use Rattle.mon_saved.specs.Image.{SpellsImage}
 use Rattle.mon_saved.specs.Restored.{IsRestored, saved_pairs}
@@ -20,9 +20,8 @@ use Rattle.mon_saved.specs.Written.{image_of, written_image}
 use Rattle.mon_station.specs.declared.fault.StationFault.{StationFault}
 use Rattle.mon_station.specs.Lived.{BeginsFrom, HandledIn, IsLived, IsReopened, Reopens, entries_of, in_front, last_state, saved_states}
 use Rattle.mon_station.specs.ReadEvent.{ReadEvent, StartPoll, Timeout, FromAgent, FromPeer, Share, Save}
-use Rattle.mon_station.specs.Saved.{IsBegun}
 use Rattle.mon_station.specs.State.{State, IsHandled, setting_of}
-use Rattle.mon_station.specs.Taken.{Entry, Restart, Answered, Origin, Nothing, Saved, Other, Past, SavedTaken, at_place, begun_with, from_save, has_sizes, no_past, past_after, past_of, saves_after, taken}
+use Rattle.mon_station.specs.Taken.{Entry, Restart, Answered, Origin, Nothing, Saved, Other, Past, SavedTaken, at_place, begun_with, from_save, has_sizes, past_after, past_of, taken}
 use Rattle.mon_station.specs.Verdict.{Setting, added, polls_after}
 
 -- what is chosen of what is chosen

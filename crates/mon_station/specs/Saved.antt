@@ -1,15 +1,13 @@
 -- What a station leaves on its disk, and what an opening makes of it.
-use Rattle.std.specs.Prelude.{ℕ, ◌≡◌, ◌≤◌, ◌<◌, ◌+◌, ◌-◌, ◌^◌, ◌⊎◌, true, false, List, length, Option, Some, None, Err}
+use Rattle.std.specs.Prelude.{ℕ, ◌≡◌, ◌≤◌, ◌+◌, ◌⊎◌, false, List, Option, Some, None, Err}
 use Rattle.std.specs.FinSet as set
 use Rattle.mon_board.specs.Board.{Board, window_of}
 use Rattle.mon_board.specs.Instance.{instances_of}
 use Rattle.mon_board.specs.Watch.{Watch}
 use Rattle.mon_disk.specs.declared.fault.KeeperFault.TheVariants as keeper
-use Rattle.mon_disk.specs.declared.file.TheConstants.{SLOT_SIZE}
 use Rattle.mon_disk.specs.Disk.{Leaves, LeavesSince}
 use Rattle.mon_disk.specs.Fault.{HasDiskCause}
-use Rattle.mon_disk.specs.File.{found}
-use Rattle.mon_disk.specs.Keeper.{FindsAs, FindsBody, IsAs, found_body, found_generation, is_undamaged}
+use Rattle.mon_disk.specs.Keeper.{FindsAs, FindsBody, IsAs, found_body, is_undamaged}
 use Rattle.mon_poller.specs.Polls.{no_polls}
 use Rattle.mon_saved.specs.declared.image.Image.{Image}
 use Rattle.mon_saved.specs.Image.{SpellsImage}

@@ -12,7 +12,6 @@ use Rattle.mon_exchange.specs.Peers.{Peers, known_incarnation, latest, noted_as,
 use Rattle.mon_exchange.specs.Peers as exchange
 use Rattle.mon_exchange.specs.Portions.{offered_portions, serial_after}
 use Rattle.mon_poller.specs.Poller.{Poller}
-use Rattle.mon_poller.specs.Polls.{Polls}
 use Rattle.mon_station.specs.declared.fault.StationFault.{StationFault}
 use Rattle.mon_station.specs.declared.life.Life.{Life}
 use Rattle.mon_station.specs.ReadEvent.{ReadEvent, StartPoll, Timeout, FromAgent, FromPeer, Share, Save}

@@ -9,7 +9,7 @@ use Rattle.mon_station.specs.declared.fault.StationFault.{StationFault}
 use Rattle.mon_station.specs.declared.running.Answer.{Answer}
 use Rattle.mon_station.specs.declared.running.Run.{Run}
 use Rattle.mon_station.specs.ReadEvent.{ReadEvent, ReadsAs}
-use Rattle.mon_station.specs.Ran.{FindsAfter, IsTurn, Turn, faults_in, shown}
+use Rattle.mon_station.specs.Ran.{FindsAfter, IsTurn, faults_in, shown}
 use Rattle.mon_station.specs.State.{State}
 
 -- one event: its answer as it is shown, what the outbox was handed, and of what can be said of files that are as each other, what can be said after it

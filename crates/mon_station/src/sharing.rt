@@ -26,6 +26,7 @@ impl Life {
     /// Offers the peer of this station number what it is owed.
     pub(crate) fn share(&mut self, alloc: Global, peer: u32) -> Result<Told, StationFault>
         ensures answered { IsAnswered (state_of self.old) (state_of self.new) (read.Share peer) result }
+        ensures few { IfOk result (λ told. length told.sends.items ≤ 512) }
         ensures refused { OnErr result (state_of self.new ≡ state_of self.old) }
     {
         self.settled();
@@ -40,6 +41,7 @@ impl Life {
         requires slot { Some slot ≡ peer_slot self.old.peers.peers peer }
         requires small { slot < 15 }
         ensures answered { IsAnswered (state_of self.old) (state_of self.new) (read.Share peer) result }
+        ensures few { IfOk result (λ told. length told.sends.items ≤ 512) }
         ensures refused { OnErr result (state_of self.new ≡ state_of self.old) }
     {
         self.settled();

@@ -1,4 +1,4 @@
-use Rattle.std.proofs.Common.{◌≡◌, Ok, Some, Result, sym, subst, ◌∙◌}
+use Rattle.std.proofs.Common.{Ok, Some, Result, sym, subst, ◌∙◌}
 use Rattle.mon_exchange.specs.declared.fault.ExchangeFault.{ExchangeFault}
 use Rattle.mon_station.specs.declared.fault.StationFault.{StationFault}
 use Rattle.mon_station.specs.ReadEvent.{FromPeer, Said, SaysAs}

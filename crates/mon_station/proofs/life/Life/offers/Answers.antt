@@ -1,12 +1,10 @@
-use Rattle.std.proofs.Common.{◌+◌, ◌++◌, ◌∷◌, ◌≡◌, [], List, length, map, take, sym, ap, subst, ◌∙◌}
+use Rattle.std.proofs.Common.{◌+◌, ◌++◌, ◌∷◌, ◌≡◌, [], List, map, take, sym, ap, subst, ◌∙◌}
 use Rattle.std.specs.List.{AllByRecursion}
-use Rattle.std.proofs.lemmas.List.{take_more}
 use Rattle.mon_exchange.specs.declared.sharing.Portion.{Portion}
 use Rattle.mon_exchange.specs.Claim.{IsClaim}
 use Rattle.mon_exchange.specs.Portions.{serial_after}
-use Rattle.mon_station.specs.declared.event.Outgoing.{Outgoing}
 use Rattle.mon_station.specs.State.{serial_past, state_of}
-use Rattle.mon_station.specs.Told.{offer_of, offers_from, to_peer}
+use Rattle.mon_station.specs.Told.{offers_from, to_peer}
 use Rattle.mon_station.proofs.Offered.{one_offer_more, one_past_more, one_claim_more, portions_more}
 use Rattle.mon_station.proofs.life.Life.offers.Goals as goal
 

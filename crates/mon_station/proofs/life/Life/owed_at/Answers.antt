@@ -1,4 +1,4 @@
-use Rattle.std.proofs.Common.{ℕ, ◌≤◌, arith, length, sym}
+use Rattle.std.proofs.Common.{arith, sym}
 use Rattle.mon_window.specs.Top.{rising}
 use Rattle.mon_station.specs.State.{owed_to, state_of}
 use Rattle.mon_station.proofs.Few.{owed_few}

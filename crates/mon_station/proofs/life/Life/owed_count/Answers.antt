@@ -1,4 +1,4 @@
-use Rattle.std.proofs.Common.{◌+◌, arith}
+use Rattle.std.proofs.Common.{arith}
 use Rattle.mon_station.specs.State.{owed_to, state_of}
 use Rattle.mon_station.proofs.Few.{one_below}
 use Rattle.mon_station.proofs.life.Life.owed_count.Goals as goal

@@ -1,4 +1,4 @@
-use Rattle.std.proofs.Common.{◌≡◌, Some, None, Option, ℕ, Result, Ok, Err, sym, ap, refl}
+use Rattle.std.proofs.Common.{◌≡◌, Result, Ok, Err, ap, refl}
 use Rattle.mon_station.specs.State.{state_of}
 use Rattle.mon_station.proofs.Handled.{by_memory}
 use Rattle.mon_station.proofs.Claimed.{accepted, claim_refused, told_claim}

@@ -1,12 +1,12 @@
-use Rattle.std.proofs.Common.{◌≡◌, ◌≤◌, ℕ, List, Option, Vec, Global, sym, subst, ap, ◌∙◌}
+use Rattle.std.proofs.Common.{ℕ, List, Option, Vec, Global, sym, subst}
 use Rattle.std.specs.Prelude.{option_map}
 use Rattle.mon_disk.specs.Keeper.{found_body}
 use Rattle.mon_disk.specs.Kept.{device_of}
 use Rattle.mon_station.specs.declared.life.Life.{Life}
 use Rattle.mon_station.specs.Opened.{setting_in}
-use Rattle.mon_station.specs.Saved.{IsBeginning, IsBegun, IsFaultOfFile}
-use Rattle.mon_station.specs.State.{State, state_of}
-use Rattle.mon_station.proofs.Kept.{body_fault, if_err_both, if_ok, if_ok_both, keeper_of_file, only_opened, save_fault, then_saved}
+use Rattle.mon_station.specs.Saved.{IsBeginning, IsBegun}
+use Rattle.mon_station.specs.State.{state_of}
+use Rattle.mon_station.proofs.Kept.{body_fault, if_err_both, if_ok, if_ok_both, only_opened, then_saved}
 use Rattle.mon_station.proofs.station.Station.open.Goals as goal
 
 pub returns-in-Ok-begin-clause-opened : goal.returns-in-Ok-begin-clause-opened

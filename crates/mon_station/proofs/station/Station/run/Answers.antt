@@ -1,4 +1,4 @@
-use Rattle.std.proofs.Common.{List, length, refl, sym, ap, ◌∙◌, arith, rules}
+use Rattle.std.proofs.Common.{length, refl, sym, ap, arith, rules}
 use Rattle.mon_disk.specs.Kept.{device_of}
 use Rattle.mon_station.specs.Ran.{faults_in}
 use Rattle.mon_station.specs.State.{state_of}

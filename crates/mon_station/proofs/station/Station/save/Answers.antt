@@ -1,4 +1,3 @@
-use Rattle.std.proofs.Common.{ap, ◌∙◌, sym, subst, refl}
 use Rattle.mon_disk.specs.Kept.{device_of}
 use Rattle.mon_disk.proofs.Promised.{weaker}
 use Rattle.mon_station.specs.State.{state_of}

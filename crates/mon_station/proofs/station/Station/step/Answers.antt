@@ -1,6 +1,4 @@
-use Rattle.std.proofs.Common.{Result, refl, ap}
-use Rattle.mon_exchange.specs.declared.fault.ExchangeFault.{ExchangeFault}
-use Rattle.mon_pdu.specs.declared.message.Message.{Message}
+use Rattle.std.proofs.Common.{refl, ap}
 use Rattle.mon_station.specs.declared.event.OwnedEvent.TheVariants as own
 use Rattle.mon_station.specs.ReadEvent.{StartPoll, Timeout, FromAgent, FromPeer, Share, owned}
 use Rattle.mon_station.proofs.Kept.{if_err, if_ok}

@@ -6,7 +6,7 @@ use Rattle.mon_station.specs.declared.running.Answer.{Answer}
 use Rattle.mon_station.specs.declared.running.SourceFault.{SourceFault}
 use Rattle.mon_station.specs.Ran.{event_in, faults_in}
 use Rattle.mon_station.specs.State.{state_of}
-use Rattle.mon_station.proofs.Runs.{failure_more, faults_more, ran_more, ran_on}
+use Rattle.mon_station.proofs.Runs.{faults_more, ran_more}
 use Rattle.mon_station.proofs.station.Station.take_turn.Goals as goal
 
 pub returns-in-Ok-Some-clause-ran : goal.returns-in-Ok-Some-clause-ran
