@@ -1,6 +1,6 @@
 //! Stations.
 
-ghost use Rattle.std.specs.Prelude.{◌≡◌, ◌≤◌, ◌<◌, ◌+◌, ◌-◌, ◌^◌, ℕ, true, false, Err, OnErr, OnOk, IfErr, IfNone, IfOk, IfSome, IsOk, IsTrue, length};
+ghost use Rattle.std.specs.Prelude.{◌≡◌, ◌≤◌, ◌<◌, ◌+◌, ◌-◌, ◌^◌, ℕ, true, false, Err, OnErr, OnOk, Some, IfErr, IfNone, IfOk, IfSome, IsOk, IsTrue, length};
 ghost use Rattle.std.specs.FinMap as map;
 ghost use Rattle.mon_disk.specs.declared.file.TheConstants.{SLOT_SIZE};
 ghost use Rattle.mon_disk.specs.File.{found};
@@ -11,7 +11,7 @@ use crate::event::{Event, OwnedEvent, Told};
 use crate::fault::StationFault;
 use crate::life::{Life, told_none};
 use mon_board::Board;
-use mon_disk::{Disk, Keeper, KeeperFault};
+use mon_disk::{Disk, FuseDisk, Keeper, KeeperFault};
 use std::alloc::Global;
 
 /// A station: one life, and the keeper of its file.
@@ -159,5 +159,20 @@ impl<D: Disk + Drop> Station<D> {
         ensures { result ≡ device_of self.keeper }
     {
         self.keeper.into_disk()
+    }
+}
+
+impl<D: Disk + Drop> Station<FuseDisk<D>> {
+    ghost use Rattle.mon_disk.specs.Kept.{device_of, is_spoiled};
+    ghost use Rattle.mon_disk.specs.Wrapped.{calls_left, under_fuse};
+
+    /// From now on `calls` calls of the disk pass, and all later ones fail and do nothing.
+    pub fn set(&mut self, calls: u64)
+        ensures life { self.new.life ≡ self.old.life }
+        ensures disk { under_fuse (device_of self.new.keeper) ≡ under_fuse (device_of self.old.keeper) }
+        ensures calls { calls_left (device_of self.new.keeper) ≡ Some calls }
+        ensures spoiled { is_spoiled self.new.keeper ≡ is_spoiled self.old.keeper }
+    {
+        self.keeper.set(calls);
     }
 }
