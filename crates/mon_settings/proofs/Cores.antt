@@ -3,12 +3,12 @@ use Rattle.std.proofs.Common.{◌≡◌, ℕ, ◌≤◌, ◌<◌, List, length, 
 use Rattle.std.proofs.lemmas.Option.{slice_get_within}
 use Rattle.mon_board.specs.Watch.{Watch, IsWatch}
 use Rattle.mon_poller.specs.Target.{AreTargets}
-use Rattle.mon_poller.specs.declared.target.Object.{Object}
 use Rattle.mon_poller.specs.declared.target.Target.{Target}
-use Rattle.mon_settings.specs.StationCore.{Core, IsPolledAs, AreInstancesOf, ArePeersOf, IsCore}
+use Rattle.mon_settings.specs.StationCore.{Core, IsPolledAs, ArePolledAs, AreInstancesOf, ArePeersOf, IsCore}
 
 -- the numbers of objects are below that of the instances
 pub numbers_below : (watch : Watch) (targets : List Target) → AreInstancesOf watch targets → All (λ t. All (λ o. o.instance < length watch.instances) t.objects) targets
+unfolding IsPolledAs ArePolledAs
 numbers_below watch targets are = λ k d lt j e within.
     let polled = are k d lt j e within in
     slice_get_within watch.instances _ polled.0 polled.1

@@ -1,8 +1,15 @@
 pub mod Accepted
 pub mod Cores
+pub mod Distinct
+pub mod ForStations
 pub mod KeyNames
 pub mod Named
+pub mod NamedRows
 pub mod Oids
+pub mod PeerLists
+pub mod Placings
 pub mod Policies
+pub mod Resolved
 pub mod Rows
 pub mod Steps
+pub mod WithRows

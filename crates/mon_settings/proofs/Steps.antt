@@ -33,7 +33,7 @@ ok a = Ok a
 pub ok_same : {A : Type 0} (a b : A) → ok a ≡ ok b → a ≡ b
 ok_same a b h = cc
 
-bad_from : {A : Type 0} (k : Key) (o : Option A) (a : A) → or_bad k o ≡ Ok a → o ≡ Some a
+pub bad_from : {A : Type 0} (k : Key) (o : Option A) (a : A) → or_bad k o ≡ Ok a → o ≡ Some a
 bad_from k None a h = absurd cc
 bad_from k (Some x) a h = cc
 
@@ -136,7 +136,7 @@ module _ {A : Type 0} (k : Key) (f : Members → Result A SettingsFault) (P : Me
   unfolding row
   row_to d a t is holds = bind_to (or_bad k (as_table d)) f t a (ap (or_bad k) is) ((same t a).1 holds)
 
-  rows_from : (ds : Items) (rest : List A) → rows k f ds ≡ Ok rest → AreRows P ds rest
+  pub rows_from : (ds : Items) (rest : List A) → rows k f ds ≡ Ok rest → AreRows P ds rest
   unfolding rows
   rows_from no_items [] h = tt
   rows_from no_items (b ∷ more) h = absurd cc
@@ -147,7 +147,7 @@ module _ {A : Type 0} (k : Key) (f : Members → Result A SettingsFault) (P : Me
       let (t, table, holds) = row_from d a first in
       subst (λ (l : List A). AreRows P (item d ds) l) is (t, table, holds, rows_from ds more others)
 
-  rows_to : (ds : Items) (rest : List A) → AreRows P ds rest → rows k f ds ≡ Ok rest
+  pub rows_to : (ds : Items) (rest : List A) → AreRows P ds rest → rows k f ds ≡ Ok rest
   unfolding rows
   rows_to no_items [] h = refl
   rows_to no_items (b ∷ more) h = absurd h

@@ -5,6 +5,12 @@ pub mod Key
 pub mod Keys
 pub mod Leaf
 pub mod Lists
+pub mod NamedLists
+pub mod Placing
+pub mod Resolving
 pub mod SettingsFault
+pub mod Station
+pub mod StationAccepted
 pub mod StationCore
+pub mod StationTables
 pub mod Tables

@@ -25,13 +25,17 @@ core_code =
     (λ c. (c.station, (c.watch, (c.targets, c.peers)))) (λ p. record { station = p.0; watch = p.1.0; targets = p.1.1.0; peers = p.1.1.1 }) (λ _. refl)
 
 -- the instance of the object's number is the one of its name at the engine, with its mark
-abbrev pub IsPolledAs : Watch → List ℕ → Object → Type 0
+unfoldable pub IsPolledAs : Watch → List ℕ → Object → Type 0
 IsPolledAs watch engine o =
     (w : Watched) × (slice_get watch.instances o.instance ≡ Some w) × (w.instance ≡ named engine o.name) × (w.mark ≡ o.mark)
 
+-- the numbers of a target's objects are those of their instances in the watch
+unfoldable pub ArePolledAs : Watch → Target → Type 0
+ArePolledAs watch t = All (IsPolledAs watch t.engine) t.objects
+
 -- the numbers of all objects are those of their instances in the watch
 abbrev pub AreInstancesOf : Watch → List Target → Type 0
-AreInstancesOf watch targets = All (λ t. All (IsPolledAs watch t.engine) t.objects) targets
+AreInstancesOf watch targets = All (ArePolledAs watch) targets
 
 -- at most 15 other stations, none twice
 pub record ArePeersOf (own : ℕ) (numbers : List ℕ) : Type 0 where

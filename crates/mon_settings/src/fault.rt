@@ -24,10 +24,13 @@ pub enum SettingsFault {
     /// A table has a key that is not asked for there.
     #[error("a key is unknown")]
     UnknownKey,
+    /// The name of an object does not resolve.
+    #[error("the name of an object is unknown")]
+    UnknownObject,
 }
 
 impl SettingsFault {
-    /// The number of the fault, 1 to 5.
+    /// The number of the fault, 1 to 6.
     pub fn number(self) -> u8
         ensures { result ≡ number_of self }
     {
@@ -37,6 +40,7 @@ impl SettingsFault {
             SettingsFault::Missing(_) => 3,
             SettingsFault::BadValue(_) => 4,
             SettingsFault::UnknownKey => 5,
+            SettingsFault::UnknownObject => 6,
         }
     }
 
@@ -50,6 +54,7 @@ impl SettingsFault {
             SettingsFault::Missing(_) => "Missing",
             SettingsFault::BadValue(_) => "BadValue",
             SettingsFault::UnknownKey => "UnknownKey",
+            SettingsFault::UnknownObject => "UnknownObject",
         }
     }
 }

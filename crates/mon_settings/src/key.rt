@@ -40,6 +40,21 @@ pub enum Key {
     OutPackets,
     Start,
     Rate,
+    Station,
+    File,
+    Window,
+    Epoch,
+    WaitMs,
+    Modules,
+    Target,
+    Peer,
+    Alarm,
+    Address,
+    Tries,
+    Objects,
+    Mark,
+    Rising,
+    Falling,
 }
 
 impl Key {
@@ -82,6 +97,21 @@ impl Key {
             Key::OutPackets => "out_packets",
             Key::Start => "start",
             Key::Rate => "rate",
+            Key::Station => "station",
+            Key::File => "file",
+            Key::Window => "window",
+            Key::Epoch => "epoch",
+            Key::WaitMs => "wait_ms",
+            Key::Modules => "modules",
+            Key::Target => "target",
+            Key::Peer => "peer",
+            Key::Alarm => "alarm",
+            Key::Address => "address",
+            Key::Tries => "tries",
+            Key::Objects => "objects",
+            Key::Mark => "mark",
+            Key::Rising => "rising",
+            Key::Falling => "falling",
         }
     }
 }

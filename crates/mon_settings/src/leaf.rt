@@ -1,7 +1,7 @@
 //! What the values of keys give.
 
 ghost use Rattle.std.specs.Prelude.{◌≡◌, ◌≢◌, ◌<◌, ◌≤◌, ◌^◌, [], option_map, IfSome, IfOk, Err};
-ghost use Rattle.toml.specs.Data.{as_bool};
+ghost use Rattle.toml.specs.Data.{as_bool, as_integer};
 ghost use Rattle.toml.specs.View.{view, table_view};
 ghost use Rattle.mon_settings.specs.Keys.{needed_at, default_at, or_bad, Reads};
 ghost use Rattle.mon_settings.specs.Leaf.{bounded, number_in, int_in, text_in, hex_of, hex_in, oid_of, oid_in, refused, addr_in, model_of, model_in};
@@ -18,6 +18,7 @@ use toml::{Table, Value};
 
 fn bounded(number: i64, least: u64, most: u64) -> Option<u64>
     ensures value { result ≡ bounded least most number }
+    ensures great { IfSome result (λ n. least ≤ n) }
     ensures small { IfSome result (λ n. n ≤ most) }
 {
     match u64::try_from(number) {
@@ -28,6 +29,7 @@ fn bounded(number: i64, least: u64, most: u64) -> Option<u64>
 
 fn number_in(value: &Value, least: u64, most: u64) -> Option<u64>
     ensures value { result ≡ number_in least most (view value.now) }
+    ensures great { IfSome result (λ n. least ≤ n) }
     ensures small { IfSome result (λ n. n ≤ most) }
 {
     match value.as_integer() {
@@ -44,6 +46,7 @@ pub(crate) fn number_at(
     most: u64,
 ) -> Result<u64, SettingsFault>
     ensures value { result ≡ needed_at key (number_in least most) (table_view table.now) }
+    ensures great { IfOk result (λ n. least ≤ n) }
     ensures small { IfOk result (λ n. n ≤ most) }
 {
     match find(table, key) {
@@ -286,4 +289,58 @@ pub(crate) fn index_at(table: &Table, key: Key) -> Result<u32, SettingsFault>
 {
     let index = number_at(table, key, 1, 2147483647)?;
     u32::try_from(index).map_err(|_| SettingsFault::BadValue(key))
+}
+
+/// The number at a key, from least to most, in 32 bits.
+pub(crate) fn u32_at(table: &Table, key: Key, least: u64, most: u64) -> Result<u32, SettingsFault>
+    requires { most < 2 ^ 32 }
+    ensures value { result ≡ needed_at key (number_in least most) (table_view table.now) }
+    ensures great { IfOk result (λ n. least ≤ n) }
+{
+    let number = number_at(table, key, least, most)?;
+    Ok(number as u32)
+}
+
+/// How often a poll is sent, 1 to 8.
+pub(crate) fn tries_at(table: &Table) -> Result<u8, SettingsFault>
+    ensures { result ≡ needed_at Key.Tries (number_in 1 8) (table_view table.now) }
+{
+    let tries = number_at(table, Key::Tries, 1, 8)?;
+    Ok(tries as u8)
+}
+
+/// The size at a key, from 1 to most.
+pub(crate) fn size_at(table: &Table, key: Key, most: usize) -> Result<usize, SettingsFault>
+    ensures { result ≡ needed_at key (number_in 1 most) (table_view table.now) }
+{
+    let size = number_at(table, key, 1, most as u64)?;
+    Ok(size as usize)
+}
+
+/// The same, or another size where the key is left out.
+pub(crate) fn size_or(
+    table: &Table,
+    key: Key,
+    default: usize,
+    most: usize,
+) -> Result<usize, SettingsFault>
+    ensures { result ≡ default_at key default (number_in 1 most) (table_view table.now) }
+{
+    match find(table, key) {
+        Some(value) => match number_in(value, 1, most as u64) {
+            Some(n) => Ok(n as usize),
+            None => Err(SettingsFault::BadValue(key)),
+        },
+        None => Ok(default),
+    }
+}
+
+/// The integer at a key, whichever.
+pub(crate) fn long_at(table: &Table, key: Key) -> Result<i64, SettingsFault>
+    ensures { result ≡ needed_at key as_integer (table_view table.now) }
+{
+    match find(table, key) {
+        Some(value) => value.as_integer().ok_or(SettingsFault::BadValue(key)),
+        None => Err(SettingsFault::Missing(key)),
+    }
 }

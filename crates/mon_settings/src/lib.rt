@@ -1,5 +1,6 @@
-//! Settings, read from TOML 1.0 texts: what an agent serves, at which address, and to whom.
-//! To the layer above: where the text is TOML, the result is what one definition gives for its tree, unless memory runs out.
+//! Settings, read from TOML 1.0 texts: what an agent serves, at which address, and to whom; and what a station watches, whom it
+//! polls, and its peers. To the layer above: where the text is TOML, the result is what one definition gives for its tree,
+//! unless memory runs out; and what a station needs of its settings holds for every `Core`.
 #![tactic(auto)]
 
 mod agent;
@@ -10,12 +11,23 @@ mod keys;
 pub mod laws;
 mod leaf;
 mod list;
+mod modules;
+mod named_list;
 mod octets;
+mod peers;
+mod placing;
+mod resolving;
+mod sizes;
+mod station;
 mod station_core;
+mod station_tables;
 mod tables;
 
 pub use agent::{AgentSettings, read_agent};
 pub use fault::SettingsFault;
 pub use key::Key;
+pub use modules::module_files;
 pub use mon_poller::Addr;
+pub use peers::are_peers;
+pub use station::{StationSettings, read_station};
 pub use station_core::{Core, CoreParts};

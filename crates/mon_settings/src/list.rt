@@ -37,7 +37,11 @@ fn read_row<R: Row>(alloc: Global, key: Key, value: &Value) -> Result<R, Setting
     }
 }
 
-fn read_rows<R: Row>(alloc: Global, key: Key, values: &[Value]) -> Result<Vec<R>, SettingsFault>
+pub(crate) fn read_rows<R: Row>(
+    alloc: Global,
+    key: Key,
+    values: &[Value],
+) -> Result<Vec<R>, SettingsFault>
     ensures { Reads (λ rs. rs.items) (rows key R.row_of (items_view values.now)) result }
 {
     let mut read = Vec::new(alloc);
@@ -66,7 +70,7 @@ fn few(values: &[Value]) -> Option<&[Value]>
     }
 }
 
-fn list_in(value: &Value) -> Option<&[Value]>
+pub(crate) fn list_in(value: &Value) -> Option<&[Value]>
     ensures { option_map (λ vs. items_view vs.now) result ≡ list_in (view value.now) }
 {
     match value.as_array() {

@@ -27,6 +27,20 @@ pub(crate) fn octets_at(
     Ok(Octets::from_slice(alloc, text.as_bytes())?)
 }
 
+/// The text at a key, of least to most octets.
+pub(crate) fn octets_between(
+    alloc: Global,
+    table: &Table,
+    key: Key,
+    least: usize,
+    most: usize,
+) -> Result<Octets, SettingsFault>
+    ensures { Reads (λ o. o) (needed_at key (text_in least most) (table_view table.now)) result }
+{
+    let text = text_at(table, key, least, most)?;
+    Ok(Octets::from_slice(alloc, text.as_bytes())?)
+}
+
 /// The octets of the hex text at a key, least to most of them.
 pub(crate) fn hex_octets_at(
     alloc: Global,

@@ -131,4 +131,149 @@ BUGS = {
         "    let communities = list_at(alloc, table, Key::Community)?;\n    let groups = list_at(alloc, table, Key::Group)?;",
         "    let groups = list_at(alloc, table, Key::Group)?;\n    let communities = list_at(alloc, table, Key::Community)?;",
     ),
+    "blames_the_view_for_an_access": (
+        "src/tables.rt",
+        "        PolicyFault::UnknownView => Key::Access,",
+        "        PolicyFault::UnknownView => Key::View,",
+    ),
+    "takes_a_limit_of_8193": (
+        "src/agent.rt",
+        "Key::Limit, 484, 8192)?;",
+        "Key::Limit, 484, 8193)?;",
+    ),
+    "takes_an_engine_of_4_octets": (
+        "src/agent.rt",
+        "Key::Engine, 5, 32)?;",
+        "Key::Engine, 4, 32)?;",
+    ),
+    "takes_the_window_as_the_epoch": (
+        "src/station_tables.rt",
+        "Key::Epoch, sizes.epoch.min(window), window)?;",
+        "Key::Epoch, window, window)?;",
+    ),
+    "takes_17_objects": (
+        "src/station_tables.rt",
+        "Key::Objects, 1, 16)?;",
+        "Key::Objects, 1, 17)?;",
+    ),
+    "takes_no_objects": (
+        "src/station_tables.rt",
+        "table, Key::Objects, 1, 16)?;",
+        "table, Key::Objects, 0, 16)?;",
+    ),
+    "takes_65_targets": (
+        "src/station.rt",
+        "        64,\n",
+        "        65,\n",
+    ),
+    "takes_9_tries": (
+        "src/leaf.rt",
+        "Key::Tries, 1, 8)?;",
+        "Key::Tries, 1, 9)?;",
+    ),
+    "takes_257_instances": (
+        "src/placing.rt",
+        "    if instances.len() <= MOST_INSTANCES {",
+        "    if instances.len() <= MOST_INSTANCES + 1 {",
+    ),
+    "compares_an_instance_with_its_own_name": (
+        "src/placing.rt",
+        ".compare(new.instance.engine.as_slice(), &new.instance.name)",
+        ".compare(new.instance.engine.as_slice(), &watched.instance.name)",
+    ),
+    "swaps_the_thresholds": (
+        "src/placing.rt",
+        "Rule::new(number as u16, alarm.rising, alarm.falling)",
+        "Rule::new(number as u16, alarm.falling, alarm.rising)",
+    ),
+    "calls_falling_a_bad_alarm": (
+        "src/placing.rt",
+        "        Err(_) => Err(SettingsFault::BadValue(Key::Falling)),",
+        "        Err(_) => Err(SettingsFault::BadValue(Key::Alarm)),",
+    ),
+    "takes_the_address_of_a_target": (
+        "src/peers.rt",
+        "            return true;",
+        "            return false;",
+    ),
+    "takes_a_peer_twice": (
+        "src/peers.rt",
+        "        if stands_in(&numbers[..i], numbers[i]) {",
+        "        if stands_in(&numbers[..i / 2], numbers[i]) {",
+    ),
+    "takes_16_peers": (
+        "src/peers.rt",
+        "    numbers.len() <= MOST_PEERS && are_others(own, numbers) && differ(numbers)",
+        "    numbers.len() <= MOST_PEERS + 1 && are_others(own, numbers) && differ(numbers)",
+    ),
+    "drops_the_peers": (
+        "src/station.rt",
+        "    let numbers = stations_of(alloc, peers)?;",
+        "    let numbers = stations_of(alloc, &peers[..0])?;",
+    ),
+    "drops_the_alarms": (
+        "src/station.rt",
+        "    rules_of(alloc, instances, alarms.as_slice())",
+        "    rules_of(alloc, instances, &alarms.as_slice()[..0])",
+    ),
+    "numbers_an_object_by_half": (
+        "src/station.rt",
+        "&object.name).unwrap_or(0);",
+        "&object.name).unwrap_or(0) / 2;",
+    ),
+    "forgets_what_marks_an_instance": (
+        "src/placing.rt",
+        "        Some(name) => Some(name.try_clone(alloc)?),",
+        "        Some(_) => None,",
+    ),
+    "reads_the_name_as_the_mark": (
+        "src/station_tables.rt",
+        "    let mark = name_or_none(alloc, names, table, Key::Mark)?;",
+        "    let mark = name_or_none(alloc, names, table, Key::Name)?;",
+    ),
+    "numbers_unknown_object_5": (
+        "src/fault.rt",
+        "            SettingsFault::UnknownObject => 6,",
+        "            SettingsFault::UnknownObject => 5,",
+    ),
+    "takes_a_wait_of_60001": (
+        "src/station.rt",
+        "Key::WaitMs, 1, 60000)?;",
+        "Key::WaitMs, 1, 60001)?;",
+    ),
+    "takes_a_file_of_4096_octets": (
+        "src/station.rt",
+        "Key::File, 0, 4095)?;",
+        "Key::File, 0, 4096)?;",
+    ),
+    "takes_a_module_of_4096_octets": (
+        "src/modules.rt",
+        "    match text_in(value, 0, 4095) {",
+        "    match text_in(value, 0, 4096) {",
+    ),
+    "calls_an_unknown_object_an_unknown_key": (
+        "src/resolving.rt",
+        "        _ => SettingsFault::UnknownObject,",
+        "        _ => SettingsFault::UnknownKey,",
+    ),
+    "takes_a_peer_of_number_0": (
+        "src/station_tables.rt",
+        "Key::Station, 1, 4294967295)?;",
+        "Key::Station, 0, 4294967295)?;",
+    ),
+    "takes_an_epoch_of_65": (
+        "src/station.rt",
+        "    let epoch = size_or(table, Key::Epoch, window, window)?;",
+        "    let epoch = size_or(table, Key::Epoch, window, 65)?;",
+    ),
+    "needs_modules": (
+        "src/modules.rt",
+        "        None => Ok(Vec::new(alloc)),",
+        "        None => Err(SettingsFault::Missing(Key::Modules)),",
+    ),
+    "watches_an_epoch_for_a_window": (
+        "src/placing.rt",
+        "        window: object.window,",
+        "        window: object.epoch,",
+    ),
 }

@@ -1,0 +1,98 @@
+-- Which trees are settings of a station, and of which: key by key, with no order of reading.
+use Rattle.std.specs.Prelude.{◌≡◌, ℕ, List, [], ◌∷◌, map, Option, Some, None, Ok, min}
+use Rattle.mon_oid.specs.Oid.{IsOid}
+use Rattle.mon_smi.specs.Names.{MeansNumbers}
+use Rattle.mon_smi.specs.declared.definition.Definition.{Definition}
+use Rattle.toml.specs.Data.{Items, no_items, Members, get_member, as_str, as_integer}
+use Rattle.mon_settings.specs.declared.key.Key.{Key}
+use Rattle.mon_settings.specs.declared.key.Key.TheVariants as key
+use Rattle.mon_settings.specs.declared.sizes.Sizes.{Sizes}
+use Rattle.mon_settings.specs.declared.station_tables.AlarmRow.{AlarmRow}
+use Rattle.mon_settings.specs.declared.station_tables.ObjectRow.{ObjectRow}
+use Rattle.mon_settings.specs.declared.station_tables.PeerRow.{PeerRow}
+use Rattle.mon_settings.specs.declared.station_tables.TargetRow.{TargetRow}
+use Rattle.mon_settings.specs.Accepted.{KnowsOnly, Holds, HoldsOr, AreRows}
+use Rattle.mon_settings.specs.Key.{key_name}
+use Rattle.mon_settings.specs.Leaf.{number_in, text_in, hex_in, addr_in}
+use Rattle.mon_settings.specs.NamedLists.{list_between}
+use Rattle.mon_settings.specs.Placing.{instances_of_rows, with_alarms}
+use Rattle.mon_settings.specs.Station.{Station, Scalars, checked_peers, core_from, station_keys, texts_in}
+
+-- the key is there, and its text means this identifier
+abbrev pub Names : List Definition → Key → Members → List ℕ → Type 0
+Names defs k t q = (text : List ℕ) × Holds k as_str t text × (IsOid q × MeansNumbers defs text q)
+
+-- the same, or the key is left out and there is none
+abbrev pub MayName : List Definition → Key → Members → Option (List ℕ) → Type 0
+MayName defs k t None = get_member (key_name k) t ≡ None
+MayName defs k t (Some q) = Names defs k t q
+
+-- the key is there, with a list of least to most such tables
+abbrev pub HoldsBetween : {A : Type 0} → Key → ℕ → ℕ → (Members → A → Type 0) → Members → List A → Type 0
+HoldsBetween k least most P t rows = (ds : Items) × Holds k (list_between least most) t ds × AreRows P ds rows
+
+-- the same with at most this many, or the key is left out and there are none
+abbrev pub MayHoldUpTo : {A : Type 0} → Key → ℕ → (Members → A → Type 0) → Members → List A → Type 0
+MayHoldUpTo k most P t rows = (ds : Items) × HoldsOr k no_items (list_between 0 most) t ds × AreRows P ds rows
+
+-- a table of the list of objects
+pub record IsObject (defs : List Definition) (sizes : Sizes) (t : Members) (o : ObjectRow) : Type 0 where
+  pub known : KnowsOnly (key.Name ∷ key.Mark ∷ key.Window ∷ key.Epoch ∷ []) t
+  pub name : Names defs key.Name t o.name
+  pub mark : MayName defs key.Mark t o.mark
+  pub window : HoldsOr key.Window sizes.window (number_in 1 64) t o.window
+  pub epoch : HoldsOr key.Epoch (min sizes.epoch o.window) (number_in 1 o.window) t o.epoch
+
+-- a table of the list of targets
+pub record IsPolled (defs : List Definition) (sizes : Sizes) (t : Members) (r : TargetRow) : Type 0 where
+  pub known : KnowsOnly (key.Address ∷ key.Community ∷ key.Engine ∷ key.Tries ∷ key.Objects ∷ []) t
+  pub address : Holds key.Address addr_in t r.address
+  pub community : Holds key.Community (text_in 1 512) t r.community
+  pub engine : Holds key.Engine (hex_in 5 32) t r.engine
+  pub tries : Holds key.Tries (number_in 1 8) t r.tries
+  pub objects : HoldsBetween key.Objects 1 16 (IsObject defs sizes) t r.objects
+
+-- a table of the list of peers
+pub record IsPeer (t : Members) (p : PeerRow) : Type 0 where
+  pub known : KnowsOnly (key.Station ∷ key.Address ∷ []) t
+  pub station : Holds key.Station (number_in 1 4294967295) t p.station
+  pub address : Holds key.Address addr_in t p.address
+
+-- a table of the list of alarms
+pub record IsAlarm (defs : List Definition) (t : Members) (a : AlarmRow) : Type 0 where
+  pub known : KnowsOnly (key.Engine ∷ key.Name ∷ key.Rising ∷ key.Falling ∷ []) t
+  pub engine : Holds key.Engine (hex_in 5 32) t a.engine
+  pub name : Names defs key.Name t a.name
+  pub rising : Holds key.Rising as_integer t a.rising
+  pub falling : Holds key.Falling as_integer t a.falling
+
+-- what stands outside of the lists
+pub record IsScalars (t : Members) (s : Scalars) : Type 0 where
+  pub station : Holds key.Station (number_in 1 4294967295) t s.station
+  pub listen : Holds key.Listen addr_in t s.listen
+  pub file : Holds key.File (text_in 0 4095) t s.file
+  pub window : Holds key.Window (number_in 1 64) t s.sizes.window
+  pub epoch : HoldsOr key.Epoch s.sizes.window (number_in 1 s.sizes.window) t s.sizes.epoch
+  pub wait_ms : Holds key.WaitMs (number_in 1 60000) t s.wait_ms
+
+-- The settings of a station: each key that is asked for is there, each key there is one of these, no value is out of its range,
+-- every name means an identifier, and the lists agree: instances and rules find their places, and the peers are others.
+pub record IsStation (defs : List Definition) (t : Members) (s : Station) : Type 0 where
+  pub scalars : Scalars
+  pub targets : List TargetRow
+  pub peers : List PeerRow
+  pub alarms : List AlarmRow
+  pub known : KnowsOnly station_keys t
+  pub plain : IsScalars t scalars
+  pub modules : HoldsOr key.Modules [] texts_in t s.modules
+  pub polled : HoldsBetween key.Target 1 64 (IsPolled defs scalars.sizes) t targets
+  pub instances : instances_of_rows targets ≡ Ok s.core.watch.instances
+  pub sharing : MayHoldUpTo key.Peer 15 IsPeer t peers
+  pub others : checked_peers scalars.station targets peers ≡ Ok peers
+  pub alarmed : MayHoldUpTo key.Alarm 256 (IsAlarm defs) t alarms
+  pub rules : with_alarms s.core.watch.instances alarms [] ≡ Ok s.core.watch.rules
+  pub core : core_from scalars.station targets peers s.core.watch.instances s.core.watch.rules ≡ s.core
+  pub listen : scalars.listen ≡ s.listen
+  pub file : scalars.file ≡ s.file
+  pub wait_ms : scalars.wait_ms ≡ s.wait_ms
+  pub addresses : map (λ p. p.address) peers ≡ s.peer_addresses

@@ -1,0 +1,81 @@
+//! The module files that settings name.
+
+ghost use Rattle.std.specs.Prelude.{◌≡◌, ◌++◌, Some, map, option_map, string_bytes};
+ghost use Rattle.mon_settings.specs.Keys.{Reads, or_bad};
+ghost use Rattle.mon_settings.specs.Leaf.{text_in};
+ghost use Rattle.mon_settings.specs.Station.{modules_at, modules_in, texts_in, texts_of};
+ghost use Rattle.toml.specs.Parse.{parse_document};
+ghost use Rattle.toml.specs.View.{view, table_view, items_view};
+
+use crate::fault::SettingsFault;
+use crate::key::Key;
+use crate::keys::find;
+use crate::leaf::text_in;
+use crate::list::list_in;
+use std::alloc::Global;
+use toml::{Table, Value};
+
+fn text_of(alloc: Global, value: &Value) -> Result<String, SettingsFault>
+    ensures { Reads (λ s. string_bytes s) (or_bad Key.Modules (text_in 0 4095 (view value.now))) result }
+{
+    match text_in(value, 0, 4095) {
+        Some(text) => Ok(String::from_str(alloc, text)?),
+        None => Err(SettingsFault::BadValue(Key::Modules)),
+    }
+}
+
+fn texts_of(alloc: Global, values: &[Value]) -> Result<Vec<String>, SettingsFault>
+    ensures { Reads (λ v. map string_bytes v.items) (or_bad Key.Modules (texts_of (items_view values.now))) result }
+{
+    let mut texts = Vec::new(alloc);
+    for value in values {
+        let text = match text_of(alloc, value) {
+            Ok(text) => text,
+            Err(fault) => return Err(fault),
+        };
+        match texts.push(text) {
+            Ok(()) => {}
+            Err(_) => return Err(SettingsFault::OutOfMemory),
+        }
+    }
+    Ok(texts)
+}
+
+fn texts_in(alloc: Global, value: &Value) -> Result<Vec<String>, SettingsFault>
+    ensures { Reads (λ v. map string_bytes v.items) (or_bad Key.Modules (texts_in (view value.now))) result }
+{
+    match list_in(value) {
+        Some(values) => texts_of(alloc, values),
+        None => Err(SettingsFault::BadValue(Key::Modules)),
+    }
+}
+
+/// The module files, none where the key is left out.
+pub(crate) fn modules_at(alloc: Global, table: &Table) -> Result<Vec<String>, SettingsFault>
+    ensures { Reads (λ v. map string_bytes v.items) (modules_at (table_view table.now)) result }
+{
+    match find(table, Key::Modules) {
+        Some(value) => texts_in(alloc, value),
+        None => Ok(Vec::new(alloc)),
+    }
+}
+
+/// The module files that a text in TOML 1.0 names by its key `modules`, at most 256 of at most 4095 octets each, and none where
+/// the key is missing. Other keys are not looked at.
+///
+/// # Errors
+/// `NotToml`; `BadValue` of `modules`; `OutOfMemory`.
+pub fn module_files(alloc: Global, text: &str) -> Result<Vec<String>, SettingsFault>
+    ensures { Reads (λ v. map string_bytes v.items) (modules_in (parse_document text.now)) result }
+{
+    match toml::table_from_str(alloc, text) {
+        Ok(table) => modules_at(alloc, &table),
+        Err(error) => {
+            if error.is_memory() {
+                Err(SettingsFault::OutOfMemory)
+            } else {
+                Err(SettingsFault::NotToml)
+            }
+        }
+    }
+}

@@ -1,0 +1,138 @@
+//! The peers of a station.
+
+ghost use Rattle.std.specs.Prelude.{◌≡◌, ◌≢◌, ◌↔◌, All, AllPairs, Any, IfOk, IsTrue, map};
+ghost use Rattle.mon_settings.specs.Keys.{Reads};
+ghost use Rattle.mon_settings.specs.Station.{are_apart, checked_peers, is_address, peers_at};
+ghost use Rattle.mon_settings.specs.StationCore.{ArePeersOf};
+ghost use Rattle.std.specs.List.{list_any};
+ghost use Rattle.toml.specs.View.{table_view};
+
+use crate::fault::SettingsFault;
+use crate::key::Key;
+use crate::list::read_rows;
+use crate::named_list::values_or_none;
+use crate::station_tables::{PeerRow, TargetRow};
+use mon_poller::Addr;
+use std::alloc::{AllocError, Global};
+use toml::Table;
+
+/// The most peers of a station.
+const MOST_PEERS: usize = 15;
+
+/// Whether these may be the peers of the station of this number: at most 15 other stations, none twice.
+pub fn are_peers(own: u32, numbers: &[u32]) -> bool
+    ensures { IsTrue result ↔ ArePeersOf own numbers.now }
+{
+    numbers.len() <= MOST_PEERS && are_others(own, numbers) && differ(numbers)
+}
+
+fn are_others(own: u32, numbers: &[u32]) -> bool
+    ensures { IsTrue result ↔ All (λ number. number ≢ own) numbers.now }
+{
+    numbers.iter().all(|number| *number != own)
+}
+
+fn stands_in(numbers: &[u32], own: u32) -> bool
+    ensures { IsTrue result ↔ Any (λ number. number ≡ own) numbers.now }
+{
+    numbers.iter().any(|number| *number == own)
+}
+
+fn differ(numbers: &[u32]) -> bool
+    ensures { IsTrue result ↔ AllPairs (λ a b. a ≢ b) numbers.now }
+{
+    for i in 0..numbers.len() {
+        if stands_in(&numbers[..i], numbers[i]) {
+            return false;
+        }
+    }
+    true
+}
+
+/// Whether two addresses are one.
+fn is_address(a: Addr, b: Addr) -> bool
+    ensures { result ≡ is_address a b }
+{
+    a.octets == b.octets && a.port == b.port
+}
+
+/// Whether some target is asked at this address.
+fn has_address(targets: &[TargetRow], address: Addr) -> bool
+    ensures { result ≡ list_any (λ t. is_address t.address address) targets.now }
+{
+    for target in targets {
+        if is_address(target.address, address) {
+            return true;
+        }
+    }
+    false
+}
+
+/// Whether no target is asked at a peer's address.
+fn are_apart(targets: &[TargetRow], peers: &[PeerRow]) -> bool
+    ensures { result ≡ are_apart targets.now peers.now }
+{
+    for peer in peers {
+        if has_address(targets, peer.address) {
+            return false;
+        }
+    }
+    true
+}
+
+/// The numbers of peers, in their order.
+pub(crate) fn stations_of(alloc: Global, peers: &[PeerRow]) -> Result<Vec<u32>, AllocError>
+    ensures { IfOk result (λ v. v.items ≡ map (λ p. p.station) peers.now) }
+{
+    let mut numbers = Vec::with_capacity(alloc, peers.len())?;
+    for peer in peers {
+        numbers.push(peer.station)?;
+    }
+    Ok(numbers)
+}
+
+/// The addresses of peers, in their order.
+pub(crate) fn addresses_of(alloc: Global, peers: &[PeerRow]) -> Result<Vec<Addr>, AllocError>
+    ensures { IfOk result (λ v. v.items ≡ map (λ p. p.address) peers.now) }
+{
+    let mut addresses = Vec::with_capacity(alloc, peers.len())?;
+    for peer in peers {
+        addresses.push(peer.address)?;
+    }
+    Ok(addresses)
+}
+
+fn checked_peers(
+    alloc: Global,
+    own: u32,
+    targets: &[TargetRow],
+    peers: Vec<PeerRow>,
+) -> Result<Vec<PeerRow>, SettingsFault>
+    ensures gives { Reads (λ v. v.items) (checked_peers own targets.now peers.items) result }
+    ensures others { IfOk result (λ v. ArePeersOf own (map (λ p. p.station) v.items)) }
+{
+    let numbers = stations_of(alloc, peers.as_slice())?;
+    if !are_peers(own, numbers.as_slice()) {
+        return Err(SettingsFault::BadValue(Key::Peer));
+    }
+    if !are_apart(targets, peers.as_slice()) {
+        return Err(SettingsFault::BadValue(Key::Peer));
+    }
+    Ok(peers)
+}
+
+/// The peers: at most 15 other stations, none twice, and none at the address of a target.
+#[tactic(auto, unfolding(crate::specs::Station::peers_at, crate::specs::NamedLists::rows_up_to))]
+pub(crate) fn peers_at(
+    alloc: Global,
+    own: u32,
+    targets: &[TargetRow],
+    table: &Table,
+) -> Result<Vec<PeerRow>, SettingsFault>
+    ensures gives { Reads (λ v. v.items) (peers_at own targets.now (table_view table.now)) result }
+    ensures others { IfOk result (λ v. ArePeersOf own (map (λ p. p.station) v.items)) }
+{
+    let values = values_or_none(table, Key::Peer, MOST_PEERS)?;
+    let peers = read_rows(alloc, Key::Peer, values)?;
+    checked_peers(alloc, own, targets, peers)
+}

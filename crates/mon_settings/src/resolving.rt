@@ -1,0 +1,76 @@
+//! Names of objects, which resolve to identifiers.
+
+ghost use Rattle.std.specs.Prelude.{◌≡◌, ℕ, List, Option};
+ghost use Rattle.toml.specs.View.{view, table_view};
+ghost use Rattle.mon_settings.specs.Keys.{Reads};
+ghost use Rattle.mon_settings.specs.Resolving.{Resolves, or_unknown, unresolved, name_in, name_at, name_or_none};
+
+use crate::fault::SettingsFault;
+use crate::key::Key;
+use crate::keys::find;
+use mon_oid::Oid;
+use mon_smi::{Names, NamesFault};
+use std::alloc::Global;
+use toml::{Table, Value};
+
+/// What a name that does not resolve is to the settings.
+fn unresolved(fault: NamesFault) -> SettingsFault
+    ensures { result ≡ unresolved fault }
+{
+    match fault {
+        NamesFault::OutOfMemory => SettingsFault::OutOfMemory,
+        _ => SettingsFault::UnknownObject,
+    }
+}
+
+/// What a text resolves to.
+fn resolved(alloc: Global, names: &Names, text: &str) -> Result<Oid, SettingsFault>
+    ensures { (find : List ℕ → Option (List ℕ)) → Resolves names.now find → Reads (λ o. o) (or_unknown (find text.now)) result }
+{
+    match names.resolve(alloc, text) {
+        Ok(oid) => Ok(oid),
+        Err(fault) => Err(unresolved(fault)),
+    }
+}
+
+#[tactic(auto, unfolding(crate::specs::Resolving::name_in))]
+fn name_in(alloc: Global, names: &Names, key: Key, value: &Value) -> Result<Oid, SettingsFault>
+    ensures { (find : List ℕ → Option (List ℕ)) → Resolves names.now find → Reads (λ o. o) (name_in find key (view value.now)) result }
+{
+    match value.as_str() {
+        Some(text) => resolved(alloc, names, text),
+        None => Err(SettingsFault::BadValue(key)),
+    }
+}
+
+/// The identifier that a key names.
+#[tactic(auto, unfolding(crate::specs::Resolving::name_in, crate::specs::Resolving::name_at))]
+pub(crate) fn name_at(
+    alloc: Global,
+    names: &Names,
+    table: &Table,
+    key: Key,
+) -> Result<Oid, SettingsFault>
+    ensures { (find : List ℕ → Option (List ℕ)) → Resolves names.now find → Reads (λ o. o) (name_at find key (table_view table.now)) result }
+{
+    match find(table, key) {
+        Some(value) => name_in(alloc, names, key, value),
+        None => Err(SettingsFault::Missing(key)),
+    }
+}
+
+/// The identifier that a key names, or nothing where the key is left out.
+#[tactic(auto, unfolding(crate::specs::Resolving::name_in_some))]
+pub(crate) fn name_or_none(
+    alloc: Global,
+    names: &Names,
+    table: &Table,
+    key: Key,
+) -> Result<Option<Oid>, SettingsFault>
+    ensures { (find : List ℕ → Option (List ℕ)) → Resolves names.now find → Reads (λ o. o) (name_or_none find key (table_view table.now)) result }
+{
+    match find(table, key) {
+        Some(value) => Ok(Some(name_in(alloc, names, key, value)?)),
+        None => Ok(None),
+    }
+}

@@ -1,0 +1,313 @@
+//! The settings of a station.
+
+ghost use Rattle.std.specs.Prelude.{◌≡◌, ◌↔◌, ◌≤◌, ℕ, List, Option, Ok, IfOk, IsTrue, length, map};
+ghost use Rattle.mon_board.specs.Instance.{named};
+ghost use Rattle.mon_settings.specs.Keys.{Reads};
+ghost use Rattle.mon_settings.specs.Placing.{object_from, target_from};
+ghost use Rattle.mon_settings.specs.Resolving.{Resolves};
+ghost use Rattle.mon_settings.specs.Station.{core_from, rules_at, scalars_of, scalars_view, station_in, station_of, station_view};
+ghost use Rattle.mon_settings.specs.StationCore.{ArePeersOf, ArePolledAs, AreInstancesOf, IsPolledAs};
+ghost use Rattle.toml.specs.Parse.{parse_document};
+ghost use Rattle.toml.specs.View.{table_view};
+
+use crate::fault::SettingsFault;
+use crate::key::Key;
+use crate::keys::only;
+use crate::leaf::{addr_at, size_at, size_or, text_at, u32_at};
+use crate::modules::modules_at;
+use crate::named_list::{rows_between, rows_up_to};
+use crate::peers::{addresses_of, peers_at, stations_of};
+use crate::placing::{instances_of, number_of, rules_of};
+use crate::sizes::Sizes;
+use crate::station_core::Core;
+use crate::station_tables::{AlarmRow, ObjectRow, PeerRow, TargetRow};
+use mon_alarms::Rule;
+use mon_ber::Octets;
+use mon_board::{Watch, Watched};
+use mon_poller::{Addr, Object, Objects, Target, are_targets};
+use mon_smi::Names;
+use std::alloc::{AllocError, Global};
+use toml::Table;
+
+/// What a station is told at its start.
+#[derive(Drop)]
+pub struct StationSettings {
+    /// Its number, what it watches, whom it polls, and its peers.
+    pub core: Core,
+    /// Where it listens for its peers and for responses.
+    pub listen: Addr,
+    /// The path of its saved file, at most 4095 octets.
+    pub file: String,
+    /// How long nothing has to come before it is quiet, 1 to 60000 milliseconds.
+    pub wait_ms: u32,
+    /// The paths of the modules that give names, at most 256 of at most 4095 octets each.
+    pub modules: Vec<String>,
+    /// Where the peers are reached, in the order of the core's peers.
+    pub peer_addresses: Vec<Addr>,
+}
+
+/// What stands outside of the lists.
+#[derive(Drop)]
+pub(crate) struct Scalars {
+    pub(crate) station: u32,
+    pub(crate) listen: Addr,
+    pub(crate) file: String,
+    pub(crate) sizes: Sizes,
+    pub(crate) wait_ms: u32,
+}
+
+/// The keys of a station's settings.
+const KEYS: [Key; 10] = [
+    Key::Station,
+    Key::Listen,
+    Key::File,
+    Key::Window,
+    Key::Epoch,
+    Key::WaitMs,
+    Key::Modules,
+    Key::Target,
+    Key::Peer,
+    Key::Alarm,
+];
+
+#[tactic(auto, unfolding(crate::specs::Station::scalars_of))]
+fn read_scalars(alloc: Global, table: &Table) -> Result<Scalars, SettingsFault>
+    ensures gives { Reads scalars_view (scalars_of (table_view table.now)) result }
+    ensures station { IfOk result (λ s. 1 ≤ s.station) }
+{
+    let station = u32_at(table, Key::Station, 1, 4294967295)?;
+    let listen = addr_at(table, Key::Listen)?;
+    let file = text_at(table, Key::File, 0, 4095)?;
+    let window = size_at(table, Key::Window, 64)?;
+    let epoch = size_or(table, Key::Epoch, window, window)?;
+    let wait_ms = u32_at(table, Key::WaitMs, 1, 60000)?;
+    Ok(Scalars {
+        station,
+        listen,
+        file: String::from_str(alloc, file)?,
+        sizes: Sizes { window, epoch },
+        wait_ms,
+    })
+}
+
+/// An object, with the number of its instance.
+fn object_from(
+    alloc: Global,
+    instances: &[Watched],
+    engine: &Octets,
+    object: &ObjectRow,
+) -> Result<Object, AllocError>
+    requires { length instances.now ≤ 256 }
+    ensures { IfOk result (λ o. o ≡ object_from instances.now engine.now object.now) }
+{
+    let number = number_of(instances, engine.as_slice(), &object.name).unwrap_or(0);
+    let mark = match &object.mark {
+        Some(name) => Some(name.try_clone(alloc)?),
+        None => None,
+    };
+    Ok(Object {
+        instance: number as u16,
+        name: object.name.try_clone(alloc)?,
+        mark,
+    })
+}
+
+fn objects_from(
+    alloc: Global,
+    instances: &[Watched],
+    engine: &Octets,
+    objects: &[ObjectRow],
+) -> Result<Vec<Object>, AllocError>
+    requires { length instances.now ≤ 256 }
+    ensures { IfOk result (λ v. v.items ≡ map (object_from instances.now engine.now) objects.now) }
+{
+    let mut numbered = Vec::with_capacity(alloc, objects.len())?;
+    for object in objects {
+        numbered.push(object_from(alloc, instances, engine, object)?)?;
+    }
+    Ok(numbered)
+}
+
+/// A target, with its objects' numbers.
+fn target_from(
+    alloc: Global,
+    instances: &[Watched],
+    target: &TargetRow,
+) -> Result<Target, AllocError>
+    requires { length instances.now ≤ 256 }
+    ensures { IfOk result (λ t. t ≡ target_from instances.now target.now) }
+{
+    let objects = objects_from(alloc, instances, &target.engine, target.objects.as_slice())?;
+    Ok(Target {
+        address: target.address,
+        community: target.community.try_clone(alloc)?,
+        engine: target.engine.try_clone(alloc)?,
+        tries: target.tries,
+        objects: Objects::new(objects),
+    })
+}
+
+fn targets_from(
+    alloc: Global,
+    instances: &[Watched],
+    targets: &[TargetRow],
+) -> Result<Vec<Target>, AllocError>
+    requires { length instances.now ≤ 256 }
+    ensures { IfOk result (λ v. v.items ≡ map (target_from instances.now) targets.now) }
+{
+    let mut numbered = Vec::with_capacity(alloc, targets.len())?;
+    for target in targets {
+        numbered.push(target_from(alloc, instances, target)?)?;
+    }
+    Ok(numbered)
+}
+
+/// Whether this is what is watched of an object at an engine.
+fn is_watched_of(watched: &Watched, engine: &Octets, object: &Object) -> bool
+    ensures { IsTrue result ↔ ((watched.now.instance ≡ named engine.now object.now.name) × (watched.now.mark ≡ object.now.mark)) }
+{
+    watched.instance.engine == *engine
+        && watched.instance.name == object.name
+        && watched.mark == object.mark
+}
+
+/// Whether the object's number is that of its instance in the watch.
+#[tactic(auto, unfolding(crate::specs::StationCore::IsPolledAs))]
+fn is_polled_as(watch: &Watch, engine: &Octets, object: &Object) -> bool
+    ensures { IsTrue result ↔ IsPolledAs watch.now engine.now object.now }
+{
+    match watch.instances().get(usize::from(object.instance)) {
+        Some(watched) => is_watched_of(watched, engine, object),
+        None => false,
+    }
+}
+
+#[tactic(auto, unfolding(crate::specs::StationCore::ArePolledAs))]
+fn objects_are_watched(watch: &Watch, target: &Target) -> bool
+    ensures { IsTrue result ↔ ArePolledAs watch.now target.now }
+{
+    target
+        .objects
+        .as_slice()
+        .iter()
+        .all(|object| is_polled_as(watch, &target.engine, object))
+}
+
+/// Whether all objects have the numbers of their instances in the watch.
+fn are_watched(watch: &Watch, targets: &[Target]) -> bool
+    ensures { IsTrue result ↔ AreInstancesOf watch.now targets.now }
+{
+    targets
+        .iter()
+        .all(|target| objects_are_watched(watch, target))
+}
+
+/// The core of the station with this number.
+fn core_from(
+    alloc: Global,
+    station: u32,
+    targets: &[TargetRow],
+    peers: &[PeerRow],
+    instances: Vec<Watched>,
+    rules: Vec<Rule>,
+) -> Result<Core, SettingsFault>
+    requires few { length instances.items ≤ 256 }
+    requires station { 1 ≤ station }
+    requires peers { ArePeersOf station (map (λ p. p.station) peers.now) }
+    ensures { Reads (λ c. c) (Ok (core_from station targets.now peers.now instances.items rules.items)) result }
+{
+    let numbered = targets_from(alloc, instances.as_slice(), targets)?;
+    let numbers = stations_of(alloc, peers)?;
+    let watch = match Watch::new(instances, rules) {
+        Ok(watch) => watch,
+        Err(_) => return Err(SettingsFault::OutOfMemory),
+    };
+    let _ = watch.instances();
+    if !are_targets(numbered.as_slice()) || !are_watched(&watch, numbered.as_slice()) {
+        return Err(SettingsFault::OutOfMemory);
+    }
+    Ok(Core::new(station, watch, numbered, numbers))
+}
+
+/// The alarm rules, in the order of a watch.
+#[tactic(auto, unfolding(crate::specs::Station::rules_at))]
+fn rules_at(
+    alloc: Global,
+    names: &Names,
+    sizes: Sizes,
+    instances: &[Watched],
+    table: &Table,
+) -> Result<Vec<Rule>, SettingsFault>
+    requires { length instances.now ≤ 256 }
+    ensures { (find : List ℕ → Option (List ℕ)) → Resolves names.now find → Reads (λ v. v.items) (rules_at find sizes instances.now (table_view table.now)) result }
+{
+    let alarms: Vec<AlarmRow> = rows_up_to(alloc, names, sizes, table, Key::Alarm, 256)?;
+    rules_of(alloc, instances, alarms.as_slice())
+}
+
+#[tactic(auto, unfolding(crate::specs::Station::station_of))]
+fn read_tree(alloc: Global, table: &Table, names: &Names) -> Result<StationSettings, SettingsFault>
+    ensures { (find : List ℕ → Option (List ℕ)) → Resolves names.now find → Reads station_view (station_of find (table_view table.now)) result }
+{
+    only(table, &KEYS)?;
+    let scalars = read_scalars(alloc, table)?;
+    let modules = modules_at(alloc, table)?;
+    let targets: Vec<TargetRow> = rows_between(
+        alloc,
+        names,
+        scalars.sizes,
+        table,
+        Key::Target,
+        1,
+        64,
+    )?;
+    let instances = instances_of(alloc, targets.as_slice())?;
+    let peers = peers_at(alloc, scalars.station, targets.as_slice(), table)?;
+    let rules = rules_at(alloc, names, scalars.sizes, instances.as_slice(), table)?;
+    let peer_addresses = addresses_of(alloc, peers.as_slice())?;
+    let core = core_from(
+        alloc,
+        scalars.station,
+        targets.as_slice(),
+        peers.as_slice(),
+        instances,
+        rules,
+    )?;
+    Ok(StationSettings {
+        core,
+        listen: scalars.listen,
+        file: scalars.file,
+        wait_ms: scalars.wait_ms,
+        modules,
+        peer_addresses,
+    })
+}
+
+/// Reads a station's settings from a text in TOML 1.0, in which objects have the names of these modules.
+///
+/// The keys, in the order in which they are read: `station` 1 to 4294967295; `listen`; `file`, at most 4095 octets; `window`,
+/// 1 to 64 samples; `epoch`, 1 to the window, which it is where it is left out; `wait_ms` 1 to 60000; and the lists `modules`
+/// (may be left out) of at most 256 texts, `target` of 1 to 64 tables, `peer` (may be left out) of at most 15 and `alarm` (may
+/// be left out) of at most 256. In each table unknown keys are refused first. What two lists have to agree on is tested
+/// once the later one was read.
+///
+/// # Errors
+/// `NotToml`; `UnknownKey`; `Missing` and `BadValue` with the key; `UnknownObject` where a name does not resolve; `OutOfMemory`.
+pub fn read_station(
+    alloc: Global,
+    text: &str,
+    names: &Names,
+) -> Result<StationSettings, SettingsFault>
+    ensures { (find : List ℕ → Option (List ℕ)) → Resolves names.now find → Reads station_view (station_in find (parse_document text.now)) result }
+{
+    match toml::table_from_str(alloc, text) {
+        Ok(table) => read_tree(alloc, &table, names),
+        Err(error) => {
+            if error.is_memory() {
+                Err(SettingsFault::OutOfMemory)
+            } else {
+                Err(SettingsFault::NotToml)
+            }
+        }
+    }
+}
