@@ -31,19 +31,44 @@ pub fn fault(alloc: Global, fault: StationFault) -> Option<String> {
     let (number, name) = (fault.number(), fault.name());
     match fault {
         StationFault::Poll(cause) => {
-            format!(in alloc; "refused {number} {name} {} {}", cause.number(), cause.name()).ok()
+            format!(in alloc;
+                "refused {number} {name} {} {}",
+                cause.number(),
+                cause.name()
+            )
+            .ok()
         }
         StationFault::Response(cause) => {
-            format!(in alloc; "refused {number} {name} {} {}", cause.number(), cause.name()).ok()
+            format!(in alloc;
+                "refused {number} {name} {} {}",
+                cause.number(),
+                cause.name()
+            )
+            .ok()
         }
         StationFault::Exchange(cause) => {
-            format!(in alloc; "refused {number} {name} {} {}", cause.number(), cause.name()).ok()
+            format!(in alloc;
+                "refused {number} {name} {} {}",
+                cause.number(),
+                cause.name()
+            )
+            .ok()
         }
         StationFault::Keeper(cause) => {
-            format!(in alloc; "refused {number} {name} {} {}", cause.number(), cause.name()).ok()
+            format!(in alloc;
+                "refused {number} {name} {} {}",
+                cause.number(),
+                cause.name()
+            )
+            .ok()
         }
         StationFault::Image(cause) => {
-            format!(in alloc; "refused {number} {name} {} {}", cause.number(), cause.name()).ok()
+            format!(in alloc;
+                "refused {number} {name} {} {}",
+                cause.number(),
+                cause.name()
+            )
+            .ok()
         }
         StationFault::OutOfMemory | StationFault::NoMoreIncarnations => {
             format!(in alloc; "refused {number} {name}").ok()
