@@ -13,32 +13,29 @@ use Rattle.mon_board.specs.declared.board.UnknownInstance.{UnknownInstance}
 use Rattle.mon_board.proofs.ByInstance.{set_of-append}
 use Rattle.mon_board.proofs.Joins.{one_put, more_put}
 
-paired_more : (k : ℕ) (samples : List ℕ) (place s : ℕ) → place < length samples → s ≡ get_or samples place s → paired k (take (place + 1) samples) ≡ paired k (take place samples) ++ (k, s) ∷ []
+pub paired_more : (k : ℕ) (samples : List ℕ) (place s : ℕ) → place < length samples → s ≡ get_or samples place s → paired k (take (place + 1) samples) ≡ paired k (take place samples) ++ (k, s) ∷ []
 paired_more k samples place s lt is =
     let pair : ℕ → ℕ × ℕ = λ t. (k, t) in
     ap (map pair) (take_more samples place s lt) ∙ map-append pair (take place samples) (get_or samples place s ∷ [])
     ∙ ap (λ (t : ℕ). map pair (take place samples) ++ (k, t) ∷ []) (sym is)
 
-module _ (rule : KeepingRule) (start old new : ℕ → Samples) (k : ℕ) (samples : List ℕ) (place s : ℕ) (lt : place < length samples) (is : s ≡ get_or samples place s)
-    (so_far : (i : ℕ) → old i ≡ joined rule start (paired k (take place samples)) i) (whole : (i : ℕ) → IsWhole rule old i) (taken : IsTaken rule old new k s) where
+module _ (rule : KeepingRule) (start old new : ℕ → Samples) (before after : List (ℕ × ℕ)) (pair : ℕ × ℕ) (longer : after ≡ before ++ pair ∷ [])
+    (so_far : (i : ℕ) → old i ≡ joined rule start before i) (whole : (i : ℕ) → IsWhole rule old i) (taken : IsTaken rule old new pair.0 pair.1) where
   -- one sample more
-  pub one_taken : (i : ℕ) → new i ≡ joined rule start (paired k (take (place + 1) samples)) i
+  pub one_taken : (i : ℕ) → new i ≡ joined rule start after i
   one_taken i =
-      let pair : ℕ × ℕ = (k, s) in
       one_put rule old new pair whole taken i
       ∙ ap (λ (a : Samples). rule.choice i (set.union a (set_of i (pair ∷ [])))) (so_far i)
-      ∙ more_put rule start (paired k (take place samples)) (pair ∷ []) i
-      ∙ ap (λ (ps : List (ℕ × ℕ)). joined rule start ps i) (sym (paired_more k samples place s lt is))
+      ∙ more_put rule start before (pair ∷ []) i
+      ∙ ap (λ (ps : List (ℕ × ℕ)). joined rule start ps i) (sym longer)
 
   -- what fell out does not come back
   pub stayed : (i q : ℕ) → In q (start i) → In q (new i) → In q (old i)
   stayed i q first last =
-      let pair : ℕ × ℕ = (k, s) in
-      let pairs = paired k (take place samples) in
-      let a : Samples = set.union (start i) (set_of i pairs) in
-      let b : Samples = set.union (start i) (set_of i (pairs ++ pair ∷ [])) in
-      let all : new i ≡ rule.choice i b = one_taken i ∙ ap (λ (ps : List (ℕ × ℕ)). joined rule start ps i) (paired_more k samples place s lt is) in
-      subst (In q) (sym (so_far i)) ((rule.is_choice i).stays a b q (in_left q (start i) (set_of i pairs) first) (more i pairs (pair ∷ [])) (subst (In q) all last))
+      let a : Samples = set.union (start i) (set_of i before) in
+      let b : Samples = set.union (start i) (set_of i (before ++ pair ∷ [])) in
+      let all : new i ≡ rule.choice i b = one_taken i ∙ ap (λ (ps : List (ℕ × ℕ)). joined rule start ps i) longer in
+      subst (In q) (sym (so_far i)) ((rule.is_choice i).stays a b q (in_left q (start i) (set_of i before) first) (more i before (pair ∷ [])) (subst (In q) all last))
     where
       more : (i : ℕ) (ps qs : List (ℕ × ℕ)) (x : ℕ) → In x (set.union (start i) (set_of i ps)) → In x (set.union (start i) (set_of i (ps ++ qs)))
       more i ps qs x h = elim (in_either x (start i) (set_of i ps) h) [
@@ -50,6 +47,9 @@ module _ (rule : KeepingRule) (start old new : ℕ → Samples) (k : ℕ) (sampl
 pub was_taken : (r : Result Inserted UnknownInstance) (P Q : Type 0) → (IsErr r ↔ Q) → (Q → ⊥) → OnOk r P → P
 was_taken (Ok x) P Q unknown not_unknown taken = taken
 was_taken (Err e) P Q unknown not_unknown taken = absurd (not_unknown (unknown.0 refl))
+
+pub pairs_more : (pairs : List (ℕ × ℕ)) (place : ℕ) (pair : ℕ × ℕ) → place < length pairs → pair ≡ get_or pairs place pair → take (place + 1) pairs ≡ take place pairs ++ pair ∷ []
+pairs_more pairs place pair lt is = take_more pairs place pair lt ∙ ap (λ (p : ℕ × ℕ). take place pairs ++ p ∷ []) (sym is)
 
 -- ---- marks
 still_there : (m a : Bool) → (m ≡ true → a ≡ true) → m ≡ ((m && a) && a)

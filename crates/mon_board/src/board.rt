@@ -1,4 +1,4 @@
-ghost use Rattle.std.specs.Prelude.{◌≡◌, ◌≤◌, ◌<◌, ◌*◌, ◌^◌, ◌↔◌, ℕ, Contains, IfOk, IfSome, IfNone, IsErr, OnErr, OnOk, Some, false, not, ◌==◌, ◌&&◌, ◌||◌, length, map, slice_get};
+ghost use Rattle.std.specs.Prelude.{◌≡◌, ◌≤◌, ◌<◌, ◌*◌, ◌^◌, ◌↔◌, ℕ, All, Contains, IfOk, IfSome, IfNone, IsErr, OnErr, OnOk, Some, false, not, ◌==◌, ◌&&◌, ◌||◌, length, map, slice_get};
 ghost use Rattle.std.specs.FinSet as set;
 ghost use Rattle.mon_window.specs.Top.{rising};
 ghost use Rattle.mon_board.specs.Owed.{next_above, owed_in};
@@ -83,6 +83,8 @@ impl Board {
     pub fn find(&self, engine: &[u8], name: &Oid) -> Option<u16>
         ensures found { IfSome result (λ i. slice_get (instances_of self.now.watch.instances) i ≡ Some (named engine.now name.now)) }
         ensures absent { IfNone result (¬ (Contains (instances_of self.now.watch.instances) (named engine.now name.now))) }
+        // The instances rise, so none stands there twice.
+        ensures only { (i : ℕ) → slice_get (instances_of self.now.watch.instances) i ≡ Some (named engine.now name.now) → result ≡ Some i }
     {
         match search(self.watch.instances(), engine, name) {
             Some(place) => Some(place as u16),
@@ -122,6 +124,21 @@ impl Board {
         for sample in samples {
             let _ = self.watch();
             let _ = self.take(instance, *sample);
+        }
+    }
+
+    /// Takes samples in, one after another, each of the instance whose number stands with it. It changes no other window.
+    pub fn take_pairs(&mut self, pairs: &[(u16, Sample)])
+        requires { All (λ pair. pair.0 < length self.old.watch.instances) pairs.now }
+        ensures watch { self.new.watch ≡ self.old.watch }
+        ensures windows { (i : ℕ) → window_of self.new i ≡ joined (rule_of self.old.watch) (window_of self.old) pairs.now i }
+        ensures marks { KeepsMarks self.old self.new }
+    {
+        laws::taken_in_turn();
+        let _ = self.watch();
+        for (instance, sample) in pairs {
+            let _ = self.watch();
+            let _ = self.take(*instance, *sample);
         }
     }
 

@@ -1,4 +1,4 @@
--- Claims noted on a board: the number of an instance, and marks.
+-- Claims noted on a board: their marks.
 use Rattle.std.proofs.Common.{◌≡◌, ℕ, ◌+◌, ◌<◌, Bool, true, false, ◌||◌, ◌&&◌, List, [], ◌∷◌, ◌++◌, length, get_or, take, Option, Some, None, refl, sym, ap, subst, ◌∙◌, inl, inr}
 use Rattle.std.specs.Prelude.{◌==◌, if◌then◌else◌, slice_get, Contains, IfSome, IfNone, not}
 use Rattle.std.specs.Cmp.{nat_cmp_total, unsigned_tied, IsTotalOrder}
@@ -20,31 +20,6 @@ use Rattle.mon_board.specs.Owed.{kept_marks}
 use Rattle.mon_board.specs.declared.instance.Instance.{Instance}
 use Rattle.mon_exchange.specs.Peers.{is_claimed, marks_after, marks_noted}
 use Rattle.mon_exchange.specs.declared.noted.Noted.{Noted}
-
--- ---- the number of an instance
-instances_total : IsTotalOrder instance_cmp
-unfolding instance_cmp
-instances_total = then_total (on_total (λ (i : Instance). i.engine) nat_list_cmp_total) (on_total (λ (i : Instance). i.name) nat_list_cmp_total)
-
-not_below_itself : (x : Instance) → instance_cmp x x ≡ Less → ⊥
-not_below_itself x h = let turned : Less ≡ Greater = sym h ∙ instances_total.antisymm x x ∙ ap ordering_reverse h in cc
-
-module _ (xs : List Instance) (sorted : IsStrictlySortedBy instance_cmp xs) (x : Instance) where
-  not_twice : (i j : ℕ) → slice_get xs i ≡ Some x → slice_get xs j ≡ Some x → i < j → ⊥
-  not_twice i j first second lt =
-      let below = Less-from_sorted instance_cmp xs i j x sorted lt (slice_get_within xs j x second) in
-      not_below_itself x (sym (λ k. instance_cmp (get_or_from_slice_get xs i x x first k) (get_or_from_slice_get xs j x x second k)) ∙ below)
-
-  one_number : (i j : ℕ) → slice_get xs i ≡ Some x → slice_get xs j ≡ Some x → i ≡ j
-  one_number i j first second = elim (cases_order i j) [
-    | inl same ↦ same
-    | inr (inl lt) ↦ absurd (not_twice i j first second lt)
-    | inr (inr gt) ↦ absurd (not_twice j i second first gt)
-  ]
-
-  pub only_number : (r : Option ℕ) → IfSome r (λ k. slice_get xs k ≡ Some x) → IfNone r (¬ (Contains xs x)) → (i : ℕ) → slice_get xs i ≡ Some x → r ≡ Some i
-  only_number (Some k) found absent i is = ap (λ (m : ℕ). Some m) (one_number k i found is)
-  only_number None found absent i is = absurd (absent (subst (Contains xs) (get_or_from_slice_get xs i x x is) (Contains-get_or xs i x (slice_get_within xs i x is))))
 
 -- ---- marks of a list of samples
 one_sample : (x s : ℕ) → contains (from_list {R = nat_cmp} (x ∷ [])) s ≡ (s == x)

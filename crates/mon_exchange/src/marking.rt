@@ -14,8 +14,6 @@ pub(crate) fn number_of(board: &Board, claim: &Claim) -> Option<u16>
     ensures within { IfSome result (λ i. i < length board.now.watch.instances) }
     ensures only { (i : ℕ) → IsWatchedAs board.now.watch claim.now.engine claim.now.name i → result ≡ Some i }
 {
-    // The instances rise, so none stands there twice.
-    let _ = board.watch().instances();
     board.find(claim.engine.as_slice(), &claim.name)
 }
 

@@ -1,0 +1,195 @@
+-- What an opening finds after an opening and a save.
+use Rattle.std.proofs.Common.{ℕ, ◌≡◌, ◌≤◌, ◌<◌, ◌-◌, ◌^◌, ◌⊎◌, inl, inr, ⊎_elim, false, List, Option, Some, Result, Ok, Err, IfOk, IfErr, refl, sym, subst, ◌∙◌, arith}
+use Rattle.std.specs.Result.{IsErrAnd}
+use Rattle.std.proofs.lemmas.Bool.{cases_lt}
+use Rattle.mon_board.specs.Instance.{instances_of}
+use Rattle.mon_board.specs.Watch.{Watch}
+use Rattle.mon_disk.specs.declared.fault.KeeperFault.{KeeperFault}
+use Rattle.mon_disk.specs.declared.fault.KeeperFault.TheVariants as keeper
+use Rattle.mon_disk.specs.Disk.{Leaves, LeavesSince}
+use Rattle.mon_disk.specs.Fault.{HasDiskCause}
+use Rattle.mon_disk.specs.Keeper.{FindsAs, FindsBody, IsOpening, found_body, is_undamaged}
+use Rattle.mon_disk.proofs.Promised.{as_before, as_found, at_end, at_rest, both_as, chained, weaker}
+use Rattle.mon_saved.specs.Image.{SpellsImage}
+use Rattle.mon_saved.specs.Written.{image_of}
+use Rattle.mon_station.specs.declared.fault.StationFault.{StationFault}
+use Rattle.mon_station.specs.declared.fault.StationFault.TheVariants as station
+use Rattle.mon_station.specs.Fault.{keeper_refusal}
+use Rattle.mon_station.specs.Saved.{FindsBegun, FindsRunning, FindsState, IsBeginning, IsBegun, IsCausedBy, IsFaultOfBody, IsFaultOfFile, IsSaveFault, saved_octets}
+use Rattle.mon_station.specs.State.{State}
+use Rattle.mon_station.specs.Verdict.{Setting}
+
+-- octets that spell the state's image
+abbrev pub Spells : State → List ℕ → Type 0
+Spells s octets = SpellsImage octets (instances_of s.board.watch.instances) (image_of s.board s.incarnation)
+
+pub finds_state : (s : State) (body octets : List ℕ) (c : List ℕ) → body ≡ octets → octets ≡ saved_octets s → Spells s octets → FindsBody (Some body) c → FindsState s c
+finds_state s body octets c is written spells finds = record {
+  body = subst (λ (b : List ℕ). FindsBody (Some b) c) (is ∙ written) finds;
+  spells = subst (Spells s) written spells;
+}
+
+pub finds_either : (outcomes : List ℕ → Type 0) (s : State) (body octets : List ℕ) → body ≡ octets → octets ≡ saved_octets s → Spells s octets → (c : List ℕ) → FindsAs outcomes c ⊎ FindsBody (Some body) c → FindsRunning outcomes s c
+finds_either outcomes s body octets is written spells c either = ⊎_elim (λ same. inl same) (λ finds. inr (finds_state s body octets c is written spells finds)) either
+
+-- no call at all
+pub rests : {D : Type 0} (may_leave : D → List ℕ → Type 0) (moment : D → ℕ) (left_since : D → ℕ → List ℕ → Type 0) (d : D) (s : State) → ((c : List ℕ) → left_since d (moment d) c → may_leave d c)
+    → LeavesSince moment left_since d d (FindsRunning (may_leave d) s)
+rests may_leave moment left_since d s only_now = weaker moment left_since may_leave d d (FindsAs (may_leave d)) (FindsRunning (may_leave d) s) (λ c same. inl same) (at_rest moment left_since may_leave d only_now)
+
+-- ---- faults
+-- what a save refuses, an opening does
+pub save_fault : (watch : Watch) (file : List ℕ) (fault : StationFault) → IsSaveFault fault → IsFaultOfFile watch file fault
+save_fault watch file station.OutOfMemory h = tt
+save_fault watch file (station.Keeper f) h = λ e. absurd (h e)
+save_fault watch file (station.Poll f) h = absurd h
+save_fault watch file (station.Response f) h = absurd h
+save_fault watch file (station.Exchange f) h = absurd h
+save_fault watch file (station.Image f) h = absurd h
+save_fault watch file station.NoMoreIncarnations h = absurd h
+
+pub body_fault : (watch : Watch) (file : List ℕ) (body : Option (List ℕ)) (fault : StationFault) → FindsBody body file → IsFaultOfBody watch body fault → IsFaultOfFile watch file fault
+body_fault watch file body station.OutOfMemory finds h = tt
+body_fault watch file body (station.Keeper f) finds h = absurd h
+body_fault watch file body (station.Poll f) finds h = absurd h
+body_fault watch file body (station.Response f) finds h = absurd h
+body_fault watch file body (station.Exchange f) finds h = absurd h
+body_fault watch file body (station.Image f) finds h = subst (λ (b : Option (List ℕ)). IsFaultOfBody watch b (station.Image f)) (sym finds.body_is) h
+body_fault watch file body station.NoMoreIncarnations finds h = subst (λ (b : Option (List ℕ)). IsFaultOfBody watch b station.NoMoreIncarnations) (sym finds.body_is) h
+
+-- a fault of the keeper, as the station's
+pub keeper_of_file : (watch : Watch) (file : List ℕ) (f : KeeperFault) → (f ≡ keeper.Damaged → is_undamaged file ≡ false) → IsFaultOfFile watch file (keeper_refusal f)
+keeper_of_file watch file keeper.OutOfMemory h = tt
+keeper_of_file watch file keeper.DiskFault h = h
+keeper_of_file watch file keeper.NoMoreGenerations h = h
+keeper_of_file watch file keeper.TooLarge h = h
+keeper_of_file watch file keeper.Damaged h = h
+keeper_of_file watch file keeper.Reopen h = h
+
+pub keeper_of_save : (f : KeeperFault) → (f ≡ keeper.Damaged → ⊥) → IsSaveFault (keeper_refusal f)
+keeper_of_save keeper.OutOfMemory h = tt
+keeper_of_save keeper.DiskFault h = h
+keeper_of_save keeper.NoMoreGenerations h = h
+keeper_of_save keeper.TooLarge h = h
+keeper_of_save keeper.Damaged h = h
+keeper_of_save keeper.Reopen h = h
+
+-- the station's fault is the keeper's of this kind
+pub was_keeper : (f g : KeeperFault) → keeper_refusal f ≡ station.Keeper g → f ≡ g
+was_keeper keeper.OutOfMemory g e = absurd cc
+was_keeper keeper.DiskFault g e = cc
+was_keeper keeper.NoMoreGenerations g e = cc
+was_keeper keeper.TooLarge g e = cc
+was_keeper keeper.Damaged g e = cc
+was_keeper keeper.Reopen g e = cc
+
+pub was_memory : (f : KeeperFault) → keeper_refusal f ≡ station.OutOfMemory → f ≡ keeper.OutOfMemory
+was_memory keeper.OutOfMemory e = refl
+was_memory keeper.DiskFault e = absurd cc
+was_memory keeper.NoMoreGenerations e = absurd cc
+was_memory keeper.TooLarge e = absurd cc
+was_memory keeper.Damaged e = absurd cc
+was_memory keeper.Reopen e = absurd cc
+
+-- ---- causes
+pub keeper_cause : (before now : ℕ) (f : KeeperFault) → HasDiskCause before now f → IsCausedBy before now (keeper_refusal f)
+keeper_cause before now keeper.OutOfMemory h = h.no_less
+keeper_cause before now keeper.DiskFault h = h
+keeper_cause before now keeper.NoMoreGenerations h = h
+keeper_cause before now keeper.TooLarge h = h
+keeper_cause before now keeper.Damaged h = h
+keeper_cause before now keeper.Reopen h = h
+
+-- a fault of the body has no cause in the disk
+pub body_cause : (watch : Watch) (body : Option (List ℕ)) (before now : ℕ) (fault : StationFault) → before ≤ now → IsFaultOfBody watch body fault → IsCausedBy before now fault
+body_cause watch body before now station.OutOfMemory le h = le
+body_cause watch body before now (station.Keeper f) le h = absurd h
+body_cause watch body before now (station.Poll f) le h = absurd h
+body_cause watch body before now (station.Response f) le h = absurd h
+body_cause watch body before now (station.Exchange f) le h = absurd h
+body_cause watch body before now (station.Image f) le h = le
+body_cause watch body before now station.NoMoreIncarnations le h = le
+
+-- a cause after calls that were answered Ok
+disk_cause : (before mid now : ℕ) (fault : KeeperFault) → before ≤ mid → HasDiskCause mid now fault → HasDiskCause before now fault
+disk_cause before mid now fault le h = record {
+  no_less = omega (arith, le, h.no_less);
+  told = λ is. ⊎_elim (λ (rose : mid < now). inl (omega (arith, le, rose))) (λ (full : mid ≡ 2 ^ 64 - 1). at_full full (cases_lt before mid)) (h.told is);
+}
+  where
+    at_full : mid ≡ 2 ^ 64 - 1 → (before < mid) ⊎ (mid ≤ before) → (before < now) ⊎ (before ≡ 2 ^ 64 - 1)
+    at_full full (inl less) = inl (omega (arith, less, h.no_less))
+    at_full full (inr same) = inr (omega (arith, le, same, full))
+
+pub later_cause : (before mid now : ℕ) (fault : StationFault) → before ≤ mid → IsCausedBy mid now fault → IsCausedBy before now fault
+later_cause before mid now station.OutOfMemory le h = omega (arith, le, h)
+later_cause before mid now (station.Keeper f) le h = disk_cause before mid now f le h
+later_cause before mid now (station.Poll f) le h = omega (arith, le, h)
+later_cause before mid now (station.Response f) le h = omega (arith, le, h)
+later_cause before mid now (station.Exchange f) le h = omega (arith, le, h)
+later_cause before mid now (station.Image f) le h = omega (arith, le, h)
+later_cause before mid now station.NoMoreIncarnations le h = omega (arith, le, h)
+
+-- what follows of the value of a result
+pub if_ok : {A F : Type 0} (r : Result A F) (P Q : A → Type 0) → IfOk r P → ((a : A) → P a → Q a) → IfOk r Q
+if_ok (Ok a) P Q h f = f a h
+if_ok (Err e) P Q h f = tt
+
+pub if_err : {A F : Type 0} (r : Result A F) (P Q : F → Type 0) → IfErr r P → ((e : F) → P e → Q e) → IfErr r Q
+if_err (Ok a) P Q h f = tt
+if_err (Err e) P Q h f = f e h
+
+-- a fault that was passed on
+pub passed_on : {A F : Type 0} (r : Result A F) (f : F) (P : F → Type 0) → IsErrAnd r (λ g. g ≡ f) → P f → IfErr r P
+passed_on (Ok x) f P is h = absurd is
+passed_on (Err g) f P is h = subst P (sym is) h
+
+pub if_ok_both : {A F : Type 0} (r : Result A F) (P Q R : A → Type 0) → IfOk r P → IfOk r Q → ((a : A) → P a → Q a → R a) → IfOk r R
+if_ok_both (Ok a) P Q R p q f = f a p q
+if_ok_both (Err e) P Q R p q f = tt
+
+pub if_err_both : {A F : Type 0} (r : Result A F) (P Q R : F → Type 0) → IfErr r P → IfErr r Q → ((e : F) → P e → Q e → R e) → IfErr r R
+if_err_both (Ok a) P Q R p q f = tt
+if_err_both (Err e) P Q R p q f = f e p q
+
+-- ---- an opening of a station: an opening of its keeper, and perhaps the first save
+module _ {D : Type 0} (w : Setting) (seen : D → List ℕ) (may_leave : D → List ℕ → Type 0) (moment : D → ℕ) (left_since : D → ℕ → List ℕ → Type 0) (old mid : D)
+    (opened : IsOpening seen may_leave moment left_since old mid) where
+  abbrev Raised : List ℕ → Type 0
+  Raised c = FindsBegun w (found_body (seen old)) c
+
+  abbrev Begun : List ℕ → Type 0
+  Begun c = FindsAs (may_leave old) c ⊎ Raised c
+
+  first : LeavesSince moment left_since old mid Begun
+  first = weaker moment left_since may_leave old mid (FindsAs (may_leave old)) Begun (λ c found. inl found) opened.any_moment
+
+  -- the keeper alone
+  pub only_opened : IsBeginning w seen may_leave moment left_since old mid
+  only_opened = record {
+    any_moment = first;
+    settled = ⊎_elim (λ fewer. inl fewer) (λ same. inr (λ c left. inl (same c left))) opened.settled;
+  }
+
+  module _ (body : Option (List ℕ)) (new : D) (s : State) (begun : IsBegun w body s)
+      (counts_mid : (t : ℕ) (c : List ℕ) → t ≤ moment mid → may_leave mid c → left_since mid t c) (counts_new : (t : ℕ) (c : List ℕ) → t ≤ moment new → may_leave new c → left_since new t c)
+      (kept : Leaves (may_leave mid) (FindsBody body)) (here : FindsBody body (seen old))
+      (saving : LeavesSince moment left_since mid new (FindsRunning (may_leave mid) s)) where
+    from : Leaves (may_leave mid) (FindsAs (may_leave old))
+    from = at_end moment left_since may_leave old mid (FindsAs (may_leave old)) counts_mid opened.any_moment
+
+    raised : (c : List ℕ) → FindsState s c → Raised c
+    raised c finds = (s, subst (λ (b : Option (List ℕ)). IsBegun w b s) (sym here.body_is) begun, finds)
+
+    -- and the first save, however it ended
+    pub then_saved : IsBeginning w seen may_leave moment left_since old new
+    then_saved = record {
+      any_moment = chained moment left_since may_leave old mid new Begun first
+          (weaker moment left_since may_leave mid new (FindsRunning (may_leave mid) s) Begun
+          (λ c either. ⊎_elim (λ found. inl (as_before (may_leave mid) (may_leave old) from c found)) (λ finds. inr (raised c finds)) either)
+          saving);
+      settled = inr (λ c left. ⊎_elim
+          (λ found. inl (both_as body c (seen old) (as_found (may_leave mid) body kept c found) here))
+          (λ finds. inr (raised c finds))
+          (at_end moment left_since may_leave mid new (FindsRunning (may_leave mid) s) counts_new saving c left));
+    }

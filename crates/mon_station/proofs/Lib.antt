@@ -1,0 +1,11 @@
+mod Claimed
+mod Faults
+mod Few
+mod Handled
+mod Kept
+mod Offered
+mod Past
+mod Quiet
+mod Runs
+mod Said
+mod Taken

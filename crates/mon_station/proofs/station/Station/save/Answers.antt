@@ -1,0 +1,42 @@
+use Rattle.mon_disk.specs.Kept.{device_of}
+use Rattle.mon_disk.proofs.Promised.{weaker}
+use Rattle.mon_station.specs.State.{state_of}
+use Rattle.mon_station.proofs.Handled.{by_memory, save_refused, saved}
+use Rattle.mon_station.proofs.Kept.{finds_either, finds_state, rests}
+use Rattle.mon_station.proofs.station.Station.save.Goals as goal
+
+pub returns-in_err-image-clause-answered : goal.returns-in_err-image-clause-answered
+returns-in_err-image-clause-answered g c = by_memory (state_of c.args.self.now.life) c.settled.ensures.settled _ c.from_residual.result c.from_residual.ensures.1
+
+pub returns-in-Ok-clause-answered : goal.returns-in-Ok-clause-answered
+returns-in-Ok-clause-answered g c =
+    let told = c.told_none.ensures in
+    saved (state_of c.args.self.now.life) c.settled.ensures.settled c.told_none.result told.taken told.sends told.noted
+
+pub returns-in-Ok-clause-saved : goal.returns-in-Ok-clause-saved
+returns-in-Ok-clause-saved g c = λ honest file left.
+    let image = c.in_ok-image.ensures in
+    finds_state (state_of c.args.self.now.life) _ _ file c.as_slice.ensures.value image.written image.spells (c.in-Ok.ensures.saved honest file left)
+
+pub returns-in_err-image-clause-any_moment : goal.returns-in_err-image-clause-any_moment
+returns-in_err-image-clause-any_moment g c = λ honest.
+    let D = g.D.Disk in
+    let d = device_of c.args.self.now.keeper in
+    rests D.may_leave D.moment D.left_since d (state_of c.args.self.now.life) (λ file left. g.met.D.Disk.only_now d file honest left)
+
+pub returns-in-Ok-clause-any_moment : goal.returns-in-Ok-clause-any_moment
+returns-in-Ok-clause-any_moment g c = λ honest.
+    let D = g.D.Disk in
+    let d = device_of c.args.self.now.keeper in
+    let image = c.in_ok-image.ensures in
+    weaker D.moment D.left_since D.may_leave d _ _ _ (finds_either (D.may_leave d) (state_of c.args.self.now.life) _ _ c.as_slice.ensures.value image.written image.spells) (c.in-Ok.ensures.any_moment honest)
+
+pub returns-clause-any_moment : goal.returns-clause-any_moment
+returns-clause-any_moment g c = λ honest.
+    let D = g.D.Disk in
+    let d = device_of c.args.self.now.keeper in
+    let image = c.in_ok-image.ensures in
+    weaker D.moment D.left_since D.may_leave d _ _ _ (finds_either (D.may_leave d) (state_of c.args.self.now.life) _ _ c.as_slice.ensures.value image.written image.spells) (c.in-Err.ensures.any_moment honest)
+
+pub returns-clause-answered : goal.returns-clause-answered
+returns-clause-answered g c = save_refused (state_of c.args.self.now.life) c.settled.ensures.settled c.in-Err.fault c.from.result c.from.ensures

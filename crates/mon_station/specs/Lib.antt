@@ -1,0 +1,12 @@
+pub mod Fault
+pub mod Lived
+pub mod Opened
+pub mod Ran
+pub mod ReadEvent
+pub mod Saved
+pub mod State
+pub mod Step
+pub mod Taken
+pub mod Told
+pub mod Turned
+pub mod Verdict

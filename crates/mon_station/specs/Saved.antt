@@ -1,0 +1,84 @@
+-- What a station leaves on its disk, and what an opening makes of it.
+use Rattle.std.specs.Prelude.{ℕ, ◌≡◌, ◌≤◌, ◌+◌, ◌⊎◌, false, List, Option, Some, None, Err}
+use Rattle.std.specs.FinSet as set
+use Rattle.mon_board.specs.Board.{Board, window_of}
+use Rattle.mon_board.specs.Instance.{instances_of}
+use Rattle.mon_board.specs.Watch.{Watch}
+use Rattle.mon_disk.specs.declared.fault.KeeperFault.TheVariants as keeper
+use Rattle.mon_disk.specs.Disk.{Leaves, LeavesSince}
+use Rattle.mon_disk.specs.Fault.{HasDiskCause}
+use Rattle.mon_disk.specs.Keeper.{FindsAs, FindsBody, IsAs, found_body, is_undamaged}
+use Rattle.mon_poller.specs.Polls.{no_polls}
+use Rattle.mon_saved.specs.declared.image.Image.{Image}
+use Rattle.mon_saved.specs.Image.{SpellsImage}
+use Rattle.mon_saved.specs.Reading.{image_at}
+use Rattle.mon_saved.specs.Restored.{IsRestored, IsUnmarked}
+use Rattle.mon_saved.specs.Written.{image_of, written_image}
+use Rattle.mon_station.specs.declared.fault.StationFault.{StationFault}
+use Rattle.mon_station.specs.declared.fault.StationFault.TheVariants as fault
+use Rattle.mon_station.specs.State.{State, known_of, setting_of}
+use Rattle.mon_station.specs.Verdict.{Setting}
+
+-- the image that a save of this state writes
+abbrev pub saved_octets : State → List ℕ
+saved_octets s = written_image s.board s.incarnation
+
+-- an opening of this file finds the image of this state, which spells it
+pub record FindsState (s : State) (file : List ℕ) : Type 0 where
+  pub body : FindsBody (Some (saved_octets s)) file
+  pub spells : SpellsImage (saved_octets s) (instances_of s.board.watch.instances) (image_of s.board s.incarnation)
+
+-- an opening of this file meets what an opening of one of these would, or finds this state
+abbrev pub FindsRunning : (List ℕ → Type 0) → State → List ℕ → Type 0
+FindsRunning outcomes s file = FindsAs outcomes file ⊎ FindsState s file
+
+-- ---- the life that an opening begins
+-- the windows and the incarnation of a life that begins from this body: where none is found, empty windows and 1; else those of the image, and the next
+abbrev pub IsRestoredFrom : Watch → Option (List ℕ) → Board → ℕ → Type 0
+IsRestoredFrom watch None board incarnation = ((i : ℕ) → window_of board i ≡ set.empty) × (incarnation ≡ 1)
+IsRestoredFrom watch (Some octets) board incarnation = (old : ℕ) × IsRestored watch octets board old × (incarnation ≡ old + 1)
+
+-- a life of this setting begins from this body: no poll is open or was started, no peer's incarnation is known, and nothing is marked
+pub record IsBegun (w : Setting) (body : Option (List ℕ)) (s : State) : Type 0 where
+  pub setting : setting_of s ≡ w
+  pub restored : IsRestoredFrom w.watch body s.board s.incarnation
+  pub polls : s.poller.polls ≡ no_polls
+  pub serial : s.serial ≡ 1
+  pub known : (y : ℕ) → known_of s y ≡ None
+  pub unmarked : IsUnmarked s.board
+
+-- an opening of this file finds a life that begins from this body: it was saved
+abbrev pub FindsBegun : Setting → Option (List ℕ) → List ℕ → Type 0
+FindsBegun w body file = (s : State) × IsBegun w body s × FindsState s file
+
+-- What an opening of a station does to its disk, whether it succeeds or not. A crash at any moment of it leaves a file in which an
+-- opening meets what it would have met in one of those that a crash might have left before, or finds the life that begins from the body
+-- that was found. After it a crash leaves one of those, or an opening always meets what this one met, or finds that life: never an older one.
+pub record IsBeginning {D : Type 0} (w : Setting) (seen : D → List ℕ) (may_leave : D → List ℕ → Type 0) (moment : D → ℕ) (left_since : D → ℕ → List ℕ → Type 0) (old new : D) : Type 0 where
+  pub any_moment : LeavesSince moment left_since old new (λ c. FindsAs (may_leave old) c ⊎ FindsBegun w (found_body (seen old)) c)
+  pub settled : Leaves (may_leave new) (may_leave old) ⊎ Leaves (may_leave new) (λ c. IsAs c (seen old) ⊎ FindsBegun w (found_body (seen old)) c)
+
+-- ---- faults
+-- why no life begins from this body: it is no image of the watch's instances, or its incarnation is the greatest
+abbrev pub IsFaultOfBody : Watch → Option (List ℕ) → StationFault → Type 0
+IsFaultOfBody watch body fault.OutOfMemory = Unit {0}
+IsFaultOfBody watch body (fault.Image f) =
+    (octets : List ℕ) × (body ≡ Some octets) × (image_at (instances_of watch.instances) octets ≡ Err f) × ((image : Image) → ¬ (SpellsImage octets (instances_of watch.instances) image))
+IsFaultOfBody watch body fault.NoMoreIncarnations = (octets : List ℕ) × (board : Board) × (body ≡ Some octets) × IsRestored watch octets board 4294967295
+IsFaultOfBody watch body other = ⊥
+
+-- why an opening of this file was refused: its body, or the keeper, which answers Damaged only where the file is
+abbrev pub IsFaultOfFile : Watch → List ℕ → StationFault → Type 0
+IsFaultOfFile watch file (fault.Keeper f) = f ≡ keeper.Damaged → is_undamaged file ≡ false
+IsFaultOfFile watch file other = IsFaultOfBody watch (found_body file) other
+
+-- a save is refused for want of memory, or by the keeper
+abbrev pub IsSaveFault : StationFault → Type 0
+IsSaveFault fault.OutOfMemory = Unit {0}
+IsSaveFault (fault.Keeper f) = f ≡ keeper.Damaged → ⊥
+IsSaveFault other = ⊥
+
+-- the disk's fault is told only where its count of failures rose, or stood at its end
+abbrev pub IsCausedBy : (before now : ℕ) → StationFault → Type 0
+IsCausedBy before now (fault.Keeper f) = HasDiskCause before now f
+IsCausedBy before now other = before ≤ now

@@ -1,0 +1,89 @@
+//! What a station is handed, and what it tells.
+
+ghost use Rattle.std.specs.Prelude.{◌≡◌};
+
+use mon_ber::Octets;
+use mon_board::Pairs;
+use mon_exchange::Noted;
+use mon_poller::Addr;
+
+/// What a station is handed. Datagrams are lent.
+#[derive(Clone, Copy, Debug, PartialEq, Eq)]
+pub enum Event<'a> {
+    /// To poll the target of this number.
+    StartPoll(u16),
+    /// The poll of this request-id was not answered in time.
+    Timeout(u32),
+    /// A datagram came from an agent's address.
+    FromAgent(Addr, &'a [u8]),
+    /// A datagram came from a peer.
+    FromPeer(&'a [u8]),
+    /// To offer the peer of this station number what it is owed.
+    Share(u32),
+    /// To save the windows and the incarnation.
+    Save,
+}
+
+/// The same, with its own datagram: what a source gives.
+#[derive(Debug, Drop)]
+pub enum OwnedEvent {
+    /// To poll the target of this number.
+    StartPoll(u16),
+    /// The poll of this request-id was not answered in time.
+    Timeout(u32),
+    /// A datagram came from an agent's address.
+    FromAgent(Addr, Octets),
+    /// A datagram came from a peer.
+    FromPeer(Octets),
+    /// To offer the peer of this station number what it is owed.
+    Share(u32),
+    /// To save the windows and the incarnation.
+    Save,
+}
+
+impl OwnedEvent {
+    ghost use Rattle.mon_station.specs.ReadEvent.{owned};
+
+    /// The event, with its datagram lent.
+    pub fn lend(&self) -> Event<'_>
+        ensures { owned result ≡ self.now }
+    {
+        match self {
+            OwnedEvent::StartPoll(target) => Event::StartPoll(*target),
+            OwnedEvent::Timeout(id) => Event::Timeout(*id),
+            OwnedEvent::FromAgent(from, octets) => Event::FromAgent(*from, octets.as_slice()),
+            OwnedEvent::FromPeer(octets) => Event::FromPeer(octets.as_slice()),
+            OwnedEvent::Share(peer) => Event::Share(*peer),
+            OwnedEvent::Save => Event::Save,
+        }
+    }
+}
+
+/// Where a datagram goes.
+#[derive(Clone, Copy, Debug, PartialEq, Eq)]
+pub enum To {
+    /// To the target of this number.
+    Target(u16),
+    /// To the peer of this station number.
+    Peer(u32),
+}
+
+/// A datagram that is to be sent.
+#[derive(Debug, Drop)]
+pub struct Outgoing {
+    /// Where it goes.
+    pub to: To,
+    /// Its octets.
+    pub octets: Octets,
+}
+
+/// What a station tells of an event that it did not refuse.
+#[derive(Drop)]
+pub struct Told {
+    /// The samples that were offered, each with the number of its instance: in the order of the target's objects, or of the claim.
+    pub taken: Pairs,
+    /// What is to be sent, in this order.
+    pub sends: Vec<Outgoing>,
+    /// What became of a peer's claim.
+    pub noted: Option<Noted>,
+}

@@ -1,0 +1,277 @@
+//! One life of a station: what it does about an event that is no save and no share.
+
+ghost use Rattle.std.specs.Prelude.{◌≡◌, ◌≤◌, ◌<◌, ◌^◌, ◌∷◌, [], ℕ, All, IfOk, IfErr, IsOk, None, OnErr, length, map, vec_capacity};
+ghost use Rattle.mon_board.specs.Windows.{paired};
+ghost use Rattle.mon_exchange.specs.Claim.{IsClaim};
+ghost use Rattle.mon_board.specs.Instance.{instances_of};
+ghost use Rattle.mon_poller.specs.Target.{AreTargets};
+ghost use Rattle.mon_saved.specs.Image.{SpellsImage};
+ghost use Rattle.mon_saved.specs.Written.{image_of};
+ghost use Rattle.mon_station.specs.Verdict.{claim_pairs};
+
+use crate::event::{Outgoing, To, Told};
+use crate::fault::StationFault;
+use mon_ber::Octets;
+use mon_board::{Board, Pairs};
+use mon_exchange::{Claim, ClaimKind, ClaimRef, Peers, read_claim, write_claim};
+use mon_poller::{Addr, Poller, TimedOut};
+use mon_sample::Sample;
+use mon_saved::write_image;
+use std::alloc::{AllocError, Global};
+
+/// One life of a station: all that it holds in memory.
+#[derive(Drop)]
+pub(crate) struct Life {
+    /// The windows, and the marks on their samples.
+    pub(crate) board: Board,
+    /// The open polls.
+    pub(crate) poller: Poller,
+    /// The peers, and the incarnations that are known of them.
+    pub(crate) peers: Peers,
+    /// The incarnation, from 1.
+    pub(crate) incarnation: u32,
+    /// The serial of the next offer.
+    pub(crate) serial: u32,
+    ghost born: { (1 ≤ incarnation) × (incarnation < 2 ^ 32) },
+    ghost watched: { All (λ t. All (λ o. o.instance < length board.watch.instances) t.objects) poller.targets },
+}
+
+impl Life {
+    ghost use Rattle.std.specs.List.{AllByRecursion};
+    ghost use Rattle.mon_poller.specs.Verdict.{IsSentAgain, ReadsAs, timeout_verdict};
+    ghost use Rattle.mon_pdu.specs.declared.message.Message.{Message as AnyMessage};
+    ghost use Rattle.mon_exchange.specs.declared.fault.ExchangeFault.{ExchangeFault as AnyExchangeFault};
+    ghost use Rattle.std.specs.Prelude.{Err, Option, Result, Ok};
+    ghost use Rattle.mon_station.specs.ReadEvent.{IsNumbered, SaysAs, Said};
+    ghost use Rattle.mon_station.specs.ReadEvent as read;
+    ghost use Rattle.mon_station.specs.Saved.{saved_octets};
+    ghost use Rattle.mon_station.specs.State.{state_of};
+    ghost use Rattle.mon_station.specs.Step.{IsSettled, left_polls};
+    ghost use Rattle.mon_station.specs.Told.{IsAnswered, confirm_of, confirms, to_peer};
+
+    /// What holds of every state, for the proofs of its callers. It does nothing.
+    pub(crate) fn settled(&self)
+        ensures settled { IsSettled (state_of self.now) }
+        ensures limited { AreTargets self.now.poller.targets }
+    {
+        mon_window::laws::bound();
+        mon_window::laws::rising_list();
+        let _ = self.board.watch().instances();
+        let _ = self.poller.targets();
+    }
+
+    /// The image of the windows and the incarnation.
+    pub(crate) fn image(&self, alloc: Global) -> Result<Vec<u8>, AllocError>
+        ensures written { IfOk result (λ octets. octets.items ≡ saved_octets (state_of self.now)) }
+        ensures spells { IfOk result (λ octets. SpellsImage octets.items (instances_of self.now.board.watch.instances) (image_of self.now.board self.now.incarnation)) }
+    {
+        write_image(alloc, &self.board, self.incarnation)
+    }
+
+    /// Starts a poll of the target of this number.
+    pub(crate) fn start_poll(&mut self, alloc: Global, target: u16) -> Result<Told, StationFault>
+        ensures answered { IsAnswered (state_of self.old) (state_of self.new) (read.StartPoll target) result }
+        ensures refused { OnErr result (state_of self.new ≡ state_of self.old) }
+    {
+        self.settled();
+        let room = room_for_one(alloc)?;
+        match self.poller.start(alloc, target) {
+            Ok(request) => {
+                let out = Outgoing {
+                    to: To::Target(target),
+                    octets: request.octets,
+                };
+                Ok(told_one(alloc, room, out))
+            }
+            Err(fault) => Err(StationFault::from(fault)),
+        }
+    }
+
+    /// The poll of this request-id was not answered in time. It takes no memory where it is not sent again.
+    pub(crate) fn timeout(&mut self, alloc: Global, id: u32) -> Result<Told, StationFault>
+        ensures answered { IsAnswered (state_of self.old) (state_of self.new) (read.Timeout id) result }
+        ensures spared { ¬ (IsSentAgain (timeout_verdict self.old.poller.targets self.old.poller.polls id)) → IsOk result }
+        ensures refused { OnErr result (state_of self.new ≡ state_of self.old) }
+    {
+        self.settled();
+        if !self.poller.has_tries(id) {
+            let _ = self.poller.timed_out(alloc, id)?;
+            return Ok(told_none(alloc));
+        }
+        let room = room_for_one(alloc)?;
+        match self.poller.timed_out(alloc, id)? {
+            TimedOut::Again { target, octets } => {
+                let out = Outgoing {
+                    to: To::Target(target),
+                    octets,
+                };
+                Ok(told_one(alloc, room, out))
+            }
+            TimedOut::GivenUp | TimedOut::NotOpen => Ok(told_none(alloc)),
+        }
+    }
+
+    /// Takes what a response to an open poll offers.
+    pub(crate) fn from_agent(
+        &mut self,
+        alloc: Global,
+        from: Addr,
+        octets: &[u8],
+    ) -> Result<Told, StationFault>
+        ensures answered { (r : Option AnyMessage) → ReadsAs octets.now r → IsAnswered (state_of self.old) (state_of self.new) (read.FromAgent from r) result }
+        ensures read { (r : Option AnyMessage) × ReadsAs octets.now r }
+        ensures refused { OnErr result (state_of self.new ≡ left_polls (state_of self.old) self.new.poller.polls) }
+        ensures memory { result ≡ Err StationFault.OutOfMemory → state_of self.new ≡ state_of self.old }
+    {
+        mon_poller::laws::offered();
+        self.settled();
+        match self.poller.response(alloc, from, octets) {
+            Ok(offered) => {
+                self.board.take_pairs(offered.pairs.as_slice());
+                Ok(told_taken(alloc, offered.pairs))
+            }
+            Err(fault) => Err(StationFault::from(fault)),
+        }
+    }
+
+    /// Takes what a peer's claim claims.
+    pub(crate) fn from_peer(&mut self, alloc: Global, octets: &[u8]) -> Result<Told, StationFault>
+        ensures answered { (r : Result Said AnyExchangeFault) → SaysAs self.old.board.watch octets.now r → IsAnswered (state_of self.old) (state_of self.new) (read.FromPeer r) result }
+        ensures read { IfOk result (λ _. (r : Result Said AnyExchangeFault) × SaysAs self.old.board.watch octets.now r) }
+        ensures read_err { IfErr result (λ f. (f ≡ StationFault.OutOfMemory → ⊥) → (r : Result Said AnyExchangeFault) × SaysAs self.old.board.watch octets.now r) }
+        ensures refused { OnErr result (state_of self.new ≡ state_of self.old) }
+    {
+        self.settled();
+        match read_claim(alloc, octets) {
+            Ok(claim) => self.take_claim(alloc, &claim),
+            Err(fault) => Err(StationFault::from(fault)),
+        }
+    }
+
+    /// Takes what a claim claims, and confirms it where it is an offer.
+    fn take_claim(&mut self, alloc: Global, claim: &Claim) -> Result<Told, StationFault>
+        requires { IsClaim claim.now }
+        ensures answered { (n : Option ℕ) → IsNumbered self.old.board.watch claim.now n
+            → IsAnswered (state_of self.old) (state_of self.new) (read.FromPeer (Ok (record { claim = claim.now; number = n }))) result }
+        ensures numbered { (n : Option ℕ) × IsNumbered self.old.board.watch claim.now n }
+        ensures refused { OnErr result (state_of self.new ≡ state_of self.old) }
+    {
+        self.settled();
+        let taken = self.pairs(alloc, claim)?;
+        let sends = self.confirm(alloc, claim)?;
+        match self.peers.note(&mut self.board, claim) {
+            Ok(noted) => Ok(Told {
+                taken,
+                sends,
+                noted: Some(noted),
+            }),
+            Err(fault) => Err(StationFault::from(fault)),
+        }
+    }
+
+    /// The samples of a claim with the number of its instance, where that is watched.
+    fn pairs(&self, alloc: Global, claim: &Claim) -> Result<Pairs, AllocError>
+        ensures pairs { IfOk result (λ pairs. (n : Option ℕ) → IsNumbered self.now.board.watch claim.now n → pairs ≡ claim_pairs n claim.now.samples) }
+        ensures numbered { (n : Option ℕ) × IsNumbered self.now.board.watch claim.now n }
+    {
+        match self.board.find(claim.engine.as_slice(), &claim.name) {
+            Some(number) => pairs_of(alloc, number, claim.samples.as_slice()),
+            None => Ok(Pairs::new(alloc)),
+        }
+    }
+
+    /// The confirmation of a claim, where it is an offer.
+    fn confirm(&self, alloc: Global, claim: &Claim) -> Result<Vec<Outgoing>, AllocError>
+        requires { IsClaim claim.now }
+        ensures sent { IfOk result (λ sends. sends.items ≡ map (to_peer claim.now.station) (confirms (state_of self.now) claim.now.kind claim.now)) }
+        ensures claims { IfOk result (λ _. AllByRecursion IsClaim (confirms (state_of self.now) claim.now.kind claim.now)) }
+    {
+        match claim.kind {
+            ClaimKind::Confirm => Ok(Vec::new(alloc)),
+            ClaimKind::Offer => self.confirm_offer(alloc, claim),
+        }
+    }
+
+    /// The confirmation of an offer.
+    fn confirm_offer(&self, alloc: Global, offer: &Claim) -> Result<Vec<Outgoing>, AllocError>
+        requires { IsClaim offer.now }
+        ensures sent { IfOk result (λ sends. sends.items ≡ to_peer offer.now.station (confirm_of (state_of self.now) offer.now) ∷ []) }
+        ensures claim { IfOk result (λ _. IsClaim (confirm_of (state_of self.now) offer.now)) }
+    {
+        let mut sends = room_for_one(alloc)?;
+        let confirm = ClaimRef {
+            kind: ClaimKind::Confirm,
+            station: self.peers.own(),
+            incarnation: self.incarnation,
+            serial: offer.serial,
+            engine: offer.engine.as_slice(),
+            name: &offer.name,
+            samples: offer.samples.as_slice(),
+        };
+        let octets = Octets::new(write_claim(alloc, &confirm)?);
+        let out = Outgoing {
+            to: To::Peer(offer.station),
+            octets,
+        };
+        sends.push(out).unwrap();
+        Ok(sends)
+    }
+}
+
+/// Samples of an instance, each with its number.
+fn pairs_of(alloc: Global, number: u16, samples: &[Sample]) -> Result<Pairs, AllocError>
+    ensures { IfOk result (λ pairs. pairs ≡ paired number samples.now) }
+{
+    let mut pairs = Pairs::new(alloc);
+    for sample in samples {
+        pairs.push(number, *sample)?;
+    }
+    Ok(pairs)
+}
+
+/// Room for one datagram.
+fn room_for_one(alloc: Global) -> Result<Vec<Outgoing>, AllocError>
+    ensures room { IfOk result (λ room. 1 ≤ vec_capacity room) }
+    ensures empty { IfOk result (λ room. room.items ≡ []) }
+{
+    Vec::with_capacity(alloc, 1)
+}
+
+/// One datagram is sent.
+fn told_one(alloc: Global, room: Vec<Outgoing>, out: Outgoing) -> Told
+    requires room { 1 ≤ vec_capacity room }
+    requires empty { room.items ≡ [] }
+    ensures taken { result.taken ≡ [] }
+    ensures sends { result.sends.items ≡ out ∷ [] }
+    ensures noted { result.noted ≡ None }
+{
+    let mut sends = room;
+    sends.push(out).unwrap();
+    Told {
+        taken: Pairs::new(alloc),
+        sends,
+        noted: None,
+    }
+}
+
+/// These samples were taken.
+fn told_taken(alloc: Global, taken: Pairs) -> Told
+    ensures taken { result.taken ≡ taken }
+    ensures sends { result.sends.items ≡ [] }
+    ensures noted { result.noted ≡ None }
+{
+    Told {
+        taken,
+        sends: Vec::new(alloc),
+        noted: None,
+    }
+}
+
+/// Nothing is told.
+pub(crate) fn told_none(alloc: Global) -> Told
+    ensures taken { result.taken ≡ [] }
+    ensures sends { result.sends.items ≡ [] }
+    ensures noted { result.noted ≡ None }
+{
+    told_taken(alloc, Pairs::new(alloc))
+}

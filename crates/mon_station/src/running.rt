@@ -1,0 +1,238 @@
+//! Running a station: events from a source, datagrams to an outbox.
+
+ghost use Rattle.std.specs.Prelude.{◌≡◌, ◌≤◌, ◌<◌, ◌+◌, ◌∷◌, [], false, ℕ, IfErr, IfOk, List, OnErr, Option, Some, length, vec_capacity};
+ghost use Rattle.mon_edge.specs.Told.{extended};
+ghost use Rattle.mon_station.specs.Ran as ran;
+ghost use Rattle.mon_station.specs.Ran.{AreCalls, HasFailed, Ran, failures_after, faults_in};
+ghost use Rattle.mon_station.specs.Turned.{IsCounted, Turned};
+ghost use Rattle.mon_station.specs.State.{State};
+ghost use Rattle.mon_station.specs.declared.event.Outgoing.{Outgoing as AnyOutgoing};
+ghost use Rattle.mon_station.specs.declared.event.OwnedEvent.{OwnedEvent as AnyEvent};
+
+use crate::event::{Outgoing, OwnedEvent};
+use crate::fault::StationFault;
+use crate::station::Station;
+use mon_disk::Disk;
+use mon_edge::failed_after;
+use std::alloc::Global;
+use thiserror::Error;
+
+/// A source could not give an event; it has counted that.
+#[derive(Clone, Copy, Debug, PartialEq, Eq, Error)]
+#[error("the source failed")]
+pub struct SourceFault;
+
+/// An outbox could not send; it has counted that.
+#[derive(Clone, Copy, Debug, PartialEq, Eq, Error)]
+#[error("the outbox failed")]
+pub struct OutboxFault;
+
+/// Where a station's events come from.
+pub trait Source {
+    ghost use Rattle.std.specs.Prelude.{◌≡◌, List, None, Ok, Option, ℕ};
+    ghost use Rattle.mon_edge.specs.Counts.{failed_after};
+    ghost use Rattle.mon_edge.specs.Told.{extended};
+    ghost use Rattle.mon_station.specs.Ran.{event_in};
+    ghost use Rattle.mon_station.specs.declared.event.OwnedEvent.{OwnedEvent as AnyEvent};
+
+    // The events that it gave, where it tells them.
+    ghost given: { Self → Option (List AnyEvent) };
+
+    // How often it failed, at most 2^64 - 1.
+    ghost failures: { Self → ℕ };
+
+    // It answered that there are no more events.
+    ghost has_ended: { Self → Type 0 };
+
+    /// The next event; none where the source ends. It is told the request-id of the oldest open poll.
+    fn next(&mut self, oldest: Option<u32>) -> Result<Option<OwnedEvent>, SourceFault>
+        ensures given { given self.new ≡ extended (given self.old) (event_in result) }
+        ensures ended { result ≡ Ok None → has_ended self.new }
+        ensures failures { failures self.new ≡ failed_after result (failures self.old) };
+}
+
+/// Where a station's datagrams go.
+pub trait Outbox {
+    ghost use Rattle.std.specs.Prelude.{◌≡◌, ◌∷◌, [], List, Option, ℕ};
+    ghost use Rattle.mon_edge.specs.Counts.{failed_after};
+    ghost use Rattle.mon_edge.specs.Told.{extended};
+    ghost use Rattle.mon_station.specs.declared.event.Outgoing.{Outgoing as AnyOutgoing};
+
+    // The datagrams that it was handed, where it tells them.
+    ghost handed: { Self → Option (List AnyOutgoing) };
+
+    // How often it failed, at most 2^64 - 1.
+    ghost failures: { Self → ℕ };
+
+    /// Sends a datagram. One that could not be sent was handed too.
+    fn send(&mut self, out: &Outgoing) -> Result<(), OutboxFault>
+        ensures handed { handed self.new ≡ extended (handed self.old) (out.now ∷ []) }
+        ensures failures { failures self.new ≡ failed_after result (failures self.old) };
+}
+
+/// What became of an event.
+#[derive(Clone, Copy, Debug, PartialEq, Eq)]
+pub enum Answer {
+    /// It was handled.
+    Handled,
+    /// Memory was refused.
+    Memory,
+    /// It was refused.
+    Refused,
+    /// It was a save, and met the keeper's fault of this number, 2 to 6.
+    Keeper(u8),
+}
+
+/// What a run did.
+#[derive(Drop)]
+pub struct Run {
+    /// How often the source was asked.
+    pub turns: u64,
+    /// What became of its events, in order.
+    pub answers: Vec<Answer>,
+    /// How many of these are faults.
+    pub refused: u64,
+    /// How often the source failed.
+    pub source_faults: u64,
+    /// How often the outbox failed, at most 2^64 - 1.
+    pub send_faults: u64,
+}
+
+impl<D: Disk + Drop> Station<D> {
+    ghost use Rattle.mon_disk.specs.Kept.{device_of};
+    ghost use Rattle.mon_station.specs.State.{setting_of, state_of};
+
+    /// Handles what a source gives, until it ends or was asked so many times. A fault of the source and a refused event are counted, and
+    /// a datagram that could not be sent is lost; the run goes on.
+    ///
+    /// # Errors
+    /// `OutOfMemory` where there is no room for the answers, which is taken first; then nothing was asked.
+    pub fn run<S: Source, O: Outbox>(
+        &mut self,
+        alloc: Global,
+        source: &mut S,
+        outbox: &mut O,
+        turns: u64,
+    ) -> Result<Run, StationFault>
+        ensures ran { IfOk result (λ run. Ran (state_of self.old.life) (state_of self.new.life) (S.given source.old) (S.given source.new) (O.handed outbox.old) (O.handed outbox.new)
+            (D.is_honest (device_of self.old.keeper)) (D.is_honest (device_of self.new.keeper)) (D.may_leave (device_of self.old.keeper)) (D.may_leave (device_of self.new.keeper)) run.answers.items) }
+        ensures calls { IfOk result (λ run. AreCalls run turns (S.has_ended source.new)) }
+        ensures refused { IfOk result (λ run. run.refused ≡ faults_in run.answers.items) }
+        ensures source { IfOk result (λ run. S.failures source.new ≡ failures_after run.source_faults (S.failures source.old)) }
+        ensures outbox { IfOk result (λ run. HasFailed (O.failures outbox.old) (O.failures outbox.new) run.send_faults) }
+        ensures fault { IfErr result (λ f. f ≡ StationFault.OutOfMemory) }
+        ensures same { OnErr result (self.new ≡ self.old) }
+        ensures same_source { OnErr result (source.new ≡ source.old) }
+        ensures same_outbox { OnErr result (outbox.new ≡ outbox.old) }
+    {
+        let answers = Vec::with_capacity(alloc, turns as usize)?;
+        let mut run = Run {
+            turns: 0,
+            answers,
+            refused: 0,
+            source_faults: 0,
+            send_faults: 0,
+        };
+        for turn in 0..turns {
+            run.turns = turn + 1;
+            if !self.take_turn(alloc, source, outbox, &mut run) {
+                return Ok(run);
+            }
+        }
+        Ok(run)
+    }
+
+    /// Asks the source, and handles what it gives. Says whether the source goes on.
+    fn take_turn<S: Source, O: Outbox>(
+        &mut self,
+        alloc: Global,
+        source: &mut S,
+        outbox: &mut O,
+        run: &mut Run,
+    ) -> bool
+        requires room { length run.old.answers.items < vec_capacity run.old.answers }
+        requires faults { run.old.source_faults < u64.MAX }
+        requires refused { run.old.refused < u64.MAX }
+        ensures ran { (start : State) (given : Option (List AnyEvent)) (handed : Option (List AnyOutgoing)) (first : D)
+            → Ran start (state_of self.old.life) given (S.given source.old) handed (O.handed outbox.old)
+            (D.is_honest first) (D.is_honest (device_of self.old.keeper)) (D.may_leave first) (D.may_leave (device_of self.old.keeper)) run.old.answers.items
+            → Ran start (state_of self.new.life) given (S.given source.new) handed (O.handed outbox.new)
+            (D.is_honest first) (D.is_honest (device_of self.new.keeper)) (D.may_leave first) (D.may_leave (device_of self.new.keeper)) run.new.answers.items }
+        ensures counts { IsCounted run.old run.new result }
+        ensures ended { result ≡ false → S.has_ended source.new }
+        ensures source { (first : ℕ) → S.failures source.old ≡ failures_after run.old.source_faults first → S.failures source.new ≡ failures_after run.new.source_faults first }
+        ensures outbox { (first : ℕ) → HasFailed first (O.failures outbox.old) run.old.send_faults → HasFailed first (O.failures outbox.new) run.new.send_faults }
+    {
+        let oldest = self.life.poller.oldest();
+        match source.next(oldest) {
+            Ok(Some(event)) => {
+                let answer = self.turn(alloc, outbox, event, &mut run.send_faults);
+                run.answers.push(answer).unwrap();
+                run.refused = counted(run.refused, answer);
+                true
+            }
+            Ok(None) => false,
+            Err(_) => {
+                run.source_faults += 1;
+                true
+            }
+        }
+    }
+
+    /// Handles an event, and hands its datagrams to the outbox.
+    fn turn<O: Outbox>(
+        &mut self,
+        alloc: Global,
+        outbox: &mut O,
+        event: OwnedEvent,
+        send_faults: &mut u64,
+    ) -> Answer
+        ensures turned { Turned (state_of self.old.life) (state_of self.new.life) event (O.handed outbox.old) (O.handed outbox.new)
+            (D.is_honest (device_of self.old.keeper)) (D.is_honest (device_of self.new.keeper)) (D.may_leave (device_of self.old.keeper)) (D.may_leave (device_of self.new.keeper)) result }
+        ensures failed { (first : ℕ) → HasFailed first (O.failures outbox.old) send_faults.old → HasFailed first (O.failures outbox.new) send_faults.new }
+    {
+        match self.step(alloc, event.lend()) {
+            Ok(told) => {
+                hand(outbox, told.sends.as_slice(), send_faults);
+                Answer::Handled
+            }
+            Err(fault) => shown(fault),
+        }
+    }
+}
+
+/// The faults with one more answer.
+fn counted(refused: u64, answer: Answer) -> u64
+    requires { refused < u64.MAX }
+    ensures { result ≡ refused + faults_in (answer ∷ []) }
+{
+    match answer {
+        Answer::Handled => refused,
+        Answer::Memory | Answer::Refused | Answer::Keeper(_) => refused + 1,
+    }
+}
+
+/// Hands datagrams to an outbox. One that could not be sent is lost.
+fn hand<O: Outbox>(outbox: &mut O, sends: &[Outgoing], send_faults: &mut u64)
+    ensures handed { O.handed outbox.new ≡ extended (O.handed outbox.old) sends.now }
+    ensures failed { (first : ℕ) → HasFailed first (O.failures outbox.old) send_faults.old → HasFailed first (O.failures outbox.new) send_faults.new }
+{
+    for out in sends {
+        *send_faults = failed_after(*send_faults, &outbox.send(out));
+    }
+}
+
+/// A fault as a run shows it.
+fn shown(fault: StationFault) -> Answer
+    ensures { result ≡ ran.shown (Some fault) }
+{
+    match fault {
+        StationFault::OutOfMemory => Answer::Memory,
+        StationFault::Keeper(fault) => Answer::Keeper(fault.number()),
+        StationFault::Poll(_)
+        | StationFault::Response(_)
+        | StationFault::Exchange(_)
+        | StationFault::Image(_)
+        | StationFault::NoMoreIncarnations => Answer::Refused,
+    }
+}

@@ -1,0 +1,50 @@
+//! A station over a disk in memory: does what each line of standard input says, and prints what the station answers, to be compared
+//! with the expected lines.
+//!
+//!     new               an empty disk, without a station
+//!     open              opens the station from the disk; a new one is empty
+//!     poll TARGET       starts a poll, by the target's number
+//!     timeout ID        says that a poll was not answered in time
+//!     agent HEX         a datagram from the target's address
+//!     peer HEX          a datagram from a peer
+//!     share PEER        offers a peer what it is owed
+//!     save              saves
+//!     owed PEER         how many samples the peer is owed, and its known incarnation
+//!     report            the report
+//!     stop CALLS KEEP   saves while only so many calls of the disk pass, and goes on with what a crash leaves: `keep` or `lose`
+#![tactic(auto)]
+
+mod asking;
+mod printing;
+mod setting;
+
+use asking::Stage;
+use std::alloc::Global;
+use std::io::{BufRead, BufReader};
+use std::process::ExitCode;
+
+fn main(rt: HostRuntime) -> ExitCode {
+    match rows(&rt, rt.alloc()) {
+        Some(()) => ExitCode::SUCCESS,
+        None => ExitCode::FAILURE,
+    }
+}
+
+/// Does what each line says.
+fn rows(rt: &HostRuntime, alloc: Global) -> Option<()> {
+    let mut stage = Stage::new(alloc)?;
+    for line in BufReader::new(alloc, rt.reader()).ok()?.lines(alloc) {
+        let line = line.ok()?;
+        if line.is_empty() || line.starts_with('#') {
+            continue;
+        }
+        if line.as_str() == "new" {
+            stage = Stage::new(alloc)?;
+            continue;
+        }
+        let (next, text) = stage.answered(alloc, line.as_str())?;
+        stage = next;
+        println!(rt; "{text}").ok()?;
+    }
+    Some(())
+}

@@ -1,0 +1,85 @@
+//! What a station answers, as text.
+
+use mon_board::Board;
+use mon_report::write_report;
+use mon_station::{StationFault, To, Told};
+use std::alloc::Global;
+use std::fmt::Write;
+
+/// The samples that were taken, what became of a claim, and each datagram that is sent.
+pub fn told(alloc: Global, told: &Told) -> Option<String> {
+    let mut text = format!(in alloc; "ok").ok()?;
+    for (instance, sample) in told.taken.as_slice() {
+        let (boots, time) = (sample.boots(), sample.time());
+        write!(text, " took {instance} {boots}:{time} {}", sample.number()).ok()?;
+    }
+    if let Some(noted) = told.noted {
+        write!(text, " {noted:?}").ok()?;
+    }
+    for out in told.sends.as_slice() {
+        let octets = hex::encode(alloc, out.octets.as_slice()).ok()?;
+        match out.to {
+            To::Target(target) => write!(text, " target {target} {octets}").ok()?,
+            To::Peer(peer) => write!(text, " peer {peer} {octets}").ok()?,
+        }
+    }
+    Some(text)
+}
+
+/// The fault's number and name, and its cause's.
+pub fn fault(alloc: Global, fault: StationFault) -> Option<String> {
+    let (number, name) = (fault.number(), fault.name());
+    match fault {
+        StationFault::Poll(cause) => {
+            format!(in alloc;
+                "refused {number} {name} {} {}",
+                cause.number(),
+                cause.name()
+            )
+            .ok()
+        }
+        StationFault::Response(cause) => {
+            format!(in alloc;
+                "refused {number} {name} {} {}",
+                cause.number(),
+                cause.name()
+            )
+            .ok()
+        }
+        StationFault::Exchange(cause) => {
+            format!(in alloc;
+                "refused {number} {name} {} {}",
+                cause.number(),
+                cause.name()
+            )
+            .ok()
+        }
+        StationFault::Keeper(cause) => {
+            format!(in alloc;
+                "refused {number} {name} {} {}",
+                cause.number(),
+                cause.name()
+            )
+            .ok()
+        }
+        StationFault::Image(cause) => {
+            format!(in alloc;
+                "refused {number} {name} {} {}",
+                cause.number(),
+                cause.name()
+            )
+            .ok()
+        }
+        StationFault::OutOfMemory | StationFault::NoMoreIncarnations => {
+            format!(in alloc; "refused {number} {name}").ok()
+        }
+    }
+}
+
+/// The report of the board, without the last line's end.
+pub fn report(alloc: Global, board: &Board) -> Option<String> {
+    let mut text = Vec::new(alloc);
+    write_report(board, &mut text).ok()?;
+    let text = str::from_utf8(text.as_slice()).ok()?;
+    String::from_str(alloc, text.trim_end()).ok()
+}

@@ -1,0 +1,159 @@
+"""Bugs of mon_station for planted_bugs: by a name the file, what stands there once, and the bug in its place."""
+
+BUGS = {
+    "a_poll_starts_before_its_room": (
+        "src/life.rt",
+        "        let room = room_for_one(alloc)?;\n        match self.poller.start(alloc, target) {\n            Ok(request) => {\n",
+        "        match self.poller.start(alloc, target) {\n            Ok(request) => {\n                let room = room_for_one(alloc)?;\n",
+    ),
+    "a_timeout_always_wants_room": (
+        "src/life.rt",
+        "        if !self.poller.has_tries(id) {\n            let _ = self.poller.timed_out(alloc, id)?;\n            return Ok(told_none(alloc));\n        }\n",
+        "",
+    ),
+    "a_resend_to_target_0": (
+        "src/life.rt",
+        "            TimedOut::Again { target, octets } => {\n                let out = Outgoing {\n                    to: To::Target(target),",
+        "            TimedOut::Again { target: _, octets } => {\n                let out = Outgoing {\n                    to: To::Target(0),",
+    ),
+    "a_response_is_told_and_not_taken": (
+        "src/life.rt",
+        "                self.board.take_pairs(offered.pairs.as_slice());\n",
+        "",
+    ),
+    "a_claim_is_noted_before_its_confirmation": (
+        "src/life.rt",
+        "        let sends = self.confirm(alloc, claim)?;\n        match self.peers.note(&mut self.board, claim) {\n            Ok(noted) => Ok(Told {\n                taken,\n                sends,\n",
+        "        match self.peers.note(&mut self.board, claim) {\n            Ok(noted) => Ok(Told {\n                taken,\n                sends: self.confirm(alloc, claim)?,\n",
+    ),
+    "a_claim_is_told_without_its_note": (
+        "src/life.rt",
+        "                noted: Some(noted),",
+        "                noted: if noted == Noted::Counted { Some(noted) } else { None },",
+    ),
+    "a_confirmation_is_an_offer": (
+        "src/life.rt",
+        "            kind: ClaimKind::Confirm,",
+        "            kind: ClaimKind::Offer,",
+    ),
+    "a_confirmation_to_itself": (
+        "src/life.rt",
+        "            to: To::Peer(offer.station),",
+        "            to: To::Peer(self.peers.own()),",
+    ),
+    "a_confirmation_is_confirmed": (
+        "src/life.rt",
+        "            ClaimKind::Confirm => Ok(Vec::new(alloc)),",
+        "            ClaimKind::Confirm => self.confirm_offer(alloc, claim),",
+    ),
+    "an_unknown_peer_is_an_unknown_instance": (
+        "src/sharing.rt",
+        "            None => Err(StationFault::Exchange(ExchangeFault::UnknownPeer)),",
+        "            None => Err(StationFault::Exchange(ExchangeFault::UnknownInstance)),",
+    ),
+    "a_share_with_the_first_slot": (
+        "src/sharing.rt",
+        "        let portions = portions(alloc, &self.board, slot)?;",
+        "        let portions = portions(alloc, &self.board, 0)?;",
+    ),
+    "the_serial_stays": (
+        "src/sharing.rt",
+        "        self.serial = serial;",
+        "        self.serial = self.serial.max(1);",
+    ),
+    "serials_in_twos": (
+        "src/sharing.rt",
+        "            serial = serial_after(serial);",
+        "            serial = serial_after(serial_after(serial));",
+    ),
+    "owed_without_the_last_instance": (
+        "src/sharing.rt",
+        "        for place in 0..self.board.watch().instances().len() {",
+        "        for place in 0..self.board.watch().instances().len() - 1 {",
+    ),
+    "owed_counts_in_twos": (
+        "src/sharing.rt",
+        "            count += 1;",
+        "            count += 2;",
+    ),
+    "known_of_itself": (
+        "src/station.rt",
+        "        self.life.peers.known(peer)",
+        "        self.life.peers.known(self.life.peers.own())",
+    ),
+    "a_save_is_told_and_not_done": (
+        "src/station.rt",
+        "            Event::Save => self.save(alloc),",
+        "            Event::Save => Ok(told_none(alloc)),",
+    ),
+    "a_share_with_another_peer": (
+        "src/station.rt",
+        "            Event::Share(peer) => self.life.share(alloc, peer),",
+        "            Event::Share(peer) => self.life.share(alloc, peer / 2),",
+    ),
+    "a_failed_save_is_fine": (
+        "src/station.rt",
+        "            Err(fault) => Err(StationFault::from(fault)),",
+        "            Err(_) => Ok(told_none(alloc)),",
+    ),
+    "an_opening_saves_nothing": (
+        "src/opening.rt",
+        "        match station.save(alloc) {\n            Ok(_) => Ok(station),\n            Err(fault) => Err((fault, station.keeper.into_disk())),\n        }",
+        "        if station.life.incarnation > 0 {\n            return Ok(station);\n        }\n        match station.save(alloc) {\n            Ok(_) => Ok(station),\n            Err(fault) => Err((fault, station.keeper.into_disk())),\n        }",
+    ),
+    "an_opening_begins_from_nothing": (
+        "src/opening.rt",
+        "            Ok((keeper, body)) => match begin(alloc, core, body) {",
+        "            Ok((keeper, _)) => match begin(alloc, core, None) {",
+    ),
+    "the_last_but_one_incarnation_is_the_last": (
+        "src/opening.rt",
+        "            if found == u32::MAX {",
+        "            if found >= u32::MAX - 1 {",
+    ),
+    "a_first_life_is_incarnation_0": (
+        "src/opening.rt",
+        "        None => Ok((Board::new(alloc, watch)?, 1)),",
+        "        None => Ok((Board::new(alloc, watch)?, 0)),",
+    ),
+    "datagrams_are_not_handed": (
+        "src/running.rt",
+        "                hand(outbox, told.sends.as_slice(), send_faults);\n",
+        "",
+    ),
+    "a_refused_event_ends_the_run": (
+        "src/running.rt",
+        "                run.refused = counted(run.refused, answer);\n                true",
+        "                run.refused = counted(run.refused, answer);\n                answer == Answer::Handled",
+    ),
+    "a_failing_source_ends_the_run": (
+        "src/running.rt",
+        "                run.source_faults += 1;\n                true",
+        "                run.source_faults += 1;\n                false",
+    ),
+    "an_answer_is_refused_for_fine": (
+        "src/running.rt",
+        "                Answer::Handled\n            }\n            Err(fault) => shown(fault),",
+        "                Answer::Refused\n            }\n            Err(fault) => shown(fault),",
+    ),
+    "failed_sends_are_not_counted": (
+        "src/running.rt",
+        "        *send_faults = failed_after(*send_faults, &outbox.send(out));",
+        "        let _ = failed_after(*send_faults, &outbox.send(out));",
+    ),
+    "turns_from_0": (
+        "src/running.rt",
+        "            run.turns = turn + 1;",
+        "            run.turns = turn;",
+    ),
+    "a_keepers_want_of_memory_is_its_own": (
+        "src/fault.rt",
+        "            KeeperFault::OutOfMemory => StationFault::OutOfMemory,\n            other => StationFault::Keeper(other),",
+        "            other => StationFault::Keeper(other),",
+    ),
+    "image_and_keeper_have_one_number": (
+        "src/fault.rt",
+        "            StationFault::Image(_) => 6,",
+        "            StationFault::Image(_) => 5,",
+    ),
+}
