@@ -197,14 +197,14 @@ pub faults_more : (answers : List Answer) (answer : Answer) → faults_in (answe
 faults_more [] answer = sym (zero-add (faults_in (answer ∷ [])))
 faults_more (Handled ∷ answers) answer = faults_more answers answer
 faults_more (Memory ∷ answers) answer = omega (arith, faults_more answers answer)
-faults_more (Refused ∷ answers) answer = omega (arith, faults_more answers answer)
+faults_more (Refused f ∷ answers) answer = omega (arith, faults_more answers answer)
 faults_more (Keeper n ∷ answers) answer = omega (arith, faults_more answers answer)
 
 pub faults_few : (answers : List Answer) → faults_in answers ≤ length answers
 faults_few [] = omega arith
 faults_few (Handled ∷ answers) = omega (arith, faults_few answers)
 faults_few (Memory ∷ answers) = omega (arith, faults_few answers)
-faults_few (Refused ∷ answers) = omega (arith, faults_few answers)
+faults_few (Refused f ∷ answers) = omega (arith, faults_few answers)
 faults_few (Keeper n ∷ answers) = omega (arith, faults_few answers)
 
 pub room_left : (refused turn turns : ℕ) (answers : List Answer) → refused ≡ faults_in answers → length answers ≤ turn → turn < turns → turns < 2 ^ 64 → refused < 2 ^ 64 - 1

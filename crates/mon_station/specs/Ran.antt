@@ -31,18 +31,18 @@ abbrev pub shown : Option StationFault → Answer
 shown None = Handled
 shown (Some fault.OutOfMemory) = Memory
 shown (Some (fault.Keeper f)) = Keeper (keeping.number_of f)
-shown (Some (fault.Poll f)) = Refused
-shown (Some (fault.Response f)) = Refused
-shown (Some (fault.Exchange f)) = Refused
-shown (Some (fault.Image f)) = Refused
-shown (Some fault.NoMoreIncarnations) = Refused
+shown (Some (fault.Poll f)) = Refused (fault.Poll f)
+shown (Some (fault.Response f)) = Refused (fault.Response f)
+shown (Some (fault.Exchange f)) = Refused (fault.Exchange f)
+shown (Some (fault.Image f)) = Refused (fault.Image f)
+shown (Some fault.NoMoreIncarnations) = Refused fault.NoMoreIncarnations
 
 -- how many answers are faults
 abbrev pub faults_in : List Answer → ℕ
 faults_in [] = 0
 faults_in (Handled ∷ answers) = faults_in answers
 faults_in (Memory ∷ answers) = faults_in answers + 1
-faults_in (Refused ∷ answers) = faults_in answers + 1
+faults_in (Refused f ∷ answers) = faults_in answers + 1
 faults_in (Keeper number ∷ answers) = faults_in answers + 1
 
 -- ---- turns, of which the newest stands first

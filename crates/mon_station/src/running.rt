@@ -77,8 +77,8 @@ pub enum Answer {
     Handled,
     /// Memory was refused.
     Memory,
-    /// It was refused.
-    Refused,
+    /// It was refused, and why.
+    Refused(StationFault),
     /// It was a save, and met the keeper's fault of this number, 2 to 6.
     Keeper(u8),
 }
@@ -208,7 +208,7 @@ fn counted(refused: u64, answer: Answer) -> u64
 {
     match answer {
         Answer::Handled => refused,
-        Answer::Memory | Answer::Refused | Answer::Keeper(_) => refused + 1,
+        Answer::Memory | Answer::Refused(_) | Answer::Keeper(_) => refused + 1,
     }
 }
 
@@ -233,6 +233,6 @@ fn shown(fault: StationFault) -> Answer
         | StationFault::Response(_)
         | StationFault::Exchange(_)
         | StationFault::Image(_)
-        | StationFault::NoMoreIncarnations => Answer::Refused,
+        | StationFault::NoMoreIncarnations => Answer::Refused(fault),
     }
 }

@@ -134,7 +134,7 @@ BUGS = {
     "an_answer_is_refused_for_fine": (
         "src/running.rt",
         "                Answer::Handled\n            }\n            Err(fault) => shown(fault),",
-        "                Answer::Refused\n            }\n            Err(fault) => shown(fault),",
+        "                Answer::Refused(StationFault::NoMoreIncarnations)\n            }\n            Err(fault) => shown(fault),",
     ),
     "failed_sends_are_not_counted": (
         "src/running.rt",
