@@ -2,6 +2,7 @@
 use Rattle.mon_vacm.specs.Tables.{Lists}
 use Rattle.mon_mib.specs.declared.counters.Counters.{Counters}
 use Rattle.mon_mib.specs.declared.settings.Settings.{Settings}
+use Rattle.mon_mib.specs.Map.{map_counters, map_device, map_settings}
 use Rattle.mon_agent.specs.declared.agent.Agent.{Agent}
 
 -- which community may do what with which names
@@ -10,12 +11,12 @@ policy_of agent = agent.policy
 
 -- what it serves as it was told at the start
 abbrev pub settings_of : {D : Type 0} → Agent D → Settings
-settings_of agent = agent.mib.settings
+settings_of agent = map_settings agent.mib
 
 -- what it has counted
 abbrev pub counters_of : {D : Type 0} → Agent D → Counters
-counters_of agent = agent.mib.counters
+counters_of agent = map_counters agent.mib
 
 -- its device
 abbrev pub device_of : {D : Type 0} → Agent D → D
-device_of agent = agent.mib.device
+device_of agent = map_device agent.mib

@@ -12,6 +12,7 @@ ghost use Rattle.mon_mib.specs.Counters.{counted, no_counts};
 ghost use Rattle.mon_mib.specs.declared.counters.Counter.TheVariants.{InPackets};
 ghost use Rattle.mon_mib.specs.Gaps.{AreGaps};
 ghost use Rattle.mon_mib.specs.Known.{Known as AnyKnown, known_of};
+ghost use Rattle.mon_mib.specs.Map.{known_by, map_counters, map_device, map_settings, with_counters};
 ghost use Rattle.mon_agent.specs.Answer.{IsAnswer, IsReading, cause_of, is_answered, is_request, need_of, need_of_kind, raised_by};
 ghost use Rattle.mon_agent.specs.Bulk.{IsStepper};
 ghost use Rattle.mon_agent.specs.Ready.{IsReady, IsReadyFor, IsRoomy};
@@ -63,14 +64,14 @@ impl<D: Device + Drop> Agent<D> {
     pub fn counters(&self) -> Counters
         ensures { result ≡ counters_of self.now }
     {
-        self.mib.counters
+        self.mib.counters()
     }
 
     /// What serves the texts that can be set, and the interfaces.
     pub fn device(&self) -> &D
         ensures { result.now ≡ device_of self.now }
     {
-        &self.mib.device
+        self.mib.device()
     }
 
     /// What the agent does about a datagram at a moment. Every datagram counts in snmpInPkts before it is answered, and
@@ -97,16 +98,16 @@ impl<D: Device + Drop> Agent<D> {
         // A fault changes nothing.
         ensures fault { OnErr result (self.new ≡ self.old) }
     {
-        let before = self.mib.counters;
-        self.mib.counters.count(Counter::InPackets);
+        let before = self.mib.counters();
+        self.mib.count(Counter::InPackets);
         match self.prepare(alloc, datagram, moment) {
             Ok(ready) => {
                 let reply = self.finish(ready);
-                raise(&mut self.mib.counters, &reply);
+                raise(&mut self.mib, &reply);
                 Ok(reply)
             }
             Err(fault) => {
-                self.mib.counters = before;
+                self.mib.recount(before);
                 Err(fault)
             }
         }
@@ -114,8 +115,8 @@ impl<D: Device + Drop> Agent<D> {
 
     /// What the agent is about to do about a datagram.
     fn prepare(&self, alloc: Global, datagram: &[u8], moment: Moment) -> Result<Ready, AgentFault>
-        ensures ready { let known = known_of self.now.mib.settings self.now.mib.counters (D.held self.now.mib.device) moment in
-            IfOk result (IsReady D.held D.failed D.refuses self.now.policy known self.now.mib.device datagram.now) }
+        ensures ready { let known = known_by D.held self.now.mib moment in
+            IfOk result (IsReady D.held D.failed D.refuses self.now.policy known (map_device self.now.mib) datagram.now) }
         ensures room { IfOk result IsRoomy }
     {
         match read_message(alloc, datagram) {
@@ -134,8 +135,8 @@ impl<D: Device + Drop> Agent<D> {
         message: Message,
         moment: Moment,
     ) -> Result<Ready, AgentFault>
-        ensures ready { let known = known_of self.now.mib.settings self.now.mib.counters (D.held self.now.mib.device) moment in
-            IfOk result (IsReadyFor D.held D.failed D.refuses self.now.policy known self.now.mib.device message) }
+        ensures ready { let known = known_by D.held self.now.mib moment in
+            IfOk result (IsReadyFor D.held D.failed D.refuses self.now.policy known (map_device self.now.mib) message) }
         ensures room { IfOk result IsRoomy }
     {
         let need = need_of(&message.body);
@@ -148,7 +149,7 @@ impl<D: Device + Drop> Agent<D> {
         }
         let Ok(access) = access else {
             let denied = returned(message, AUTHORIZATION_ERROR, 0);
-            return Ok(Ready::Answer(send(alloc, denied, self.mib.settings.limit)?));
+            return Ok(Ready::Answer(send(alloc, denied, self.mib.settings().limit)?));
         };
         if need == Need::Write {
             return self.prepare_set(alloc, access, message, moment);
@@ -160,11 +161,11 @@ impl<D: Device + Drop> Agent<D> {
     fn finish(&mut self, ready: Ready) -> Reply
         requires { IsRoomy ready }
         ensures answer { (policy : AnyLists) (k : AnyKnown) (datagram : List ℕ)
-            → IsReady D.held D.failed D.refuses policy k self.old.mib.device datagram ready
-            → IsAnswer D.held D.failed D.refuses policy k self.old.mib.device self.new.mib.device datagram result }
+            → IsReady D.held D.failed D.refuses policy k (map_device self.old.mib) datagram ready
+            → IsAnswer D.held D.failed D.refuses policy k (map_device self.old.mib) (map_device self.new.mib) datagram result }
         ensures policy { self.new.policy ≡ self.old.policy }
-        ensures settings { self.new.mib.settings ≡ self.old.mib.settings }
-        ensures counters { self.new.mib.counters ≡ self.old.mib.counters }
+        ensures settings { map_settings self.new.mib ≡ map_settings self.old.mib }
+        ensures counters { map_counters self.new.mib ≡ map_counters self.old.mib }
     {
         match ready {
             Ready::Answer(reply) => reply,
@@ -182,7 +183,7 @@ impl<D: Device + Drop> Agent<D> {
     ) -> Result<Reply, AllocError>
         requires request { is_request message.body ≡ true }
         requires read { need_of message.body ≡ Need.Read }
-        ensures { let known = known_of self.now.mib.settings self.now.mib.counters (D.held self.now.mib.device) moment in
+        ensures { let known = known_by D.held self.now.mib moment in
             IfOk result (IsReadOut known (IsInView self.now.policy.families (view_of access.entry)) message) }
     {
         let Message { community, body } = message;
@@ -203,7 +204,7 @@ impl<D: Device + Drop> Agent<D> {
     ) -> Result<Reply, AllocError>
         requires answered { is_answered pdu.kind ≡ true }
         requires read { need_of_kind pdu.kind ≡ Need.Read }
-        ensures { let known = known_of self.now.mib.settings self.now.mib.counters (D.held self.now.mib.device) moment in
+        ensures { let known = known_by D.held self.now.mib moment in
             let message : AnyMessage = record { community = community; body = bodies.Pdu pdu } in
             IfOk result (IsReadOut known (IsInView self.now.policy.families (view_of access.entry)) message) }
     {
@@ -225,12 +226,12 @@ impl<D: Device + Drop> Agent<D> {
         asked: Vec<Binding>,
         moment: Moment,
     ) -> Result<Reply, AllocError>
-        ensures { let known = known_of self.now.mib.settings self.now.mib.counters (D.held self.now.mib.device) moment in
+        ensures { let known = known_by D.held self.now.mib moment in
             let R = IsGetAnswer known (IsInView self.now.policy.families (view_of access.entry)) in
-            IfOk result (IsSentFor self.now.mib.settings.limit R head asked.items) }
+            IfOk result (IsSentFor (map_settings self.now.mib).limit R head asked.items) }
     {
         let answers = self.read_all(alloc, access, asked, moment)?;
-        send(alloc, with_bindings(head, answers), self.mib.settings.limit)
+        send(alloc, with_bindings(head, answers), self.mib.settings().limit)
     }
 
     /// What is sent for a GetNext, whose response without variable bindings this is. No name is answered after the response is
@@ -243,13 +244,13 @@ impl<D: Device + Drop> Agent<D> {
         asked: &[Binding],
         moment: Moment,
     ) -> Result<Reply, AllocError>
-        ensures { let known = known_of self.now.mib.settings self.now.mib.counters (D.held self.now.mib.device) moment in
+        ensures { let known = known_by D.held self.now.mib moment in
             let R = IsNextAnswer known (IsInView self.now.policy.families (view_of access.entry)) in
-            IfOk result (IsSentFor self.now.mib.settings.limit R head asked.now) }
+            IfOk result (IsSentFor (map_settings self.now.mib).limit R head asked.now) }
     {
         mon_pdu::laws::grows();
         laws::stepper();
-        let limit = self.mib.settings.limit;
+        let limit = self.mib.settings().limit;
         let mut reply = Growing::new(alloc, head, limit);
         let mut gaps = Gaps::new(alloc);
         let all = self.extend(alloc, &mut reply, &mut gaps, access, asked, moment)?;
@@ -270,12 +271,12 @@ impl<D: Device + Drop> Agent<D> {
         bulk: Bulk,
         moment: Moment,
     ) -> Result<Reply, AllocError>
-        ensures { let known = known_of self.now.mib.settings self.now.mib.counters (D.held self.now.mib.device) moment in
+        ensures { let known = known_by D.held self.now.mib moment in
             let message : AnyMessage = record { community = community; body = bodies.Bulk bulk } in
             IfOk result (IsReadOut known (IsInView self.now.policy.families (view_of access.entry)) message) }
     {
         let response = self.bulk_response(alloc, access, community, bulk, moment)?;
-        send(alloc, response, self.mib.settings.limit)
+        send(alloc, response, self.mib.settings().limit)
     }
 
     /// The response to a GetBulk.
@@ -287,13 +288,13 @@ impl<D: Device + Drop> Agent<D> {
         bulk: Bulk,
         moment: Moment,
     ) -> Result<Message, AllocError>
-        ensures { let known = known_of self.now.mib.settings self.now.mib.counters (D.held self.now.mib.device) moment in
+        ensures { let known = known_by D.held self.now.mib moment in
             let message : AnyMessage = record { community = community; body = bodies.Bulk bulk } in
             IfOk result (IsReading known (IsInView self.now.policy.families (view_of access.entry)) message) }
     {
         mon_pdu::laws::grows();
         let head = answered(community, bulk.request_id, Vec::new(alloc));
-        let mut reply = Growing::new(alloc, head, self.mib.settings.limit);
+        let mut reply = Growing::new(alloc, head, self.mib.settings().limit);
         self.bulk(alloc, &mut reply, access, &bulk, moment)?;
         Ok(reply.into_message())
     }
@@ -307,15 +308,15 @@ impl<D: Device + Drop> Agent<D> {
         name: &Oid,
         moment: Moment,
     ) -> Result<Binding, AllocError>
-        requires { AreGaps (D.held self.now.mib.device) (IsInView self.now.policy.families (view_of access)) gaps.old }
-        ensures step { let known = known_of self.now.mib.settings self.now.mib.counters (D.held self.now.mib.device) moment in
+        requires { AreGaps (D.held (map_device self.now.mib)) (IsInView self.now.policy.families (view_of access)) gaps.old }
+        ensures step { let known = known_by D.held self.now.mib moment in
             IfOk result (IsNextAnswer known (IsInView self.now.policy.families (view_of access.entry)) name.now) }
         // It is the one that every right choice of answers has.
-        ensures only { let known = known_of self.now.mib.settings self.now.mib.counters (D.held self.now.mib.device) moment in
+        ensures only { let known = known_by D.held self.now.mib moment in
             (next : List ℕ → AnyBinding) → IsStepper known (IsInView self.now.policy.families (view_of access.entry)) next
             → IfOk result (λ answer. answer ≡ next name.now) }
         // What was found hidden stays known.
-        ensures gaps { AreGaps (D.held self.now.mib.device) (IsInView self.now.policy.families (view_of access.entry)) gaps.new }
+        ensures gaps { AreGaps (D.held (map_device self.now.mib)) (IsInView self.now.policy.families (view_of access.entry)) gaps.new }
     {
         laws::one_step();
         match self
@@ -338,7 +339,7 @@ impl<D: Device + Drop> Agent<D> {
         name: &Oid,
         moment: Moment,
     ) -> Result<Value, AllocError>
-        ensures { let known = known_of self.now.mib.settings self.now.mib.counters (D.held self.now.mib.device) moment in
+        ensures { let known = known_by D.held self.now.mib moment in
             IfOk result (IsSeen known (IsInView self.now.policy.families (view_of access.entry)) name.now) }
     {
         if !self.policy.sees(access, name) {
@@ -355,7 +356,7 @@ impl<D: Device + Drop> Agent<D> {
         asked: Vec<Binding>,
         moment: Moment,
     ) -> Result<Vec<Binding>, AllocError>
-        ensures { let known = known_of self.now.mib.settings self.now.mib.counters (D.held self.now.mib.device) moment in
+        ensures { let known = known_by D.held self.now.mib moment in
             IfOk result (λ answers. AreFor (IsGetAnswer known (IsInView self.now.policy.families (view_of access.entry))) asked.items answers.items) }
     {
         let mut answers = asked;
@@ -378,14 +379,14 @@ fn cause_of(fault: PduFault) -> Option<Silence>
 }
 
 /// Counts a reply by its cause.
-fn raise(counters: &mut Counters, reply: &Reply)
-    ensures { counters.new ≡ raised_by reply.now counters.old }
+fn raise<D: Device + Drop>(mib: &mut Mib<D>, reply: &Reply)
+    ensures { mib.new ≡ with_counters mib.old (raised_by reply.now (map_counters mib.old)) }
 {
     match reply {
-        Reply::Silent(Silence::BadMessage) => counters.count(Counter::ParseErrors),
-        Reply::Silent(Silence::BadVersion) => counters.count(Counter::BadVersions),
-        Reply::Silent(Silence::BadCommunity) => counters.count(Counter::BadCommunities),
-        Reply::Silent(Silence::TooBigTwice) => counters.count(Counter::SilentDrops),
+        Reply::Silent(Silence::BadMessage) => mib.count(Counter::ParseErrors),
+        Reply::Silent(Silence::BadVersion) => mib.count(Counter::BadVersions),
+        Reply::Silent(Silence::BadCommunity) => mib.count(Counter::BadCommunities),
+        Reply::Silent(Silence::TooBigTwice) => mib.count(Counter::SilentDrops),
         Reply::Silent(Silence::NotARequest) | Reply::Send(_) => {}
     }
 }

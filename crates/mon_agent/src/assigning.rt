@@ -7,7 +7,7 @@ ghost use Rattle.mon_vacm.specs.Borrowed.{view_of};
 ghost use Rattle.mon_vacm.specs.View.{IsInView};
 ghost use Rattle.mon_mib.specs.declared.commit.Commit.{Commit as AnyCommit};
 ghost use Rattle.mon_mib.specs.Commit.{IsCommitted, failures_by_then};
-ghost use Rattle.mon_mib.specs.Known.{known_of};
+ghost use Rattle.mon_mib.specs.Map.{known_by, map_counters, map_device, map_settings};
 ghost use Rattle.mon_agent.specs.Assigned.{greatest, returned, status_of, place_of};
 ghost use Rattle.mon_agent.specs.Ready.{HasRoomForErrors, IsNumbered, IsReadyToSet, IsReturned, IsRoomy};
 
@@ -37,13 +37,13 @@ impl<D: Device + Drop> Agent<D> {
         message: Message,
         moment: Moment,
     ) -> Result<Ready, AgentFault>
-        ensures ready { let known = known_of self.now.mib.settings self.now.mib.counters (D.held self.now.mib.device) moment in
-            IfOk result (IsReadyToSet D.held D.failed D.refuses known (IsInView self.now.policy.families (view_of access.entry)) self.now.mib.device message) }
+        ensures ready { let known = known_by D.held self.now.mib moment in
+            IfOk result (IsReadyToSet D.held D.failed D.refuses known (IsInView self.now.policy.families (view_of access.entry)) (map_device self.now.mib) message) }
         ensures room { IfOk result IsRoomy }
     {
         mon_pdu::laws::counts();
         mon_pdu::laws::shrinks();
-        let limit = self.mib.settings.limit;
+        let limit = self.mib.settings().limit;
         let Some(count) = count_bindings(&message.body) else {
             return Ok(Ready::Answer(send_too_big(alloc, message, limit)?));
         };
@@ -68,15 +68,15 @@ impl<D: Device + Drop> Agent<D> {
     /// Assigns what a Set asks for, and writes its response. Takes no memory.
     pub(crate) fn assign(&mut self, set: Assigning) -> Vec<u8>
         requires { HasRoomForErrors set }
-        ensures assigned { (outcome : AnyCommit) × IsCommitted D.held D.refuses set.plan (D.held self.old.mib.device) (D.held self.new.mib.device) outcome
-            × (D.failed self.new.mib.device ≡ failures_by_then outcome (D.failed self.old.mib.device))
+        ensures assigned { (outcome : AnyCommit) × IsCommitted D.held D.refuses set.plan (D.held (map_device self.old.mib)) (D.held (map_device self.new.mib)) outcome
+            × (D.failed (map_device self.new.mib) ≡ failures_by_then outcome (D.failed (map_device self.old.mib)))
             × (result.items ≡ written_message (returned set.response (status_of outcome) (pos (place_of outcome)))) }
         ensures shorter { length result.items ≤ length (written_message set.response) }
 
         // The rest stays.
         ensures policy { self.new.policy ≡ self.old.policy }
-        ensures settings { self.new.mib.settings ≡ self.old.mib.settings }
-        ensures counters { self.new.mib.counters ≡ self.old.mib.counters }
+        ensures settings { map_settings self.new.mib ≡ map_settings self.old.mib }
+        ensures counters { map_counters self.new.mib ≡ map_counters self.old.mib }
     {
         mon_pdu::laws::shrinks();
         let Assigning {

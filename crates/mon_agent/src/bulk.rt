@@ -5,7 +5,7 @@ ghost use Rattle.mon_pdu.specs.declared.message.Binding.{Binding as AnyBinding};
 ghost use Rattle.mon_vacm.specs.Borrowed.{view_of};
 ghost use Rattle.mon_vacm.specs.View.{IsInView};
 ghost use Rattle.mon_mib.specs.Gaps.{AreGaps};
-ghost use Rattle.mon_mib.specs.Known.{known_of};
+ghost use Rattle.mon_mib.specs.Map.{known_by, map_device};
 ghost use Rattle.mon_agent.specs.Bulk.{IsStepper, names_of, full_list};
 ghost use Rattle.mon_agent.specs.Growing.{FitsWith, IsPut, IsEnded, last, more_rounds};
 ghost use Rattle.mon_agent.specs.Reply.{count_of};
@@ -30,7 +30,7 @@ impl<D: Device + Drop> Agent<D> {
         requires { reply.old.bindings ≡ [] }
         ensures head { reply.new.head ≡ reply.old.head }
         ensures limit { reply.new.limit ≡ reply.old.limit }
-        ensures put { let known = known_of self.now.mib.settings self.now.mib.counters (D.held self.now.mib.device) moment in
+        ensures put { let known = known_by D.held self.now.mib moment in
             (next : List ℕ → AnyBinding) → IsStepper known (IsInView self.now.policy.families (view_of access.entry)) next
             → OnOk result (IsEnded (FitsWith reply.old)
             (full_list next request.now.non_repeaters request.now.max_repetitions request.now.bindings) reply.new.bindings) }
@@ -62,13 +62,13 @@ impl<D: Device + Drop> Agent<D> {
         asked: &[Binding],
         moment: Moment,
     ) -> Result<bool, AllocError>
-        requires { AreGaps (D.held self.now.mib.device) (IsInView self.now.policy.families (view_of access)) gaps.old }
+        requires { AreGaps (D.held (map_device self.now.mib)) (IsInView self.now.policy.families (view_of access)) gaps.old }
         ensures head { reply.new.head ≡ reply.old.head }
         ensures limit { reply.new.limit ≡ reply.old.limit }
-        ensures put { let known = known_of self.now.mib.settings self.now.mib.counters (D.held self.now.mib.device) moment in
+        ensures put { let known = known_by D.held self.now.mib moment in
             (next : List ℕ → AnyBinding) → IsStepper known (IsInView self.now.policy.families (view_of access.entry)) next
             → IfOk result (λ all. IsPut (FitsWith reply.old) (reply.old.bindings ++ map next (names_of asked.now)) all reply.new.bindings) }
-        ensures gaps { AreGaps (D.held self.now.mib.device) (IsInView self.now.policy.families (view_of access.entry)) gaps.new }
+        ensures gaps { AreGaps (D.held (map_device self.now.mib)) (IsInView self.now.policy.families (view_of access.entry)) gaps.new }
         ensures long { result ≡ Ok true → length reply.new.bindings ≡ length reply.old.bindings + length asked.now }
     {
         for binding in asked {
@@ -92,14 +92,14 @@ impl<D: Device + Drop> Agent<D> {
         moment: Moment,
     ) -> Result<(), AllocError>
         requires width { width ≤ length reply.old.bindings }
-        requires gaps { AreGaps (D.held self.now.mib.device) (IsInView self.now.policy.families (view_of access)) gaps.old }
+        requires gaps { AreGaps (D.held (map_device self.now.mib)) (IsInView self.now.policy.families (view_of access)) gaps.old }
         ensures head { reply.new.head ≡ reply.old.head }
         ensures limit { reply.new.limit ≡ reply.old.limit }
-        ensures put { let known = known_of self.now.mib.settings self.now.mib.counters (D.held self.now.mib.device) moment in
+        ensures put { let known = known_by D.held self.now.mib moment in
             (next : List ℕ → AnyBinding) → IsStepper known (IsInView self.now.policy.families (view_of access.entry)) next
             → OnOk result (IsEnded (FitsWith reply.old)
             (reply.old.bindings ++ more_rounds next rounds (last width reply.old.bindings)) reply.new.bindings) }
-        ensures gaps { AreGaps (D.held self.now.mib.device) (IsInView self.now.policy.families (view_of access.entry)) gaps.new }
+        ensures gaps { AreGaps (D.held (map_device self.now.mib)) (IsInView self.now.policy.families (view_of access.entry)) gaps.new }
     {
         for _ in 0..rounds {
             if reply.is_last(width) {
@@ -123,14 +123,14 @@ impl<D: Device + Drop> Agent<D> {
         moment: Moment,
     ) -> Result<bool, AllocError>
         requires width { width ≤ length reply.old.bindings }
-        requires gaps { AreGaps (D.held self.now.mib.device) (IsInView self.now.policy.families (view_of access)) gaps.old }
+        requires gaps { AreGaps (D.held (map_device self.now.mib)) (IsInView self.now.policy.families (view_of access)) gaps.old }
         ensures head { reply.new.head ≡ reply.old.head }
         ensures limit { reply.new.limit ≡ reply.old.limit }
-        ensures put { let known = known_of self.now.mib.settings self.now.mib.counters (D.held self.now.mib.device) moment in
+        ensures put { let known = known_by D.held self.now.mib moment in
             (next : List ℕ → AnyBinding) → IsStepper known (IsInView self.now.policy.families (view_of access.entry)) next
             → IfOk result (λ all. IsPut (FitsWith reply.old)
             (reply.old.bindings ++ map next (names_of (last width reply.old.bindings))) all reply.new.bindings) }
-        ensures gaps { AreGaps (D.held self.now.mib.device) (IsInView self.now.policy.families (view_of access.entry)) gaps.new }
+        ensures gaps { AreGaps (D.held (map_device self.now.mib)) (IsInView self.now.policy.families (view_of access.entry)) gaps.new }
         ensures wide { result ≡ Ok true → width ≤ length reply.new.bindings }
     {
         for _ in 0..width {

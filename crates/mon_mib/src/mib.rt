@@ -1,9 +1,9 @@
 ghost use Rattle.std.specs.Prelude.{Some, ◌≡◌, ◌^◌, ◌<◌, ◌+◌, ◌/◌, ◌%◌, min, length, IfOk, IfSome, IfNone, [], ◌∷◌, ◌++◌, Contains, ℕ, List};
 ghost use Rattle.std.specs.List.{AllWithin};
 ghost use Rattle.std.specs.declared.cmp.Ordering.TheVariants.{Less};
-ghost use Rattle.mon_mib.specs.Counters.{no_counts};
+ghost use Rattle.mon_mib.specs.Counters.{counted, no_counts};
 ghost use Rattle.mon_mib.specs.Held.{AreIndexes, IsAbove, IsLeastOf, text_at};
-ghost use Rattle.mon_mib.specs.Known.{known_of, instances, variable_value, scalar_value, column_value};
+ghost use Rattle.mon_mib.specs.Known.{instances, variable_value, scalar_value, column_value};
 ghost use Rattle.mon_mib.specs.Next.{IsGot, IsNext, IsServedName};
 ghost use Rattle.mon_mib.specs.Objects.{objects, prefix_of};
 ghost use Rattle.mon_mib.specs.Order.{IsFrom, name_cmp};
@@ -12,7 +12,7 @@ ghost use Rattle.mon_vacm.specs.Borrowed.{view_of};
 ghost use Rattle.mon_vacm.specs.View.{IsInView};
 
 use crate::column::Column;
-use crate::counters::Counters;
+use crate::counters::{Counter, Counters};
 use crate::device::Device;
 use crate::facts::{Facts, IfText, SysText};
 use crate::gaps::{Gap, Gaps};
@@ -32,19 +32,21 @@ use std::alloc::{AllocError, Global};
 #[derive(Drop)]
 pub struct Mib<D: Drop> {
     /// What is served as it was told at the start.
-    pub settings: Settings,
+    settings: Settings,
     /// What the agent has counted.
-    pub counters: Counters,
+    counters: Counters,
     /// What serves the texts that can be set, and the interfaces.
-    pub device: D,
+    pub(crate) device: D,
 }
 
 impl<D: Device + Drop> Mib<D> {
+    ghost use Rattle.mon_mib.specs.Map.{known_by, map_counters, map_device, map_settings, with_counters};
+
     /// The map over a device, with all counters at 0.
     pub fn new(settings: Settings, device: D) -> Self
-        ensures settings { result.settings ≡ settings }
-        ensures counters { result.counters ≡ no_counts }
-        ensures device { result.device ≡ device }
+        ensures settings { map_settings result ≡ settings }
+        ensures counters { map_counters result ≡ no_counts }
+        ensures device { map_device result ≡ device }
     {
         Mib {
             settings,
@@ -53,10 +55,45 @@ impl<D: Device + Drop> Mib<D> {
         }
     }
 
+    /// What is served as it was told at the start.
+    pub fn settings(&self) -> &Settings
+        ensures { result.now ≡ map_settings self.now }
+    {
+        &self.settings
+    }
+
+    /// What was counted.
+    pub fn counters(&self) -> Counters
+        ensures { result ≡ map_counters self.now }
+    {
+        self.counters
+    }
+
+    /// What serves the texts that can be set, and the interfaces.
+    pub fn device(&self) -> &D
+        ensures { result.now ≡ map_device self.now }
+    {
+        &self.device
+    }
+
+    /// Counts one more of a counter.
+    pub fn count(&mut self, counter: Counter)
+        ensures { self.new ≡ with_counters self.old (counted (map_counters self.old) counter) }
+    {
+        self.counters.count(counter);
+    }
+
+    /// Puts the counters back to what they were.
+    pub fn recount(&mut self, counters: Counters)
+        ensures { self.new ≡ with_counters self.old counters }
+    {
+        self.counters = counters;
+    }
+
     /// What stands at a name at a moment: the value of the variable of that name, `NoObject` where the name is under no
     /// served object, else `NoInstance` (RFC 3416 section 4.2.1). It takes memory for octets and long identifiers alone.
     pub fn get(&self, alloc: Global, name: &Oid, moment: Moment) -> Result<Got, AllocError>
-        ensures { let known = known_of self.now.settings self.now.counters (D.held self.now.device) moment in
+        ensures { let known = known_by D.held self.now moment in
             IfOk result (IsGot known name.now) }
     {
         let Some((object, rest)) = find_object(name.parts()) else {
@@ -81,7 +118,7 @@ impl<D: Device + Drop> Mib<D> {
         name: &Oid,
         moment: Moment,
     ) -> Result<Option<Binding>, AllocError>
-        ensures { let known = known_of self.now.settings self.now.counters (D.held self.now.device) moment in
+        ensures { let known = known_by D.held self.now moment in
             IfOk result (IsNext objects known (IsInView policy.now.families (view_of access.entry)) name.now) }
     {
         let mut gaps = Gaps::new(alloc);
@@ -99,10 +136,10 @@ impl<D: Device + Drop> Mib<D> {
         name: &Oid,
         moment: Moment,
     ) -> Result<Option<Binding>, AllocError>
-        requires { AreGaps (D.held self.now.device) (IsInView policy.now.families (view_of access)) gaps.old }
-        ensures next { let known = known_of self.now.settings self.now.counters (D.held self.now.device) moment in
+        requires { AreGaps (D.held (map_device self.now)) (IsInView policy.now.families (view_of access)) gaps.old }
+        ensures next { let known = known_by D.held self.now moment in
             IfOk result (IsNext objects known (IsInView policy.now.families (view_of access.entry)) name.now) }
-        ensures gaps { AreGaps (D.held self.now.device) (IsInView policy.now.families (view_of access.entry)) gaps.new }
+        ensures gaps { AreGaps (D.held (map_device self.now)) (IsInView policy.now.families (view_of access.entry)) gaps.new }
     {
         let place = candidate_place(name.parts());
         for object in &all_objects()[place..] {
@@ -125,10 +162,10 @@ impl<D: Device + Drop> Mib<D> {
         name: &Oid,
         moment: Moment,
     ) -> Result<Option<Binding>, AllocError>
-        requires { AreGaps (D.held self.now.device) (IsInView policy.now.families (view_of access)) gaps.old }
-        ensures next { let known = known_of self.now.settings self.now.counters (D.held self.now.device) moment in
+        requires { AreGaps (D.held (map_device self.now)) (IsInView policy.now.families (view_of access)) gaps.old }
+        ensures next { let known = known_by D.held self.now moment in
             IfOk result (IsNext (object ∷ []) known (IsInView policy.now.families (view_of access.entry)) name.now) }
-        ensures gaps { AreGaps (D.held self.now.device) (IsInView policy.now.families (view_of access.entry)) gaps.new }
+        ensures gaps { AreGaps (D.held (map_device self.now)) (IsInView policy.now.families (view_of access.entry)) gaps.new }
     {
         let start = find_start(object.prefix(), name.parts());
         let least = self.least_in_view(alloc, gaps, object, policy, access, start)?;
@@ -150,9 +187,9 @@ impl<D: Device + Drop> Mib<D> {
         access: Access<'_>,
         start: Start,
     ) -> Result<Option<u32>, AllocError>
-        requires { AreGaps (D.held self.now.device) (IsInView policy.now.families (view_of access)) gaps.old }
-        ensures least { IfOk result (IsLeastInView (D.held self.now.device) (IsInView policy.now.families (view_of access.entry)) object start) }
-        ensures gaps { AreGaps (D.held self.now.device) (IsInView policy.now.families (view_of access.entry)) gaps.new }
+        requires { AreGaps (D.held (map_device self.now)) (IsInView policy.now.families (view_of access)) gaps.old }
+        ensures least { IfOk result (IsLeastInView (D.held (map_device self.now)) (IsInView policy.now.families (view_of access.entry)) object start) }
+        ensures gaps { AreGaps (D.held (map_device self.now)) (IsInView policy.now.families (view_of access.entry)) gaps.new }
     {
         if let Some(gap) = gaps.find(object, start) {
             return Ok(gap.least);
@@ -178,8 +215,8 @@ impl<D: Device + Drop> Mib<D> {
         access: Access<'_>,
         start: Start,
     ) -> Result<Option<u32>, AllocError>
-        requires { AreGaps (D.held self.now.device) (IsInView policy.now.families (view_of access)) gaps.now }
-        ensures { IfOk result (IsLeastInView (D.held self.now.device) (IsInView policy.now.families (view_of access.entry)) object start) }
+        requires { AreGaps (D.held (map_device self.now)) (IsInView policy.now.families (view_of access)) gaps.now }
+        ensures { IfOk result (IsLeastInView (D.held (map_device self.now)) (IsInView policy.now.families (view_of access.entry)) object start) }
     {
         let mut rest = start;
         while let Some(instance) = self.next_instance(object, rest) {
@@ -197,7 +234,7 @@ impl<D: Device + Drop> Mib<D> {
 
     /// The least instance of an object from a start on.
     fn next_instance(&self, object: Object, start: Start) -> Option<u32>
-        ensures { IsLeastOf (instances (D.held self.now.device) object) (IsFrom start) result }
+        ensures { IsLeastOf (instances (D.held (map_device self.now)) object) (IsFrom start) result }
     {
         match start {
             Start::First => self.instance_above(object, None),
@@ -208,7 +245,7 @@ impl<D: Device + Drop> Mib<D> {
 
     /// The least instance of an object above another, or of all.
     fn instance_above(&self, object: Object, after: Option<u32>) -> Option<u32>
-        ensures { IsLeastOf (instances (D.held self.now.device) object) (IsAbove after) result }
+        ensures { IsLeastOf (instances (D.held (map_device self.now)) object) (IsAbove after) result }
     {
         match object {
             Object::Column(_) => self.device.next_index(after),
@@ -228,9 +265,9 @@ impl<D: Device + Drop> Mib<D> {
         instance: u32,
         moment: Moment,
     ) -> Result<Option<Value>, AllocError>
-        ensures there { Contains (instances (D.held self.now.device) object) instance
-            → IfOk result (λ value. value ≡ Some (variable_value (known_of self.now.settings self.now.counters (D.held self.now.device) moment) object instance)) }
-        ensures found { IfOk result (λ value. IfSome value (λ _. Contains (instances (D.held self.now.device) object) instance)) }
+        ensures there { Contains (instances (D.held (map_device self.now)) object) instance
+            → IfOk result (λ value. value ≡ Some (variable_value (known_by D.held self.now moment) object instance)) }
+        ensures found { IfOk result (λ value. IfSome value (λ _. Contains (instances (D.held (map_device self.now)) object) instance)) }
     {
         match object {
             Object::Scalar(scalar) => {
@@ -250,7 +287,7 @@ impl<D: Device + Drop> Mib<D> {
 
     /// The value of a scalar.
     fn scalar(&self, alloc: Global, scalar: Scalar, moment: Moment) -> Result<Value, AllocError>
-        ensures { let known = known_of self.now.settings self.now.counters (D.held self.now.device) moment in
+        ensures { let known = known_by D.held self.now moment in
             IfOk result (λ value. value ≡ scalar_value known scalar) }
     {
         let settings = &self.settings;
@@ -278,15 +315,15 @@ impl<D: Device + Drop> Mib<D> {
 
     /// A text of the device, as a value.
     fn sys_text(&self, alloc: Global, which: SysText) -> Result<Value, AllocError>
-        ensures { IfOk result (λ value. value ≡ Value.Octets ((D.held self.now.device).sys_text which)) }
+        ensures { IfOk result (λ value. value ≡ Value.Octets ((D.held (map_device self.now)).sys_text which)) }
     {
         Ok(Value::Octets(Octets::from_slice(alloc, self.device.sys_text(which))?))
     }
 
     /// A text of an interface, as a value.
     fn text(&self, alloc: Global, index: u32, which: IfText) -> Result<Value, AllocError>
-        requires { Contains (D.held self.now.device).indexes index }
-        ensures { IfOk result (λ value. value ≡ Value.Octets (text_at (D.held self.now.device) index which)) }
+        requires { Contains (D.held (map_device self.now)).indexes index }
+        ensures { IfOk result (λ value. value ≡ Value.Octets (text_at (D.held (map_device self.now)) index which)) }
     {
         Ok(Value::Octets(Octets::from_slice(alloc, self.device.text(index, which))?))
     }
@@ -299,9 +336,9 @@ impl<D: Device + Drop> Mib<D> {
         index: u32,
         facts: Facts,
     ) -> Result<Value, AllocError>
-        requires there { Contains (D.held self.now.device).indexes index }
+        requires there { Contains (D.held (map_device self.now)).indexes index }
         requires range { index < 2 ^ 31 }
-        ensures { let known = known_of self.now.settings self.now.counters (D.held self.now.device) 0 in
+        ensures { let known = known_by D.held self.now 0 in
             IfOk result (λ value. value ≡ column_value known facts index column) }
     {
         Ok(match column {

@@ -8,7 +8,6 @@ ghost use Rattle.mon_mib.specs.declared.column.Column.TheVariants.{IfAdminStatus
 ghost use Rattle.mon_mib.specs.Assignment.{scalar_of, IsSetPlan};
 ghost use Rattle.mon_mib.specs.Commit.{IsCommitted, failures_by_then};
 ghost use Rattle.mon_mib.specs.Held.{facts_at};
-ghost use Rattle.mon_mib.specs.Known.{known_of};
 ghost use Rattle.mon_mib.specs.Objects.{prefix_of};
 ghost use Rattle.mon_mib.specs.Refusal.{IsWritable, IsAccepted, IsSetFault};
 ghost use Rattle.mon_mib.specs.Tried.{object_of, IsTried, IsJudged, fault_at};
@@ -41,6 +40,8 @@ const SYS_TEXT_MAX: usize = 255;
 const ALIAS_MAX: usize = 64;
 
 impl<D: Device + Drop> Mib<D> {
+    ghost use Rattle.mon_mib.specs.Map.{known_by, map_counters, map_device, map_settings};
+
     /// What a Set of these bindings is to assign, or the first of its bindings that is refused (RFC 3416 section 4.2.5).
     /// For each binding in order: `NoAccess` for a name outside the view, `NotWritable` for one under no object that a Set may
     /// change, `WrongType`, `WrongLength` and `WrongValue` for the value, `NoCreation` for a name with no such instance.
@@ -53,11 +54,11 @@ impl<D: Device + Drop> Mib<D> {
         bindings: &[Binding],
         moment: Moment,
     ) -> Result<SetPlan, SetFault>
-        ensures plan { let known = known_of self.now.settings self.now.counters (D.held self.now.device) moment in
+        ensures plan { let known = known_by D.held self.now moment in
             IfOk result (λ plan. IsSetPlan known bindings.now plan) }
-        ensures accepted { let known = known_of self.now.settings self.now.counters (D.held self.now.device) moment in
+        ensures accepted { let known = known_by D.held self.now moment in
             IfOk result (λ _. All (IsAccepted known (IsInView policy.now.families (view_of access.entry))) bindings.now) }
-        ensures refused { let known = known_of self.now.settings self.now.counters (D.held self.now.device) moment in
+        ensures refused { let known = known_by D.held self.now moment in
             IfErr result (IsSetFault known (IsInView policy.now.families (view_of access.entry)) bindings.now) }
     {
         let mut steps = VecDeque::new(alloc);
@@ -74,10 +75,10 @@ impl<D: Device + Drop> Mib<D> {
     /// Makes the assignments of a plan in their order. Where one fails, all earlier ones are undone, the last first. Where an
     /// undoing fails too, the others are still undone. It takes no memory: the plan has the room.
     pub fn commit(&mut self, plan: SetPlan) -> Commit
-        ensures outcome { IsCommitted D.held D.refuses plan (D.held self.old.device) (D.held self.new.device) result }
-        ensures failures { D.failed self.new.device ≡ failures_by_then result (D.failed self.old.device) }
-        ensures settings { self.new.settings ≡ self.old.settings }
-        ensures counters { self.new.counters ≡ self.old.counters }
+        ensures outcome { IsCommitted D.held D.refuses plan (D.held (map_device self.old)) (D.held (map_device self.new)) result }
+        ensures failures { D.failed (map_device self.new) ≡ failures_by_then result (D.failed (map_device self.old)) }
+        ensures settings { map_settings self.new ≡ map_settings self.old }
+        ensures counters { map_counters self.new ≡ map_counters self.old }
     {
         assign_all(&mut self.device, plan)
     }
@@ -92,9 +93,9 @@ impl<D: Device + Drop> Mib<D> {
         binding: &Binding,
         moment: Moment,
     ) -> Result<Change, SetFault>
-        ensures made { let known = known_of self.now.settings self.now.counters (D.held self.now.device) moment in
+        ensures made { let known = known_by D.held self.now moment in
             IfOk result (λ change. IsJudged known (IsInView policy.now.families (view_of access.entry)) binding.now (Ok change)) }
-        ensures refused { let known = known_of self.now.settings self.now.counters (D.held self.now.device) moment in
+        ensures refused { let known = known_by D.held self.now moment in
             IfErr result (λ fault. (why : AnyFault) × (fault ≡ fault_at why index)
             × IsJudged known (IsInView policy.now.families (view_of access.entry)) binding.now (Err why)) }
     {
@@ -113,7 +114,7 @@ impl<D: Device + Drop> Mib<D> {
         binding: &Binding,
         moment: Moment,
     ) -> Result<Change, BindingFault>
-        ensures { let known = known_of self.now.settings self.now.counters (D.held self.now.device) moment in
+        ensures { let known = known_by D.held self.now moment in
             IsJudged known (IsInView policy.now.families (view_of access.entry)) binding.now result }
     {
         if !policy.sees(access, &binding.name) {
@@ -137,7 +138,7 @@ impl<D: Device + Drop> Mib<D> {
         rest: &[u32],
         value: &Value,
     ) -> Result<Change, BindingFault>
-        ensures { (moment : ℕ) → let known = known_of self.now.settings self.now.counters (D.held self.now.device) moment in
+        ensures { (moment : ℕ) → let known = known_by D.held self.now moment in
             IsTried known (served.Scalar (scalar_of which)) rest.now value.now result }
     {
         let text = read_text(value, SYS_TEXT_MAX)?;
@@ -154,7 +155,7 @@ impl<D: Device + Drop> Mib<D> {
         value: &Value,
         moment: Moment,
     ) -> Result<Change, BindingFault>
-        ensures { let known = known_of self.now.settings self.now.counters (D.held self.now.device) moment in
+        ensures { let known = known_by D.held self.now moment in
             IsTried known (served.Column IfAdminStatus) rest.now value.now result }
     {
         let status = read_status(value)?;
@@ -179,7 +180,7 @@ impl<D: Device + Drop> Mib<D> {
         value: &Value,
         moment: Moment,
     ) -> Result<Change, BindingFault>
-        ensures { let known = known_of self.now.settings self.now.counters (D.held self.now.device) moment in
+        ensures { let known = known_by D.held self.now moment in
             IsTried known (served.Column IfAlias) rest.now value.now result }
     {
         let text = read_text(value, ALIAS_MAX)?;
@@ -189,10 +190,10 @@ impl<D: Device + Drop> Mib<D> {
 
     /// The interface whose index alone these numbers are, and its facts.
     fn row(&self, rest: &[u32], moment: Moment) -> Result<(u32, Facts), SetStatus>
-        ensures found { IfOk result (λ row. (rest.now ≡ row.0 ∷ []) × Contains (D.held self.now.device).indexes row.0) }
-        ensures facts { IfOk result (λ row. row.1 ≡ facts_at (D.held self.now.device) row.0 moment) }
+        ensures found { IfOk result (λ row. (rest.now ≡ row.0 ∷ []) × Contains (D.held (map_device self.now)).indexes row.0) }
+        ensures facts { IfOk result (λ row. row.1 ≡ facts_at (D.held (map_device self.now)) row.0 moment) }
         ensures missing { IfErr result (λ status. status ≡ SetStatus.NoCreation) }
-        ensures lacking { IfErr result (λ _. (i : ℕ) → rest.now ≡ i ∷ [] → Contains (D.held self.now.device).indexes i → ⊥) }
+        ensures lacking { IfErr result (λ _. (i : ℕ) → rest.now ≡ i ∷ [] → Contains (D.held (map_device self.now)).indexes i → ⊥) }
     {
         let [index] = rest else {
             return Err(SetStatus::NoCreation);
