@@ -231,7 +231,11 @@ impl<D: Device + Drop> Agent<D> {
             IfOk result (IsSentFor (map_settings self.now.mib).limit R head asked.items) }
     {
         let answers = self.read_all(alloc, access, asked, moment)?;
-        send(alloc, with_bindings(head, answers), self.mib.settings().limit)
+        send(
+            alloc,
+            with_bindings(head, answers),
+            self.mib.settings().limit,
+        )
     }
 
     /// What is sent for a GetNext, whose response without variable bindings this is. No name is answered after the response is

@@ -12,6 +12,9 @@ pub enum Choice {
     Agent,
     Answer,
     Mib,
+    Station,
+    Report,
+    SelfTest,
 }
 
 impl Choice {
@@ -26,6 +29,9 @@ impl Choice {
             "agent" => Choice::Agent,
             "answer" => Choice::Answer,
             "mib" => Choice::Mib,
+            "station" => Choice::Station,
+            "report" => Choice::Report,
+            "selftest" => Choice::SelfTest,
             _ => Choice::Replay,
         }
     }

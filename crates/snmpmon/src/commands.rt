@@ -6,6 +6,7 @@ use crate::answering::answers;
 use crate::choice::Choice;
 use crate::fault::Fault;
 use crate::listing::list;
+use crate::station::{report, self_test, station};
 use crate::words::command;
 use clap::ArgMatches;
 use clap::error::ErrorKind;
@@ -32,7 +33,11 @@ const USUAL_SIZE: u8 = 8;
 const LONGEST_COMMUNITY: usize = 512;
 
 /// Runs the command that the words name, and answers the status.
-pub fn start<R: Env + Clock + Files + Net + Input + Print + Eprint + AllocGlobal>(rt: &R) -> u8 {
+pub fn start<
+    R: Env + Clock + Files<File = File> + Net + Input + Print + Eprint + AllocGlobal,
+>(
+    rt: &R,
+) -> u8 {
     let words: Result<Vec<String>, _> = match env::args(rt) {
         Ok(args) => args.collect(rt.alloc()),
         Err(error) if error.kind() == io::ErrorKind::OutOfMemory => {
@@ -80,12 +85,12 @@ fn failed(rt: &impl Eprint, fault: Fault) -> u8 {
 }
 
 /// Prints the fault's line.
-fn tell(rt: &impl Eprint, fault: Fault) {
+pub(crate) fn tell(rt: &impl Eprint, fault: Fault) {
     let (number, name, of) = (fault.number(), fault.name(), fault.of());
     let _ = eprintln!(rt; "snmpmon: {of} {number} {name}");
 }
 
-fn run<R: Clock + Files + Net + Input + Print + Eprint + AllocGlobal>(
+fn run<R: Clock + Files<File = File> + Net + Input + Print + Eprint + AllocGlobal>(
     rt: &R,
     matches: &ArgMatches<'_>,
 ) -> Result<(), Fault> {
@@ -101,6 +106,9 @@ fn run<R: Clock + Files + Net + Input + Print + Eprint + AllocGlobal>(
         Choice::Agent => agent(rt, words),
         Choice::Answer => answer(rt, words),
         Choice::Mib => mib(rt, words),
+        Choice::Station => station(rt, words),
+        Choice::Report => report(rt, words),
+        Choice::SelfTest => self_test(rt),
         Choice::Replay => replay(rt, size_of(words), words.get_flag("report")),
     }
 }
@@ -297,7 +305,7 @@ fn mib<R: Files + Print + AllocGlobal>(rt: &R, words: &ArgMatches<'_>) -> Result
 }
 
 /// The text of a file.
-fn read_text<R: Files + AllocGlobal>(rt: &R, path: &str) -> Result<String, Fault> {
+pub(crate) fn read_text<R: Files + AllocGlobal>(rt: &R, path: &str) -> Result<String, Fault> {
     let mut file = Counted::new(File::open(rt, path)?);
     text_of(read_all(rt.alloc(), &mut file)?)
 }

@@ -1,9 +1,13 @@
 //! Why a command failed.
 
 use mon_app::AppFault;
+use mon_disk::KeeperFault;
 use mon_mib::DeviceFault;
+use mon_rounds::TrialFault;
+use mon_saved::ImageFault;
 use mon_settings::SettingsFault;
 use mon_smi::{NamesFault, TextFault};
+use mon_station::StationFault;
 use std::alloc::{AllocError, AllocFailed};
 use std::io;
 
@@ -15,6 +19,10 @@ pub enum Fault {
     Text(TextFault),
     Settings(SettingsFault),
     Device(DeviceFault),
+    Keeper(KeeperFault),
+    Image(ImageFault),
+    Station(StationFault),
+    Trial(TrialFault),
 }
 
 impl Fault {
@@ -25,6 +33,10 @@ impl Fault {
             Fault::Names(_) | Fault::Text(_) => "mon_smi",
             Fault::Settings(_) => "mon_settings",
             Fault::Device(_) => "mon_mib",
+            Fault::Keeper(_) => "mon_disk",
+            Fault::Image(_) => "mon_saved",
+            Fault::Station(_) => "mon_station",
+            Fault::Trial(_) => "mon_rounds",
         }
     }
 
@@ -36,6 +48,10 @@ impl Fault {
             Fault::Text(fault) => fault.number(),
             Fault::Settings(fault) => fault.number(),
             Fault::Device(fault) => fault.number(),
+            Fault::Keeper(fault) => fault.number(),
+            Fault::Image(fault) => fault.number(),
+            Fault::Station(fault) => fault.number(),
+            Fault::Trial(fault) => fault.number(),
         }
     }
 
@@ -47,6 +63,10 @@ impl Fault {
             Fault::Text(fault) => fault.name(),
             Fault::Settings(fault) => fault.name(),
             Fault::Device(fault) => fault.name(),
+            Fault::Keeper(fault) => fault.name(),
+            Fault::Image(fault) => fault.name(),
+            Fault::Station(fault) => fault.name(),
+            Fault::Trial(fault) => fault.name(),
         }
     }
 }
@@ -78,6 +98,23 @@ impl From<SettingsFault> for Fault {
 impl From<DeviceFault> for Fault {
     fn from(fault: DeviceFault) -> Fault {
         Fault::Device(fault)
+    }
+}
+
+// A part's fault is told as the part's own.
+impl From<StationFault> for Fault {
+    fn from(fault: StationFault) -> Fault {
+        match fault {
+            StationFault::Keeper(fault) => Fault::Keeper(fault),
+            StationFault::Image(fault) => Fault::Image(fault),
+            other => Fault::Station(other),
+        }
+    }
+}
+
+impl From<TrialFault> for Fault {
+    fn from(fault: TrialFault) -> Fault {
+        Fault::Trial(fault)
     }
 }
 

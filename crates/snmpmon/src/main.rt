@@ -8,6 +8,8 @@ mod choice;
 mod commands;
 mod fault;
 mod listing;
+mod station;
+mod telling;
 mod words;
 
 use std::process::ExitCode;

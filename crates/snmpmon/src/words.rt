@@ -302,6 +302,76 @@ fn mib<'a>(alloc: Global) -> Result<Command<'a>, AllocError> {
         .arg(needed(alloc, "FILE", "A text file with one SMIv2 module"))
 }
 
+const STATION: &str = "Polls agents, keeps windows of samples, shares them with peers and saves them";
+
+const STATION_MORE: &str =
+    "Reads SETTINGS, a TOML file (examples/station.toml explains each key), reads the file in it or makes it, listens at its address and runs
+rounds. In a round the station polls each target, offers each peer the samples that it is owed, answers its peers and saves. At the
+end it prints the report of its windows, as `report` does.
+
+Standard error tells where it listens and by which incarnation, for each round which targets gave up or were refused and why,
+and each alarm that changed. What is refused ends no round; docs/OPERATE.md tells what each line means.
+
+A damaged file ends it with mon_disk 5 Damaged, one of other instances with mon_saved 4 OtherWatch, and neither is touched.
+
+Example: snmpmon station examples/station.toml --rounds 6 --interval 10";
+
+const STATION_SETTINGS: &str = "The settings of the station, a TOML file";
+
+fn station<'a>(alloc: Global) -> Result<Command<'a>, AllocError> {
+    let rounds = needed(alloc, "rounds", "How many rounds are run, 1 to 1000000")
+        .long("rounds")
+        .value_parser(value_parser!(u32).range(1..=1_000_000));
+    let interval = given(
+        alloc,
+        "interval",
+        "A round begins every so many seconds, 1 to 86400; at once after the last one if not given",
+    )
+    .value_parser(value_parser!(u32).range(1..=86_400));
+    let report_every = given(
+        alloc,
+        "report-every",
+        "The report is printed after every so many rounds too, 1 to 1000000",
+    )
+    .value_parser(value_parser!(u32).range(1..=1_000_000));
+    Command::new(alloc, "station")
+        .about(STATION)
+        .long_about(STATION_MORE)
+        .arg(needed(alloc, "SETTINGS", STATION_SETTINGS))?
+        .arg(rounds)?
+        .arg(interval)?
+        .arg(report_every)
+}
+
+const REPORT_FILE: &str = "Prints the report of what a station has saved";
+
+const REPORT_FILE_MORE: &str =
+    "Reads SETTINGS as `station` does, and prints for each instance a line of what stands in the station's file, as
+`replay --report` does, with the alarms at its end. The station is not started: its incarnation stays.
+
+Example: snmpmon report examples/station.toml";
+
+fn report<'a>(alloc: Global) -> Result<Command<'a>, AllocError> {
+    Command::new(alloc, "report")
+        .about(REPORT_FILE)
+        .long_about(REPORT_FILE_MORE)
+        .arg(needed(alloc, "SETTINGS", STATION_SETTINGS))
+}
+
+const SELFTEST: &str = "Tries a station in memory on an agent in memory";
+
+const SELFTEST_MORE: &str =
+    "Polls an agent in memory three times, saves what was taken, finds it again, and prints the report and `selftest: ok`.
+It opens no file and no socket.
+
+Example: snmpmon selftest";
+
+fn selftest<'a>(alloc: Global) -> Command<'a> {
+    Command::new(alloc, "selftest")
+        .about(SELFTEST)
+        .long_about(SELFTEST_MORE)
+}
+
 /// The whole command line. With no words it names no command, which the caller takes for `replay 8`.
 pub fn command<'a>(alloc: Global) -> Result<Command<'a>, AllocError> {
     Command::new(alloc, "snmpmon")
@@ -315,5 +385,8 @@ pub fn command<'a>(alloc: Global) -> Result<Command<'a>, AllocError> {
         .subcommand(set(alloc)?)?
         .subcommand(agent(alloc)?)?
         .subcommand(answer(alloc)?)?
-        .subcommand(mib(alloc)?)
+        .subcommand(mib(alloc)?)?
+        .subcommand(station(alloc)?)?
+        .subcommand(report(alloc)?)?
+        .subcommand(selftest(alloc))
 }

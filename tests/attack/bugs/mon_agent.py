@@ -18,8 +18,8 @@ BUGS = {
     ),
     "counts_before_nothing": (
         "src/agent.rt",
-        "        self.mib.counters.count(Counter::InPackets);",
-        "        self.mib.counters.count(Counter::SilentDrops);",
+        "        self.mib.count(Counter::InPackets);",
+        "        self.mib.count(Counter::SilentDrops);",
     ),
     "denies_with_gen_err": (
         "src/agent.rt",
@@ -59,7 +59,7 @@ BUGS = {
     "starts_with_other_counters": (
         "src/agent.rt",
         "            mib: Mib::new(settings, device),",
-        "            mib: { let mut mib = Mib::new(settings, device); mib.counters.count(Counter::InPackets); mib },",
+        "            mib: { let mut mib = Mib::new(settings, device); mib.count(Counter::InPackets); mib },",
     ),
     "too_big_is_no_error": (
         "src/sending.rt",
@@ -153,7 +153,7 @@ BUGS = {
     ),
     "counts_no_bad_version": (
         "src/agent.rt",
-        "        Reply::Silent(Silence::BadVersion) => counters.count(Counter::BadVersions),",
+        "        Reply::Silent(Silence::BadVersion) => mib.count(Counter::BadVersions),",
         "        Reply::Silent(Silence::BadVersion) => {}",
     ),
     "sends_what_was_cut": (
@@ -163,7 +163,7 @@ BUGS = {
     ),
     "counts_nothing_of_what_it_tells": (
         "src/agent.rt",
-        "        self.mib.counters\n    }",
+        "        self.mib.counters()\n    }",
         "        Counters::new()\n    }",
     ),
     "sends_too_big_without_a_cut": (

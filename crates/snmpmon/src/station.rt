@@ -1,0 +1,224 @@
+//! The commands of stations: `station`, `report` and `selftest`.
+
+use crate::commands::{read_text, tell};
+use crate::fault::Fault;
+use crate::telling::{tell_alarms, tell_notices, tell_start};
+use clap::ArgMatches;
+use mon_alarms::AlarmState;
+use mon_app::AppFault;
+use mon_disk::FileDisk;
+use mon_report::write_report;
+use mon_rounds::{
+    Addresses, PollLog, RoundReport, Rounds, Socket, SocketOutbox, SocketReceiver, alarm_states, rest,
+    run_round, saved_report, selftest,
+};
+use mon_settings::{StationSettings, module_files, read_station};
+use mon_smi::{Names, read_module};
+use mon_station::{Run, Station};
+use std::fs::File;
+use std::io;
+use std::io::Write;
+use std::net::Net;
+use std::rt::{Clock, Files};
+use std::time::{Duration, Instant};
+
+/// What a running station works with.
+#[derive(Drop)]
+struct Running<'a, R: Clock> {
+    station: Station<FileDisk>,
+    rounds: Rounds<SocketReceiver<'a, R>>,
+    outbox: SocketOutbox<'a>,
+    log: PollLog,
+    alarms: Vec<AlarmState>,
+}
+
+/// How often and when rounds are run, by the words.
+#[derive(Clone, Copy)]
+struct Timing {
+    rounds: u32,
+    interval: Duration,
+    report_every: u32,
+}
+
+/// Runs the station of the settings through its rounds, and prints its report.
+pub fn station<R: Clock + Files<File = File> + Net + Print + Eprint + AllocGlobal>(
+    rt: &R,
+    words: &ArgMatches<'_>,
+) -> Result<(), Fault> {
+    let settings = settings_of(rt, words)?;
+    let timing = timing_of(words);
+    let (disk, socket) = opened(rt, &settings)?;
+    let mut running = begun(rt, settings, disk, &socket)?;
+    for number in 1..=timing.rounds {
+        let began = Instant::now(rt)?;
+        let ran = run_round(rt.alloc(), &mut running.station, &mut running.rounds, &mut running.outbox);
+        after(rt, &mut running, number, ran);
+        if number == timing.rounds {
+            break;
+        }
+        if timing.report_every != 0 && number % timing.report_every == 0 {
+            print_report(rt, &running.station)?;
+        }
+        pause(rt, &mut running, number, began, timing.interval)?;
+    }
+    print_report(rt, &running.station)
+}
+
+/// Prints the report of the windows in the file of the settings. The station is not started.
+pub fn report<R: Files<File = File> + Print + AllocGlobal>(
+    rt: &R,
+    words: &ArgMatches<'_>,
+) -> Result<(), Fault> {
+    let settings = settings_of(rt, words)?;
+    let disk = FileDisk::open(rt, &settings.file)?;
+    let text = match saved_report(rt.alloc(), settings.core.watch(), disk) {
+        Ok((text, _)) => text,
+        Err((fault, _)) => return Err(Fault::from(fault)),
+    };
+    io::writer(rt).write_all(text.as_slice())?;
+    Ok(())
+}
+
+/// Prints what a station in memory measured of an agent in memory.
+pub fn self_test<R: Print + AllocGlobal>(rt: &R) -> Result<(), Fault> {
+    let text = selftest(rt.alloc())?;
+    io::writer(rt).write_all(text.as_slice())?;
+    Ok(())
+}
+
+/// What the file of a station's settings says, by the names of the modules that it lists.
+fn settings_of<R: Files + AllocGlobal>(
+    rt: &R,
+    words: &ArgMatches<'_>,
+) -> Result<StationSettings, Fault> {
+    let text = read_text(rt, words.get_str("SETTINGS").unwrap_or(""))?;
+    let mut names = Names::new(rt.alloc())?;
+    for path in module_files(rt.alloc(), &text)?.as_slice() {
+        let module = read_text(rt, path)?;
+        names.add(rt.alloc(), &read_module(rt.alloc(), &module)?)?;
+    }
+    Ok(read_station(rt.alloc(), &text, &names)?)
+}
+
+/// How often and when the words have rounds run. The command line takes no other numbers.
+fn timing_of(words: &ArgMatches<'_>) -> Timing {
+    Timing {
+        rounds: words.get_one::<u32>("rounds").unwrap_or(1),
+        interval: Duration::from_secs(u64::from(words.get_one::<u32>("interval").unwrap_or(0))),
+        report_every: words.get_one::<u32>("report-every").unwrap_or(0),
+    }
+}
+
+/// The file and the socket of the settings. The socket is taken first, so that of two processes with the same settings the second does not touch the file; yet the
+/// file's faults are told before the socket's.
+fn opened<R: Files<File = File> + Net + AllocGlobal>(
+    rt: &R,
+    settings: &StationSettings,
+) -> Result<(FileDisk, Socket), Fault> {
+    let socket = Socket::open(rt, settings.listen);
+    let disk = FileDisk::open_or_create(rt, &settings.file)?;
+    match socket {
+        Ok(socket) => Ok((disk, socket)),
+        Err(error) => match saved_report(rt.alloc(), settings.core.watch(), disk) {
+            Ok(_) => Err(socket_fault(error)),
+            Err((fault, _)) => Err(Fault::from(fault)),
+        },
+    }
+}
+
+/// Opens the station, and says where it stands.
+fn begun<'a, R: Clock + Eprint + AllocGlobal>(
+    rt: &'a R,
+    settings: StationSettings,
+    disk: FileDisk,
+    socket: &'a Socket,
+) -> Result<Running<'a, R>, Fault> {
+    let alloc = rt.alloc();
+    let at = socket.address().map_err(socket_fault)?;
+    let to = Addresses::of(alloc, &settings)?;
+    let from = Addresses::of(alloc, &settings)?;
+    let log = PollLog::new(alloc, settings.core.targets())?;
+    let (number, file) = (settings.core.station(), settings.file);
+    let station = match Station::open(alloc, settings.core, disk) {
+        Ok(station) => station,
+        Err((fault, _)) => return Err(Fault::from(fault)),
+    };
+    let alarms = alarm_states(alloc, station.board())?;
+    let receiver = SocketReceiver::new(rt, alloc, socket).map_err(socket_fault)?;
+    tell_start(rt, number, at, &station, &file, &to);
+    Ok(Running {
+        station,
+        rounds: Rounds::new(alloc, from, settings.wait_ms, receiver)?,
+        outbox: SocketOutbox::new(socket, to),
+        log,
+        alarms,
+    })
+}
+
+/// Tells what a round, or the time after it, had to be told of. Where memory runs out that is told, and the station goes on.
+fn after<R: Clock + Eprint + AllocGlobal>(
+    rt: &R,
+    running: &mut Running<'_, R>,
+    number: u32,
+    ran: Result<Run, mon_station::StationFault>,
+) {
+    let told = match ran {
+        Ok(run) => told_of(rt, running, number, &run),
+        Err(fault) => Err(Fault::from(fault)),
+    };
+    if let Err(fault) = told {
+        tell(rt, fault);
+    }
+}
+
+fn told_of<R: Clock + Eprint + AllocGlobal>(
+    rt: &R,
+    running: &mut Running<'_, R>,
+    number: u32,
+    run: &Run,
+) -> Result<(), Fault> {
+    let alloc = rt.alloc();
+    let round = running.rounds.round();
+    let report = RoundReport::of(alloc, round, run, running.station.oldest(), &mut running.log)?;
+    tell_notices(rt, number, round.addresses(), &report);
+    let alarms = alarm_states(alloc, running.station.board())?;
+    tell_alarms(rt, running.station.board().watch(), running.alarms.as_slice(), alarms.as_slice())?;
+    running.alarms = alarms;
+    Ok(())
+}
+
+/// Hands the station what comes until the next round is to begin.
+fn pause<R: Clock + Eprint + AllocGlobal>(
+    rt: &R,
+    running: &mut Running<'_, R>,
+    number: u32,
+    began: Instant,
+    interval: Duration,
+) -> Result<(), Fault> {
+    loop {
+        let passed = Instant::now(rt)?.duration_since(began);
+        let left = interval.checked_sub(passed).map_or(0, |left| left.as_millis());
+        if left == 0 {
+            return Ok(());
+        }
+        let milliseconds = left.min(60_000) as u32;
+        let ran = rest(rt.alloc(), &mut running.station, &mut running.rounds, &mut running.outbox, milliseconds);
+        after(rt, running, number, ran);
+    }
+}
+
+/// Prints the report of a station's windows.
+fn print_report<R: Print>(rt: &R, station: &Station<FileDisk>) -> Result<(), Fault> {
+    match write_report(station.board(), &mut io::writer(rt)) {
+        Ok(()) => Ok(()),
+        Err(_) => Err(Fault::App(AppFault::FileFault)),
+    }
+}
+
+/// A failed call of a socket.
+fn socket_fault(error: io::Error) -> Fault {
+    match error.kind() {
+        io::ErrorKind::OutOfMemory => Fault::App(AppFault::OutOfMemory),
+        _ => Fault::App(AppFault::SocketFault),
+    }
+}

@@ -1,0 +1,87 @@
+//! What a running station says on standard error.
+
+use crate::fault::Fault;
+use mon_alarms::AlarmState;
+use mon_board::Watch;
+use mon_disk::FileDisk;
+use mon_poller::Addr;
+use mon_rounds::{Addresses, Notice, RoundReport, alarm_changes, alarm_line};
+use mon_station::Station;
+use std::net::{Ipv4Addr, SocketAddr, SocketAddrV4};
+
+/// Says where a station stands at its start.
+pub fn tell_start(
+    rt: &impl Eprint,
+    number: u32,
+    at: SocketAddr,
+    station: &Station<FileDisk>,
+    file: &str,
+    addresses: &Addresses,
+) {
+    let (incarnation, targets, peers) = (station.incarnation(), addresses.target_count(), addresses.peer_count());
+    let _ = eprintln!(rt; "snmpmon: station {number} at {at}, incarnation {incarnation}, file {file}, {targets} targets, {peers} peers");
+}
+
+/// Tells what a round had to be told of, a line each.
+pub fn tell_notices(rt: &impl Eprint, round: u32, addresses: &Addresses, report: &RoundReport) {
+    for notice in report.notices.as_slice() {
+        tell_notice(rt, round, addresses, *notice);
+    }
+    let (heard, sent) = (report.source_faults, report.send_faults);
+    if heard != 0 {
+        let _ = eprintln!(rt; "snmpmon: round {round}: nothing could be received, {heard} times");
+    }
+    if sent != 0 {
+        let _ = eprintln!(rt; "snmpmon: round {round}: {sent} datagrams could not be sent");
+    }
+}
+
+fn tell_notice(rt: &impl Eprint, round: u32, addresses: &Addresses, notice: Notice) {
+    let _ = match notice {
+        Notice::GaveUp(target) => {
+            let (number, at) = (target + 1, shown(addresses.target(target)));
+            eprintln!(rt; "snmpmon: round {round}: target {number} at {at} gave up")
+        }
+        Notice::NotPolled(target, fault) => {
+            let (number, at) = (target + 1, shown(addresses.target(target)));
+            eprintln!(rt; "snmpmon: round {round}: target {number} at {at} was not polled: {fault}")
+        }
+        Notice::BadResponse(from, fault) => {
+            let at = shown(Some(from));
+            eprintln!(rt; "snmpmon: round {round}: from target {at}: {fault}")
+        }
+        Notice::BadClaim(from, fault) => {
+            let at = shown(Some(from));
+            eprintln!(rt; "snmpmon: round {round}: from peer {at}: {fault}")
+        }
+        Notice::NotShared(peer, fault) => {
+            eprintln!(rt; "snmpmon: round {round}: station {peer} was offered nothing: {fault}")
+        }
+        Notice::NotSaved(number) => {
+            eprintln!(rt; "snmpmon: round {round}: not saved, mon_disk {number}")
+        }
+        Notice::NoMemory(_) => eprintln!(rt; "snmpmon: round {round}: out of memory"),
+    };
+}
+
+/// Tells which alarms changed, a line each.
+pub fn tell_alarms<R: Eprint + AllocGlobal>(
+    rt: &R,
+    watch: &Watch,
+    before: &[AlarmState],
+    after: &[AlarmState],
+) -> Result<(), Fault> {
+    for change in alarm_changes(rt.alloc(), before, after)?.as_slice() {
+        let line = alarm_line(rt.alloc(), watch, change)?;
+        let _ = eprintln!(rt; "snmpmon: {line}");
+    }
+    Ok(())
+}
+
+/// An address as `a.b.c.d:port`.
+fn shown(address: Option<Addr>) -> SocketAddrV4 {
+    match address {
+        Some(address) => SocketAddrV4::new(Ipv4Addr::from(address.octets), address.port),
+        None => SocketAddrV4::new(Ipv4Addr::new(0, 0, 0, 0), 0),
+    }
+}
