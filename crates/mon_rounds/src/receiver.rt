@@ -1,0 +1,47 @@
+//! What a station receives datagrams by.
+
+use mon_ber::Octets;
+use mon_poller::Addr;
+use thiserror::Error;
+
+/// Which wait a reception is part of.
+#[derive(Clone, Copy, Debug, PartialEq, Eq)]
+pub enum Wait {
+    /// One that begins now and lasts this many milliseconds.
+    Anew(u32),
+    /// The rest of the one that began last.
+    Rest,
+}
+
+/// What a reception gave.
+#[derive(Debug, Drop)]
+pub enum Arrival {
+    /// A datagram, and where it came from.
+    Datagram(Addr, Octets),
+    /// Nothing: the wait is over.
+    Quiet,
+}
+
+/// A receiver could not receive, or had no memory for a datagram; it has counted that.
+#[derive(Clone, Copy, Debug, PartialEq, Eq, Error)]
+#[error("nothing could be received")]
+pub struct ReceiverFault;
+
+/// What a station receives datagrams by.
+pub trait Receiver {
+    ghost use Rattle.std.specs.Prelude.{◌≡◌, ℕ, List, Option};
+    ghost use Rattle.mon_edge.specs.Counts.{failed_after};
+    ghost use Rattle.mon_edge.specs.Told.{extended};
+    ghost use Rattle.mon_rounds.specs.Reception.{Reception, reception};
+
+    // All receptions, in turn, where it tells them.
+    ghost heard: { Self → Option (List Reception) };
+
+    // How often it failed, at most 2^64 - 1.
+    ghost failures: { Self → ℕ };
+
+    /// Waits for a datagram.
+    fn receive(&mut self, wait: Wait) -> Result<Arrival, ReceiverFault>
+        ensures heard { heard self.new ≡ extended (heard self.old) (reception wait result) }
+        ensures failures { failures self.new ≡ failed_after result (failures self.old) };
+}

@@ -1,0 +1,220 @@
+//! A station's socket, over UDP and IPv4: it receives and sends by one, so that responses and claims come back to it.
+
+use crate::addresses::Addresses;
+use crate::receiver::{Arrival, Receiver, ReceiverFault, Wait};
+use mon_ber::Octets;
+use mon_edge::failed_after;
+use mon_poller::Addr;
+use mon_station::{Outbox, OutboxFault, Outgoing, To};
+use std::alloc::Global;
+use std::io;
+use std::net::{Ipv4Addr, Net, SocketAddr, SocketAddrV4, UdpSocket};
+use std::rt::Clock;
+use std::time::{Duration, Instant};
+
+/// The room for a datagram, in octets: no datagram of UDP over IPv4 has more.
+const ROOM: usize = 65_535;
+
+/// How often a wait that a signal ended goes on.
+const TRIES: u8 = 255;
+
+/// A station's socket.
+#[derive(Drop)]
+pub struct Socket {
+    udp: UdpSocket,
+}
+
+impl Socket {
+    /// A socket at this address; port 0 takes a free one.
+    ///
+    /// # Errors
+    /// That of the system, where the address is not to be had.
+    pub fn open<R: Net>(rt: &R, listen: Addr) -> io::Result<Self> {
+        let udp = UdpSocket::bind(rt, socket_address(listen))?;
+        Ok(Socket { udp })
+    }
+
+    /// Where it listens.
+    ///
+    /// # Errors
+    /// That of the system.
+    pub fn address(&self) -> io::Result<SocketAddr> {
+        self.udp.local_addr()
+    }
+}
+
+/// The address as the system takes it.
+fn socket_address(address: Addr) -> SocketAddr {
+    SocketAddr::V4(SocketAddrV4::new(Ipv4Addr::from(address.octets), address.port))
+}
+
+/// Receives a station's datagrams by its socket.
+#[derive(Drop)]
+pub struct SocketReceiver<'a, R: Clock> {
+    rt: &'a R,
+    alloc: Global,
+    socket: &'a Socket,
+    room: Vec<u8>,
+    began: Instant,
+    length: Duration,
+    failures: u64,
+}
+
+impl<'a, R: Clock> SocketReceiver<'a, R> {
+    /// A receiver by this socket, in no wait yet.
+    ///
+    /// # Errors
+    /// `OutOfMemory` where there is no room for a datagram, that of the system where the clock fails.
+    pub fn new(rt: &'a R, alloc: Global, socket: &'a Socket) -> io::Result<Self> {
+        Ok(SocketReceiver {
+            rt,
+            alloc,
+            socket,
+            room: vec![in alloc; 0u8; ROOM]?,
+            began: Instant::now(rt)?,
+            length: Duration::from_millis(0),
+            failures: 0,
+        })
+    }
+}
+
+impl<R: Clock> SocketReceiver<'_, R> {
+    /// Begins a wait where that is asked for.
+    fn begin(&mut self, wait: Wait) -> Result<(), ReceiverFault> {
+        if let Wait::Anew(milliseconds) = wait {
+            self.began = Instant::now(self.rt).map_err(failed)?;
+            self.length = Duration::from_millis(u64::from(milliseconds));
+        }
+        Ok(())
+    }
+
+    /// What is left of the wait.
+    fn left(&self) -> Result<Duration, ReceiverFault> {
+        let now = Instant::now(self.rt).map_err(failed)?;
+        let passed = now.duration_since(self.began);
+        Ok(
+            self.length
+                .checked_sub(passed)
+                .unwrap_or(Duration::from_millis(0)),
+        )
+    }
+
+    /// Hears something in the rest of the wait.
+    fn hear(&mut self) -> Result<Arrival, ReceiverFault> {
+        for _ in 0..TRIES {
+            let left = self.left()?;
+            if left.is_zero() {
+                return Ok(Arrival::Quiet);
+            }
+            self.socket
+                .udp
+                .set_read_timeout(Some(left))
+                .map_err(failed)?;
+            match self.socket.udp.recv_from(self.room.as_mut_slice()) {
+                Ok((len, from)) => return self.arrival(len, from),
+                Err(error) => match error.kind() {
+                    io::ErrorKind::WouldBlock | io::ErrorKind::TimedOut => return Ok(
+                        Arrival::Quiet,
+                    ),
+                    io::ErrorKind::Interrupted => {}
+                    _ => return Err(ReceiverFault),
+                },
+            }
+        }
+        Err(ReceiverFault)
+    }
+
+    /// The datagram at the front of the room.
+    fn arrival(&self, len: usize, from: SocketAddr) -> Result<Arrival, ReceiverFault> {
+        let SocketAddr::V4(from) = from else {
+            return Err(ReceiverFault);
+        };
+        let len = len.min(self.room.len());
+        let Ok(octets) = Octets::from_slice(self.alloc, &self.room[..len]) else {
+            return Err(ReceiverFault);
+        };
+        let from = Addr {
+            octets: from.ip().octets(),
+            port: from.port(),
+        };
+        Ok(Arrival::Datagram(from, octets))
+    }
+
+    fn received(&mut self, wait: Wait) -> Result<Arrival, ReceiverFault> {
+        self.begin(wait)?;
+        self.hear()
+    }
+}
+
+impl<R: Clock> Receiver for SocketReceiver<'_, R> {
+    ghost use Rattle.std.specs.Prelude.{None};
+
+    // What happens at a socket is not known.
+    ghost heard = { λ _. None };
+
+    ghost failures = { λ r. r.failures };
+
+    fn receive(&mut self, wait: Wait) -> Result<Arrival, ReceiverFault> {
+        let received = self.received(wait);
+        self.failures = failed_after(self.failures, &received);
+        received
+    }
+}
+
+/// A failed call of the socket or the clock.
+fn failed(_error: io::Error) -> ReceiverFault {
+    ReceiverFault
+}
+
+/// Sends a station's datagrams by its socket.
+#[derive(Drop)]
+pub struct SocketOutbox<'a> {
+    socket: &'a Socket,
+    addresses: Addresses,
+    failures: u64,
+}
+
+impl<'a> SocketOutbox<'a> {
+    /// An outbox by this socket, to these addresses.
+    pub fn new(socket: &'a Socket, addresses: Addresses) -> Self {
+        SocketOutbox {
+            socket,
+            addresses,
+            failures: 0,
+        }
+    }
+
+    /// Sends a datagram to where it goes.
+    fn put(&self, out: &Outgoing) -> Result<(), OutboxFault> {
+        let found = match out.to {
+            To::Target(number) => self.addresses.target(number),
+            To::Peer(station) => self.addresses.peer(station),
+        };
+        let Some(to) = found else {
+            return Err(OutboxFault);
+        };
+        match self
+            .socket
+            .udp
+            .send_to(out.octets.as_slice(), socket_address(to))
+        {
+            Ok(_) => Ok(()),
+            Err(_) => Err(OutboxFault),
+        }
+    }
+}
+
+impl Outbox for SocketOutbox<'_> {
+    ghost use Rattle.std.specs.Prelude.{None};
+
+    // What happens at a socket is not known.
+    ghost handed = { λ _. None };
+
+    ghost failures = { λ o. o.failures };
+
+    fn send(&mut self, out: &Outgoing) -> Result<(), OutboxFault> {
+        let sent = self.put(out);
+        self.failures = failed_after(self.failures, &sent);
+        sent
+    }
+}

@@ -1,0 +1,173 @@
+//! A station's trial of itself: it polls an agent in memory three times, saves and finds again what it took.
+
+use crate::saved::{saved_report, written};
+use mon_agent::{Agent, Reply};
+use mon_disk::{Disk, MemoryDisk};
+use mon_mib::{Device, Moment, SimDevice};
+use mon_poller::Addr;
+use mon_settings::{StationSettings, read_agent, read_station};
+use mon_smi::Names;
+use mon_station::{Event, Station, Told};
+use std::alloc::{AllocError, Global};
+use thiserror::Error;
+
+/// The settings of the agent, of which an interface counts 1000 octets a second.
+const AGENT: &str = "listen = \"127.0.0.1:16100\"
+limit = 484
+engine = \"8000000001\"
+descr = \"lab\"
+object_id = \"1.3.6.1.4.1.32473.1\"
+contact = \"\"
+name = \"r1\"
+location = \"\"
+services = 4
+community = [{ community = \"public\", security = \"ro\" }]
+group = [{ security = \"ro\", group = \"g1\" }]
+access = [{ group = \"g1\", model = 2, read = \"all\" }]
+view = [{ view = \"all\", subtree = \"1.3.6.1\", included = true }]
+
+[[interface]]
+index = 1
+descr = \"e1\"
+type = 6
+mtu = 1500
+speed = 1000000000
+phys = \"\"
+name = \"e1\"
+alias = \"\"
+in_octets = { start = 0, rate = 1000 }
+in_packets = { start = 0, rate = 0 }
+out_octets = { start = 0, rate = 0 }
+out_packets = { start = 0, rate = 0 }
+";
+
+/// The settings of the station, which polls that counter.
+const STATION: &str = "station = 1
+listen = \"127.0.0.1:16101\"
+file = \"a.mon\"
+window = 8
+wait_ms = 200
+
+[[target]]
+address = \"127.0.0.1:16100\"
+community = \"public\"
+engine = \"8000000001\"
+tries = 2
+objects = [{ name = \"1.3.6.1.2.1.31.1.1.1.6.1\" }]
+";
+
+/// When the agent is polled, in hundredths of a second of its life.
+const MOMENTS: [u64; 3] = [10_000, 11_000, 12_000];
+
+/// What the station has to report: 20000 octets in 20 seconds.
+const REPORT: &str =
+    "8000000001 1.3.6.1.2.1.31.1.1.1.6.1 n=3 1:100..1:120 Counter64=120000 delta=20000 span=20 rate=1000.000
+end 1 instances 3 samples
+";
+
+/// The line after it.
+const DONE: &str = "selftest: ok\n";
+
+/// Why a trial has no good end.
+#[derive(Clone, Copy, Debug, PartialEq, Eq, Error)]
+pub enum TrialFault {
+    /// Memory was refused.
+    #[error("out of memory")]
+    OutOfMemory = 1,
+    /// Something else was answered than what had to be.
+    #[error("something else was answered than what had to be")]
+    Unexpected = 2,
+}
+
+impl From<AllocError> for TrialFault {
+    fn from(_e: AllocError) -> TrialFault {
+        TrialFault::OutOfMemory
+    }
+}
+
+impl TrialFault {
+    /// The number of the fault, 1 or 2.
+    pub fn number(self) -> u8 {
+        self as u8
+    }
+
+    /// The name of the fault, as a printed line gives it.
+    pub fn name(self) -> &'static str {
+        match self {
+            TrialFault::OutOfMemory => "OutOfMemory",
+            TrialFault::Unexpected => "Unexpected",
+        }
+    }
+}
+
+/// Where the agent's datagrams come from.
+fn agent_address() -> Addr {
+    Addr {
+        octets: [127, 0, 0, 1],
+        port: 16100,
+    }
+}
+
+/// Tries a station on a disk in memory: an agent in memory, which counts 1000 octets a second, is polled 100, 110 and 120 seconds after its start, and
+/// the windows are saved. The text is the station's report and `selftest: ok`, where both the report and that of what the disk then
+/// holds are what they have to be.
+///
+/// # Errors
+/// `Unexpected` where anything else was answered, also for want of memory in a call; `OutOfMemory`.
+pub fn selftest(alloc: Global) -> Result<Vec<u8>, TrialFault> {
+    let Some(text) = tried(alloc) else {
+        return Err(TrialFault::Unexpected);
+    };
+    if text.as_slice() != REPORT.as_bytes() {
+        return Err(TrialFault::Unexpected);
+    }
+    let mut text = text;
+    text.extend_from_slice(DONE.as_bytes())?;
+    Ok(text)
+}
+
+/// The report of a station that was tried, where that of what it saved is the same.
+fn tried(alloc: Global) -> Option<Vec<u8>> {
+    let settings = station_settings(alloc)?;
+    let told = read_agent(alloc, AGENT).ok()?;
+    let device = SimDevice::new(told.interfaces, told.texts).ok()?;
+    let mut agent = Agent::new(told.policy, told.settings, device);
+    let core = settings.core.try_clone(alloc).ok()?;
+    let mut station = Station::open(alloc, core, MemoryDisk::new(alloc, &[]).ok()?).ok()?;
+    for at in MOMENTS {
+        polled(alloc, &mut station, &mut agent, Moment::new(at)?)?;
+    }
+    station.step(alloc, Event::Save).ok()?;
+    let text = written(alloc, station.board()).ok()?;
+    let (saved, _) = saved_report(alloc, settings.core.watch(), station.into_disk()).ok()?;
+    if saved.as_slice() == text.as_slice() {
+        Some(text)
+    } else {
+        None
+    }
+}
+
+fn station_settings(alloc: Global) -> Option<StationSettings> {
+    let names = Names::new(alloc).ok()?;
+    read_station(alloc, STATION, &names).ok()
+}
+
+/// Polls the agent at a moment of its life, and hands the station its response.
+fn polled<D: Disk + Drop, E: Device + Drop>(
+    alloc: Global,
+    station: &mut Station<D>,
+    agent: &mut Agent<E>,
+    at: Moment,
+) -> Option<Told> {
+    let told = station.step(alloc, Event::StartPoll(0)).ok()?;
+    let [request] = told.sends.as_slice() else {
+        return None;
+    };
+    match agent.answer(alloc, request.octets.as_slice(), at).ok()? {
+        Reply::Send(octets) => {
+            let response = Event::FromAgent(agent_address(), octets.as_slice());
+            station.step(alloc, response).ok()
+        }
+        Reply::Silent(_) => None,
+    }
+}
