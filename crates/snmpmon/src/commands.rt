@@ -33,9 +33,7 @@ const USUAL_SIZE: u8 = 8;
 const LONGEST_COMMUNITY: usize = 512;
 
 /// Runs the command that the words name, and answers the status.
-pub fn start<
-    R: Env + Clock + Files<File = File> + Net + Input + Print + Eprint + AllocGlobal,
->(
+pub fn start<R: Env + Clock + Files<File = File> + Net + Input + Print + Eprint + AllocGlobal>(
     rt: &R,
 ) -> u8 {
     let words: Result<Vec<String>, _> = match env::args(rt) {

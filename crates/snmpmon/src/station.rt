@@ -2,15 +2,15 @@
 
 use crate::commands::{read_text, tell};
 use crate::fault::Fault;
-use crate::telling::{tell_alarms, tell_notices, tell_start};
+use crate::telling::{tell_alarms, tell_notices};
 use clap::ArgMatches;
 use mon_alarms::AlarmState;
 use mon_app::AppFault;
 use mon_disk::FileDisk;
 use mon_report::write_report;
 use mon_rounds::{
-    Addresses, PollLog, RoundReport, Rounds, Socket, SocketOutbox, SocketReceiver, alarm_states, rest,
-    run_round, saved_report, selftest,
+    Addresses, PollLog, RoundReport, Rounds, Socket, SocketOutbox, SocketReceiver, alarm_states,
+    rest, run_round, saved_report, selftest,
 };
 use mon_settings::{StationSettings, module_files, read_station};
 use mon_smi::{Names, read_module};
@@ -51,7 +51,12 @@ pub fn station<R: Clock + Files<File = File> + Net + Print + Eprint + AllocGloba
     let mut running = begun(rt, settings, disk, &socket)?;
     for number in 1..=timing.rounds {
         let began = Instant::now(rt)?;
-        let ran = run_round(rt.alloc(), &mut running.station, &mut running.rounds, &mut running.outbox);
+        let ran = run_round(
+            rt.alloc(),
+            &mut running.station,
+            &mut running.rounds,
+            &mut running.outbox,
+        );
         after(rt, &mut running, number, ran);
         if number == timing.rounds {
             break;
@@ -139,13 +144,17 @@ fn begun<'a, R: Clock + Eprint + AllocGlobal>(
     let from = Addresses::of(alloc, &settings)?;
     let log = PollLog::new(alloc, settings.core.targets())?;
     let (number, file) = (settings.core.station(), settings.file);
+    let (targets, peers) = (settings.core.targets().len(), settings.core.peers().len());
     let station = match Station::open(alloc, settings.core, disk) {
         Ok(station) => station,
         Err((fault, _)) => return Err(Fault::from(fault)),
     };
     let alarms = alarm_states(alloc, station.board())?;
     let receiver = SocketReceiver::new(rt, alloc, socket).map_err(socket_fault)?;
-    tell_start(rt, number, at, &station, &file, &to);
+    let incarnation = station.incarnation();
+    let _ = eprintln!(rt;
+        "snmpmon: station {number} at {at}, incarnation {incarnation}, file {file}, targets: {targets}, peers: {peers}"
+    );
     Ok(Running {
         station,
         rounds: Rounds::new(alloc, from, settings.wait_ms, receiver)?,
@@ -179,10 +188,21 @@ fn told_of<R: Clock + Eprint + AllocGlobal>(
 ) -> Result<(), Fault> {
     let alloc = rt.alloc();
     let round = running.rounds.round();
-    let report = RoundReport::of(alloc, round, run, running.station.oldest(), &mut running.log)?;
+    let report = RoundReport::of(
+        alloc,
+        round,
+        run,
+        running.station.oldest(),
+        &mut running.log,
+    )?;
     tell_notices(rt, number, round.addresses(), &report);
     let alarms = alarm_states(alloc, running.station.board())?;
-    tell_alarms(rt, running.station.board().watch(), running.alarms.as_slice(), alarms.as_slice())?;
+    tell_alarms(
+        rt,
+        running.station.board().watch(),
+        running.alarms.as_slice(),
+        alarms.as_slice(),
+    )?;
     running.alarms = alarms;
     Ok(())
 }
@@ -197,12 +217,20 @@ fn pause<R: Clock + Eprint + AllocGlobal>(
 ) -> Result<(), Fault> {
     loop {
         let passed = Instant::now(rt)?.duration_since(began);
-        let left = interval.checked_sub(passed).map_or(0, |left| left.as_millis());
+        let left = interval
+            .checked_sub(passed)
+            .map_or(0, |left| left.as_millis());
         if left == 0 {
             return Ok(());
         }
         let milliseconds = left.min(60_000) as u32;
-        let ran = rest(rt.alloc(), &mut running.station, &mut running.rounds, &mut running.outbox, milliseconds);
+        let ran = rest(
+            rt.alloc(),
+            &mut running.station,
+            &mut running.rounds,
+            &mut running.outbox,
+            milliseconds,
+        );
         after(rt, running, number, ran);
     }
 }

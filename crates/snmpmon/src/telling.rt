@@ -3,24 +3,9 @@
 use crate::fault::Fault;
 use mon_alarms::AlarmState;
 use mon_board::Watch;
-use mon_disk::FileDisk;
 use mon_poller::Addr;
 use mon_rounds::{Addresses, Notice, RoundReport, alarm_changes, alarm_line};
-use mon_station::Station;
-use std::net::{Ipv4Addr, SocketAddr, SocketAddrV4};
-
-/// Says where a station stands at its start.
-pub fn tell_start(
-    rt: &impl Eprint,
-    number: u32,
-    at: SocketAddr,
-    station: &Station<FileDisk>,
-    file: &str,
-    addresses: &Addresses,
-) {
-    let (incarnation, targets, peers) = (station.incarnation(), addresses.target_count(), addresses.peer_count());
-    let _ = eprintln!(rt; "snmpmon: station {number} at {at}, incarnation {incarnation}, file {file}, {targets} targets, {peers} peers");
-}
+use std::net::{Ipv4Addr, SocketAddrV4};
 
 /// Tells what a round had to be told of, a line each.
 pub fn tell_notices(rt: &impl Eprint, round: u32, addresses: &Addresses, report: &RoundReport) {

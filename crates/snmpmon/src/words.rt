@@ -302,7 +302,8 @@ fn mib<'a>(alloc: Global) -> Result<Command<'a>, AllocError> {
         .arg(needed(alloc, "FILE", "A text file with one SMIv2 module"))
 }
 
-const STATION: &str = "Polls agents, keeps windows of samples, shares them with peers and saves them";
+const STATION: &str =
+    "Polls agents, keeps windows of samples, shares them with peers and saves them";
 
 const STATION_MORE: &str =
     "Reads SETTINGS, a TOML file (examples/station.toml explains each key), reads the file in it or makes it, listens at its address and runs
