@@ -1,6 +1,7 @@
 //! What each line asks of the station.
 
 use crate::printing::{fault, report, told};
+use crate::running::run;
 use crate::setting::{core, target};
 use mon_disk::{FuseDisk, MemoryDisk};
 use mon_station::{Event, Station};
@@ -32,10 +33,11 @@ impl Stage {
 
 /// A station on the disk.
 fn opened(alloc: Global, disk: MemoryDisk, line: &str) -> Option<(Stage, String)> {
-    if line != "open" {
+    let (word, settings) = line.split_once(' ').unwrap_or((line, "8"));
+    if word != "open" {
         return None;
     }
-    match Station::open(alloc, core(alloc)?, FuseDisk::new(disk)) {
+    match Station::open(alloc, core(alloc, settings)?, FuseDisk::new(disk)) {
         Ok(station) => {
             let text = format!(in alloc; "incarnation {}", station.incarnation()).ok()?;
             Some((Stage::Open(station), text))
@@ -56,7 +58,11 @@ fn asked(
         return stopped(alloc, station, calls.parse().ok()?, keep == "keep");
     }
     let mut station = station;
-    let text = stepped(alloc, &mut station, word, rest)?;
+    let text = if word == "run" {
+        run(alloc, &mut station, rest)?
+    } else {
+        stepped(alloc, &mut station, word, rest)?
+    };
     Some((Stage::Open(station), text))
 }
 

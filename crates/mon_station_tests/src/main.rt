@@ -2,7 +2,8 @@
 //! with the expected lines.
 //!
 //!     new               an empty disk, without a station
-//!     open              opens the station from the disk; a new one is empty
+//!     open [SIZE]       opens the station from the disk, with windows of 8 or this many samples; a new one is empty
+//!     open long         the same with the longest engine id and name, and windows of 64
 //!     poll TARGET       starts a poll, by the target's number
 //!     timeout ID        says that a poll was not answered in time
 //!     agent HEX         a datagram from the target's address
@@ -11,11 +12,13 @@
 //!     save              saves
 //!     owed PEER         how many samples the peer is owed, and its known incarnation
 //!     report            the report
+//!     run TURNS S O: EVENT; EVENT   runs the station over these events, lines as above; call S of the source and call O of the outbox fail
 //!     stop CALLS KEEP   saves while only so many calls of the disk pass, and goes on with what a crash leaves: `keep` or `lose`
 #![tactic(auto)]
 
 mod asking;
 mod printing;
+mod running;
 mod setting;
 
 use asking::Stage;

@@ -2,7 +2,7 @@
 
 use mon_board::Board;
 use mon_report::write_report;
-use mon_station::{StationFault, To, Told};
+use mon_station::{Outgoing, StationFault, To, Told};
 use std::alloc::Global;
 use std::fmt::Write;
 
@@ -17,13 +17,18 @@ pub fn told(alloc: Global, told: &Told) -> Option<String> {
         write!(text, " {noted:?}").ok()?;
     }
     for out in told.sends.as_slice() {
-        let octets = hex::encode(alloc, out.octets.as_slice()).ok()?;
-        match out.to {
-            To::Target(target) => write!(text, " target {target} {octets}").ok()?,
-            To::Peer(peer) => write!(text, " peer {peer} {octets}").ok()?,
-        }
+        sent(alloc, &mut text, out)?;
     }
     Some(text)
+}
+
+/// Appends a datagram that is sent, and where it goes.
+pub fn sent(alloc: Global, text: &mut String, out: &Outgoing) -> Option<()> {
+    let octets = hex::encode(alloc, out.octets.as_slice()).ok()?;
+    match out.to {
+        To::Target(target) => write!(text, " target {target} {octets}").ok(),
+        To::Peer(peer) => write!(text, " peer {peer} {octets}").ok(),
+    }
 }
 
 /// The fault's number and name, and its cause's.

@@ -4,19 +4,28 @@ use mon_settings::{Addr, Core, read_station};
 use mon_smi::Names;
 use std::alloc::Global;
 
-/// A station of one object, with window 8 and the peers 2 and 3.
-const SETTINGS: &str = "station = 1
+/// What comes before the window's size.
+const BEFORE: &str = "station = 1
 listen = \"127.0.0.1:16101\"
 file = \"a.mon\"
-window = 8
 wait_ms = 200
+window = ";
+
+/// What comes between the window's size and the engine id.
+const TARGET: &str = "
 
 [[target]]
 address = \"127.0.0.1:16100\"
 community = \"public\"
-engine = \"8000000001\"
 tries = 2
-objects = [{ name = \"1.3.6.1.2.1.2.2.1.10.1\" }]
+engine = \"";
+
+/// What comes between the engine id and the object's name.
+const OBJECT: &str = "\"
+objects = [{ name = \"";
+
+/// What comes after the object's name: the peers 2 and 3.
+const AFTER: &str = "\" }]
 
 [[peer]]
 station = 2
@@ -27,11 +36,43 @@ station = 3
 address = \"127.0.0.1:16103\"
 ";
 
-/// The core of these settings.
-pub fn core(alloc: Global) -> Option<Core> {
+/// An engine id and the name of an object, ifInOctets.1.
+const USUAL: [&str; 2] = ["8000000001", "1.3.6.1.2.1.2.2.1.10.1"];
+
+/// The longest engine id, and the beginning of the longest name.
+const LONGEST: [&str; 2] = [
+    "8000000001020304050607080910111213141516171819202122232425262728",
+    "1.3.6.1.4.1.32473",
+];
+
+/// How many numbers the longest name has.
+const MOST_PARTS: usize = 128;
+
+/// The core of a station of one object: `1` and the like is the window's size, `long` has the longest engine id and name and a window of 64.
+pub fn core(alloc: Global, word: &str) -> Option<Core> {
+    let (size, [engine, name]) = if word == "long" {
+        ("64", LONGEST)
+    } else {
+        (word, USUAL)
+    };
+    let mut text = String::new(alloc);
+    for part in [BEFORE, size, TARGET, engine, OBJECT, name] {
+        text.push_str(part).ok()?;
+    }
+    if word == "long" {
+        lengthen(&mut text, name)?;
+    }
+    text.push_str(AFTER).ok()?;
     let names = Names::new(alloc).ok()?;
-    let settings = read_station(alloc, SETTINGS, &names).ok()?;
-    Some(settings.core)
+    Some(read_station(alloc, &text, &names).ok()?.core)
+}
+
+/// Appends as many numbers to a text that ends with a name as the longest name has more: 4294967295 each.
+fn lengthen(text: &mut String, name: &str) -> Option<()> {
+    for _ in name.split('.').count()..MOST_PARTS {
+        text.push_str(".4294967295").ok()?;
+    }
+    Some(())
 }
 
 /// Where the target's datagrams come from.
