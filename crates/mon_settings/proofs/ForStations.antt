@@ -26,6 +26,7 @@ use Rattle.mon_settings.specs.Resolving.{Resolves, or_unknown, name_in, name_at,
 use Rattle.mon_settings.specs.Station.{Station, Scalars, are_apart, are_peer_numbers, checked_peers, core_from, modules_at, peers_at, rules_at, scalars_of, station_keys, station_of, texts_in}
 use Rattle.mon_settings.specs.StationAccepted.{Names, MayName, HoldsBetween, MayHoldUpTo, IsObject, IsPolled, IsPeer, IsAlarm, IsScalars, IsStation}
 use Rattle.mon_settings.specs.StationTables.{object_of, target_of, peer_of, alarm_of}
+use Rattle.mon_settings.proofs.ForWatches.{instances_are, others_from, others_to, rules_are}
 use Rattle.mon_settings.proofs.Steps.{bind_from, bind_to, bad_from, ok_same, needed_from, needed_to, default_from, default_to, only_from, only_to, rows_from, rows_to}
 
 known_from : (o : Option (List ℕ)) (q : List ℕ) → (let r : Result (List ℕ) SettingsFault = or_unknown o in r) ≡ Ok q → o ≡ Some q
@@ -314,6 +315,8 @@ module _ (defs : List Definition) (find : List ℕ → Option (List ℕ)) (means
       } in
       let is : made ≡ x = ok_same made x h7 in
       let sharing = peers_from v1.station v3 t v5 p5 in
+      let others = others_from v3 v5 v1.station sharing.1 in
+      let watched = (instances_are v3 v4).0 p4 in
       let (alarms, alarmed, placed) = rules_from v1.sizes v4 t v6 p6 in
       subst (λ (y : Station). IsStation defs t y) is (record {
         scalars = v1;
@@ -324,11 +327,12 @@ module _ (defs : List Definition) (find : List ℕ → Option (List ℕ)) (means
         plain = scalars_of-from t v1 p1;
         modules = default_from key.Modules texts_in t _ [] p2;
         polled = between_from key.Target (target_of find v1.sizes) (IsPolled defs v1.sizes) (target_of-is v1.sizes) t _ 1 64 p3;
-        instances = p4;
+        instances = watched;
         sharing = sharing.0;
-        others = sharing.1;
+        others = others.0;
+        elsewhere = others.1;
         alarmed = alarmed;
-        rules = placed;
+        rules = (rules_are v4 watched.rising alarms v6).0 placed;
         core = refl;
         listen = refl;
         file = refl;
@@ -359,9 +363,9 @@ module _ (defs : List Definition) (find : List ℕ → Option (List ℕ)) (means
       (bind_to (scalars_of t) _ h.scalars x (scalars_of-to t h.scalars h.plain)
       (bind_to (modules_at t) _ x.modules x (default_to key.Modules texts_in t _ [] h.modules)
       (bind_to (rows_between key.Target 1 64 (target_of find h.scalars.sizes) t) _ h.targets x (between_to key.Target (target_of find h.scalars.sizes) (IsPolled defs h.scalars.sizes) (target_of-is h.scalars.sizes) t _ 1 64 h.polled)
-      (bind_to (instances_of_rows h.targets) _ x.core.watch.instances x h.instances
-      (bind_to (peers_at h.scalars.station h.targets t) _ h.peers x (peers_to h.scalars.station h.targets t h.peers h.sharing h.others)
-      (bind_to (rules_at find h.scalars.sizes x.core.watch.instances t) _ x.core.watch.rules x (rules_to h.scalars.sizes x.core.watch.instances t x.core.watch.rules h.alarms h.alarmed h.rules)
+      (bind_to (instances_of_rows h.targets) _ x.core.watch.instances x ((instances_are h.targets x.core.watch.instances).1 h.instances)
+      (bind_to (peers_at h.scalars.station h.targets t) _ h.peers x (peers_to h.scalars.station h.targets t h.peers h.sharing (others_to h.targets h.peers h.scalars.station h.others h.elsewhere))
+      (bind_to (rules_at find h.scalars.sizes x.core.watch.instances t) _ x.core.watch.rules x (rules_to h.scalars.sizes x.core.watch.instances t x.core.watch.rules h.alarms h.alarmed ((rules_are x.core.watch.instances h.instances.rising h.alarms x.core.watch.rules).1 h.rules))
       (ap Ok is)))))))
 
   pub station_of-is : (t : Members) (x : Station) → (station_of find t ≡ Ok x) ↔ IsStation defs t x

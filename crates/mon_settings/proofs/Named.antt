@@ -21,17 +21,17 @@ use Rattle.mon_settings.specs.Tables.{communities_differ, knows_views, families_
 abbrev pub Own : {A : Type 0} → Result A SettingsFault → Type 0
 Own r = (e : SettingsFault) → r ≡ Err e → IsOfTree e
 
-bind_own : {A B : Type 0} (r : Result A SettingsFault) (f : A → Result B SettingsFault) → Own r → ((a : A) → Own (f a)) → Own (r >>= f)
+pub bind_own : {A B : Type 0} (r : Result A SettingsFault) (f : A → Result B SettingsFault) → Own r → ((a : A) → Own (f a)) → Own (r >>= f)
 bind_own (Err x) f p q = λ e h. p e (let same : x ≡ e = cc in ap Err same)
 bind_own (Ok a) f p q = q a
 
-ok_own : {A : Type 0} (a : A) → Own (Ok a)
+pub ok_own : {A : Type 0} (a : A) → Own (Ok a)
 ok_own a = λ e h. absurd cc
 
-err_own : {A : Type 0} (x : SettingsFault) → IsOfTree x → Own {A = A} (Err x)
+pub err_own : {A : Type 0} (x : SettingsFault) → IsOfTree x → Own {A = A} (Err x)
 err_own x is = λ e h. let same : x ≡ e = cc in subst IsOfTree same is
 
-bad_own : {A : Type 0} (k : Key) (o : Option A) → Own (or_bad k o)
+pub bad_own : {A : Type 0} (k : Key) (o : Option A) → Own (or_bad k o)
 bad_own k None = err_own (fault.BadValue k) tt
 bad_own k (Some a) = ok_own a
 
@@ -40,21 +40,21 @@ module _ {A : Type 0} (k : Key) (f : Data → Option A) where
   at_key None = err_own (fault.Missing k) tt
   at_key (Some d) = bad_own k (f d)
 
-  needed_own : (t : Members) → Own (needed_at k f t)
+  pub needed_own : (t : Members) → Own (needed_at k f t)
   needed_own t = at_key (get_member (key_name k) t)
 
   or_at_key : (a : A) (o : Option Data) → Own (or_default k a f o)
   or_at_key a None = ok_own a
   or_at_key a (Some d) = bad_own k (f d)
 
-  default_own : (a : A) (t : Members) → Own (default_at k a f t)
+  pub default_own : (a : A) (t : Members) → Own (default_at k a f t)
   default_own a t = or_at_key a (get_member (key_name k) t)
 
-either_own : {A : Type 0} (b : Bool) (r s : Result A SettingsFault) → Own r → Own s → Own (if b then r else s)
+pub either_own : {A : Type 0} (b : Bool) (r s : Result A SettingsFault) → Own r → Own s → Own (if b then r else s)
 either_own true r s p q = p
 either_own false r s p q = q
 
-only_own : (ks : List Key) (t : Members) → Own (only ks t)
+pub only_own : (ks : List Key) (t : Members) → Own (only ks t)
 unfolding only
 only_own ks t = either_own (has_only ks t) (Ok tt) (Err fault.UnknownKey) (ok_own tt) (err_own fault.UnknownKey tt)
 

@@ -21,16 +21,16 @@ use Rattle.mon_settings.specs.Keys.{or_bad}
 use Rattle.mon_oid.specs.Oid.{IsOid, AreNumbers, Spells, dotted}
 use Rattle.mon_settings.specs.Leaf.{is_rooted, is_oid, refused, numbers_in, checked_oid, oid_of}
 
-abbrev is_dot : ℕ → Bool
+abbrev pub is_dot : ℕ → Bool
 is_dot c = c == 46
 
-own : IsNumeralModel (λ ds. all_ascii_digits ds ≡ true) (digits_value 10)
+pub own : IsNumeralModel (λ ds. all_ascii_digits ds ≡ true) (digits_value 10)
 own = numerals_by_value _ (search rules)
 
 digit_no_dot : (c : ℕ) → is_ascii_digit c ≡ true → is_dot c ≡ false
 digit_no_dot c h = grind (arith, nat_tests)
 
-no_dots : (ds : List ℕ) → all_ascii_digits ds ≡ true → All (λ b. is_dot b ≡ false) ds
+pub no_dots : (ds : List ℕ) → all_ascii_digits ds ≡ true → All (λ b. is_dot b ≡ false) ds
 no_dots [] h = λ i d low. absurd (omega arith)
 no_dots (c ∷ cs) h =
     let parts = and_parts (is_ascii_digit c) (all_ascii_digits cs) h in
@@ -49,7 +49,7 @@ split_spelled : (parts : List ℕ) → 0 < length parts → All (λ n. n < 2 ^ 3
 split_spelled [] some small = absurd (omega arith)
 split_spelled (y ∷ ys) some small = split_dotted y ys small
 
-values : (parts : List ℕ) → All (λ n. n < 2 ^ 32) parts → map (digits_value 10) (map decimal parts) ≡ parts
+pub values : (parts : List ℕ) → All (λ n. n < 2 ^ 32) parts → map (digits_value 10) (map decimal parts) ≡ parts
 values [] small = refl
 values (y ∷ ys) small =
     let first = (decimal_is_IsNumeral y (omega (arith, first_small y ys small))).1 in
@@ -60,14 +60,14 @@ numbers_back : (parts : List ℕ) → AreNumbers parts → numbers_in (dotted pa
 numbers_back parts h = ap (map (digits_value 10)) (split_spelled parts h.some h.small) ∙ values parts h.small
 
 -- the test is that of an identifier
-small_true : (parts : List ℕ) → All (λ n. n < 2 ^ 32) parts → list_all (λ n. nat_lt n (2 ^ 32)) parts ≡ true
+pub small_true : (parts : List ℕ) → All (λ n. n < 2 ^ 32) parts → list_all (λ n. nat_lt n (2 ^ 32)) parts ≡ true
 small_true [] h = refl
 small_true (y ∷ ys) h =
     let first = first_small y ys h in
     let here : nat_lt y (2 ^ 32) ≡ true = grind (arith, nat_tests) in
     rw (here, small_true ys (All-tail (λ n. n < 2 ^ 32) y ys h))
 
-true_small : (parts : List ℕ) → list_all (λ n. nat_lt n (2 ^ 32)) parts ≡ true → All (λ n. n < 2 ^ 32) parts
+pub true_small : (parts : List ℕ) → list_all (λ n. nat_lt n (2 ^ 32)) parts ≡ true → All (λ n. n < 2 ^ 32) parts
 true_small [] h = All-nil (λ n. n < 2 ^ 32)
 true_small (y ∷ ys) h =
     let (here, rest) = and_parts (nat_lt y (2 ^ 32)) (list_all (λ n. nat_lt n (2 ^ 32)) ys) h in
@@ -114,7 +114,7 @@ true-is_oid parts h =
       small = true_small parts small;
     }
 
-same_text : (xs ys : List ℕ) → xs ≡ ys → bytes_eq xs ys ≡ true
+pub same_text : (xs ys : List ℕ) → xs ≡ ys → bytes_eq xs ys ≡ true
 same_text xs ys e = (bytes_eq-Decides xs ys).1 e
 
 pub oid_complete : (text parts : List ℕ) → IsOid parts → Spells text parts → oid_of text ≡ Some parts

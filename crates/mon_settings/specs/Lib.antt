@@ -14,3 +14,4 @@ pub mod StationAccepted
 pub mod StationCore
 pub mod StationTables
 pub mod Tables
+pub mod Watching

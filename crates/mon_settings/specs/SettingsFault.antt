@@ -30,3 +30,12 @@ IsOfTree (Missing k) = Unit {0}
 IsOfTree (BadValue k) = Unit {0}
 IsOfTree UnknownKey = Unit {0}
 IsOfTree UnknownObject = ⊥
+
+-- what a tree can be refused for as the settings of a station: neither as a text that is not TOML, nor because memory ran out
+abbrev pub IsOfStationTree : SettingsFault → Type 0
+IsOfStationTree OutOfMemory = ⊥
+IsOfStationTree NotToml = ⊥
+IsOfStationTree (Missing k) = Unit {0}
+IsOfStationTree (BadValue k) = Unit {0}
+IsOfStationTree UnknownKey = Unit {0}
+IsOfStationTree UnknownObject = Unit {0}

@@ -1,5 +1,5 @@
 -- Which trees are settings of a station, and of which: key by key, with no order of reading.
-use Rattle.std.specs.Prelude.{◌≡◌, ℕ, List, [], ◌∷◌, map, Option, Some, None, Ok, min}
+use Rattle.std.specs.Prelude.{◌≡◌, ℕ, List, [], ◌∷◌, map, Option, Some, None, min}
 use Rattle.mon_oid.specs.Oid.{IsOid}
 use Rattle.mon_smi.specs.Names.{MeansNumbers}
 use Rattle.mon_smi.specs.declared.definition.Definition.{Definition}
@@ -15,8 +15,9 @@ use Rattle.mon_settings.specs.Accepted.{KnowsOnly, Holds, HoldsOr, AreRows}
 use Rattle.mon_settings.specs.Key.{key_name}
 use Rattle.mon_settings.specs.Leaf.{number_in, text_in, hex_in, addr_in}
 use Rattle.mon_settings.specs.NamedLists.{list_between}
-use Rattle.mon_settings.specs.Placing.{instances_of_rows, with_alarms}
-use Rattle.mon_settings.specs.Station.{Station, Scalars, checked_peers, core_from, station_keys, texts_in}
+use Rattle.mon_settings.specs.Station.{Station, Scalars, core_from, station_keys, texts_in}
+use Rattle.mon_settings.specs.StationCore.{ArePeersOf}
+use Rattle.mon_settings.specs.Watching.{AreElsewhere, AreInstancesOfRows, AreRulesOf}
 
 -- the key is there, and its text means this identifier
 abbrev pub Names : List Definition → Key → Members → List ℕ → Type 0
@@ -76,7 +77,8 @@ pub record IsScalars (t : Members) (s : Scalars) : Type 0 where
   pub wait_ms : Holds key.WaitMs (number_in 1 60000) t s.wait_ms
 
 -- The settings of a station: each key that is asked for is there, each key there is one of these, no value is out of its range,
--- every name means an identifier, and the lists agree: instances and rules find their places, and the peers are others.
+-- every name means an identifier, and the lists agree: the instances are those of the targets' objects, no two alike, the rules
+-- are those of the alarms, no two alike, and the peers are others, elsewhere.
 pub record IsStation (defs : List Definition) (t : Members) (s : Station) : Type 0 where
   pub scalars : Scalars
   pub targets : List TargetRow
@@ -86,11 +88,12 @@ pub record IsStation (defs : List Definition) (t : Members) (s : Station) : Type
   pub plain : IsScalars t scalars
   pub modules : HoldsOr key.Modules [] texts_in t s.modules
   pub polled : HoldsBetween key.Target 1 64 (IsPolled defs scalars.sizes) t targets
-  pub instances : instances_of_rows targets ≡ Ok s.core.watch.instances
+  pub instances : AreInstancesOfRows targets s.core.watch.instances
   pub sharing : MayHoldUpTo key.Peer 15 IsPeer t peers
-  pub others : checked_peers scalars.station targets peers ≡ Ok peers
+  pub others : ArePeersOf scalars.station (map (λ p. p.station) peers)
+  pub elsewhere : AreElsewhere targets peers
   pub alarmed : MayHoldUpTo key.Alarm 256 (IsAlarm defs) t alarms
-  pub rules : with_alarms s.core.watch.instances alarms [] ≡ Ok s.core.watch.rules
+  pub rules : AreRulesOf s.core.watch.instances alarms s.core.watch.rules
   pub core : core_from scalars.station targets peers s.core.watch.instances s.core.watch.rules ≡ s.core
   pub listen : scalars.listen ≡ s.listen
   pub file : scalars.file ≡ s.file

@@ -1,6 +1,6 @@
 //! The module files that settings name.
 
-ghost use Rattle.std.specs.Prelude.{◌≡◌, ◌++◌, Some, map, option_map, string_bytes};
+ghost use Rattle.std.specs.Prelude.{◌≡◌, ◌++◌, None, Some, Err, map, option_map, string_bytes};
 ghost use Rattle.mon_settings.specs.Keys.{Reads, or_bad};
 ghost use Rattle.mon_settings.specs.Leaf.{text_in};
 ghost use Rattle.mon_settings.specs.Station.{modules_at, modules_in, texts_in, texts_of};
@@ -66,7 +66,8 @@ pub(crate) fn modules_at(alloc: Global, table: &Table) -> Result<Vec<String>, Se
 /// # Errors
 /// `NotToml`; `BadValue` of `modules`; `OutOfMemory`.
 pub fn module_files(alloc: Global, text: &str) -> Result<Vec<String>, SettingsFault>
-    ensures { Reads (λ v. map string_bytes v.items) (modules_in (parse_document text.now)) result }
+    ensures gives { Reads (λ v. map string_bytes v.items) (modules_in (parse_document text.now)) result }
+    ensures not_toml { result ≡ Err SettingsFault.NotToml → parse_document text.now ≡ None }
 {
     match toml::table_from_str(alloc, text) {
         Ok(table) => modules_at(alloc, &table),

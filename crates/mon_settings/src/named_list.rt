@@ -6,7 +6,7 @@ ghost use Rattle.toml.specs.View.{view, table_view, items_view};
 ghost use Rattle.mon_settings.specs.Keys.{Reads, needed_at, default_at};
 ghost use Rattle.mon_settings.specs.Lists.{row, rows};
 ghost use Rattle.mon_settings.specs.NamedLists.{between, list_between, rows_between, rows_up_to};
-ghost use Rattle.mon_settings.specs.Resolving.{Resolves};
+ghost use Rattle.mon_settings.specs.Resolving.{resolution};
 
 use crate::fault::SettingsFault;
 use crate::key::Key;
@@ -24,7 +24,7 @@ pub(crate) trait NamedRow: Drop {
     ghost use Rattle.mon_settings.specs.declared.fault.SettingsFault.{SettingsFault as AnyFault};
     ghost use Rattle.mon_settings.specs.declared.sizes.Sizes.{Sizes as AnySizes};
     ghost use Rattle.mon_settings.specs.Keys.{Reads};
-    ghost use Rattle.mon_settings.specs.Resolving.{Resolves};
+    ghost use Rattle.mon_settings.specs.Resolving.{resolution};
 
     // What a table gives.
     ghost row_of: { (List ℕ → Option (List ℕ)) → AnySizes → Members → Result Self AnyFault };
@@ -36,7 +36,7 @@ pub(crate) trait NamedRow: Drop {
         sizes: Sizes,
         table: &Table,
     ) -> Result<Self, SettingsFault>
-        ensures { (find : List ℕ → Option (List ℕ)) → Resolves names.now find → Reads (λ r. r) (row_of find sizes (table_view table.now)) result };
+        ensures { Reads (λ r. r) (row_of (resolution names.now) sizes (table_view table.now)) result };
 }
 
 #[tactic(auto, unfolding(crate::specs::Lists::row))]
@@ -47,7 +47,7 @@ fn read_row<R: NamedRow>(
     key: Key,
     value: &Value,
 ) -> Result<R, SettingsFault>
-    ensures { (find : List ℕ → Option (List ℕ)) → Resolves names.now find → Reads (λ r. r) (row key (R.row_of find sizes) (view value.now)) result }
+    ensures { Reads (λ r. r) (row key (R.row_of (resolution names.now) sizes) (view value.now)) result }
 {
     match value.as_table() {
         Some(table) => R::read(alloc, names, sizes, table),
@@ -62,7 +62,7 @@ fn read_rows<R: NamedRow>(
     key: Key,
     values: &[Value],
 ) -> Result<Vec<R>, SettingsFault>
-    ensures { (find : List ℕ → Option (List ℕ)) → Resolves names.now find → Reads (λ rs. rs.items) (rows key (R.row_of find sizes) (items_view values.now)) result }
+    ensures { Reads (λ rs. rs.items) (rows key (R.row_of (resolution names.now) sizes) (items_view values.now)) result }
 {
     let mut read = Vec::new(alloc);
     for value in values {
@@ -146,8 +146,7 @@ pub(crate) fn rows_between<R: NamedRow>(
     least: usize,
     most: usize,
 ) -> Result<Vec<R>, SettingsFault>
-    ensures { (find : List ℕ → Option (List ℕ)) → Resolves names.now find
-        → Reads (λ rs. rs.items) (rows_between key least most (R.row_of find sizes) (table_view table.now)) result }
+    ensures { Reads (λ rs. rs.items) (rows_between key least most (R.row_of (resolution names.now) sizes) (table_view table.now)) result }
 {
     let values = values_at(table, key, least, most)?;
     read_rows(alloc, names, sizes, key, values)
@@ -163,8 +162,7 @@ pub(crate) fn rows_up_to<R: NamedRow>(
     key: Key,
     most: usize,
 ) -> Result<Vec<R>, SettingsFault>
-    ensures { (find : List ℕ → Option (List ℕ)) → Resolves names.now find
-        → Reads (λ rs. rs.items) (rows_up_to key most (R.row_of find sizes) (table_view table.now)) result }
+    ensures { Reads (λ rs. rs.items) (rows_up_to key most (R.row_of (resolution names.now) sizes) (table_view table.now)) result }
 {
     let values = values_or_none(table, key, most)?;
     read_rows(alloc, names, sizes, key, values)

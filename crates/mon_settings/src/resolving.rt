@@ -3,7 +3,7 @@
 ghost use Rattle.std.specs.Prelude.{◌≡◌, ℕ, List, Option};
 ghost use Rattle.toml.specs.View.{view, table_view};
 ghost use Rattle.mon_settings.specs.Keys.{Reads};
-ghost use Rattle.mon_settings.specs.Resolving.{Resolves, or_unknown, unresolved, name_in, name_at, name_or_none};
+ghost use Rattle.mon_settings.specs.Resolving.{resolution, or_unknown, unresolved, name_in, name_at, name_or_none};
 
 use crate::fault::SettingsFault;
 use crate::key::Key;
@@ -25,8 +25,9 @@ fn unresolved(fault: NamesFault) -> SettingsFault
 
 /// What a text resolves to.
 fn resolved(alloc: Global, names: &Names, text: &str) -> Result<Oid, SettingsFault>
-    ensures { (find : List ℕ → Option (List ℕ)) → Resolves names.now find → Reads (λ o. o) (or_unknown (find text.now)) result }
+    ensures { Reads (λ o. o) (or_unknown (resolution names.now text.now)) result }
 {
+    crate::laws::resolving();
     match names.resolve(alloc, text) {
         Ok(oid) => Ok(oid),
         Err(fault) => Err(unresolved(fault)),
@@ -35,7 +36,7 @@ fn resolved(alloc: Global, names: &Names, text: &str) -> Result<Oid, SettingsFau
 
 #[tactic(auto, unfolding(crate::specs::Resolving::name_in))]
 fn name_in(alloc: Global, names: &Names, key: Key, value: &Value) -> Result<Oid, SettingsFault>
-    ensures { (find : List ℕ → Option (List ℕ)) → Resolves names.now find → Reads (λ o. o) (name_in find key (view value.now)) result }
+    ensures { Reads (λ o. o) (name_in (resolution names.now) key (view value.now)) result }
 {
     match value.as_str() {
         Some(text) => resolved(alloc, names, text),
@@ -51,7 +52,7 @@ pub(crate) fn name_at(
     table: &Table,
     key: Key,
 ) -> Result<Oid, SettingsFault>
-    ensures { (find : List ℕ → Option (List ℕ)) → Resolves names.now find → Reads (λ o. o) (name_at find key (table_view table.now)) result }
+    ensures { Reads (λ o. o) (name_at (resolution names.now) key (table_view table.now)) result }
 {
     match find(table, key) {
         Some(value) => name_in(alloc, names, key, value),
@@ -67,7 +68,7 @@ pub(crate) fn name_or_none(
     table: &Table,
     key: Key,
 ) -> Result<Option<Oid>, SettingsFault>
-    ensures { (find : List ℕ → Option (List ℕ)) → Resolves names.now find → Reads (λ o. o) (name_or_none find key (table_view table.now)) result }
+    ensures { Reads (λ o. o) (name_or_none (resolution names.now) key (table_view table.now)) result }
 {
     match find(table, key) {
         Some(value) => Ok(Some(name_in(alloc, names, key, value)?)),

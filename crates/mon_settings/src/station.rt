@@ -1,12 +1,11 @@
 //! The settings of a station.
 
-ghost use Rattle.std.specs.Prelude.{◌≡◌, ◌↔◌, ◌≤◌, ℕ, List, Option, Ok, IfOk, IsTrue, length, map};
-ghost use Rattle.mon_board.specs.Instance.{named};
+ghost use Rattle.std.specs.Prelude.{◌≡◌, ◌≤◌, Err, None, IfOk, length, map};
 ghost use Rattle.mon_settings.specs.Keys.{Reads};
 ghost use Rattle.mon_settings.specs.Placing.{object_from, target_from};
-ghost use Rattle.mon_settings.specs.Resolving.{Resolves};
+ghost use Rattle.mon_settings.specs.Resolving.{resolution};
 ghost use Rattle.mon_settings.specs.Station.{core_from, rules_at, scalars_of, scalars_view, station_in, station_of, station_view};
-ghost use Rattle.mon_settings.specs.StationCore.{ArePeersOf, ArePolledAs, AreInstancesOf, IsPolledAs};
+ghost use Rattle.mon_settings.specs.StationCore.{IsCore};
 ghost use Rattle.toml.specs.Parse.{parse_document};
 ghost use Rattle.toml.specs.View.{table_view};
 
@@ -24,7 +23,7 @@ use crate::station_tables::{AlarmRow, ObjectRow, PeerRow, TargetRow};
 use mon_alarms::Rule;
 use mon_ber::Octets;
 use mon_board::{Watch, Watched};
-use mon_poller::{Addr, Object, Objects, Target, are_targets};
+use mon_poller::{Addr, Object, Objects, Target};
 use mon_smi::Names;
 use std::alloc::{AllocError, Global};
 use toml::Table;
@@ -162,47 +161,7 @@ fn targets_from(
     Ok(numbered)
 }
 
-/// Whether this is what is watched of an object at an engine.
-fn is_watched_of(watched: &Watched, engine: &Octets, object: &Object) -> bool
-    ensures { IsTrue result ↔ ((watched.now.instance ≡ named engine.now object.now.name) × (watched.now.mark ≡ object.now.mark)) }
-{
-    watched.instance.engine == *engine
-        && watched.instance.name == object.name
-        && watched.mark == object.mark
-}
-
-/// Whether the object's number is that of its instance in the watch.
-#[tactic(auto, unfolding(crate::specs::StationCore::IsPolledAs))]
-fn is_polled_as(watch: &Watch, engine: &Octets, object: &Object) -> bool
-    ensures { IsTrue result ↔ IsPolledAs watch.now engine.now object.now }
-{
-    match watch.instances().get(usize::from(object.instance)) {
-        Some(watched) => is_watched_of(watched, engine, object),
-        None => false,
-    }
-}
-
-#[tactic(auto, unfolding(crate::specs::StationCore::ArePolledAs))]
-fn objects_are_watched(watch: &Watch, target: &Target) -> bool
-    ensures { IsTrue result ↔ ArePolledAs watch.now target.now }
-{
-    target
-        .objects
-        .as_slice()
-        .iter()
-        .all(|object| is_polled_as(watch, &target.engine, object))
-}
-
-/// Whether all objects have the numbers of their instances in the watch.
-fn are_watched(watch: &Watch, targets: &[Target]) -> bool
-    ensures { IsTrue result ↔ AreInstancesOf watch.now targets.now }
-{
-    targets
-        .iter()
-        .all(|target| objects_are_watched(watch, target))
-}
-
-/// The core of the station with this number.
+/// The core of the station with this number. An `Err` means out of memory.
 fn core_from(
     alloc: Global,
     station: u32,
@@ -210,23 +169,16 @@ fn core_from(
     peers: &[PeerRow],
     instances: Vec<Watched>,
     rules: Vec<Rule>,
-) -> Result<Core, SettingsFault>
+) -> Result<Core, AllocError>
     requires few { length instances.items ≤ 256 }
-    requires station { 1 ≤ station }
-    requires peers { ArePeersOf station (map (λ p. p.station) peers.now) }
-    ensures { Reads (λ c. c) (Ok (core_from station targets.now peers.now instances.items rules.items)) result }
+    requires core { IsCore (core_from station targets.now peers.now instances.items rules.items) }
+    ensures { IfOk result (λ c. c ≡ core_from station targets.now peers.now instances.items rules.items) }
 {
     let numbered = targets_from(alloc, instances.as_slice(), targets)?;
     let numbers = stations_of(alloc, peers)?;
-    // Every reading passes the tests from here on. That is seen by tests and not proved, so their arms answer what is always allowed.
-    let watch = match Watch::new(instances, rules) {
-        Ok(watch) => watch,
-        Err(_) => return Err(SettingsFault::OutOfMemory),
+    let Ok(watch) = Watch::new(instances, rules) else {
+        unreachable!()
     };
-    let _ = watch.instances();
-    if !are_targets(numbered.as_slice()) || !are_watched(&watch, numbered.as_slice()) {
-        return Err(SettingsFault::OutOfMemory);
-    }
     Ok(Core::new(station, watch, numbered, numbers))
 }
 
@@ -240,7 +192,7 @@ fn rules_at(
     table: &Table,
 ) -> Result<Vec<Rule>, SettingsFault>
     requires { length instances.now ≤ 256 }
-    ensures { (find : List ℕ → Option (List ℕ)) → Resolves names.now find → Reads (λ v. v.items) (rules_at find sizes instances.now (table_view table.now)) result }
+    ensures { Reads (λ v. v.items) (rules_at (resolution names.now) sizes instances.now (table_view table.now)) result }
 {
     let alarms: Vec<AlarmRow> = rows_up_to(alloc, names, sizes, table, Key::Alarm, 256)?;
     rules_of(alloc, instances, alarms.as_slice())
@@ -248,7 +200,7 @@ fn rules_at(
 
 #[tactic(auto, unfolding(crate::specs::Station::station_of))]
 fn read_tree(alloc: Global, table: &Table, names: &Names) -> Result<StationSettings, SettingsFault>
-    ensures { (find : List ℕ → Option (List ℕ)) → Resolves names.now find → Reads station_view (station_of find (table_view table.now)) result }
+    ensures { Reads station_view (station_of (resolution names.now) (table_view table.now)) result }
 {
     only(table, &KEYS)?;
     let scalars = read_scalars(alloc, table)?;
@@ -299,7 +251,8 @@ pub fn read_station(
     text: &str,
     names: &Names,
 ) -> Result<StationSettings, SettingsFault>
-    ensures { (find : List ℕ → Option (List ℕ)) → Resolves names.now find → Reads station_view (station_in find (parse_document text.now)) result }
+    ensures gives { Reads station_view (station_in (resolution names.now) (parse_document text.now)) result }
+    ensures not_toml { result ≡ Err SettingsFault.NotToml → parse_document text.now ≡ None }
 {
     match toml::table_from_str(alloc, text) {
         Ok(table) => read_tree(alloc, &table, names),

@@ -18,3 +18,4 @@ pub mod ForModules
 pub mod Begun
 pub mod ForText
 pub mod Indexed
+pub mod Standing

@@ -1,5 +1,6 @@
 pub mod Words
 pub mod Names
+pub mod Parents
 pub mod Faults
 pub mod TextFaults
 pub mod Tokens

@@ -1,12 +1,13 @@
 //! Laws of names, tokens and modules. Each is a function that does nothing.
 
-ghost use Rattle.std.specs.Prelude.{◌≡◌, ℕ, List};
+ghost use Rattle.std.specs.Prelude.{◌≡◌, ◌↔◌, ℕ, List, Some};
 ghost use Rattle.mon_smi.specs.declared.definition.Definition.{Definition as AnyDefinition};
 ghost use Rattle.mon_smi.specs.declared.token.Token.{Token as AnyToken};
 ghost use Rattle.mon_smi.specs.Tokens.{AreTokens, RisesFrom};
 ghost use Rattle.mon_smi.specs.Lexemes.{AreTokensOf};
 ghost use Rattle.mon_smi.specs.Grammar.{Derives};
 ghost use Rattle.mon_smi.specs.Names.{AreDistinct, StandsFor, MeansNumbers, EndsUndefined, IsCircular};
+ghost use Rattle.mon_smi.specs.Parents.{numbers_of};
 
 /// A name stands for one identifier at most.
 pub fn one_meaning()
@@ -21,6 +22,11 @@ pub fn lost()
 /// A name whose chain of parents comes to a name again stands for nothing.
 pub fn circular()
     ensures { (defs : List AnyDefinition) (w q : List ℕ) → AreDistinct defs → StandsFor defs w q → ¬ (IsCircular defs w) }
+{}
+
+/// Following the parents of a name gives the numbers that it stands for, and nothing where it stands for none.
+pub fn parents()
+    ensures { (defs : List AnyDefinition) (w q : List ℕ) → AreDistinct defs → (numbers_of defs w ≡ Some q) ↔ StandsFor defs w q }
 {}
 
 /// A text means one list of numbers at most.

@@ -72,6 +72,8 @@ impl Names {
         ensures found { IfOk result (λ oid. IsOid oid × MeansNumbers self.now text.now oid) }
         ensures accepted { (q : List ℕ) → MeansNumbers self.now text.now q → IsOid q → IsOkUnless result NamesFault.OutOfMemory }
         ensures fault { IfErr result (λ e. IsFaultOfNameText e self.now text.now) }
+        // No name is defined twice.
+        ensures distinct { AreDistinct self.now }
     {
         mon_oid::laws::one_reading();
         resolved(alloc, &self.places, self.defs.as_slice(), text)

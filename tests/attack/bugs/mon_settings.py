@@ -276,4 +276,29 @@ BUGS = {
         "        window: object.window,",
         "        window: object.epoch,",
     ),
+    "calls_a_stations_memory_not_toml": (
+        "src/station.rt",
+        "            if error.is_memory() {",
+        "            if !error.is_memory() {",
+    ),
+    "calls_a_station_that_is_not_toml_an_unknown_key": (
+        "src/station.rt",
+        "                Err(SettingsFault::NotToml)",
+        "                Err(SettingsFault::UnknownKey)",
+    ),
+    "calls_a_bad_tree_of_modules_not_toml": (
+        "src/modules.rt",
+        "        Ok(table) => modules_at(alloc, &table),",
+        "        Ok(table) => match modules_at(alloc, &table) {\n            Ok(files) => Ok(files),\n            Err(_) => Err(SettingsFault::NotToml),\n        },",
+    ),
+    "watches_without_rules": (
+        "src/station.rt",
+        "    let Ok(watch) = Watch::new(instances, rules) else {",
+        "    let Ok(watch) = Watch::new(instances, Vec::new(alloc)) else {",
+    ),
+    "resolves_what_is_in_front_of_the_dot": (
+        "src/resolving.rt",
+        "    match names.resolve(alloc, text) {",
+        "    let front = match text.split_once('.') {\n        Some((front, _)) => front,\n        None => text,\n    };\n    match names.resolve(alloc, front) {",
+    ),
 }
