@@ -102,10 +102,10 @@ fn next_and_calls(
         .ok()
         .ok_or("no access")?;
     let name = oid(alloc, name)?;
-    let before = mib.device.calls.get();
+    let before = mib.device().calls.get();
     let found = mib.next(alloc, policy, access, &name, moment(0)?)?;
     let text = found.ok_or("nothing after it")?.name.text(alloc)?;
-    Ok((text, mib.device.calls.get().saturating_sub(before)))
+    Ok((text, mib.device().calls.get().saturating_sub(before)))
 }
 
 #[test]

@@ -336,4 +336,14 @@ BUGS = {
         "            Start::Above(last) => last < instance,",
         "            Start::Above(last) => last <= instance,",
     ),
+    "a_map_counts_nothing": (
+        "src/mib.rt",
+        "        self.counters.count(counter);",
+        "        let _ = counter;",
+    ),
+    "a_map_stays_with_its_counters": (
+        "src/mib.rt",
+        "        self.counters = counters;",
+        "        let _ = counters;",
+    ),
 }
