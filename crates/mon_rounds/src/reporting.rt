@@ -1,5 +1,9 @@
 //! What an operator is told of a round.
 
+ghost use Rattle.std.specs.Prelude.{◌≡◌, IfOk};
+ghost use Rattle.mon_rounds.specs.Noted.{notice_of, strangers_in, strangers_of};
+ghost use Rattle.mon_rounds.specs.Order.{datagrams_in, datagrams_of};
+
 use crate::round::{Round, RoundEvent};
 use mon_poller::{Addr, Target};
 use mon_station::{Answer, Run, StationFault};
@@ -29,10 +33,10 @@ pub enum Notice {
 pub struct RoundReport {
     /// What was refused, and which targets gave up, in order.
     pub notices: Vec<Notice>,
-    /// How many datagrams came.
-    pub datagrams: u32,
+    /// How many datagrams came, at most 4096.
+    pub datagrams: usize,
     /// How many of them came from an address that is no target's and no peer's.
-    pub strangers: u32,
+    pub strangers: usize,
     /// How often nothing could be received.
     pub source_faults: u64,
     /// How often a datagram could not be sent.
@@ -119,7 +123,9 @@ impl PollLog {
 }
 
 /// What is told of a refused event.
-fn refused(event: RoundEvent, fault: StationFault) -> Option<Notice> {
+fn refused(event: RoundEvent, fault: StationFault) -> Option<Notice>
+    ensures { result ≡ notice_of event fault }
+{
     match event {
         RoundEvent::StartPoll(target) => Some(Notice::NotPolled(target, fault)),
         RoundEvent::FromAgent(from) => Some(Notice::BadResponse(from, fault)),
@@ -129,53 +135,111 @@ fn refused(event: RoundEvent, fault: StationFault) -> Option<Notice> {
     }
 }
 
+/// How many datagrams came in these events.
+fn count_datagrams(events: &[RoundEvent]) -> usize
+    ensures { result ≡ datagrams_in events.now }
+{
+    let mut count = 0;
+    for event in events {
+        count += datagrams_of(*event);
+    }
+    count
+}
+
+fn datagrams_of(event: RoundEvent) -> usize
+    ensures { result ≡ datagrams_of event }
+{
+    match event {
+        RoundEvent::FromAgent(_) | RoundEvent::FromPeer(_) => 1,
+        RoundEvent::StartPoll(_)
+        | RoundEvent::Timeout(_)
+        | RoundEvent::Share(_)
+        | RoundEvent::Save => 0,
+    }
+}
+
+/// How many of them came from an address that is no target's and no peer's.
+fn count_strangers(round: &Round, events: &[RoundEvent]) -> usize
+    ensures { result ≡ strangers_in round.now.targets events.now }
+{
+    let mut count = 0;
+    for event in events {
+        count += strangers_of(round, *event);
+    }
+    count
+}
+
+fn strangers_of(round: &Round, event: RoundEvent) -> usize
+    ensures { result ≡ strangers_of round.now.targets event }
+{
+    match event {
+        RoundEvent::FromAgent(from) => usize::from(!round.is_target(from)),
+        RoundEvent::FromPeer(_)
+        | RoundEvent::StartPoll(_)
+        | RoundEvent::Timeout(_)
+        | RoundEvent::Share(_)
+        | RoundEvent::Save => 0,
+    }
+}
+
 impl RoundReport {
     /// What is to be told of a round, or of the time between two, that was run so. `oldest` is the station's oldest open poll after it.
+    ///
+    /// # Errors
+    /// `AllocError` where there is no room for the notices; the log may then have forgotten polls.
     pub fn of(
         alloc: Global,
         round: &Round,
         run: &Run,
         oldest: Option<u32>,
         log: &mut PollLog,
-    ) -> Result<Self, AllocError> {
-        let mut report = RoundReport {
-            notices: Vec::new(alloc),
-            datagrams: 0,
-            strangers: 0,
+    ) -> Result<Self, AllocError>
+        ensures datagrams { IfOk result (λ r. r.datagrams ≡ datagrams_in round.now.events) }
+        ensures strangers { IfOk result (λ r. r.strangers ≡ strangers_in round.now.targets round.now.events) }
+        ensures source { IfOk result (λ r. r.source_faults ≡ run.now.source_faults) }
+        ensures sends { IfOk result (λ r. r.send_faults ≡ run.now.send_faults) }
+    {
+        let events = round.events();
+        let notices = notices_of(alloc, round, run.answers.as_slice(), log)?;
+        log.close(oldest);
+        Ok(RoundReport {
+            notices,
+            datagrams: count_datagrams(events),
+            strangers: count_strangers(round, events),
             source_faults: run.source_faults,
             send_faults: run.send_faults,
-        };
-        for (event, answer) in round.events().iter().zip(run.answers.as_slice().iter()) {
-            report.count(round, *event);
-            if let Some(notice) = log.note(*event, *answer)? {
-                report.tell(round, notice)?;
-            }
-        }
-        log.close(oldest);
-        Ok(report)
+        })
     }
+}
 
-    fn count(&mut self, round: &Round, event: RoundEvent) {
-        match event {
-            RoundEvent::FromPeer(_) => self.datagrams = self.datagrams.saturating_add(1),
-            RoundEvent::FromAgent(from) => {
-                self.datagrams = self.datagrams.saturating_add(1);
-                if !round.addresses().is_target(from) {
-                    self.strangers = self.strangers.saturating_add(1);
-                }
-            }
-            _ => {}
+/// What is to be told of the events of a round that were answered so.
+fn notices_of(
+    alloc: Global,
+    round: &Round,
+    answers: &[Answer],
+    log: &mut PollLog,
+) -> Result<Vec<Notice>, AllocError> {
+    let mut notices = Vec::new(alloc);
+    for (event, answer) in round.events().iter().zip(answers) {
+        if let Some(notice) = log.note(*event, *answer)? {
+            put_notice(round, &mut notices, notice)?;
         }
     }
+    Ok(notices)
+}
 
-    /// Tells a notice, unless it is of a stranger's datagram, which is counted alone.
-    fn tell(&mut self, round: &Round, notice: Notice) -> Result<(), AllocError> {
-        if let Notice::BadResponse(from, _) = notice {
-            if !round.addresses().is_target(from) {
-                return Ok(());
-            }
-        }
-        self.notices.push(notice)?;
-        Ok(())
+/// Adds a notice, unless it is of a stranger's datagram, which is counted alone.
+fn put_notice(round: &Round, notices: &mut Vec<Notice>, notice: Notice) -> Result<(), AllocError> {
+    if is_of_stranger(round, notice) {
+        return Ok(());
+    }
+    notices.push(notice)?;
+    Ok(())
+}
+
+fn is_of_stranger(round: &Round, notice: Notice) -> bool {
+    match notice {
+        Notice::BadResponse(from, _) => !round.is_target(from),
+        _ => false,
     }
 }
