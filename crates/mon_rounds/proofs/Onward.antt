@@ -22,7 +22,7 @@ pub length_more : (events es : List RoundEvent) (e : RoundEvent) → es ≡ even
 length_more events es e more = let long = length-append events (e ∷ []) in ap length more ∙ omega (arith, long)
 
 -- no event but a datagram counts as one
-pub few_more : (events es : List RoundEvent) (e : RoundEvent) (left : ℕ) → es ≡ events ++ e ∷ [] → datagrams_of e ≡ 0 → datagrams_in events + left ≤ 4096 → datagrams_in es + left ≤ 4096
+pub few_more : (events es : List RoundEvent) (e : RoundEvent) (left : ℕ) → es ≡ events ++ e ∷ [] → datagrams_of e ≡ 0 → datagrams_in events + left ≡ 4096 → datagrams_in es + left ≡ 4096
 few_more events es e left more none few =
     let count : datagrams_in es ≡ datagrams_in events + datagrams_of e = ap datagrams_in more ∙ datagrams_more events e in
     omega (arith, count, none, few)

@@ -12,7 +12,7 @@ use Rattle.mon_board.specs.declared.instance.Watched.{Watched}
 use Rattle.mon_board.specs.Board.{Board, window_of}
 use Rattle.mon_board.specs.Watch.{Watch}
 use Rattle.mon_report.specs.Report.{state_text}
-use Rattle.mon_rounds.specs.declared.alarm_states.AlarmChange.{AlarmChange}
+use Rattle.mon_rounds.specs.declared.alarms.AlarmChange.{AlarmChange}
 use Rattle.mon_window.specs.Top.{rising}
 
 -- the states of a board's alarms, in the order of the watch's rules
@@ -36,15 +36,22 @@ changes_from rule [] after = []
 changes_from rule (old ∷ before) [] = []
 changes_from rule (old ∷ before) (new ∷ after) = change_at rule old new ++ changes_from (rule + 1) before after
 
--- the line of a rule on an instance: engine id, name, thresholds and state, as a report has them
-unfoldable pub instance_line : Instance → Rule → AlarmState → List ℕ
-instance_line i rule state =
-    encode_lower i.engine ++ codes " " ++ dotted i.name ++ codes " alarm " ++ signed_decimal rule.rising ++ codes "/" ++ signed_decimal rule.falling ++ codes "=" ++ state_text state
+-- an instance: its engine id in hex digits, and its name
+abbrev pub instance_text : Instance → List ℕ
+instance_text i = encode_lower i.engine ++ codes " " ++ dotted i.name
+
+-- the thresholds of a rule, in thousandths
+abbrev pub thresholds_text : Rule → List ℕ
+thresholds_text rule = codes " alarm " ++ signed_decimal rule.rising ++ codes "/" ++ signed_decimal rule.falling ++ codes "="
+
+-- the line of a rule on an instance: the instance, the thresholds and the state, as a report has them
+unfoldable pub change_on : Instance → Rule → AlarmState → List ℕ
+change_on i rule state = instance_text i ++ thresholds_text rule ++ state_text state
 
 -- the line of a rule on an instance of the watch
 abbrev pub line_at : Option Watched → Rule → AlarmState → List ℕ
 line_at None rule state = []
-line_at (Some watched) rule state = instance_line watched.instance rule state
+line_at (Some watched) rule state = change_on watched.instance rule state
 
 -- the line of a rule of a watch
 abbrev pub rule_line : Watch → Rule → AlarmState → List ℕ

@@ -1,5 +1,5 @@
 -- What an operator is told of a round.
-use Rattle.std.specs.Prelude.{ℕ, ◌+◌, List, [], ◌∷◌, Option, Some, None, cond, sum_by}
+use Rattle.std.specs.Prelude.{Bool, false, not, List, Option, Some, None}
 use Rattle.mon_poller.specs.declared.addr.Addr.{Addr}
 use Rattle.mon_rounds.specs.declared.reporting.Notice.{Notice}
 use Rattle.mon_rounds.specs.declared.reporting.Notice.TheVariants as notice
@@ -8,18 +8,14 @@ use Rattle.mon_rounds.specs.declared.round.RoundEvent.TheVariants.{StartPoll, Ti
 use Rattle.mon_rounds.specs.Next.{stands_in}
 use Rattle.mon_station.specs.declared.fault.StationFault.{StationFault}
 
--- how many datagrams of strangers an event has: from an address that is no peer's and none of these targets'
-abbrev pub strangers_of : List Addr → RoundEvent → ℕ
-strangers_of targets (FromAgent from) = cond (stands_in targets from) 0 1
-strangers_of targets (FromPeer from) = 0
-strangers_of targets (StartPoll target) = 0
-strangers_of targets (Timeout id) = 0
-strangers_of targets (Share peer) = 0
-strangers_of targets Save = 0
-
--- how many datagrams of strangers came in these events
-abbrev pub strangers_in : List Addr → List RoundEvent → ℕ
-strangers_in targets events = sum_by (strangers_of targets) events
+-- whether an event is a stranger's datagram: from an address that is no peer's and none of these targets'
+abbrev pub is_stranger : List Addr → RoundEvent → Bool
+is_stranger targets (FromAgent from) = not (stands_in targets from)
+is_stranger targets (FromPeer from) = false
+is_stranger targets (StartPoll target) = false
+is_stranger targets (Timeout id) = false
+is_stranger targets (Share peer) = false
+is_stranger targets Save = false
 
 -- what is told of a refused event. A timeout and a save are not refused: they meet want of memory and the keeper's faults.
 abbrev pub notice_of : RoundEvent → StationFault → Option Notice

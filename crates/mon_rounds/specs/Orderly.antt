@@ -16,7 +16,7 @@ unbegun targets peers peer_addresses wait_ms = record {
   wait_ms = wait_ms;
   phase = Rested;
   wait = Anew wait_ms;
-  datagrams = 0;
+  datagrams = 4096;
   timeouts = 0;
   failures = 0;
   events = [];
@@ -35,11 +35,11 @@ begun r = record r { phase = first_phase r.targets; wait = Anew r.wait_ms; datag
 abbrev pub begun_rest : ℕ → RoundState → RoundState
 begun_rest milliseconds r = record r { phase = Resting; wait = Anew milliseconds; datagrams = 4096; timeouts = 512; failures = 16; events = [] }
 
--- what every round has, with room for so many events: its events are in the order of a round, it has at most 4096 datagrams, and there is room for all
+-- what every round has, with room for so many events: its events are in the order of a round, it has at most 4096 datagrams and knows how many are left, and there is room for all
 -- events that are still to come
 pub record IsOrderly (room : ℕ) (r : RoundState) : Type 0 where
   pub order : AreSoFar (length r.targets) r.peers r.phase r.events
-  pub few : datagrams_in r.events + r.datagrams ≤ 4096
+  pub few : datagrams_in r.events + r.datagrams ≡ 4096
   pub space : length r.events + (events_left r.phase r + (r.datagrams + r.timeouts)) ≤ room
   pub whole : 4700 ≤ room
 

@@ -1,8 +1,8 @@
 //! What an operator is told of a round.
 
 ghost use Rattle.std.specs.Prelude.{◌≡◌, IfOk};
-ghost use Rattle.mon_rounds.specs.Noted.{notice_of, strangers_in, strangers_of};
-ghost use Rattle.mon_rounds.specs.Order.{datagrams_in, datagrams_of};
+ghost use Rattle.mon_rounds.specs.Noted.{is_stranger, notice_of};
+ghost use Rattle.mon_rounds.specs.Order.{datagrams_in};
 
 use crate::round::{Round, RoundEvent};
 use mon_poller::{Addr, Target};
@@ -34,9 +34,9 @@ pub struct RoundReport {
     /// What was refused, and which targets gave up, in order.
     pub notices: Vec<Notice>,
     /// How many datagrams came, at most 4096.
-    pub datagrams: usize,
+    pub datagrams: u32,
     /// How many of them came from an address that is no target's and no peer's.
-    pub strangers: usize,
+    pub strangers: u32,
     /// How often nothing could be received.
     pub source_faults: u64,
     /// How often a datagram could not be sent.
@@ -135,50 +135,28 @@ fn refused(event: RoundEvent, fault: StationFault) -> Option<Notice>
     }
 }
 
-/// How many datagrams came in these events.
-fn count_datagrams(events: &[RoundEvent]) -> usize
-    ensures { result ≡ datagrams_in events.now }
-{
-    let mut count = 0;
+/// How many of these events are datagrams from an address that is no target's and no peer's.
+fn count_strangers(round: &Round, events: &[RoundEvent]) -> u32 {
+    let mut count: u32 = 0;
     for event in events {
-        count += datagrams_of(*event);
+        if is_stranger(round, *event) {
+            count = count.saturating_add(1);
+        }
     }
     count
 }
 
-fn datagrams_of(event: RoundEvent) -> usize
-    ensures { result ≡ datagrams_of event }
+/// Whether an event is a datagram from an address that is no target's and no peer's.
+fn is_stranger(round: &Round, event: RoundEvent) -> bool
+    ensures { result ≡ is_stranger round.now.targets event }
 {
     match event {
-        RoundEvent::FromAgent(_) | RoundEvent::FromPeer(_) => 1,
-        RoundEvent::StartPoll(_)
-        | RoundEvent::Timeout(_)
-        | RoundEvent::Share(_)
-        | RoundEvent::Save => 0,
-    }
-}
-
-/// How many of them came from an address that is no target's and no peer's.
-fn count_strangers(round: &Round, events: &[RoundEvent]) -> usize
-    ensures { result ≡ strangers_in round.now.targets events.now }
-{
-    let mut count = 0;
-    for event in events {
-        count += strangers_of(round, *event);
-    }
-    count
-}
-
-fn strangers_of(round: &Round, event: RoundEvent) -> usize
-    ensures { result ≡ strangers_of round.now.targets event }
-{
-    match event {
-        RoundEvent::FromAgent(from) => usize::from(!round.is_target(from)),
+        RoundEvent::FromAgent(from) => !round.is_target(from),
         RoundEvent::FromPeer(_)
         | RoundEvent::StartPoll(_)
         | RoundEvent::Timeout(_)
         | RoundEvent::Share(_)
-        | RoundEvent::Save => 0,
+        | RoundEvent::Save => false,
     }
 }
 
@@ -195,7 +173,6 @@ impl RoundReport {
         log: &mut PollLog,
     ) -> Result<Self, AllocError>
         ensures datagrams { IfOk result (λ r. r.datagrams ≡ datagrams_in round.now.events) }
-        ensures strangers { IfOk result (λ r. r.strangers ≡ strangers_in round.now.targets round.now.events) }
         ensures source { IfOk result (λ r. r.source_faults ≡ run.now.source_faults) }
         ensures sends { IfOk result (λ r. r.send_faults ≡ run.now.send_faults) }
     {
@@ -204,7 +181,7 @@ impl RoundReport {
         log.close(oldest);
         Ok(RoundReport {
             notices,
-            datagrams: count_datagrams(events),
+            datagrams: round.datagrams(),
             strangers: count_strangers(round, events),
             source_faults: run.source_faults,
             send_faults: run.send_faults,

@@ -119,7 +119,7 @@ impl Round {
             wait_ms,
             phase: Phase::Rested,
             wait: Wait::Anew(wait_ms),
-            datagrams: 0,
+            datagrams: MOST_DATAGRAMS,
             timeouts: 0,
             failures: 0,
             events: Vec::with_capacity(alloc, ROOM)?,
@@ -167,9 +167,15 @@ impl Round {
         ensures events { result.now ≡ self.now.events }
         // They are in the order of a round; where it is over, they are those of a whole round.
         ensures order { AreSoFar (length self.now.targets) self.now.peers self.now.phase self.now.events }
-        ensures few { datagrams_in self.now.events ≤ 4096 }
     {
         self.events.as_slice()
+    }
+
+    /// How many datagrams came since it began, at most 4096.
+    pub fn datagrams(&self) -> u32
+        ensures { result ≡ datagrams_in self.now.events }
+    {
+        MOST_DATAGRAMS - self.datagrams
     }
 
     /// Whether a target has this address.

@@ -1,7 +1,7 @@
 //! Alarms that change from one moment to another.
 
-ghost use Rattle.std.specs.Prelude.{◌≡◌, ◌≤◌, ◌^◌, IfOk, length, string_bytes};
-ghost use Rattle.mon_rounds.specs.Alarms.{change_line, changes_from, instance_line, is_same, rule_line, states_of};
+ghost use Rattle.std.specs.Prelude.{◌≡◌, ◌≤◌, ◌^◌, ◌++◌, IfOk, OnOk, length, string_bytes};
+ghost use Rattle.mon_rounds.specs.Alarms.{change_line, change_on, changes_from, instance_text, is_same, rule_line, states_of, thresholds_text};
 ghost use Rattle.mon_report.specs.Report.{state_text};
 
 use mon_alarms::{AlarmState, Rule, state};
@@ -39,11 +39,12 @@ pub fn alarm_changes(
     ensures { IfOk result (λ v. v.items ≡ changes_from 0 before.now after.now) }
 {
     let mut changes = Vec::new(alloc);
-    for (rule, (old, new)) in before.iter().zip(after).enumerate() {
-        if !is_same(*old, *new) {
+    for rule in 0..before.len().min(after.len()) {
+        let state = after[rule];
+        if !is_same(before[rule], state) {
             changes.push(AlarmChange {
                 rule: rule as u16,
-                state: *new,
+                state,
             })?;
         }
     }
@@ -92,27 +93,42 @@ fn rule_line(
     }
 }
 
-#[tactic(auto, unfolding(crate::specs::Alarms::instance_line))]
+#[tactic(auto, unfolding(crate::specs::Alarms::change_on))]
 fn instance_line(
     alloc: Global,
     instance: &Instance,
     rule: &Rule,
     state: AlarmState,
 ) -> Result<String, AllocError>
-    ensures { IfOk result (λ text. string_bytes text ≡ instance_line instance.now rule.now state) }
+    ensures { IfOk result (λ text. string_bytes text ≡ change_on instance.now rule.now state) }
+{
+    let mut text = String::new(alloc);
+    put_instance(alloc, &mut text, instance)?;
+    put_thresholds(&mut text, rule)?;
+    put_state(&mut text, state)?;
+    Ok(text)
+}
+
+fn put_instance(alloc: Global, text: &mut String, instance: &Instance) -> Result<(), AllocError>
+    ensures { OnOk result (string_bytes text.new ≡ string_bytes text.old ++ instance_text instance.now) }
 {
     let engine = hex::encode(alloc, instance.engine.as_slice())?;
     let name = instance.name.text(alloc)?;
-    let state = state_text(alloc, state)?;
-    let (rising, falling) = (rule.rising(), rule.falling());
-    format!(in alloc; "{engine} {name} alarm {rising}/{falling}={state}")
+    write!(text, "{engine} {name}")
 }
 
-fn state_text(alloc: Global, state: AlarmState) -> Result<String, AllocError>
-    ensures { IfOk result (λ text. string_bytes text ≡ state_text state) }
+fn put_thresholds(text: &mut String, rule: &Rule) -> Result<(), AllocError>
+    ensures { OnOk result (string_bytes text.new ≡ string_bytes text.old ++ thresholds_text rule.now) }
+{
+    let (rising, falling) = (rule.rising(), rule.falling());
+    write!(text, " alarm {rising}/{falling}=")
+}
+
+fn put_state(text: &mut String, state: AlarmState) -> Result<(), AllocError>
+    ensures { OnOk result (string_bytes text.new ≡ string_bytes text.old ++ state_text state) }
 {
     match state {
-        AlarmState::Clear => String::from_str(alloc, "clear"),
-        AlarmState::Raised { boots, time } => format!(in alloc; "raised@{boots}:{time}"),
+        AlarmState::Clear => text.push_str("clear"),
+        AlarmState::Raised { boots, time } => write!(text, "raised@{boots}:{time}"),
     }
 }
