@@ -16,15 +16,20 @@ changes_push k (a ∷ xs) (b ∷ ys) x y same =
     ap (λ l. change_at k a b ++ l) (changes_push (k + 1) xs ys x y (omega (arith, same)) ∙ ap (λ m. changes_from (k + 1) xs ys ++ change_at m x y) n)
     ∙ sym (append_assoc (change_at k a b) (changes_from (k + 1) xs ys) (change_at (k + length (a ∷ xs)) x y))
 
-pub changes_more : (xs ys : List AlarmState) (i : ℕ) (x y : AlarmState) → i < length xs → i < length ys → x ≡ get_or xs i x → y ≡ get_or ys i y
-    → changes_from 0 (take (i + 1) xs) (take (i + 1) ys) ≡ changes_from 0 (take i xs) (take i ys) ++ change_at i x y
-changes_more xs ys i x y in_xs in_ys x_is y_is =
+pub changes_more : (xs ys : List AlarmState) (i : ℕ) (x y : AlarmState) → i < length xs → i < length ys
+    → changes_from 0 (take (i + 1) xs) (take (i + 1) ys) ≡ changes_from 0 (take i xs) (take i ys) ++ change_at i (get_or xs i x) (get_or ys i y)
+changes_more xs ys i x y in_xs in_ys =
     let long : length (take i xs) ≡ i = grind (arith, length-take) in
     let other : length (take i ys) ≡ i = grind (arith, length-take) in
-    ap (λ l. changes_from 0 l (take (i + 1) ys)) (take_more xs i x in_xs ∙ ap (λ a. take i xs ++ a ∷ []) (sym x_is))
-    ∙ ap (λ l. changes_from 0 (take i xs ++ x ∷ []) l) (take_more ys i y in_ys ∙ ap (λ b. take i ys ++ b ∷ []) (sym y_is))
-    ∙ changes_push 0 (take i xs) (take i ys) x y (long ∙ sym other)
-    ∙ ap (λ n. changes_from 0 (take i xs) (take i ys) ++ change_at n x y) (omega (arith, long))
+    ap (λ l. changes_from 0 l (take (i + 1) ys)) (take_more xs i x in_xs)
+    ∙ ap (λ l. changes_from 0 (take i xs ++ get_or xs i x ∷ []) l) (take_more ys i y in_ys)
+    ∙ changes_push 0 (take i xs) (take i ys) (get_or xs i x) (get_or ys i y) (long ∙ sym other)
+    ∙ ap (λ n. changes_from 0 (take i xs) (take i ys) ++ change_at n (get_or xs i x) (get_or ys i y)) (omega (arith, long))
+
+pub changes_step : (xs ys : List AlarmState) (i : ℕ) (x y : AlarmState) (was now : List AlarmChange) → i < length xs → i < length ys
+    → now ≡ was ++ change_at i (get_or xs i x) (get_or ys i y) → was ≡ changes_from 0 (take i xs) (take i ys) → now ≡ changes_from 0 (take (i + 1) xs) (take (i + 1) ys)
+changes_step xs ys i x y was now in_xs in_ys more so_far =
+    more ∙ ap (λ l. l ++ change_at i (get_or xs i x) (get_or ys i y)) so_far ∙ sym (changes_more xs ys i x y in_xs in_ys)
 
 pub changes_all : (k : ℕ) (xs ys : List AlarmState) (n : ℕ) → min (length xs) (length ys) ≤ n → changes_from k (take n xs) (take n ys) ≡ changes_from k xs ys
 changes_all k [] ys zero le = refl

@@ -1,7 +1,7 @@
 //! Alarms that change from one moment to another.
 
 ghost use Rattle.std.specs.Prelude.{◌≡◌, ◌≤◌, ◌^◌, ◌++◌, IfOk, OnOk, length, string_bytes};
-ghost use Rattle.mon_rounds.specs.Alarms.{change_line, change_on, changes_from, instance_text, is_same, rule_line, states_of, thresholds_text};
+ghost use Rattle.mon_rounds.specs.Alarms.{change_at, change_line, change_on, changes_from, instance_text, is_same, rule_line, states_of, thresholds_text};
 ghost use Rattle.mon_report.specs.Report.{state_text};
 
 use mon_alarms::{AlarmState, Rule, state};
@@ -40,15 +40,27 @@ pub fn alarm_changes(
 {
     let mut changes = Vec::new(alloc);
     for rule in 0..before.len().min(after.len()) {
-        let state = after[rule];
-        if !is_same(before[rule], state) {
-            changes.push(AlarmChange {
-                rule: rule as u16,
-                state,
-            })?;
-        }
+        let old = before[rule];
+        let new = after[rule];
+        put_change(&mut changes, rule as u16, old, new)?;
     }
     Ok(changes)
+}
+
+/// Adds the change of a rule, where its state is another one.
+fn put_change(
+    changes: &mut Vec<AlarmChange>,
+    rule: u16,
+    old: AlarmState,
+    new: AlarmState,
+) -> Result<(), AllocError>
+    ensures { OnOk result (changes.new.items ≡ changes.old.items ++ change_at rule old new) }
+{
+    if is_same(old, new) {
+        return Ok(());
+    }
+    changes.push(AlarmChange { rule, state: new })?;
+    Ok(())
 }
 
 /// Whether two states are one.
