@@ -4,20 +4,21 @@ use Rattle.mon_rounds.specs.declared.receiver.Arrival.{Arrival}
 use Rattle.mon_rounds.specs.declared.receiver.Arrival.TheVariants.{Datagram, Quiet}
 use Rattle.mon_rounds.specs.declared.round.RoundEvent.{RoundEvent}
 use Rattle.mon_rounds.specs.declared.round.RoundEvent.TheVariants.{StartPoll, Timeout, FromAgent, FromPeer, Share, Save}
+use Rattle.mon_rounds.specs.Order.{datagrams_of}
 use Rattle.mon_rounds.specs.Reception.{Reception}
 use Rattle.mon_station.specs.declared.event.OwnedEvent.{OwnedEvent}
 use Rattle.mon_station.specs.declared.event.OwnedEvent.TheVariants as own
 
 -- the octets that came in a reception
-abbrev pub octets_in : Option Arrival → List (List ℕ)
-octets_in None = []
-octets_in (Some Quiet) = []
-octets_in (Some (Datagram from octets)) = octets ∷ []
+abbrev pub arrived_octets : Option Arrival → List (List ℕ)
+arrived_octets None = []
+arrived_octets (Some Quiet) = []
+arrived_octets (Some (Datagram from octets)) = octets ∷ []
 
 -- the octets of the datagrams that were received, in order
 abbrev pub octets_heard : List Reception → List (List ℕ)
 octets_heard [] = []
-octets_heard (r ∷ receptions) = octets_in r.arrival ++ octets_heard receptions
+octets_heard (r ∷ receptions) = arrived_octets r.arrival ++ octets_heard receptions
 
 -- an event with the octets of its datagram, where it has one
 abbrev pub with_octets : RoundEvent → List ℕ → OwnedEvent
@@ -27,15 +28,6 @@ with_octets (FromAgent from) octets = own.FromAgent from octets
 with_octets (FromPeer from) octets = own.FromPeer octets
 with_octets (Share peer) octets = own.Share peer
 with_octets Save octets = own.Save
-
--- how many datagrams an event has
-abbrev pub datagrams_of : RoundEvent → ℕ
-datagrams_of (FromAgent from) = 1
-datagrams_of (FromPeer from) = 1
-datagrams_of (StartPoll target) = 0
-datagrams_of (Timeout id) = 0
-datagrams_of (Share peer) = 0
-datagrams_of Save = 0
 
 -- events with their datagrams, both from the newest on
 abbrev pub joined_back : List RoundEvent → List (List ℕ) → List OwnedEvent

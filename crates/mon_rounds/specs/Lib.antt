@@ -1,2 +1,10 @@
+pub mod Alarms
+pub mod Found
 pub mod Given
+pub mod Next
+pub mod Noted
+pub mod Order
+pub mod Orderly
+pub mod Reached
 pub mod Reception
+pub mod Trial

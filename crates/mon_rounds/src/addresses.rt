@@ -1,6 +1,10 @@
 //! Where a station's targets and peers are reached.
 
-ghost use Rattle.std.specs.Prelude.{◌≤◌, length};
+ghost use Rattle.std.specs.Prelude.{◌≡◌, ◌≤◌, ◌==◌, IfOk, length, map, slice_get};
+ghost use Rattle.std.specs.List.{position};
+ghost use Rattle.mon_rounds.specs.Reached.{peer_address};
+ghost use Rattle.mon_rounds.specs.Next.{stands_in};
+ghost use Rattle.mon_settings.specs.Station.{is_address};
 
 use mon_poller::{Addr, Target};
 use mon_settings::StationSettings;
@@ -21,7 +25,11 @@ pub struct Addresses {
 
 impl Addresses {
     /// The addresses of the settings' targets and peers.
-    pub fn of(alloc: Global, settings: &StationSettings) -> Result<Self, AllocError> {
+    pub fn of(alloc: Global, settings: &StationSettings) -> Result<Self, AllocError>
+        ensures targets { IfOk result (λ a. a.targets.items ≡ map (λ t. t.address) settings.now.core.targets) }
+        ensures peers { IfOk result (λ a. a.peers.items ≡ settings.now.core.peers) }
+        ensures peer_addresses { IfOk result (λ a. a.peer_addresses.items ≡ settings.now.peer_addresses.items) }
+    {
         let core = &settings.core;
         Ok(Addresses {
             targets: target_addresses(alloc, core.targets())?,
@@ -31,33 +39,49 @@ impl Addresses {
     }
 
     /// The address of the target of this number.
-    pub fn target(&self, number: u16) -> Option<Addr> {
+    pub fn target(&self, number: u16) -> Option<Addr>
+        ensures { result ≡ slice_get self.now.targets.items number }
+    {
         self.targets.as_slice().get(usize::from(number)).copied()
     }
 
+    /// The station number of the peer of this slot.
+    pub(crate) fn peer_at(&self, slot: u16) -> Option<u32>
+        ensures { result ≡ slice_get self.now.peers.items slot }
+    {
+        self.peers.as_slice().get(usize::from(slot)).copied()
+    }
+
     /// The address of the peer of this station number.
-    pub fn peer(&self, station: u32) -> Option<Addr> {
-        let slot = self
-            .peers
-            .as_slice()
-            .iter()
-            .position(|number| *number == station)?;
-        self.peer_addresses.as_slice().get(slot).copied()
+    pub fn peer(&self, station: u32) -> Option<Addr>
+        ensures { result ≡ peer_address self.now.peers.items self.now.peer_addresses.items station }
+    {
+        peer_address(
+            self.peers.as_slice(),
+            self.peer_addresses.as_slice(),
+            station,
+        )
     }
 
     /// Whether a target has this address.
-    pub fn is_target(&self, from: Addr) -> bool {
+    pub fn is_target(&self, from: Addr) -> bool
+        ensures { result ≡ stands_in self.now.targets.items from }
+    {
         stands_in(self.targets.as_slice(), from)
     }
 
     /// Whether a peer has this address.
-    pub fn is_peer(&self, from: Addr) -> bool {
+    pub fn is_peer(&self, from: Addr) -> bool
+        ensures { result ≡ stands_in self.now.peer_addresses.items from }
+    {
         stands_in(self.peer_addresses.as_slice(), from)
     }
 }
 
 /// The addresses of targets, in their order.
-fn target_addresses(alloc: Global, targets: &[Target]) -> Result<Vec<Addr>, AllocError> {
+fn target_addresses(alloc: Global, targets: &[Target]) -> Result<Vec<Addr>, AllocError>
+    ensures { IfOk result (λ v. v.items ≡ map (λ t. t.address) targets.now) }
+{
     let mut addresses = Vec::with_capacity(alloc, targets.len())?;
     for target in targets {
         addresses.push(target.address)?;
@@ -65,7 +89,38 @@ fn target_addresses(alloc: Global, targets: &[Target]) -> Result<Vec<Addr>, Allo
     Ok(addresses)
 }
 
+/// The address that stands at the place of a number.
+fn peer_address(numbers: &[u32], addresses: &[Addr], station: u32) -> Option<Addr>
+    ensures { result ≡ peer_address numbers.now addresses.now station }
+{
+    match place_of(numbers, station) {
+        Some(place) => addresses.get(place).copied(),
+        None => None,
+    }
+}
+
+/// The first place of a number.
+fn place_of(numbers: &[u32], station: u32) -> Option<usize>
+    ensures { result ≡ position (λ number. number == station) numbers.now }
+{
+    numbers.iter().position(|number| *number == station)
+}
+
+/// Whether two addresses are one.
+fn is_address(a: Addr, b: Addr) -> bool
+    ensures { result ≡ is_address a b }
+{
+    a.octets == b.octets && a.port == b.port
+}
+
 /// Whether an address is one of these.
-fn stands_in(addresses: &[Addr], from: Addr) -> bool {
-    addresses.iter().any(|address| *address == from)
+fn stands_in(addresses: &[Addr], from: Addr) -> bool
+    ensures { result ≡ stands_in addresses.now from }
+{
+    for address in addresses {
+        if is_address(*address, from) {
+            return true;
+        }
+    }
+    false
 }

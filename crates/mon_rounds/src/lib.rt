@@ -8,7 +8,7 @@
 #![tactic(auto)]
 
 mod addresses;
-mod alarm_states;
+mod alarms;
 mod receiver;
 mod reporting;
 mod round;
@@ -19,7 +19,7 @@ mod source;
 mod trial;
 
 pub use addresses::Addresses;
-pub use alarm_states::{AlarmChange, alarm_changes, alarm_line, alarm_states};
+pub use alarms::{AlarmChange, alarm_changes, alarm_line, alarm_states};
 pub use receiver::{Arrival, Receiver, ReceiverFault, Wait};
 pub use reporting::{Notice, PollLog, RoundReport};
 pub use round::{Phase, Round, RoundEvent};

@@ -1,5 +1,9 @@
 //! What an operator is told of a round.
 
+ghost use Rattle.std.specs.Prelude.{◌≡◌, IfOk};
+ghost use Rattle.mon_rounds.specs.Noted.{is_stranger, notice_of};
+ghost use Rattle.mon_rounds.specs.Order.{datagrams_in};
+
 use crate::round::{Round, RoundEvent};
 use mon_poller::{Addr, Target};
 use mon_station::{Answer, Run, StationFault};
@@ -29,7 +33,7 @@ pub enum Notice {
 pub struct RoundReport {
     /// What was refused, and which targets gave up, in order.
     pub notices: Vec<Notice>,
-    /// How many datagrams came.
+    /// How many datagrams came, at most 4096.
     pub datagrams: u32,
     /// How many of them came from an address that is no target's and no peer's.
     pub strangers: u32,
@@ -119,7 +123,9 @@ impl PollLog {
 }
 
 /// What is told of a refused event.
-fn refused(event: RoundEvent, fault: StationFault) -> Option<Notice> {
+fn refused(event: RoundEvent, fault: StationFault) -> Option<Notice>
+    ensures { result ≡ notice_of event fault }
+{
     match event {
         RoundEvent::StartPoll(target) => Some(Notice::NotPolled(target, fault)),
         RoundEvent::FromAgent(from) => Some(Notice::BadResponse(from, fault)),
@@ -129,53 +135,88 @@ fn refused(event: RoundEvent, fault: StationFault) -> Option<Notice> {
     }
 }
 
+/// How many of these events are datagrams from an address that is no target's and no peer's.
+fn count_strangers(round: &Round, events: &[RoundEvent]) -> u32 {
+    let mut count: u32 = 0;
+    for event in events {
+        if is_stranger(round, *event) {
+            count = count.saturating_add(1);
+        }
+    }
+    count
+}
+
+/// Whether an event is a datagram from an address that is no target's and no peer's.
+fn is_stranger(round: &Round, event: RoundEvent) -> bool
+    ensures { result ≡ is_stranger round.now.targets event }
+{
+    match event {
+        RoundEvent::FromAgent(from) => !round.is_target(from),
+        RoundEvent::FromPeer(_)
+        | RoundEvent::StartPoll(_)
+        | RoundEvent::Timeout(_)
+        | RoundEvent::Share(_)
+        | RoundEvent::Save => false,
+    }
+}
+
 impl RoundReport {
     /// What is to be told of a round, or of the time between two, that was run so. `oldest` is the station's oldest open poll after it.
+    ///
+    /// # Errors
+    /// `AllocError` where there is no room for the notices; the log may then have forgotten polls.
     pub fn of(
         alloc: Global,
         round: &Round,
         run: &Run,
         oldest: Option<u32>,
         log: &mut PollLog,
-    ) -> Result<Self, AllocError> {
-        let mut report = RoundReport {
-            notices: Vec::new(alloc),
-            datagrams: 0,
-            strangers: 0,
+    ) -> Result<Self, AllocError>
+        ensures datagrams { IfOk result (λ r. r.datagrams ≡ datagrams_in round.now.events) }
+        ensures source { IfOk result (λ r. r.source_faults ≡ run.now.source_faults) }
+        ensures sends { IfOk result (λ r. r.send_faults ≡ run.now.send_faults) }
+    {
+        let events = round.events();
+        let notices = notices_of(alloc, round, run.answers.as_slice(), log)?;
+        log.close(oldest);
+        Ok(RoundReport {
+            notices,
+            datagrams: round.datagrams(),
+            strangers: count_strangers(round, events),
             source_faults: run.source_faults,
             send_faults: run.send_faults,
-        };
-        for (event, answer) in round.events().iter().zip(run.answers.as_slice().iter()) {
-            report.count(round, *event);
-            if let Some(notice) = log.note(*event, *answer)? {
-                report.tell(round, notice)?;
-            }
-        }
-        log.close(oldest);
-        Ok(report)
+        })
     }
+}
 
-    fn count(&mut self, round: &Round, event: RoundEvent) {
-        match event {
-            RoundEvent::FromPeer(_) => self.datagrams = self.datagrams.saturating_add(1),
-            RoundEvent::FromAgent(from) => {
-                self.datagrams = self.datagrams.saturating_add(1);
-                if !round.addresses().is_target(from) {
-                    self.strangers = self.strangers.saturating_add(1);
-                }
-            }
-            _ => {}
+/// What is to be told of the events of a round that were answered so.
+fn notices_of(
+    alloc: Global,
+    round: &Round,
+    answers: &[Answer],
+    log: &mut PollLog,
+) -> Result<Vec<Notice>, AllocError> {
+    let mut notices = Vec::new(alloc);
+    for (event, answer) in round.events().iter().zip(answers) {
+        if let Some(notice) = log.note(*event, *answer)? {
+            put_notice(round, &mut notices, notice)?;
         }
     }
+    Ok(notices)
+}
 
-    /// Tells a notice, unless it is of a stranger's datagram, which is counted alone.
-    fn tell(&mut self, round: &Round, notice: Notice) -> Result<(), AllocError> {
-        if let Notice::BadResponse(from, _) = notice {
-            if !round.addresses().is_target(from) {
-                return Ok(());
-            }
-        }
-        self.notices.push(notice)?;
-        Ok(())
+/// Adds a notice, unless it is of a stranger's datagram, which is counted alone.
+fn put_notice(round: &Round, notices: &mut Vec<Notice>, notice: Notice) -> Result<(), AllocError> {
+    if is_of_stranger(round, notice) {
+        return Ok(());
+    }
+    notices.push(notice)?;
+    Ok(())
+}
+
+fn is_of_stranger(round: &Round, notice: Notice) -> bool {
+    match notice {
+        Notice::BadResponse(from, _) => !round.is_target(from),
+        _ => false,
     }
 }

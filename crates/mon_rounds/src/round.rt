@@ -1,11 +1,18 @@
 //! A round: what a station is handed in it, and in which order.
 
+ghost use Rattle.std.specs.Prelude.{◌≡◌, ◌≤◌, ◌<◌, ◌+◌, [], None, Some, IfOk, IsSome, OnSome, length, option_map, slice_get};
+ghost use Rattle.mon_rounds.specs.Given.{with_octets};
+ghost use Rattle.mon_rounds.specs.Orderly.{IsSaving, IsSharing, begun, begun_rest, unbegun};
+ghost use Rattle.mon_rounds.specs.Next.{after_datagram, after_event, after_failure, after_polls, event_from, is_hearing, next_event, next_wait, share_at, slot_after, stands_in, turns_left, wait_in};
+ghost use Rattle.mon_rounds.specs.Order.{AreSoFar, datagrams_in};
+
 use crate::addresses::Addresses;
 use crate::receiver::Wait;
 use mon_ber::Octets;
 use mon_poller::Addr;
 use mon_station::OwnedEvent;
 use std::alloc::{AllocError, Global};
+use std::marker::Model;
 
 /// The most datagrams of a round.
 const MOST_DATAGRAMS: u32 = 4096;
@@ -58,29 +65,61 @@ pub enum RoundEvent {
 /// A round: what a station is handed in it, and in which order. It does nothing by itself.
 #[derive(Drop)]
 pub struct Round {
-    pub(crate) addresses: Addresses,
-    pub(crate) wait_ms: u32,
-    pub(crate) phase: Phase,
-    pub(crate) wait: Wait,
-    pub(crate) datagrams: u32,
-    pub(crate) timeouts: u32,
-    pub(crate) failures: u32,
-    pub(crate) events: Vec<RoundEvent>,
+    addresses: Addresses,
+    wait_ms: u32,
+    phase: Phase,
+    wait: Wait,
+    datagrams: u32,
+    timeouts: u32,
+    failures: u32,
+    events: Vec<RoundEvent>,
+}
+
+impl Model for Round {
+    ghost use Rattle.std.specs.Prelude.{vec_capacity};
+    ghost use Rattle.mon_rounds.specs.Orderly.{IsOrderly};
+    ghost use Rattle.mon_rounds.specs.Next.{RoundState};
+
+    ghost Value = { RoundState };
+
+    ghost view = { λ r. record {
+      targets = r.addresses.targets.items;
+      peers = r.addresses.peers.items;
+      peer_addresses = r.addresses.peer_addresses.items;
+      wait_ms = r.wait_ms;
+      phase = r.phase;
+      wait = r.wait;
+      datagrams = r.datagrams;
+      timeouts = r.timeouts;
+      failures = r.failures;
+      events = r.events.items;
+    } };
+
+    ghost invariant = { λ r. IsOrderly (vec_capacity r.events) (record {
+      targets = r.addresses.targets.items;
+      peers = r.addresses.peers.items;
+      peer_addresses = r.addresses.peer_addresses.items;
+      wait_ms = r.wait_ms;
+      phase = r.phase;
+      wait = r.wait;
+      datagrams = r.datagrams;
+      timeouts = r.timeouts;
+      failures = r.failures;
+      events = r.events.items;
+    }) };
 }
 
 impl Round {
     /// Between two rounds. A quiet wait is one of this many milliseconds.
-    pub(crate) fn new(
-        alloc: Global,
-        addresses: Addresses,
-        wait_ms: u32,
-    ) -> Result<Self, AllocError> {
+    pub(crate) fn new(alloc: Global, addresses: Addresses, wait_ms: u32) -> Result<Self, AllocError>
+        ensures state { IfOk result (λ r. r ≡ unbegun addresses.targets.items addresses.peers.items addresses.peer_addresses.items wait_ms) }
+    {
         Ok(Round {
             addresses,
             wait_ms,
             phase: Phase::Rested,
             wait: Wait::Anew(wait_ms),
-            datagrams: 0,
+            datagrams: MOST_DATAGRAMS,
             timeouts: 0,
             failures: 0,
             events: Vec::with_capacity(alloc, ROOM)?,
@@ -88,121 +127,174 @@ impl Round {
     }
 
     /// Begins a round.
-    pub(crate) fn begin(&mut self) {
-        self.reset(Wait::Anew(self.wait_ms));
-        self.phase = self.first_phase();
-    }
-
-    /// Begins to hear between two rounds, for this many milliseconds.
-    pub(crate) fn rest(&mut self, milliseconds: u32) {
-        self.reset(Wait::Anew(milliseconds));
-        self.phase = Phase::Resting;
-    }
-
-    fn reset(&mut self, wait: Wait) {
-        self.wait = wait;
+    pub(crate) fn begin(&mut self)
+        ensures state { self.new ≡ begun self.old }
+        ensures turns { turns_left self.new ≤ 4704 }
+    {
+        self.events.clear();
         self.datagrams = MOST_DATAGRAMS;
         self.timeouts = MOST_TIMEOUTS;
         self.failures = MOST_FAILURES;
-        self.events.clear();
-    }
-
-    /// How a round begins.
-    fn first_phase(&self) -> Phase {
-        if self.addresses.targets.is_empty() {
+        self.wait = Wait::Anew(self.wait_ms);
+        self.phase = if self.addresses.targets.is_empty() {
             Phase::Hearing
         } else {
             Phase::Polling(0)
-        }
+        };
+    }
+
+    /// Begins to hear between two rounds, for this many milliseconds.
+    pub(crate) fn rest(&mut self, milliseconds: u32)
+        ensures state { self.new ≡ begun_rest milliseconds self.old }
+    {
+        self.events.clear();
+        self.datagrams = MOST_DATAGRAMS;
+        self.timeouts = MOST_TIMEOUTS;
+        self.failures = MOST_FAILURES;
+        self.wait = Wait::Anew(milliseconds);
+        self.phase = Phase::Resting;
     }
 
     /// Where it stands.
-    pub fn phase(&self) -> Phase {
+    pub fn phase(&self) -> Phase
+        ensures { result ≡ self.now.phase }
+    {
         self.phase
     }
 
     /// What it gave since it began, in order.
-    pub fn events(&self) -> &[RoundEvent] {
+    pub fn events(&self) -> &[RoundEvent]
+        ensures events { result.now ≡ self.now.events }
+        // They are in the order of a round; where it is over, they are those of a whole round.
+        ensures order { AreSoFar (length self.now.targets) self.now.peers self.now.phase self.now.events }
+    {
         self.events.as_slice()
     }
 
-    /// Where the targets and peers are reached.
-    pub fn addresses(&self) -> &Addresses {
-        &self.addresses
+    /// How many datagrams came since it began, at most 4096.
+    pub fn datagrams(&self) -> u32
+        ensures { result ≡ datagrams_in self.now.events }
+    {
+        MOST_DATAGRAMS - self.datagrams
+    }
+
+    /// Whether a target has this address.
+    pub fn is_target(&self, from: Addr) -> bool
+        ensures { result ≡ stands_in self.now.targets from }
+    {
+        self.addresses.is_target(from)
     }
 
     /// The wait in which a datagram is to be received next, where one is.
-    pub(crate) fn awaits(&self) -> Option<Wait> {
-        match self.phase {
-            Phase::Hearing | Phase::Listening | Phase::Resting
-                if self.datagrams > 0 && self.failures > 0 => { Some(self.wait) }
-            _ => None,
+    pub(crate) fn next_wait(&self) -> Option<Wait>
+        ensures { result ≡ next_wait self.now }
+    {
+        if is_hearing(self.phase) && self.datagrams > 0 && self.failures > 0 {
+            Some(self.wait)
+        } else {
+            None
         }
     }
 
     /// A datagram was received.
-    pub(crate) fn take(&mut self, from: Addr, octets: Octets) -> OwnedEvent {
-        self.datagrams -= 1;
+    pub(crate) fn take(&mut self, from: Addr, octets: Octets) -> OwnedEvent
+        requires due { IsSome (next_wait self.old) }
+        ensures state { self.new ≡ after_datagram self.old from }
+        ensures event { result ≡ with_octets (event_from self.old from) octets }
+        ensures turns { turns_left self.new < turns_left self.old }
+    {
         self.wait = self.wait_after(from);
+        self.datagrams -= 1;
         if self.addresses.is_peer(from) {
-            self.note(RoundEvent::FromPeer(from));
+            self.events.push_reserved(RoundEvent::FromPeer(from));
             OwnedEvent::FromPeer(octets)
         } else {
-            self.note(RoundEvent::FromAgent(from));
+            self.events.push_reserved(RoundEvent::FromAgent(from));
             OwnedEvent::FromAgent(from, octets)
         }
     }
 
-    /// The wait after a datagram from this address: only a target's or a peer's begins it anew, and between two rounds none.
-    fn wait_after(&self, from: Addr) -> Wait {
-        if self.phase == Phase::Resting {
-            return Wait::Rest;
-        }
-        if self.addresses.is_target(from) || self.addresses.is_peer(from) {
-            Wait::Anew(self.wait_ms)
-        } else {
-            Wait::Rest
+    /// The wait after a datagram from this address.
+    fn wait_after(&self, from: Addr) -> Wait
+        ensures { result ≡ wait_in self.now.phase self.now from }
+    {
+        match self.phase {
+            Phase::Resting => Wait::Rest,
+            _ if self.addresses.is_target(from) || self.addresses.is_peer(from) => {
+                Wait::Anew(self.wait_ms)
+            }
+            _ => Wait::Rest,
         }
     }
 
     /// A reception failed.
-    pub(crate) fn fail(&mut self) {
+    pub(crate) fn fail(&mut self)
+        requires due { IsSome (next_wait self.old) }
+        ensures state { self.new ≡ after_failure self.old }
+        ensures turns { turns_left self.new < turns_left self.old }
+    {
         self.failures -= 1;
         self.wait = Wait::Rest;
     }
 
-    /// Nothing is heard any more: the next event, none where there is none. It is told the request-id of the oldest open poll.
-    pub(crate) fn proceed(&mut self, oldest: Option<u32>) -> Option<OwnedEvent> {
-        self.wait = Wait::Anew(self.wait_ms);
+    /// Nothing is heard any more: the next event, where there is one. It is told the request-id of the oldest open poll.
+    pub(crate) fn proceed(&mut self, oldest: Option<u32>) -> Option<OwnedEvent>
+        ensures state { self.new ≡ after_event self.old (next_event self.old oldest) }
+        ensures event { result ≡ option_map (λ e. with_octets e []) (next_event self.old oldest) }
+        ensures turns { OnSome result (turns_left self.new < turns_left self.old) }
+    {
         match self.phase {
             Phase::Polling(target) => Some(self.poll(target)),
             Phase::Hearing => Some(self.time_out(oldest)),
             Phase::Sharing(slot) => Some(self.share(slot)),
             Phase::Listening => Some(self.save()),
-            Phase::Resting => {
-                self.phase = Phase::Rested;
+            Phase::Resting | Phase::Over | Phase::Rested => {
+                self.end();
                 None
             }
-            Phase::Over | Phase::Rested => None,
         }
     }
 
-    fn poll(&mut self, target: u16) -> OwnedEvent {
+    /// Ends the time between two rounds.
+    fn end(&mut self)
+        requires phase { next_event self.old None ≡ None }
+        ensures state { self.new ≡ after_event self.old None }
+    {
+        self.wait = Wait::Anew(self.wait_ms);
+        if self.phase == Phase::Resting {
+            self.phase = Phase::Rested;
+        }
+    }
+
+    /// Polls this target.
+    fn poll(&mut self, target: u16) -> OwnedEvent
+        requires phase { self.old.phase ≡ Phase.Polling target }
+        ensures state { self.new ≡ after_event self.old (Some (RoundEvent.StartPoll target)) }
+        ensures event { result ≡ OwnedEvent.StartPoll target }
+        ensures turns { turns_left self.new < turns_left self.old }
+    {
+        self.wait = Wait::Anew(self.wait_ms);
         self.phase = if usize::from(target) + 1 < self.addresses.targets.len() {
             Phase::Polling(target + 1)
         } else {
             Phase::Hearing
         };
-        self.note(RoundEvent::StartPoll(target));
+        self.events.push_reserved(RoundEvent::StartPoll(target));
         OwnedEvent::StartPoll(target)
     }
 
     /// Times out the oldest open poll. Where none is open, sharing begins.
-    fn time_out(&mut self, oldest: Option<u32>) -> OwnedEvent {
+    fn time_out(&mut self, oldest: Option<u32>) -> OwnedEvent
+        requires phase { self.old.phase ≡ Phase.Hearing }
+        ensures state { self.new ≡ after_event self.old (Some (after_polls self.old oldest)) }
+        ensures event { result ≡ with_octets (after_polls self.old oldest) [] }
+        ensures turns { turns_left self.new < turns_left self.old }
+    {
         match oldest {
             Some(id) if self.timeouts > 0 => {
+                self.wait = Wait::Anew(self.wait_ms);
                 self.timeouts -= 1;
-                self.note(RoundEvent::Timeout(id));
+                self.events.push_reserved(RoundEvent::Timeout(id));
                 OwnedEvent::Timeout(id)
             }
             _ => self.share(0),
@@ -210,28 +302,57 @@ impl Round {
     }
 
     /// Offers the peer of this slot what it is owed. Where there is none, all is saved.
-    fn share(&mut self, slot: u16) -> OwnedEvent {
-        let place = usize::from(slot);
-        if place >= self.addresses.peers.len() {
-            return self.save();
+    fn share(&mut self, slot: u16) -> OwnedEvent
+        requires phase { IsSharing self.old.phase slot }
+        ensures state { self.new ≡ after_event self.old (Some (share_at self.old.peers slot)) }
+        ensures event { result ≡ with_octets (share_at self.old.peers slot) [] }
+        ensures turns { turns_left self.new < turns_left self.old }
+    {
+        match self.addresses.peer_at(slot) {
+            Some(peer) => self.offer(slot, peer),
+            None => self.save(),
         }
-        let peer = self.addresses.peers[place];
-        self.phase = if place + 1 < self.addresses.peers.len() {
+    }
+
+    /// Offers the peer of this slot and number what it is owed.
+    fn offer(&mut self, slot: u16, peer: u32) -> OwnedEvent
+        requires phase { IsSharing self.old.phase slot }
+        requires next { slot_after self.old.phase ≡ slot + 1 }
+        requires peer { slice_get self.old.peers slot ≡ Some peer }
+        ensures state { self.new ≡ after_event self.old (Some (RoundEvent.Share peer)) }
+        ensures event { result ≡ OwnedEvent.Share peer }
+        ensures turns { turns_left self.new < turns_left self.old }
+    {
+        self.wait = Wait::Anew(self.wait_ms);
+        self.phase = if usize::from(slot) + 1 < self.addresses.peers.len() {
             Phase::Sharing(slot + 1)
         } else {
             Phase::Listening
         };
-        self.note(RoundEvent::Share(peer));
+        self.events.push_reserved(RoundEvent::Share(peer));
         OwnedEvent::Share(peer)
     }
 
-    fn save(&mut self) -> OwnedEvent {
+    /// Saves all.
+    fn save(&mut self) -> OwnedEvent
+        requires phase { IsSaving self.old.phase self.old.peers }
+        ensures state { self.new ≡ after_event self.old (Some RoundEvent.Save) }
+        ensures event { result ≡ OwnedEvent.Save }
+        ensures turns { turns_left self.new < turns_left self.old }
+    {
+        self.wait = Wait::Anew(self.wait_ms);
         self.phase = Phase::Over;
-        self.note(RoundEvent::Save);
+        self.events.push_reserved(RoundEvent::Save);
         OwnedEvent::Save
     }
+}
 
-    fn note(&mut self, event: RoundEvent) {
-        self.events.push(event).unwrap();
+/// Whether datagrams are received in a phase.
+fn is_hearing(phase: Phase) -> bool
+    ensures { result ≡ is_hearing phase }
+{
+    match phase {
+        Phase::Hearing | Phase::Listening | Phase::Resting => true,
+        Phase::Polling(_) | Phase::Sharing(_) | Phase::Over | Phase::Rested => false,
     }
 }

@@ -1,10 +1,16 @@
 //! A station's events, from its rounds and a receiver.
 
-ghost use Rattle.std.specs.Prelude.{◌≡◌, ◌⊎◌};
+ghost use Rattle.std.specs.Prelude.{◌≡◌, ◌≤◌, IfOk, Ok, None, Some};
+ghost use Rattle.mon_edge.specs.Counts.{failed_after};
+ghost use Rattle.mon_edge.specs.Told.{GoesOnBy, extended};
+ghost use Rattle.mon_rounds.specs.Given.{round_told};
+ghost use Rattle.mon_rounds.specs.Orderly.{begun, begun_rest, unbegun};
+ghost use Rattle.mon_rounds.specs.Next.{GivesNext, IsEnded, TakesTurn, next_wait, turns_left};
+ghost use Rattle.mon_station.specs.Ran.{event_in};
 
 use crate::addresses::Addresses;
 use crate::receiver::{Arrival, Receiver, Wait};
-use crate::round::{Phase, Round};
+use crate::round::Round;
 use mon_station::{OwnedEvent, Source, SourceFault};
 use std::alloc::{AllocError, Global};
 
@@ -22,7 +28,10 @@ impl<R: Receiver + Drop> Rounds<R> {
         addresses: Addresses,
         wait_ms: u32,
         receiver: R,
-    ) -> Result<Self, AllocError> {
+    ) -> Result<Self, AllocError>
+        ensures round { IfOk result (λ r. r.round ≡ unbegun addresses.targets.items addresses.peers.items addresses.peer_addresses.items wait_ms) }
+        ensures receiver { IfOk result (λ r. r.receiver ≡ receiver) }
+    {
         Ok(Rounds {
             round: Round::new(alloc, addresses, wait_ms)?,
             receiver,
@@ -30,27 +39,46 @@ impl<R: Receiver + Drop> Rounds<R> {
     }
 
     /// The round, or the time between two.
-    pub fn round(&self) -> &Round {
+    pub fn round(&self) -> &Round
+        ensures { result.now ≡ self.now.round }
+    {
         &self.round
     }
 
     /// The receiver.
-    pub fn receiver(&self) -> &R {
+    pub fn receiver(&self) -> &R
+        ensures { result.now ≡ self.now.receiver }
+    {
         &self.receiver
     }
 
     /// Begins a round.
-    pub fn begin(&mut self) {
+    pub fn begin(&mut self)
+        ensures round { self.new.round ≡ begun self.old.round }
+        ensures receiver { self.new.receiver ≡ self.old.receiver }
+        // It is over after at most so many calls for an event.
+        ensures turns { turns_left self.new.round ≤ 4704 }
+    {
         self.round.begin();
     }
 
     /// Begins to hear between two rounds, for this many milliseconds.
-    pub fn rest(&mut self, milliseconds: u32) {
+    pub fn rest(&mut self, milliseconds: u32)
+        ensures round { self.new.round ≡ begun_rest milliseconds self.old.round }
+        ensures receiver { self.new.receiver ≡ self.old.receiver }
+    {
         self.round.rest(milliseconds);
     }
 
     /// Receives in this wait.
-    fn hear(&mut self, wait: Wait, oldest: Option<u32>) -> Result<Option<OwnedEvent>, SourceFault> {
+    fn hear(&mut self, wait: Wait, oldest: Option<u32>) -> Result<Option<OwnedEvent>, SourceFault>
+        requires due { next_wait self.old.round ≡ Some wait }
+        ensures step { GoesOnBy (λ log. GivesNext self.old.round oldest log result self.new.round) (R.heard self.old.receiver) (R.heard self.new.receiver) }
+        ensures given { round_told self.new.round.events (R.heard self.new.receiver) ≡ extended (round_told self.old.round.events (R.heard self.old.receiver)) (event_in result) }
+        ensures failures { R.failures self.new.receiver ≡ failed_after result (R.failures self.old.receiver) }
+        ensures ended { result ≡ Ok None → IsEnded self.new.round.phase }
+        ensures turns { TakesTurn result (turns_left self.old.round) (turns_left self.new.round) }
+    {
         match self.receiver.receive(wait) {
             Ok(Arrival::Datagram(from, octets)) => Ok(Some(self.round.take(from, octets))),
             Ok(Arrival::Quiet) => Ok(self.round.proceed(oldest)),
@@ -63,17 +91,24 @@ impl<R: Receiver + Drop> Rounds<R> {
 }
 
 impl<R: Receiver + Drop> Source for Rounds<R> {
-    ghost use Rattle.mon_rounds.specs.Given.{round_told};
-
     // What it gave since the round began, where the receiver tells what it received.
-    ghost given = { λ s. round_told s.round.events.items (R.heard s.receiver) };
+    ghost given = { λ s. round_told s.round.events (R.heard s.receiver) };
 
     ghost failures = { λ s. R.failures s.receiver };
 
-    ghost has_ended = { λ s. (s.round.phase ≡ Phase.Over) ⊎ (s.round.phase ≡ Phase.Rested) };
+    ghost has_ended = { λ s. IsEnded s.round.phase };
 
-    fn next(&mut self, oldest: Option<u32>) -> Result<Option<OwnedEvent>, SourceFault> {
-        match self.round.awaits() {
+    /// The next event, none where the round is over. It is told the request-id of the oldest open poll.
+    fn next(&mut self, oldest: Option<u32>) -> Result<Option<OwnedEvent>, SourceFault>
+        ensures given { round_told self.new.round.events (R.heard self.new.receiver) ≡ extended (round_told self.old.round.events (R.heard self.old.receiver)) (event_in result) }
+        ensures ended { result ≡ Ok None → IsEnded self.new.round.phase }
+        ensures failures { R.failures self.new.receiver ≡ failed_after result (R.failures self.old.receiver) }
+        // What it answers, and what becomes of the round, by what the receiver got.
+        ensures step { GoesOnBy (λ log. GivesNext self.old.round oldest log result self.new.round) (R.heard self.old.receiver) (R.heard self.new.receiver) }
+        // Each call but the last leaves fewer of them.
+        ensures turns { TakesTurn result (turns_left self.old.round) (turns_left self.new.round) }
+    {
+        match self.round.next_wait() {
             Some(wait) => self.hear(wait, oldest),
             None => Ok(self.round.proceed(oldest)),
         }

@@ -1,5 +1,8 @@
 //! A station's trial of itself: it polls an agent in memory three times, saves and finds again what it took.
 
+ghost use Rattle.std.specs.Prelude.{◌≡◌, IfOk};
+ghost use Rattle.mon_rounds.specs.Trial.{name_of, number_of, trial_text};
+
 use crate::saved::{saved_report, written};
 use mon_agent::{Agent, Reply};
 use mon_disk::{Disk, MemoryDisk};
@@ -87,12 +90,16 @@ impl From<AllocError> for TrialFault {
 
 impl TrialFault {
     /// The number of the fault, 1 or 2.
-    pub fn number(self) -> u8 {
+    pub fn number(self) -> u8
+        ensures { result ≡ number_of self }
+    {
         self as u8
     }
 
     /// The name of the fault, as a printed line gives it.
-    pub fn name(self) -> &'static str {
+    pub fn name(self) -> &'static str
+        ensures { result.now ≡ name_of self }
+    {
         match self {
             TrialFault::OutOfMemory => "OutOfMemory",
             TrialFault::Unexpected => "Unexpected",
@@ -114,7 +121,9 @@ fn agent_address() -> Addr {
 ///
 /// # Errors
 /// `Unexpected` where anything else was answered, also for want of memory in a call; `OutOfMemory`.
-pub fn selftest(alloc: Global) -> Result<Vec<u8>, TrialFault> {
+pub fn selftest(alloc: Global) -> Result<Vec<u8>, TrialFault>
+    ensures { IfOk result (λ text. text.items ≡ trial_text) }
+{
     let Some(text) = tried(alloc) else {
         return Err(TrialFault::Unexpected);
     };

@@ -1,0 +1,4 @@
+mod Changing
+mod Onward
+mod Telling
+mod Windowed

@@ -1,0 +1,56 @@
+-- How rounds begin, and what every round has.
+use Rattle.std.specs.Prelude.{ℕ, ◌≡◌, ◌≤◌, ◌<◌, ◌+◌, List, [], ◌∷◌, length}
+use Rattle.mon_poller.specs.declared.addr.Addr.{Addr}
+use Rattle.mon_rounds.specs.declared.receiver.Wait.TheVariants.{Anew}
+use Rattle.mon_rounds.specs.declared.round.Phase.{Phase}
+use Rattle.mon_rounds.specs.declared.round.Phase.TheVariants.{Polling, Hearing, Sharing, Listening, Over, Resting, Rested}
+use Rattle.mon_rounds.specs.Next.{RoundState, events_left}
+use Rattle.mon_rounds.specs.Order.{AreSoFar, datagrams_in}
+
+-- before the first round: nothing is to come
+abbrev pub unbegun : List Addr → List ℕ → List Addr → ℕ → RoundState
+unbegun targets peers peer_addresses wait_ms = record {
+  targets = targets;
+  peers = peers;
+  peer_addresses = peer_addresses;
+  wait_ms = wait_ms;
+  phase = Rested;
+  wait = Anew wait_ms;
+  datagrams = 4096;
+  timeouts = 0;
+  failures = 0;
+  events = [];
+}
+
+-- the phase in which a round over these targets begins
+abbrev pub first_phase : List Addr → Phase
+first_phase [] = Hearing
+first_phase (t ∷ targets) = Polling 0
+
+-- a round that begins: of 4096 datagrams, 512 timeouts and 16 failures at most
+abbrev pub begun : RoundState → RoundState
+begun r = record r { phase = first_phase r.targets; wait = Anew r.wait_ms; datagrams = 4096; timeouts = 512; failures = 16; events = [] }
+
+-- the time between two rounds as it begins, of so many milliseconds
+abbrev pub begun_rest : ℕ → RoundState → RoundState
+begun_rest milliseconds r = record r { phase = Resting; wait = Anew milliseconds; datagrams = 4096; timeouts = 512; failures = 16; events = [] }
+
+-- what every round has, with room for so many events: its events are in the order of a round, it has at most 4096 datagrams and knows how many are left, and there is room for all
+-- events that are still to come
+pub record IsOrderly (room : ℕ) (r : RoundState) : Type 0 where
+  pub order : AreSoFar (length r.targets) r.peers r.phase r.events
+  pub few : datagrams_in r.events + r.datagrams ≡ 4096
+  pub space : length r.events + (events_left r.phase r + (r.datagrams + r.timeouts)) ≤ room
+  pub whole : 4700 ≤ room
+
+-- the peer of this slot is offered next, or all is saved where there is none
+abbrev pub IsSharing : Phase → ℕ → Type 0
+IsSharing Hearing slot = slot ≡ 0
+IsSharing (Sharing next) slot = slot ≡ next
+IsSharing phase slot = ⊥
+
+-- all is saved next
+abbrev pub IsSaving : Phase → List ℕ → Type 0
+IsSaving Hearing peers = peers ≡ []
+IsSaving Listening peers = Unit {0}
+IsSaving phase peers = ⊥

@@ -1,0 +1,20 @@
+-- A station's trial of itself.
+use Rattle.std.specs.Prelude.{ℕ, List, ◌++◌, codes}
+use Rattle.mon_rounds.specs.declared.trial.TrialFault.{TrialFault}
+use Rattle.mon_rounds.specs.declared.trial.TrialFault.TheVariants.{OutOfMemory, Unexpected}
+
+-- the number of a fault
+abbrev pub number_of : TrialFault → ℕ
+number_of OutOfMemory = 1
+number_of Unexpected = 2
+
+-- the name of a fault, as a printed line gives it
+abbrev pub name_of : TrialFault → List ℕ
+name_of OutOfMemory = codes "OutOfMemory"
+name_of Unexpected = codes "Unexpected"
+
+-- what a trial with a good end prints: three samples of a counter of 1000 octets a second, 20 seconds apart
+abbrev pub trial_text : List ℕ
+trial_text =
+    codes "8000000001 1.3.6.1.2.1.31.1.1.1.6.1 n=3 1:100..1:120 Counter64=120000 delta=20000 span=20 rate=1000.000\n"
+    ++ codes "end 1 instances 3 samples\n" ++ codes "selftest: ok\n"

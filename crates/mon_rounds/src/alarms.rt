@@ -1,0 +1,146 @@
+//! Alarms that change from one moment to another.
+
+ghost use Rattle.std.specs.Prelude.{◌≡◌, ◌≤◌, ◌^◌, ◌++◌, IfOk, OnOk, length, string_bytes};
+ghost use Rattle.mon_rounds.specs.Alarms.{change_at, change_line, change_on, changes_from, instance_text, is_same, rule_line, states_of, thresholds_text};
+ghost use Rattle.mon_report.specs.Report.{state_text};
+
+use mon_alarms::{AlarmState, Rule, state};
+use mon_board::{Board, Instance, Watch};
+use std::alloc::{AllocError, Global};
+
+/// The state that an alarm changed to.
+#[derive(Clone, Copy, Debug, PartialEq, Eq)]
+pub struct AlarmChange {
+    /// The number of its rule in the watch.
+    pub rule: u16,
+    /// The state that it has now.
+    pub state: AlarmState,
+}
+
+/// The states of a board's alarms, in the order of the watch's rules.
+pub fn alarm_states(alloc: Global, board: &Board) -> Result<Vec<AlarmState>, AllocError>
+    ensures { IfOk result (λ v. v.items ≡ states_of board.now) }
+{
+    let rules = board.watch().rules();
+    let mut states = Vec::with_capacity(alloc, rules.len())?;
+    for rule in rules {
+        states.push(state(rule, board.items(rule.instance())))?;
+    }
+    Ok(states)
+}
+
+/// What changed from the states before to those after, by the numbers of the rules, which are at most 65536.
+pub fn alarm_changes(
+    alloc: Global,
+    before: &[AlarmState],
+    after: &[AlarmState],
+) -> Result<Vec<AlarmChange>, AllocError>
+    requires { length after.now ≤ 2 ^ 16 }
+    ensures { IfOk result (λ v. v.items ≡ changes_from 0 before.now after.now) }
+{
+    let mut changes = Vec::new(alloc);
+    for rule in 0..before.len().min(after.len()) {
+        let old = before[rule];
+        let new = after[rule];
+        put_change(&mut changes, rule as u16, old, new)?;
+    }
+    Ok(changes)
+}
+
+/// Adds the change of a rule, where its state is another one.
+fn put_change(
+    changes: &mut Vec<AlarmChange>,
+    rule: u16,
+    old: AlarmState,
+    new: AlarmState,
+) -> Result<(), AllocError>
+    ensures { OnOk result (changes.new.items ≡ changes.old.items ++ change_at rule old new) }
+{
+    if is_same(old, new) {
+        return Ok(());
+    }
+    changes.push(AlarmChange { rule, state: new })?;
+    Ok(())
+}
+
+/// Whether two states are one.
+fn is_same(a: AlarmState, b: AlarmState) -> bool
+    ensures { result ≡ is_same a b }
+{
+    match (a, b) {
+        (AlarmState::Clear, AlarmState::Clear) => true,
+        (
+            AlarmState::Raised { boots, time },
+            AlarmState::Raised {
+                boots: other_boots,
+                time: other_time,
+            },
+        ) => boots == other_boots && time == other_time,
+        _ => false,
+    }
+}
+
+/// The line of a change, without its end: the engine id in hex digits, the name, the thresholds in thousandths and the state, as a report has
+/// them. It is empty where the watch has no such rule.
+pub fn alarm_line(alloc: Global, watch: &Watch, change: &AlarmChange) -> Result<String, AllocError>
+    ensures { IfOk result (λ text. string_bytes text ≡ change_line watch.now change.now) }
+{
+    match watch.rules().get(usize::from(change.rule)) {
+        Some(rule) => rule_line(alloc, watch, rule, change.state),
+        None => Ok(String::new(alloc)),
+    }
+}
+
+fn rule_line(
+    alloc: Global,
+    watch: &Watch,
+    rule: &Rule,
+    state: AlarmState,
+) -> Result<String, AllocError>
+    ensures { IfOk result (λ text. string_bytes text ≡ rule_line watch.now rule.now state) }
+{
+    match watch.instances().get(usize::from(rule.instance())) {
+        Some(watched) => instance_line(alloc, &watched.instance, rule, state),
+        None => Ok(String::new(alloc)),
+    }
+}
+
+#[tactic(auto, unfolding(crate::specs::Alarms::change_on))]
+fn instance_line(
+    alloc: Global,
+    instance: &Instance,
+    rule: &Rule,
+    state: AlarmState,
+) -> Result<String, AllocError>
+    ensures { IfOk result (λ text. string_bytes text ≡ change_on instance.now rule.now state) }
+{
+    let mut text = String::new(alloc);
+    put_instance(alloc, &mut text, instance)?;
+    put_thresholds(&mut text, rule)?;
+    put_state(&mut text, state)?;
+    Ok(text)
+}
+
+fn put_instance(alloc: Global, text: &mut String, instance: &Instance) -> Result<(), AllocError>
+    ensures { OnOk result (string_bytes text.new ≡ string_bytes text.old ++ instance_text instance.now) }
+{
+    let engine = hex::encode(alloc, instance.engine.as_slice())?;
+    let name = instance.name.text(alloc)?;
+    write!(text, "{engine} {name}")
+}
+
+fn put_thresholds(text: &mut String, rule: &Rule) -> Result<(), AllocError>
+    ensures { OnOk result (string_bytes text.new ≡ string_bytes text.old ++ thresholds_text rule.now) }
+{
+    let (rising, falling) = (rule.rising(), rule.falling());
+    write!(text, " alarm {rising}/{falling}=")
+}
+
+fn put_state(text: &mut String, state: AlarmState) -> Result<(), AllocError>
+    ensures { OnOk result (string_bytes text.new ≡ string_bytes text.old ++ state_text state) }
+{
+    match state {
+        AlarmState::Clear => text.push_str("clear"),
+        AlarmState::Raised { boots, time } => write!(text, "raised@{boots}:{time}"),
+    }
+}
