@@ -124,7 +124,7 @@ fn agent_address() -> Addr {
 pub fn selftest(alloc: Global) -> Result<Vec<u8>, TrialFault>
     ensures { IfOk result (λ text. text.items ≡ trial_text) }
 {
-    let Some(text) = tried(alloc) else {
+    let Some(text) = tried_in_memory(alloc) else {
         return Err(TrialFault::Unexpected);
     };
     if text.as_slice() != REPORT.as_bytes() {
@@ -135,20 +135,24 @@ pub fn selftest(alloc: Global) -> Result<Vec<u8>, TrialFault>
     Ok(text)
 }
 
-/// The report of a station that was tried, where that of what it saved is the same.
-fn tried(alloc: Global) -> Option<Vec<u8>> {
-    let settings = station_settings(alloc)?;
-    let told = read_agent(alloc, AGENT).ok()?;
+/// The report of a station that was tried on a disk in memory.
+fn tried_in_memory(alloc: Global) -> Option<Vec<u8>> {
+    let disk = MemoryDisk::new(alloc, &[]).ok()?;
+    tried(alloc, AGENT, STATION, disk)
+}
+
+/// The report of a station of these settings that was tried on an agent of these settings, where that of what it saved is the same.
+fn tried<D: Disk + Drop>(alloc: Global, agent: &str, station: &str, disk: D) -> Option<Vec<u8>> {
+    let told = read_agent(alloc, agent).ok()?;
     let device = SimDevice::new(told.interfaces, told.texts).ok()?;
     let mut agent = Agent::new(told.policy, told.settings, device);
-    let core = settings.core.try_clone(alloc).ok()?;
-    let mut station = Station::open(alloc, core, MemoryDisk::new(alloc, &[]).ok()?).ok()?;
-    for at in MOMENTS {
-        polled(alloc, &mut station, &mut agent, Moment::new(at)?)?;
-    }
+    let settings = station_settings(alloc, station)?;
+    let watch = settings.core.watch().try_clone(alloc).ok()?;
+    let mut station = Station::open(alloc, settings.core, disk).ok()?;
+    polled_thrice(alloc, &mut station, &mut agent)?;
     station.step(alloc, Event::Save).ok()?;
     let text = written(alloc, station.board()).ok()?;
-    let (saved, _) = saved_report(alloc, settings.core.watch(), station.into_disk()).ok()?;
+    let (saved, _) = saved_report(alloc, &watch, station.into_disk()).ok()?;
     if saved.as_slice() == text.as_slice() {
         Some(text)
     } else {
@@ -156,9 +160,21 @@ fn tried(alloc: Global) -> Option<Vec<u8>> {
     }
 }
 
-fn station_settings(alloc: Global) -> Option<StationSettings> {
+fn station_settings(alloc: Global, text: &str) -> Option<StationSettings> {
     let names = Names::new(alloc).ok()?;
-    read_station(alloc, STATION, &names).ok()
+    read_station(alloc, text, &names).ok()
+}
+
+/// Polls the agent three times.
+fn polled_thrice<D: Disk + Drop, E: Device + Drop>(
+    alloc: Global,
+    station: &mut Station<D>,
+    agent: &mut Agent<E>,
+) -> Option<()> {
+    for at in MOMENTS {
+        polled(alloc, station, agent, Moment::new(at)?)?;
+    }
+    Some(())
 }
 
 /// Polls the agent at a moment of its life, and hands the station its response.

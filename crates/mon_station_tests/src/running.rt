@@ -106,7 +106,7 @@ pub fn run(
     let source_call: u32 = numbers.next()?.parse().ok()?;
     let outbox_call: u32 = numbers.next()?.parse().ok()?;
     let mut source = Listed {
-        events: listed(alloc, events)?,
+        events: events_of(alloc, events)?,
         calls_to_the_failing_one: source_call,
         failures: 0,
         ended: false,
@@ -122,7 +122,7 @@ pub fn run(
 }
 
 /// The events between semicolons.
-fn listed(alloc: Global, events: &str) -> Option<VecDeque<OwnedEvent>> {
+fn events_of(alloc: Global, events: &str) -> Option<VecDeque<OwnedEvent>> {
     let mut list = VecDeque::new(alloc);
     for event in events.split("; ") {
         list.push_back(owned(alloc, event)?).ok()?;

@@ -50,29 +50,40 @@ const MOST_PARTS: usize = 128;
 
 /// The core of a station of one object: `1` and the like is the window's size, `long` has the longest engine id and name and a window of 64.
 pub fn core(alloc: Global, word: &str) -> Option<Core> {
-    let (size, [engine, name]) = if word == "long" {
-        ("64", LONGEST)
-    } else {
-        (word, USUAL)
-    };
-    let mut text = String::new(alloc);
-    for part in [BEFORE, size, TARGET, engine, OBJECT, name] {
-        text.push_str(part).ok()?;
-    }
     if word == "long" {
-        lengthen(&mut text, name)?;
+        let name = lengthened(alloc, LONGEST[1])?;
+        core_of(alloc, "64", LONGEST[0], &name)
+    } else {
+        core_of(alloc, word, USUAL[0], USUAL[1])
     }
-    text.push_str(AFTER).ok()?;
+}
+
+/// The core of a station of one object with a window of this size.
+fn core_of(alloc: Global, size: &str, engine: &str, name: &str) -> Option<Core> {
+    let text = text_of(alloc, size, engine, name)?;
     let names = Names::new(alloc).ok()?;
     Some(read_station(alloc, &text, &names).ok()?.core)
 }
 
-/// Appends as many numbers to a text that ends with a name as the longest name has more: 4294967295 each.
-fn lengthen(text: &mut String, name: &str) -> Option<()> {
+/// The settings' text.
+fn text_of(alloc: Global, size: &str, engine: &str, name: &str) -> Option<String> {
+    let mut text = String::from_str(alloc, BEFORE).ok()?;
+    text.push_str(size).ok()?;
+    text.push_str(TARGET).ok()?;
+    text.push_str(engine).ok()?;
+    text.push_str(OBJECT).ok()?;
+    text.push_str(name).ok()?;
+    text.push_str(AFTER).ok()?;
+    Some(text)
+}
+
+/// A name with as many numbers more as the longest name has: 4294967295 each.
+fn lengthened(alloc: Global, name: &str) -> Option<String> {
+    let mut text = String::from_str(alloc, name).ok()?;
     for _ in name.split('.').count()..MOST_PARTS {
         text.push_str(".4294967295").ok()?;
     }
-    Some(())
+    Some(text)
 }
 
 /// Where the target's datagrams come from.

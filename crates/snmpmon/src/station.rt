@@ -28,6 +28,7 @@ struct Running<'a, R: Clock> {
     station: Station<FileDisk>,
     rounds: Rounds<SocketReceiver<'a, R>>,
     outbox: SocketOutbox<'a>,
+    addresses: Addresses,
     log: PollLog,
     alarms: Vec<AlarmState>,
 }
@@ -142,6 +143,7 @@ fn begun<'a, R: Clock + Eprint + AllocGlobal>(
     let at = socket.address().map_err(socket_fault)?;
     let to = Addresses::of(alloc, &settings)?;
     let from = Addresses::of(alloc, &settings)?;
+    let addresses = Addresses::of(alloc, &settings)?;
     let log = PollLog::new(alloc, settings.core.targets())?;
     let (number, file) = (settings.core.station(), settings.file);
     let (targets, peers) = (settings.core.targets().len(), settings.core.peers().len());
@@ -159,6 +161,7 @@ fn begun<'a, R: Clock + Eprint + AllocGlobal>(
         station,
         rounds: Rounds::new(alloc, from, settings.wait_ms, receiver)?,
         outbox: SocketOutbox::new(socket, to),
+        addresses,
         log,
         alarms,
     })
@@ -195,7 +198,7 @@ fn told_of<R: Clock + Eprint + AllocGlobal>(
         running.station.oldest(),
         &mut running.log,
     )?;
-    tell_notices(rt, number, round.addresses(), &report);
+    tell_notices(rt, number, &running.addresses, &report);
     let alarms = alarm_states(alloc, running.station.board())?;
     tell_alarms(
         rt,
