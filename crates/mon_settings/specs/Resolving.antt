@@ -26,6 +26,8 @@ use Rattle.mon_settings.specs.Leaf.{is_oid, oid_of}
 abbrev pub Resolves : List Definition → (List ℕ → Option (List ℕ)) → Type 0
 Resolves defs find = (text q : List ℕ) → (find text ≡ Some q) ↔ (IsOid q × MeansNumbers defs text q)
 
+-- Resolving as a function, from here to `resolution`: that it is what `Resolves` says is a law, so its steps are not to be believed.
+
 -- letters, digits, underscores, and hyphens that one of these follows
 abbrev pub all_go_on : List ℕ → Bool
 all_go_on [] = true
