@@ -155,8 +155,9 @@ impl<R: Clock> Receiver for SocketReceiver<'_, R> {
     ghost failures = { λ r. r.failures };
 
     fn receive(&mut self, wait: Wait) -> Result<Arrival, ReceiverFault> {
+        let failures = self.failures;
         let received = self.received(wait);
-        self.failures = failed_after(self.failures, &received);
+        self.failures = failed_after(failures, &received);
         received
     }
 }
