@@ -1,12 +1,14 @@
 //! A station's socket, over UDP and IPv4: it receives and sends by one, so that responses and claims come back to it.
 
+ghost use Rattle.std.specs.Prelude.{◌≡◌, IfOk, length};
+
 use crate::addresses::Addresses;
 use crate::receiver::{Arrival, Receiver, ReceiverFault, Wait};
 use mon_ber::Octets;
 use mon_edge::failed_after;
 use mon_poller::Addr;
 use mon_station::{Outbox, OutboxFault, Outgoing, To};
-use std::alloc::Global;
+use std::alloc::{AllocError, Global};
 use std::io;
 use std::net::{Ipv4Addr, Net, SocketAddr, SocketAddrV4, UdpSocket};
 use std::rt::Clock;
@@ -43,6 +45,13 @@ impl Socket {
     }
 }
 
+/// This many zeros.
+fn zeros(alloc: Global, len: usize) -> Result<Vec<u8>, AllocError>
+    ensures { IfOk result (λ v. length v.items ≡ len) }
+{
+    vec![in alloc; 0u8; len]
+}
+
 /// The address as the system takes it.
 fn socket_address(address: Addr) -> SocketAddr {
     SocketAddr::V4(SocketAddrV4::new(Ipv4Addr::from(address.octets), address.port))
@@ -70,7 +79,7 @@ impl<'a, R: Clock> SocketReceiver<'a, R> {
             rt,
             alloc,
             socket,
-            room: vec![in alloc; 0u8; ROOM]?,
+            room: zeros(alloc, ROOM)?,
             began: Instant::now(rt)?,
             length: Duration::from_millis(0),
             failures: 0,

@@ -1,0 +1,64 @@
+"""Bugs of mon_rounds for planted_bugs: by a name the file, what stands there once, and the bug in its place."""
+
+BUGS = {
+    "a_round_begins_with_the_second_target": (
+        "src/round.rt",
+        "            Phase::Polling(0)",
+        "            Phase::Polling(1)",
+    ),
+    "a_wait_goes_on_after_a_timeout": (
+        "src/round.rt",
+        "                self.wait = Wait::Anew(self.wait_ms);\n                self.timeouts -= 1;",
+        "                self.wait = Wait::Rest;\n                self.timeouts -= 1;",
+    ),
+    "a_datagram_is_not_counted": (
+        "src/round.rt",
+        "        self.datagrams -= 1;\n",
+        "",
+    ),
+    "a_failure_is_not_counted": (
+        "src/round.rt",
+        "        self.failures -= 1;\n",
+        "",
+    ),
+    "a_failure_begins_a_wait_anew": (
+        "src/round.rt",
+        "        self.failures -= 1;\n        self.wait = Wait::Rest;",
+        "        self.failures -= 1;\n        self.wait = Wait::Anew(self.wait_ms);",
+    ),
+    "peers_do_not_prolong_a_wait": (
+        "src/round.rt",
+        "self.addresses.is_target(from) || self.addresses.is_peer(from)",
+        "self.addresses.is_target(from)",
+    ),
+    "a_rest_is_prolonged": (
+        "src/round.rt",
+        "            Phase::Resting => Wait::Rest,\n",
+        "",
+    ),
+    "a_round_begins_with_the_last_ones_events": (
+        "src/round.rt",
+        "        self.events.clear();\n        self.datagrams = MOST_DATAGRAMS;\n        self.timeouts = MOST_TIMEOUTS;\n        self.failures = MOST_FAILURES;\n        self.wait = Wait::Anew(self.wait_ms);",
+        "        self.datagrams = MOST_DATAGRAMS;\n        self.timeouts = MOST_TIMEOUTS;\n        self.failures = MOST_FAILURES;\n        self.wait = Wait::Anew(self.wait_ms);",
+    ),
+    "a_failure_ends_the_source": (
+        "src/source.rt",
+        "                self.round.fail();\n                Err(SourceFault)",
+        "                self.round.fail();\n                Ok(None)",
+    ),
+    "every_reception_begins_a_wait": (
+        "src/source.rt",
+        "        match self.receiver.receive(wait) {",
+        "        match self.receiver.receive(Wait::Anew(0)) {",
+    ),
+    "a_report_of_empty_windows": (
+        "src/saved.rt",
+        "        Some(octets) => image_text(alloc, watch, octets.as_slice()),",
+        "        Some(_) => written(alloc, &Board::new(alloc, watch.try_clone(alloc)?)?),",
+    ),
+    "all_alarms_are_clear": (
+        "src/alarms.rt",
+        "        states.push(state(rule, board.items(rule.instance())))?;",
+        "        states.push(state(rule, &[]))?;",
+    ),
+}
