@@ -1,5 +1,5 @@
 -- Every letter goes to a station of the world, and each datagram is one.
-use Rattle.std.proofs.Common.{ℕ, zero, suc, ◌≡◌, ◌≤◌, ◌<◌, ◌+◌, ◌∙◌, inl, inr, List, [], ◌∷◌, ◌++◌, length, map, Option, Some, None, Ok, Err, refl, sym, ap, subst, arith}
+use Rattle.std.proofs.Common.{ℕ, zero, suc, ◌≡◌, ◌+◌, ◌∙◌, inl, inr, List, [], ◌∷◌, length, map, Option, Some, None, Ok, Err, refl, sym, ap, subst, arith}
 use Rattle.std.specs.Prelude.{slice_get}
 use Rattle.std.specs.List.{AllByRecursion}
 use Rattle.mon_disk.specs.declared.disk.Disk.{Ghosts}
@@ -15,7 +15,7 @@ use Rattle.mon_station.specs.ReadEvent.{ReadEvent, StartPoll, Timeout, FromAgent
 use Rattle.mon_station.specs.State.{State, IsHandled, setting_of}
 use Rattle.mon_station.specs.Taken.{Entry, Restart, Answered}
 use Rattle.mon_station.specs.Told.{claims_sent}
-use Rattle.mon_station.specs.Verdict.{Setting, claim_fault, share_fault, slot_of}
+use Rattle.mon_station.specs.Verdict.{claim_fault, share_fault, slot_of}
 use Rattle.mon_world.specs.declared.sending.Datagram.{Datagram}
 use Rattle.mon_world.specs.Moves.{AreLives, AreMoves, Letter, Move, letter, letters_by, lives_of, sent_in}
 use Rattle.mon_world.specs.declared.fault.WorldFault.{WorldFault}
@@ -24,8 +24,8 @@ use Rattle.mon_world.specs.Fault.{IsStationCause}
 use Rattle.mon_world.specs.Places.{HasNumber, IsNoNumberTo, IsNumberTo, setting_at}
 use Rattle.mon_world.specs.Outcome.{Delivers, Hands}
 use Rattle.mon_world.specs.Shows.{Parcel, Shows, parcel_of, parcel_with}
-use Rattle.mon_world.proofs.Letters.{earlier, entry_of, last_lived, last_lives}
-use Rattle.mon_world.proofs.Lives.{before, not_some, setting_is, some_same}
+use Rattle.mon_world.proofs.Letters.{earlier, last_lived, last_lives}
+use Rattle.mon_world.proofs.Lives.{setting_is, some_same}
 use Rattle.mon_world.proofs.Offers.{all_append}
 use Rattle.mon_world.proofs.Others.{peer_number}
 

@@ -1,5 +1,5 @@
 -- Stations that owe each other nothing agree.
-use Rattle.std.proofs.Common.{ℕ, zero, suc, ◌≡◌, ◌≤◌, ◌<◌, ◌+◌, ◌∙◌, inl, inr, List, [], ◌∷◌, Option, Some, None, length, map, get_or, refl, sym, ap, subst, arith}
+use Rattle.std.proofs.Common.{ℕ, zero, suc, ◌≡◌, ◌≤◌, ◌<◌, ◌∙◌, inl, inr, List, [], ◌∷◌, Option, Some, None, length, map, get_or, refl, sym, ap, subst, arith}
 use Rattle.std.specs.FinSet as set
 use Rattle.std.specs.Option.{option_and_then}
 use Rattle.std.specs.Ordering.{nat_cmp}
@@ -12,7 +12,6 @@ use Rattle.mon_window.specs.Keep.{keep}
 use Rattle.mon_window.specs.Top.{rising}
 use Rattle.mon_window.specs.Window.{Samples, In}
 use Rattle.mon_window.proofs.Promised.{chosen_meet, from_list-rising, in_none}
-use Rattle.mon_board.specs.Board.{window_of}
 use Rattle.mon_board.specs.declared.instance.Watched.{Watched}
 use Rattle.mon_board.specs.Rules.{rule_of}
 use Rattle.mon_board.specs.Watch.{Watch, share_of, size_of}

@@ -1,8 +1,8 @@
 -- What the clauses of a station's step say, as a move of its world.
-use Rattle.std.proofs.Common.{ℕ, zero, suc, ◌≡◌, ◌≢◌, ◌≤◌, ◌<◌, ◌+◌, ◌⊎◌, inl, inr, Bool, true, false, List, [], ◌∷◌, ◌++◌, length, map, Option, Some, None, Result, Ok, Err, refl, sym, ◌∙◌, ap, subst, arith}
-use Rattle.std.specs.Prelude.{◌==◌, slice_get, slice_set}
+use Rattle.std.proofs.Common.{ℕ, suc, ◌≡◌, ◌+◌, ◌⊎◌, inl, inr, List, [], ◌∷◌, length, map, Option, Some, None, Result, Ok, Err, refl, sym, ◌∙◌, ap, subst}
+use Rattle.std.specs.Prelude.{◌==◌, slice_set}
 use Rattle.std.specs.List.{AllByRecursion}
-use Rattle.std.proofs.lemmas.Bool.{eq-eqb, eqb-true, ne_eqb, cases_Bool}
+use Rattle.std.proofs.lemmas.Bool.{eqb-true, ne_eqb, cases_Bool}
 use Rattle.std.proofs.lemmas.List.{length-set}
 use Rattle.mon_board.specs.Watch.{Watch}
 use Rattle.mon_disk.specs.declared.disk.Disk.{Ghosts}
@@ -10,7 +10,7 @@ use Rattle.mon_disk.specs.declared.fault.KeeperFault.TheVariants as keeper
 use Rattle.mon_disk.specs.declared.keeper.Keeper.{Keeper}
 use Rattle.mon_disk.specs.declared.memory.MemoryDisk.{MemoryDisk}
 use Rattle.mon_disk.specs.Disk.{Leaves, LeavesSince}
-use Rattle.mon_disk.specs.Keeper.{FindsAs, FindsBody, IsAs}
+use Rattle.mon_disk.specs.Keeper.{IsAs}
 use Rattle.mon_disk.specs.Kept.{device_of}
 use Rattle.mon_disk.specs.Memory.{memory_leaves}
 use Rattle.mon_disk.specs.Outcomes.{counts}
@@ -23,7 +23,6 @@ use Rattle.mon_poller.specs.Verdict.{timeout_verdict}
 use Rattle.mon_settings.specs.StationCore.{Core}
 use Rattle.mon_station.specs.declared.event.Event.{Event}
 use Rattle.mon_station.specs.declared.event.Event.TheVariants as lent
-use Rattle.mon_station.specs.declared.event.Outgoing.{Outgoing}
 use Rattle.mon_station.specs.declared.event.OwnedEvent.{OwnedEvent}
 use Rattle.mon_station.specs.declared.event.OwnedEvent.TheVariants as own
 use Rattle.mon_station.specs.declared.event.Told.{Told}
@@ -33,20 +32,18 @@ use Rattle.mon_station.specs.declared.station.Station.{Station}
 use Rattle.mon_station.specs.Lived.{IsLived, HandledIn, last_state, saved_states}
 use Rattle.mon_station.specs.ReadEvent.{ReadEvent, StartPoll, Timeout, FromAgent, FromPeer, Share, Save, ReadsAs, SaysAs, Said, owned}
 use Rattle.mon_station.specs.Saved.{FindsRunning, FindsState}
-use Rattle.mon_station.specs.State.{State, IsHandled, setting_of}
+use Rattle.mon_station.specs.State.{State, IsHandled}
 use Rattle.mon_station.specs.Taken.{Entry, Answered, at_place}
 use Rattle.mon_station.specs.Told.{IsTold, claims_sent, resends, sends, to_peer}
 use Rattle.mon_station.specs.Verdict.{Setting}
-use Rattle.mon_world.specs.declared.sending.Datagram.{Datagram}
-use Rattle.mon_world.specs.declared.fault.WorldFault.{WorldFault}
 use Rattle.mon_world.specs.Fault.{refusal_in, station_refusal}
-use Rattle.mon_world.specs.Moves.{AreLives, AreMoves, IsNumberedIn, Letter, MayFind, Move, addressee, letter, letters_by, lives_of, sent_in}
+use Rattle.mon_world.specs.Moves.{AreLives, AreMoves, IsNumberedIn, MayFind, Move, addressee, letter, letters_by, lives_of}
 use Rattle.mon_world.specs.Outcome.{answers}
 use Rattle.mon_world.specs.Places.{HasNumber, setting_at}
 use Rattle.mon_world.specs.Sending.{to_peers}
-use Rattle.mon_world.specs.Shows.{AreSent, AreShown, FindsOne, IsAsked, IsRefused, Parcel, Stands, left_by, parcel_of, parcel_with, state_in}
-use Rattle.mon_world.proofs.Letters.{at_lives, claims_of, claims_to, other_lives, own_lives}
-use Rattle.mon_world.proofs.Lives.{not_some, setting_is, some_same}
+use Rattle.mon_world.specs.Shows.{AreSent, AreShown, FindsOne, IsStationAsked, IsStationRefused, Parcel, Stands, disk_leaves, parcel_of, parcel_with, state_in}
+use Rattle.mon_world.proofs.Letters.{claims_to, other_lives, own_lives}
+use Rattle.mon_world.proofs.Lives.{not_some, setting_is}
 use Rattle.mon_world.proofs.Stations.{number_set}
 
 -- ---- what a station sends
@@ -146,18 +143,18 @@ is_disk_fault (station.Keeper keeper.Reopen) = inr (λ e. cc)
 is_disk_fault (station.Image f) = inr (λ e. cc)
 is_disk_fault station.NoMoreIncarnations = inr (λ e. cc)
 
-module _ {G : Ghosts MemoryDisk} (old new : Station MemoryDisk G) (watch : Watch) (lives : List (Entry × State)) (is : last_state lives ≡ Some (state_in old)) (were : Leaves (left_by old) (FindsOne lives))
+module _ {G : Ghosts MemoryDisk} (old new : Station MemoryDisk G) (watch : Watch) (lives : List (Entry × State)) (is : last_state lives ≡ Some (state_in old)) (were : Leaves (disk_leaves old) (FindsOne lives))
     (event : Event) (disk : (event ≡ lent.Save → ⊥) → new.keeper ≡ old.keeper) where
-  same_left : new.keeper ≡ old.keeper → (c : List ℕ) → left_by new c → FindsOne lives c
+  same_left : new.keeper ≡ old.keeper → (c : List ℕ) → disk_leaves new c → FindsOne lives c
   same_left same c left = were c (subst (λ (k : Keeper MemoryDisk G). memory_leaves (device_of k) c) same left)
 
   -- what an opening finds after an event with this answer
-  pub finds_next : (e : ReadEvent) → ReadsAs watch (owned event) e → (answer : Option StationFault) → (event ≡ lent.Save → Leaves (left_by new) (FindsOne ((Answered Save answer, state_in new) ∷ lives)))
-      → Leaves (left_by new) (FindsOne ((Answered e answer, state_in new) ∷ lives))
+  pub finds_next : (e : ReadEvent) → ReadsAs watch (owned event) e → (answer : Option StationFault) → (event ≡ lent.Save → Leaves (disk_leaves new) (FindsOne ((Answered Save answer, state_in new) ∷ lives)))
+      → Leaves (disk_leaves new) (FindsOne ((Answered e answer, state_in new) ∷ lives))
   finds_next e reads answer save = by event reads disk save
     where
-      by : (h : Event) → ReadsAs watch (owned h) e → ((h ≡ lent.Save → ⊥) → new.keeper ≡ old.keeper) → (h ≡ lent.Save → Leaves (left_by new) (FindsOne ((Answered Save answer, state_in new) ∷ lives)))
-          → Leaves (left_by new) (FindsOne ((Answered e answer, state_in new) ∷ lives))
+      by : (h : Event) → ReadsAs watch (owned h) e → ((h ≡ lent.Save → ⊥) → new.keeper ≡ old.keeper) → (h ≡ lent.Save → Leaves (disk_leaves new) (FindsOne ((Answered Save answer, state_in new) ∷ lives)))
+          → Leaves (disk_leaves new) (FindsOne ((Answered e answer, state_in new) ∷ lives))
       by (lent.StartPoll target) r d v c left = subst (λ f. FindsOne ((Answered f answer, state_in new) ∷ lives) c) (sym r) (still lives (StartPoll target) answer (state_in new) c refl refl (same_left (d (λ q. cc)) c left))
       by (lent.Timeout id) r d v c left = subst (λ f. FindsOne ((Answered f answer, state_in new) ∷ lives) c) (sym r) (still lives (Timeout id) answer (state_in new) c refl refl (same_left (d (λ q. cc)) c left))
       by (lent.FromAgent from octets) r d v c left = subst (λ f. FindsOne ((Answered f answer, state_in new) ∷ lives) c) (sym r.2) (still lives (FromAgent from r.0) answer (state_in new) c refl refl (same_left (d (λ q. cc)) c left))
@@ -165,13 +162,13 @@ module _ {G : Ghosts MemoryDisk} (old new : Station MemoryDisk G) (watch : Watch
       by (lent.Share y) r d v c left = subst (λ f. FindsOne ((Answered f answer, state_in new) ∷ lives) c) (sym r) (still lives (Share y) answer (state_in new) c refl refl (same_left (d (λ q. cc)) c left))
       by lent.Save r d v c left = subst (λ f. FindsOne ((Answered f answer, state_in new) ∷ lives) c) (sym r) (v refl c left)
 
-  pub saved_well : (event ≡ lent.Save → Leaves (left_by new) (FindsState (state_in old))) → event ≡ lent.Save → Leaves (left_by new) (FindsOne ((Answered Save None, state_in new) ∷ lives))
+  pub saved_well : (event ≡ lent.Save → Leaves (disk_leaves new) (FindsState (state_in old))) → event ≡ lent.Save → Leaves (disk_leaves new) (FindsOne ((Answered Save None, state_in new) ∷ lives))
   saved_well saved save c left = this_save lives (state_in old) (state_in new) is None refl c (saved save c left)
 
-  pub saved_badly : (f : StationFault) → ((f ≡ station.Keeper keeper.DiskFault → ⊥) → new.keeper ≡ old.keeper) → Leaves (left_by new) (FindsRunning (left_by old) (state_in old))
-      → Leaves (left_by new) (FindsOne ((Answered Save (Some f), state_in new) ∷ lives))
+  pub saved_badly : (f : StationFault) → ((f ≡ station.Keeper keeper.DiskFault → ⊥) → new.keeper ≡ old.keeper) → Leaves (disk_leaves new) (FindsRunning (disk_leaves old) (state_in old))
+      → Leaves (disk_leaves new) (FindsOne ((Answered Save (Some f), state_in new) ∷ lives))
   saved_badly f unsaved since c left = elim (is_disk_fault f) [
-    | inl disk_fault ↦ elim (finds_running lives (state_in old) (left_by old) were c (since c left)) [
+    | inl disk_fault ↦ elim (finds_running lives (state_in old) (disk_leaves old) were c (since c left)) [
       | inl before ↦ earlier_save lives (state_in old) (state_in new) is f c before
       | inr here ↦ this_save lives (state_in old) (state_in new) is (Some f) disk_fault c here
     ]
@@ -187,7 +184,7 @@ module _ {G : Ghosts MemoryDisk} (core : Core) (stations : List (Station MemoryD
   pub its_state : last_state its_lives ≡ Some (state_in old)
   its_state = (was.stand (place + 1) old at).state
 
-  pub its_disk : Leaves (left_by old) (FindsOne its_lives)
+  pub its_disk : Leaves (disk_leaves old) (FindsOne its_lives)
   its_disk = (was.stand (place + 1) old at).disk
 
   pub its_watch : (state_in old).board.watch ≡ core.watch
@@ -213,7 +210,7 @@ module _ {G : Ghosts MemoryDisk} (core : Core) (stations : List (Station MemoryD
       | inr not ↦ subst (AreLives (setting_at core (length stations) x)) (sym (other_lives x move past not)) (was.are.lives x)
     ]
 
-    new_stand : Leaves (left_by new) (FindsOne ((entry, state_in new) ∷ its_lives)) → (x : ℕ) (t : Station MemoryDisk G) → HasNumber (slice_set stations place new) x t → Stands t (lives_of x (move ∷ past))
+    new_stand : Leaves (disk_leaves new) (FindsOne ((entry, state_in new) ∷ its_lives)) → (x : ℕ) (t : Station MemoryDisk G) → HasNumber (slice_set stations place new) x t → Stands t (lives_of x (move ∷ past))
     new_stand finds x t here = elim (number_set stations place x new t here) [
       | inl same ↦ subst (λ y. Stands t (lives_of y (move ∷ past))) (sym same.0) (subst (λ (u : Station MemoryDisk G). Stands u (lives_of (place + 1) (move ∷ past))) (sym same.1)
           (subst (Stands new) (sym (own_lives move past)) (record { state = refl; disk = finds })))
@@ -222,7 +219,7 @@ module _ {G : Ghosts MemoryDisk} (core : Core) (stations : List (Station MemoryD
 
     -- the new station took the place of the old one, with this move
     pub moved : IsLived ((entry, state_in new) ∷ its_lives) → AreLives (setting_at core (length stations) (place + 1)) ((entry, state_in new) ∷ its_lives)
-        → Leaves (left_by new) (FindsOne ((entry, state_in new) ∷ its_lives)) → AreShown core (slice_set stations place new) (move ∷ past)
+        → Leaves (disk_leaves new) (FindsOne ((entry, state_in new) ∷ its_lives)) → AreShown core (slice_set stations place new) (move ∷ past)
     moved lived lives finds = record {
       are = subst (λ n. AreMoves (setting_at core n) (move ∷ past)) (sym same_count) (record { lived = own_lived lived; lives = own_setting lives });
       stand = new_stand finds;
@@ -249,13 +246,13 @@ module _ {G : Ghosts MemoryDisk} (core : Core) (stations : List (Station MemoryD
     reads_as : ReadsAs core.watch (owned event) e
     reads_as = subst (λ w. ReadsAs w (owned event) e) its_watch reads
 
-    shown_after : (answer : Option StationFault) → IsHandled e answer (state_in old) (state_in new) → (event ≡ lent.Save → Leaves (left_by new) (FindsOne ((Answered Save answer, state_in new) ∷ its_lives)))
+    shown_after : (answer : Option StationFault) → IsHandled e answer (state_in old) (state_in new) → (event ≡ lent.Save → Leaves (disk_leaves new) (FindsOne ((Answered Save answer, state_in new) ∷ its_lives)))
         → AreShown core (slice_set stations place new) (answers (place + 1) e answer (state_in new) ∷ past)
     shown_after answer handled save = moved (Answered e answer) (handled_lived e answer handled) (numbered core.watch (owned event) e reads_as, was.are.lives (place + 1))
         (finds_next old new core.watch its_lives its_state its_disk event disk e reads_as answer save)
 
-    pub asked_ok : (told : Told) → IsHandled e None (state_in old) (state_in new) → IsTold (state_in old) e told → (event ≡ lent.Save → Leaves (left_by new) (FindsState (state_in old)))
-        → IsAsked core (place + 1) (owned event) None (to_peers told.sends.items) past (slice_set stations place new)
+    pub asked_ok : (told : Told) → IsHandled e None (state_in old) (state_in new) → IsTold (state_in old) e told → (event ≡ lent.Save → Leaves (disk_leaves new) (FindsState (state_in old)))
+        → IsStationAsked core (place + 1) (owned event) None (to_peers told.sends.items) past (slice_set stations place new)
     asked_ok told handled is_told saved = record {
       read = e;
       after = state_in new;
@@ -265,7 +262,7 @@ module _ {G : Ghosts MemoryDisk} (core : Core) (stations : List (Station MemoryD
     }
 
     pub asked_err : (f : StationFault) → IsHandled e (Some f) (state_in old) (state_in new) → ((f ≡ station.Keeper keeper.DiskFault → ⊥) → new.keeper ≡ old.keeper)
-        → Leaves (left_by new) (FindsRunning (left_by old) (state_in old)) → IsAsked core (place + 1) (owned event) (Some f) [] past (slice_set stations place new)
+        → Leaves (disk_leaves new) (FindsRunning (disk_leaves old) (state_in old)) → IsStationAsked core (place + 1) (owned event) (Some f) [] past (slice_set stations place new)
     asked_err f handled unsaved since = record {
       read = e;
       after = state_in new;
@@ -276,8 +273,8 @@ module _ {G : Ghosts MemoryDisk} (core : Core) (stations : List (Station MemoryD
 
   -- what a refusal of the station is to the world
   pub refused_as : (event : Event) (f : StationFault) → (f ≡ station.OutOfMemory → AreShown core (slice_set stations place new) past)
-      → ((f ≡ station.OutOfMemory → ⊥) → IsAsked core (place + 1) (owned event) (Some f) [] past (slice_set stations place new))
-      → IsRefused core (place + 1) (owned event) (refusal_in (station_refusal f)) past (slice_set stations place new)
+      → ((f ≡ station.OutOfMemory → ⊥) → IsStationAsked core (place + 1) (owned event) (Some f) [] past (slice_set stations place new))
+      → IsStationRefused core (place + 1) (owned event) (refusal_in (station_refusal f)) past (slice_set stations place new)
   refused_as event station.OutOfMemory memory other = memory refl
   refused_as event (station.Poll f) memory other = other (λ e. cc)
   refused_as event (station.Response f) memory other = other (λ e. cc)

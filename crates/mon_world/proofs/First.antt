@@ -1,5 +1,5 @@
 -- The first lives of the stations of a world.
-use Rattle.std.proofs.Common.{ℕ, zero, suc, ◌≡◌, ◌<◌, ◌+◌, ◌∙◌, inl, inr, true, false, List, [], ◌∷◌, ◌++◌, length, map, Option, Some, None, refl, sym, ap, subst, arith}
+use Rattle.std.proofs.Common.{ℕ, zero, suc, ◌≡◌, ◌<◌, ◌+◌, ◌∙◌, inl, inr, false, List, [], ◌∷◌, ◌++◌, length, map, Option, Some, None, refl, sym, ap, subst, arith}
 use Rattle.std.specs.Prelude.{◌==◌, slice_get}
 use Rattle.std.proofs.lemmas.Bool.{cases_Bool, eq-eqb, eqb-true, ne_eqb}
 use Rattle.mon_disk.specs.declared.disk.Disk.{Ghosts}
@@ -7,17 +7,16 @@ use Rattle.mon_disk.specs.declared.memory.MemoryDisk.{MemoryDisk}
 use Rattle.mon_settings.specs.StationCore.{Core}
 use Rattle.mon_station.specs.declared.station.Station.{Station}
 use Rattle.mon_station.specs.Lived.{IsLived, last_state}
-use Rattle.mon_station.specs.Saved.{IsBegun}
 use Rattle.mon_station.specs.State.{State}
 use Rattle.mon_station.specs.Taken.{Entry, Nothing, Restart}
 use Rattle.mon_station.specs.Verdict.{Setting}
 use Rattle.mon_world.specs.declared.sending.Datagram.{Datagram}
-use Rattle.mon_world.specs.Moves.{AreLives, Letter, Move, letters_by, lives_of, sent_in}
-use Rattle.mon_world.specs.Outcome.{begins, first_lives}
+use Rattle.mon_world.specs.Moves.{AreLives, Move, letters_by, lives_of, sent_in}
+use Rattle.mon_world.specs.Outcome.{life_begins, first_lives}
 use Rattle.mon_world.specs.Places.{HasNumber, setting_at}
 use Rattle.mon_world.proofs.Letters.{at_lives, other_lives}
 use Rattle.mon_world.proofs.Lives.{not_some, some_same}
-use Rattle.mon_world.specs.Shows.{AreFirst, AreSent, FindsOne, IsFirst, Shows, Stands, state_in}
+use Rattle.mon_world.specs.Shows.{AreFirst, AreSent, IsFirst, Shows, Stands, state_in}
 
 no_letters : (o : Option State) (w : Setting) → letters_by o (Restart Nothing w) ≡ []
 no_letters None w = refl
@@ -67,11 +66,11 @@ module _ {G : Ghosts MemoryDisk} (core : Core) (count : ℕ) where
   -- the first of the stations, and those after it
   at_first : (x k : ℕ) (t : Station MemoryDisk G) (stations : List (Station MemoryDisk G)) → k ≡ x → lives_of x (first_of k (t ∷ stations)) ≡ (Restart Nothing (setting_at core count x), state_in t) ∷ []
   at_first x k t stations same =
-      at_lives x (begins k Nothing (setting_at core count k) (state_in t)) (first_of (k + 1) stations) (eq-eqb k x same)
+      at_lives x (life_begins k Nothing (setting_at core count k) (state_in t)) (first_of (k + 1) stations) (eq-eqb k x same)
       ∙ (λ i. (Restart Nothing (setting_at core count (same i)), state_in t) ∷ below x (k + 1) stations (is_past x k same) i)
 
   at_other : (x k : ℕ) (t : Station MemoryDisk G) (stations : List (Station MemoryDisk G)) → (k ≡ x → ⊥) → lives_of x (first_of k (t ∷ stations)) ≡ lives_of x (first_of (k + 1) stations)
-  at_other x k t stations other = other_lives x (begins k Nothing (setting_at core count k) (state_in t)) (first_of (k + 1) stations) (ne_eqb k x other)
+  at_other x k t stations other = other_lives x (life_begins k Nothing (setting_at core count k) (state_in t)) (first_of (k + 1) stations) (ne_eqb k x other)
 
   abbrev IsFirstLife : ℕ → Station MemoryDisk G → List (Entry × State) → Type 0
   IsFirstLife x t lives = lives ≡ (Restart Nothing (setting_at core count x), state_in t) ∷ []

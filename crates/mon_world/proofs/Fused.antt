@@ -1,5 +1,5 @@
 -- What is left at the end of calls on a disk in memory under a fuse, and what an image that was saved there is.
-use Rattle.std.proofs.Common.{ℕ, ◌≡◌, List, length, Some, sym, subst, ap, ◌∙◌}
+use Rattle.std.proofs.Common.{ℕ, ◌≡◌, List, length, Some, subst, ◌∙◌}
 use Rattle.mon_board.specs.Board.{Board}
 use Rattle.mon_board.specs.Instance.{instances_of}
 use Rattle.mon_disk.specs.Disk.{Leaves, LeavesSince}

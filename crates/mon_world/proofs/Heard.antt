@@ -1,29 +1,27 @@
 -- What a station heard is true of its peers, unless claims were forged; so what it does not owe was taken.
-use Rattle.std.proofs.Common.{ℕ, zero, suc, ◌≡◌, ◌<◌, ◌+◌, ◌∙◌, inl, inr, Bool, true, false, List, [], ◌∷◌, ◌++◌, Option, Some, None, Ok, Err, map, length, get_or, refl, sym, ap, subst, arith}
-use Rattle.std.specs.Prelude.{◌==◌, not, ◌&&◌, ◌||◌, Contains}
-use Rattle.std.specs.FinSet as set
+use Rattle.std.proofs.Common.{ℕ, zero, suc, ◌≡◌, ◌∙◌, inl, inr, Bool, true, false, List, [], ◌∷◌, Option, Some, None, Ok, Err, refl, sym, ap, subst, arith}
+use Rattle.std.specs.Prelude.{◌==◌, not, Contains}
 use Rattle.std.specs.List.{AllByRecursion, list_any}
 use Rattle.std.proofs.lemmas.Bool.{and_parts, cases_Bool, eqb-true, or_cases}
 use Rattle.mon_window.specs.Window.{In}
 use Rattle.mon_board.specs.Board.{window_of}
 use Rattle.mon_board.specs.Rules.{rule_of}
-use Rattle.mon_board.specs.Watch.{Watch, IsWatch}
+use Rattle.mon_board.specs.Watch.{IsWatch}
 use Rattle.mon_board.specs.declared.instance.Instance.{Instance}
-use Rattle.mon_exchange.specs.declared.claim.Claim.{Claim}
-use Rattle.mon_exchange.specs.Debts.{Heard, has_said, is_owed, is_owed_at, latest_heard, said_of}
+use Rattle.mon_exchange.specs.Debts.{Heard, has_said, is_owed, is_owed_at, latest_heard}
 use Rattle.mon_saved.specs.declared.image.Image.{Image}
 use Rattle.mon_saved.specs.Image.{SpellsImage}
 use Rattle.mon_settings.specs.StationCore.{Core}
 use Rattle.mon_station.specs.declared.fault.StationFault.{StationFault}
 use Rattle.mon_station.specs.Lived.{IsLived, entries_of, last_state}
-use Rattle.mon_station.specs.ReadEvent.{ReadEvent, StartPoll, Timeout, FromAgent, FromPeer, Share, Save, Said}
+use Rattle.mon_station.specs.ReadEvent.{ReadEvent, StartPoll, Timeout, FromAgent, FromPeer, Share, Save}
 use Rattle.mon_station.specs.State.{State}
 use Rattle.mon_station.specs.Taken.{Entry, Restart, Answered, taken}
-use Rattle.mon_world.specs.Debts.{heard_as, heard_by, heard_in}
-use Rattle.mon_world.specs.Moves.{Move, Letter, AreLives, AreMoves, AreUnforged, IsNumberedIn, WasSent, lives_of, sent_in}
+use Rattle.mon_world.specs.Debts.{heard_of_claim, heard_by, heard_in}
+use Rattle.mon_world.specs.Moves.{Move, AreLives, AreMoves, AreUnforged, IsNumberedIn, WasSent, lives_of, sent_in}
 use Rattle.mon_world.specs.Places.{setting_at}
 use Rattle.mon_world.proofs.Lives.{IsTrue, some_same}
-use Rattle.mon_world.proofs.Letters.{IsTrueClaim, at_lives, claims_of, earlier, entry_of, last_lives, letters_true, other_lives, said_in, true_move}
+use Rattle.mon_world.proofs.Letters.{IsTrueClaim, at_lives, claims_of, earlier, last_lives, letters_true, other_lives, true_move}
 use Rattle.mon_world.proofs.Offers.{all_append, all_map}
 
 -- what holds of all holds of one
@@ -57,7 +55,7 @@ module _ (one_image : (octets : List ℕ) (instances : List Instance) (a b : Ima
   heard_now moves are (FromPeer (Ok said)) (Some f) numbered sent = tt
   heard_now moves are (FromPeer (Ok said)) None numbered sent = at said.number numbered
     where
-      at : (n : Option ℕ) → IsNumberedIn core.watch (FromPeer (Ok (record { claim = said.claim; number = n }))) → AllByRecursion (IsTrueOf moves) (heard_as said.claim n)
+      at : (n : Option ℕ) → IsNumberedIn core.watch (FromPeer (Ok (record { claim = said.claim; number = n }))) → AllByRecursion (IsTrueOf moves) (heard_of_claim said.claim n)
       at None watched = tt
       at (Some i) watched =
           (all_at (IsTrueClaim one_image windows_taken core count are_watch moves) (claims_of (sent_in moves)) said.claim (letters_true one_image windows_taken core count are_watch moves are) sent i watched, tt)

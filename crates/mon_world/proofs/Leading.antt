@@ -1,11 +1,10 @@
 -- From what a station was asked to where the world's moves lead.
-use Rattle.std.proofs.Common.{ℕ, suc, ◌≡◌, ◌+◌, List, [], ◌∷◌, ◌++◌, length, map, Option, Some, None, Result, Ok, Err, refl, sym, ◌∙◌, ap, subst}
+use Rattle.std.proofs.Common.{ℕ, ◌≡◌, ◌+◌, List, [], ◌∷◌, ◌++◌, length, map, Option, Some, None, Result, Ok, Err, refl, sym, ◌∙◌, ap, subst}
 use Rattle.std.specs.List.{AllByRecursion}
 use Rattle.std.specs.Result.{IsErrAnd}
 use Rattle.std.proofs.lemmas.List.{append-nil}
 use Rattle.mon_disk.specs.declared.disk.Disk.{Ghosts}
 use Rattle.mon_disk.specs.declared.memory.MemoryDisk.{MemoryDisk}
-use Rattle.mon_exchange.specs.declared.claim.Claim.{Claim}
 use Rattle.mon_exchange.specs.Claim.{IsClaim}
 use Rattle.mon_settings.specs.StationCore.{Core}
 use Rattle.mon_station.specs.declared.event.OwnedEvent.{OwnedEvent}
@@ -20,7 +19,7 @@ use Rattle.mon_world.specs.Fault.{refusal_in}
 use Rattle.mon_world.specs.Moves.{Letter, Move, letters_by, lives_of, sent_in}
 use Rattle.mon_world.specs.Outcome.{Does, DoesOr, Hands, answers}
 use Rattle.mon_world.specs.Places.{setting_at}
-use Rattle.mon_world.specs.Shows.{AreSent, AreShown, IsAsked, IsRefused, LeadsTo, Parcel, Shows, parcel_of, parcel_with}
+use Rattle.mon_world.specs.Shows.{AreSent, IsStationAsked, IsStationRefused, LeadsTo, Parcel, Shows, parcel_of, parcel_with}
 use Rattle.mon_world.proofs.Letters.{claims_append, claims_of}
 use Rattle.mon_world.proofs.Offers.{all_append}
 
@@ -43,7 +42,7 @@ module _ {G : Ghosts MemoryDisk} (core : Core) (stations now_stations : List (St
   abbrev pub Handed : Option StationFault → List Move → List Move → Type 0
   Handed = Hands (setting_at core (length stations) number) number event
 
-  asked_shows : (answer : Option StationFault) (sends now_sent : List Datagram) → now_sent ≡ sent ++ sends → IsAsked core (place + 1) event answer sends past now_stations → LeadsTo core now_stations now_sent (Handed answer past)
+  asked_shows : (answer : Option StationFault) (sends now_sent : List Datagram) → now_sent ≡ sent ++ sends → IsStationAsked core (place + 1) event answer sends past now_stations → LeadsTo core now_stations now_sent (Handed answer past)
   asked_shows answer sends now_sent appended asked = record {
     now = answers (place + 1) asked.read answer asked.after ∷ past;
     shows = record {
@@ -55,14 +54,14 @@ module _ {G : Ghosts MemoryDisk} (core : Core) (stations now_stations : List (St
   }
 
   -- it handled the event
-  pub leads_ok : (sends now_sent : List Datagram) → now_sent ≡ sent ++ sends → IsAsked core (place + 1) event None sends past now_stations → (result : Sent) → LeadsTo core now_stations now_sent (λ now. Does Handed (Ok result) past now)
+  pub leads_ok : (sends now_sent : List Datagram) → now_sent ≡ sent ++ sends → IsStationAsked core (place + 1) event None sends past now_stations → (result : Sent) → LeadsTo core now_stations now_sent (λ now. Does Handed (Ok result) past now)
   leads_ok sends now_sent appended asked result = asked_shows None sends now_sent appended asked
 
   -- it refused
-  pub leads_refused : (f : WorldFault) (now_sent : List Datagram) → now_sent ≡ sent → IsRefused core (place + 1) event (refusal_in f) past now_stations → LeadsTo core now_stations now_sent (λ now. DoesOr Handed (refusal_in f) past now)
+  pub leads_refused : (f : WorldFault) (now_sent : List Datagram) → now_sent ≡ sent → IsStationRefused core (place + 1) event (refusal_in f) past now_stations → LeadsTo core now_stations now_sent (λ now. DoesOr Handed (refusal_in f) past now)
   leads_refused f now_sent kept = by (refusal_in f)
     where
-      by : (answer : Option StationFault) → IsRefused core (place + 1) event answer past now_stations → LeadsTo core now_stations now_sent (λ now. DoesOr Handed answer past now)
+      by : (answer : Option StationFault) → IsStationRefused core (place + 1) event answer past now_stations → LeadsTo core now_stations now_sent (λ now. DoesOr Handed answer past now)
       by None shown = record { now = past; shows = record { shown = shown; letters = subst (λ l. AreSent l (sent_in past)) (sym kept) was.letters }; is = refl }
       by (Some g) asked = asked_shows (Some g) [] now_sent (kept ∙ sym (append-nil sent)) asked
 

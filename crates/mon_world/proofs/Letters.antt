@@ -1,16 +1,13 @@
 -- Every claim that was sent is true of its sender.
-use Rattle.std.proofs.Common.{ℕ, zero, suc, ◌≡◌, ◌≤◌, ◌∙◌, inl, inr, true, false, List, [], ◌∷◌, ◌++◌, Option, Some, None, Ok, Err, map, refl, sym, ap, subst, arith}
+use Rattle.std.proofs.Common.{ℕ, ◌≡◌, ◌∙◌, inl, inr, true, false, List, [], ◌∷◌, ◌++◌, Option, Some, None, Ok, Err, map, refl, sym, ap, subst, arith}
 use Rattle.std.specs.Prelude.{◌==◌}
-use Rattle.std.specs.FinSet as set
 use Rattle.std.specs.List.{AllByRecursion}
-use Rattle.std.specs.Ordering.{nat_cmp}
-use Rattle.std.proofs.lemmas.Bool.{cases_Bool, eq-eqb, eqb-true}
+use Rattle.std.proofs.lemmas.Bool.{cases_Bool, eq-eqb}
 use Rattle.mon_window.specs.Window.{In}
 use Rattle.mon_window.proofs.Promised.{in_left, in_right}
 use Rattle.mon_board.specs.Board.{window_of}
 use Rattle.mon_board.specs.Rules.{rule_of}
-use Rattle.mon_board.specs.Watch.{Watch, IsWatch}
-use Rattle.mon_board.specs.Windows.{Has, set_of}
+use Rattle.mon_board.specs.Watch.{IsWatch}
 use Rattle.mon_board.specs.declared.instance.Instance.{Instance}
 use Rattle.mon_exchange.specs.declared.claim.Claim.{Claim}
 use Rattle.mon_exchange.specs.Debts.{Heard}
@@ -18,13 +15,12 @@ use Rattle.mon_exchange.specs.Peers.{IsWatchedAs}
 use Rattle.mon_saved.specs.declared.image.Image.{Image}
 use Rattle.mon_saved.specs.Image.{SpellsImage}
 use Rattle.mon_settings.specs.StationCore.{Core}
-use Rattle.mon_station.specs.declared.fault.StationFault.{StationFault}
 use Rattle.mon_station.specs.Lived.{IsLived, entries_of, last_state}
-use Rattle.mon_station.specs.ReadEvent.{ReadEvent, StartPoll, Timeout, FromAgent, FromPeer, Share, Save, Said}
+use Rattle.mon_station.specs.ReadEvent.{ReadEvent, StartPoll, Timeout, FromAgent, FromPeer, Share, Save}
 use Rattle.mon_station.specs.State.{State, setting_of}
-use Rattle.mon_station.specs.Taken.{Entry, Restart, Answered, past_of, taken}
+use Rattle.mon_station.specs.Taken.{Entry, Restart, Answered, taken}
 use Rattle.mon_station.specs.Told.{claims_sent}
-use Rattle.mon_station.specs.Verdict.{Setting, added}
+use Rattle.mon_station.specs.Verdict.{Setting}
 use Rattle.mon_world.specs.Moves.{Move, Letter, AreLives, AreMoves, addressee, letter, letters_by, lives_of, sent_in}
 use Rattle.mon_world.specs.Places.{setting_at}
 use Rattle.mon_world.proofs.Lives.{IsTrue, before, setting_is, some_same, true_next}

@@ -19,3 +19,4 @@ mod Squared
 mod Stations
 mod Strangers
 mod Tells
+mod Unforged

@@ -1,8 +1,7 @@
 -- The lives of a station from an honestly kept file: its setting, its incarnations, and what it took.
-use Rattle.std.proofs.Common.{ℕ, zero, suc, ◌≡◌, ◌≤◌, ◌<◌, ◌+◌, ◌∙◌, List, [], ◌∷◌, Option, Some, None, Ok, refl, sym, ap, subst, arith}
-use Rattle.std.specs.FinSet as set
+use Rattle.std.proofs.Common.{ℕ, zero, suc, ◌≡◌, ◌≤◌, ◌+◌, ◌∙◌, List, [], ◌∷◌, Option, Some, None, refl, sym, ap, subst, arith}
 use Rattle.mon_window.specs.Window.{In}
-use Rattle.mon_window.proofs.Promised.{in_left, in_right}
+use Rattle.mon_window.proofs.Promised.{in_left}
 use Rattle.mon_board.specs.Instance.{instances_of}
 use Rattle.mon_board.specs.declared.instance.Instance.{Instance}
 use Rattle.mon_board.specs.Windows.{set_of}
@@ -15,7 +14,7 @@ use Rattle.mon_station.specs.Lived.{BeginsFrom, HandledIn, IsLived, IsReopened, 
 use Rattle.mon_station.specs.ReadEvent.{ReadEvent, StartPoll, Timeout, FromAgent, FromPeer, Share, Save}
 use Rattle.mon_station.specs.Saved.{saved_octets}
 use Rattle.mon_station.specs.State.{State, IsHandled, setting_of}
-use Rattle.mon_station.specs.Taken.{Entry, Restart, Answered, Origin, Nothing, Saved, Other, Past, at_place, past_of, taken}
+use Rattle.mon_station.specs.Taken.{Entry, Restart, Answered, Origin, Nothing, Saved, Other, at_place, past_of, taken}
 use Rattle.mon_station.specs.Verdict.{Setting, added}
 use Rattle.mon_world.specs.Moves.{AreLives, MayBegin, MayFind}
 

@@ -1,5 +1,5 @@
 -- Every sample that a station took, or a claim says, was offered by an agent, unless claims were forged.
-use Rattle.std.proofs.Common.{ℕ, zero, suc, ◌≡◌, ◌∙◌, inl, inr, ⊎_elim, Bool, true, false, List, [], ◌∷◌, ◌++◌, Option, Some, None, Ok, Err, map, refl, sym, ap, subst}
+use Rattle.std.proofs.Common.{ℕ, zero, suc, ◌≡◌, ◌∙◌, inl, inr, Bool, true, false, List, [], ◌∷◌, Option, Some, None, Ok, Err, refl, sym, ap, subst}
 use Rattle.std.specs.Prelude.{◌==◌, if◌then◌else◌}
 use Rattle.std.specs.FinSet as set
 use Rattle.std.specs.List.{AllByRecursion}
@@ -27,7 +27,7 @@ use Rattle.mon_world.specs.Debts.{agent_offers, offered_in}
 use Rattle.mon_world.specs.Moves.{Move, AreLives, AreMoves, AreUnforged, IsNumberedIn, MayBegin, WasSent, lives_of, sent_in}
 use Rattle.mon_world.specs.Places.{setting_at}
 use Rattle.mon_world.proofs.Heard.{all_at}
-use Rattle.mon_world.proofs.Letters.{SentBy, at_lives, claims_append, claims_of, earlier, last_lives, new_letters, other_lives, own_lives}
+use Rattle.mon_world.proofs.Letters.{SentBy, claims_append, claims_of, earlier, last_lives, new_letters, other_lives, own_lives}
 use Rattle.mon_world.proofs.Offers.{all_append, all_map}
 use Rattle.mon_world.proofs.Tells.{part_left, part_right}
 

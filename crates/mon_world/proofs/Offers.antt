@@ -1,6 +1,6 @@
 -- What a station offers and confirms it has taken.
-use Rattle.std.proofs.Common.{ℕ, zero, suc, ◌≡◌, ◌≤◌, ◌<◌, ◌+◌, ◌∙◌, inl, inr, List, [], ◌∷◌, ◌++◌, Option, Some, None, Ok, Err, length, map, drop, refl, sym, ap, subst, arith}
-use Rattle.std.specs.Prelude.{Bool, not, ◌==◌}
+use Rattle.std.proofs.Common.{ℕ, zero, suc, ◌≡◌, ◌≤◌, ◌<◌, ◌+◌, inl, inr, List, [], ◌∷◌, ◌++◌, Option, Some, None, length, map, drop, refl, sym, ap, subst, arith}
+use Rattle.std.specs.Prelude.{Bool, not}
 use Rattle.std.specs.FinSet as set
 use Rattle.std.specs.List.{AllByRecursion}
 use Rattle.std.specs.Ordering.{nat_cmp}
@@ -15,17 +15,17 @@ use Rattle.mon_board.specs.Board.{is_marked, window_of}
 use Rattle.mon_board.specs.Instance.{instances_of}
 use Rattle.mon_board.specs.Owed.{owed_in}
 use Rattle.mon_board.specs.declared.instance.Watched.{Watched}
-use Rattle.mon_board.specs.Windows.{Has, paired, samples_of, set_of}
+use Rattle.mon_board.specs.Windows.{Has, paired, samples_of}
 use Rattle.mon_board.specs.Watch.{Watch, IsWatch}
 use Rattle.mon_exchange.specs.declared.claim.Claim.{Claim}
 use Rattle.mon_exchange.specs.declared.claim.ClaimKind.{ClaimKind}
 use Rattle.mon_exchange.specs.declared.claim.ClaimKind.TheVariants.{Offer, Confirm}
 use Rattle.mon_exchange.specs.declared.sharing.Portion.{Portion}
 use Rattle.mon_exchange.specs.Peers.{IsWatchedAs, peer_numbers}
-use Rattle.mon_exchange.specs.Portions.{or_empty, offered_portions, pieces, pieces_by, portion, portions_from, portions_of, serial_after}
-use Rattle.mon_station.specs.ReadEvent.{ReadEvent, FromPeer, Share, Said, IsNumbered}
+use Rattle.mon_exchange.specs.Portions.{or_empty, pieces_by, portion, portions_from, portions_of, serial_after}
+use Rattle.mon_station.specs.ReadEvent.{IsNumbered}
 use Rattle.mon_station.specs.State.{State, owed_to, shared_in, shared_with}
-use Rattle.mon_station.specs.Told.{claims_sent, confirm_of, confirms, instance_at, offer_of, offers_from}
+use Rattle.mon_station.specs.Told.{confirms, instance_at, offers_from}
 use Rattle.mon_station.specs.Verdict.{claim_pairs, slot_of}
 use Rattle.mon_world.proofs.Instances.{number_of, one_number}
 

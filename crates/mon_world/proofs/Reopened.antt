@@ -1,5 +1,5 @@
 -- A station that is opened again, from its disk or after a stop.
-use Rattle.std.proofs.Common.{ℕ, zero, suc, ◌≡◌, ◌+◌, ◌⊎◌, inl, inr, Bool, true, false, List, [], ◌∷◌, ◌++◌, length, map, get_or, Option, Some, None, Result, Ok, Err, refl, sym, ◌∙◌, ap, subst, arith}
+use Rattle.std.proofs.Common.{ℕ, zero, suc, ◌≡◌, ◌+◌, inl, inr, Bool, true, false, List, [], ◌∷◌, ◌++◌, length, Option, Some, None, Result, Ok, Err, refl, sym, ◌∙◌, ap, subst, arith}
 use Rattle.std.specs.Prelude.{◌&&◌, OnErr, OnOk, slice_get, slice_set}
 use Rattle.std.proofs.lemmas.List.{append-nil, set-get_or}
 use Rattle.std.proofs.lemmas.Option.{get_or_from_slice_get}
@@ -20,8 +20,8 @@ use Rattle.mon_station.specs.declared.fault.StationFault.{StationFault}
 use Rattle.mon_station.specs.declared.fault.StationFault.TheVariants as station
 use Rattle.mon_station.specs.declared.station.Station.{Station}
 use Rattle.mon_station.specs.Lived.{IsLived, IsReopened, Reopens, in_front, last_state, saved_states}
-use Rattle.mon_station.specs.ReadEvent.{ReadEvent, StartPoll, Timeout, FromAgent, FromPeer, Share, Save}
-use Rattle.mon_station.specs.Saved.{FindsRunning, FindsState, IsBegun, saved_octets}
+use Rattle.mon_station.specs.ReadEvent.{StartPoll, Timeout, FromAgent, FromPeer, Share, Save}
+use Rattle.mon_station.specs.Saved.{FindsRunning, FindsState, IsBegun}
 use Rattle.mon_station.specs.State.{State, IsHandled, setting_of}
 use Rattle.mon_station.specs.Taken.{Entry, Restart, Answered, Origin, Saved, at_place}
 use Rattle.mon_station.specs.Verdict.{Setting}
@@ -30,9 +30,9 @@ use Rattle.mon_world.specs.declared.sending.Datagram.{Datagram}
 use Rattle.mon_world.specs.declared.sending.Sent.{Sent}
 use Rattle.mon_world.specs.Fault.{refusal_in}
 use Rattle.mon_world.specs.Moves.{AreLives, MayBegin, MayFind, Move, letters_by, lives_of, sent_in}
-use Rattle.mon_world.specs.Outcome.{Does, DoesOr, Opens, StopsAndOpens, answers, begins}
+use Rattle.mon_world.specs.Outcome.{Does, DoesOr, Opens, StopsAndOpens, answers, life_begins}
 use Rattle.mon_world.specs.Places.{HasNumber, setting_at}
-use Rattle.mon_world.specs.Shows.{AreSent, AreShown, FindsOne, IsReplaced, LeadsTo, Shows, left_by, state_in}
+use Rattle.mon_world.specs.Shows.{AreSent, AreShown, FindsOne, IsReplaced, LeadsTo, Shows, disk_leaves, state_in}
 use Rattle.mon_world.proofs.Asked.{earlier_save, finds_running, handled_lived, its_disk, its_state, moved, this_save}
 use Rattle.mon_world.proofs.Letters.{own_lives}
 use Rattle.mon_world.proofs.Lives.{before, not_some, setting_is, some_same}
@@ -132,12 +132,12 @@ module _ {G : Ghosts MemoryDisk} (core : Core) (stations : List (Station MemoryD
       let w = setting_at core (length stations) (place + 1) in
       let s = state_in replaced.station in
       let state = its_state core stations past was place old replaced.station at in
-      let m : Move = begins (place + 1) (Saved one.later) w s in
+      let m : Move = life_begins (place + 1) (Saved one.later) w s in
       let shown : AreShown core (slice_set stations place replaced.station) (m ∷ past) =
       moved core stations past was place old replaced.station at (again w lives (was.are.lived (place + 1)) (was.are.lives (place + 1)) (state_in old) state one.later)
       (begin_lived w lives (was.are.lived (place + 1)) (was.are.lives (place + 1)) (state_in old) state file s replaced.begun one)
       (begin_lives w lives (was.are.lived (place + 1)) (was.are.lives (place + 1)) (state_in old) state one.later s one.may)
-      (found_first lives (Saved one.later) w s (left_by replaced.station) replaced.kept) in
+      (found_first lives (Saved one.later) w s (disk_leaves replaced.station) replaced.kept) in
       record {
         now = m ∷ past;
         shows = record {
@@ -148,7 +148,7 @@ module _ {G : Ghosts MemoryDisk} (core : Core) (stations : List (Station MemoryD
       }
 
   -- what an opening finds in what a crash leaves of its disk
-  pub found_there : (was : AreShown core stations past) (file : List ℕ) → left_by old file → FindsOne (lives_of (place + 1) past) file
+  pub found_there : (was : AreShown core stations past) (file : List ℕ) → disk_leaves old file → FindsOne (lives_of (place + 1) past) file
   found_there was file left = its_disk core stations past was place old old at file left
 
   -- the save that was stopped
@@ -171,11 +171,11 @@ module _ {G : Ghosts MemoryDisk} (core : Core) (stations : List (Station MemoryD
       (moved core stations past was place old old at (Answered Save (Some disk_fault)) (handled_lived core stations past was place old old at Save (Some disk_fault) handled) (tt, was.are.lives (place + 1))
       (λ c left. earlier_save lives (state_in old) (state_in old) (its_state core stations past was place old old at) disk_fault c (its_disk core stations past was place old old at c left)))
 
-  pub found_stopped : (was : AreShown core stations past) (file : List ℕ) → FindsRunning (left_by old) (state_in old) file → FindsOne (lives_of (place + 1) (save_move ∷ past)) file
+  pub found_stopped : (was : AreShown core stations past) (file : List ℕ) → FindsRunning (disk_leaves old) (state_in old) file → FindsOne (lives_of (place + 1) (save_move ∷ past)) file
   found_stopped was file found =
       let lives = lives_of (place + 1) past in
       let state = its_state core stations past was place old old at in
-      subst (λ l. FindsOne l file) (sym (own_lives save_move past)) (elim (finds_running lives (state_in old) (left_by old) (its_disk core stations past was place old old at) file found) [
+      subst (λ l. FindsOne l file) (sym (own_lives save_move past)) (elim (finds_running lives (state_in old) (disk_leaves old) (its_disk core stations past was place old old at) file found) [
         | inl before ↦ earlier_save lives (state_in old) (state_in old) state disk_fault file before
         | inr here ↦ this_save lives (state_in old) (state_in old) state (Some disk_fault) refl file here
       ])
@@ -185,7 +185,7 @@ module _ {G : Ghosts MemoryDisk} (core : Core) (stations : List (Station MemoryD
 
 -- a station that is opened after a stop
 pub opened_stopped : {G : Ghosts MemoryDisk} (core : Core) (stations : List (Station MemoryDisk G)) (past : List Move) (place : ℕ) (old : Station MemoryDisk G) (at : HasNumber stations (place + 1) old)
-    → AreShown core stations past → IsHandled Save (Some (station.Keeper keeper.DiskFault)) (state_in old) (state_in old) → (file : List ℕ) → FindsRunning (left_by old) (state_in old) file
+    → AreShown core stations past → IsHandled Save (Some (station.Keeper keeper.DiskFault)) (state_in old) (state_in old) → (file : List ℕ) → FindsRunning (disk_leaves old) (state_in old) file
     → (new : List (Station MemoryDisk G)) → IsReplaced core place (found_body file) stations new → (sent : List Datagram) → AreSent sent (sent_in past)
     → LeadsTo core new sent (λ now. StopsAndOpens (setting_at core (length stations)) (place + 1) None past now)
 opened_stopped core stations past place old at was handled file found new replaced sent letters =
@@ -202,7 +202,7 @@ module _ {G : Ghosts MemoryDisk} (core : Core) (stations new : List (Station Mem
       by None = refl
       by (Some f) = still f
 
-  pub restart_leads : (number : ℕ) → number ≡ place + 1 → (old : Station MemoryDisk G) → HasNumber stations (place + 1) old → (file : List ℕ) → left_by old file
+  pub restart_leads : (number : ℕ) → number ≡ place + 1 → (old : Station MemoryDisk G) → HasNumber stations (place + 1) old → (file : List ℕ) → disk_leaves old file
       → (result : Result Sent WorldFault) → OnOk result (IsReplaced core place (found_body file) stations new) → OnErr result (new ≡ stations)
       → LeadsTo core new sent (λ now. Does (Opens (setting_at core (length stations)) number) result past now)
   restart_leads number same old at file left result opened kept = subst (λ x. LeadsTo core new sent (λ now. Does (Opens (setting_at core (length stations)) x) result past now)) (sym same) (by result opened kept)
@@ -212,7 +212,7 @@ module _ {G : Ghosts MemoryDisk} (core : Core) (stations new : List (Station Mem
       by (Err f) rep k = stays (Opens (setting_at core (length stations)) (place + 1)) (λ g. refl) (refusal_in f) k
 
   pub stop_leads : (number : ℕ) → number ≡ place + 1 → (old : Station MemoryDisk G) → HasNumber stations (place + 1) old → IsHandled Save (Some (station.Keeper keeper.DiskFault)) (state_in old) (state_in old)
-      → (file : List ℕ) → FindsRunning (left_by old) (state_in old) file → (result : Result Sent WorldFault) → OnOk result (IsReplaced core place (found_body file) stations new) → OnErr result (new ≡ stations)
+      → (file : List ℕ) → FindsRunning (disk_leaves old) (state_in old) file → (result : Result Sent WorldFault) → OnOk result (IsReplaced core place (found_body file) stations new) → OnErr result (new ≡ stations)
       → LeadsTo core new sent (λ now. Does (StopsAndOpens (setting_at core (length stations)) number) result past now)
   stop_leads number same old at handled file found result opened kept = subst (λ x. LeadsTo core new sent (λ now. Does (StopsAndOpens (setting_at core (length stations)) x) result past now)) (sym same) (by result opened kept)
     where

@@ -1,5 +1,5 @@
 -- What stations do not owe each other was taken, and where they owe nothing they agree.
-use Rattle.std.proofs.Common.{ℕ, ◌≡◌, ◌≤◌, ◌<◌, ◌∙◌, inl, inr, Bool, true, false, List, ◌∷◌, ◌++◌, Option, Some, length, refl, sym, ap, subst}
+use Rattle.std.proofs.Common.{ℕ, ◌≡◌, ◌≤◌, ◌∙◌, inl, inr, Bool, List, ◌∷◌, ◌++◌, Option, Some, length, sym, subst}
 use Rattle.std.specs.Prelude.{◌≢◌, not}
 use Rattle.std.specs.FinSet as set
 use Rattle.std.proofs.lemmas.Bool.{cases_Bool, cases_lt}
@@ -10,8 +10,8 @@ use Rattle.mon_window.proofs.Promised.{to_retain}
 use Rattle.mon_board.specs.Board.{is_marked, window_of}
 use Rattle.mon_board.specs.Owed.{kept_marks, owed_in}
 use Rattle.mon_board.specs.Rules.{rule_of}
-use Rattle.mon_board.specs.Watch.{Watch, IsWatch}
-use Rattle.mon_board.specs.Windows.{Has, IsPartOf, KeepingRule, joined, window}
+use Rattle.mon_board.specs.Watch.{IsWatch}
+use Rattle.mon_board.specs.Windows.{IsPartOf, KeepingRule, joined, window}
 use Rattle.mon_board.specs.declared.instance.Instance.{Instance}
 use Rattle.mon_exchange.specs.Debts.{Heard, TellsDebts, WereTaken, is_owed}
 use Rattle.mon_exchange.specs.Peers.{is_claimed, latest, marked_by, noted_as}
@@ -21,7 +21,7 @@ use Rattle.mon_settings.specs.StationCore.{Core}
 use Rattle.mon_station.specs.Lived.{IsLived, entries_of, last_state}
 use Rattle.mon_station.specs.State.{State, known_of, owed_count, owed_to, setting_of}
 use Rattle.mon_station.specs.Taken.{Entry, taken}
-use Rattle.mon_station.specs.Verdict.{Setting, slot_of}
+use Rattle.mon_station.specs.Verdict.{slot_of}
 use Rattle.mon_world.specs.Debts.{heard_in, owed_by}
 use Rattle.mon_world.specs.Moves.{AreMoves, AreUnforged, Move, lives_of}
 use Rattle.mon_world.specs.Places.{setting_at}

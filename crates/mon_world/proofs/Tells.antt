@@ -1,31 +1,28 @@
 -- A station's marks tell what the claims that it accepted in its present life have said.
-use Rattle.std.proofs.Common.{ℕ, zero, suc, ◌≡◌, ◌<◌, ◌+◌, ◌∙◌, inl, inr, ⊎_elim, Bool, true, false, List, [], ◌∷◌, ◌++◌, Option, Some, None, Ok, Err, refl, sym, ap, subst, arith}
+use Rattle.std.proofs.Common.{ℕ, ◌≡◌, ◌∙◌, inl, inr, Bool, true, false, List, [], ◌∷◌, ◌++◌, Option, Some, None, Ok, Err, refl, sym, ap, subst}
 use Rattle.std.specs.Prelude.{◌==◌, ◌≢◌, ◌&&◌, if◌then◌else◌}
 use Rattle.std.specs.FinSet as set
-use Rattle.std.specs.List.{AllByRecursion, position}
 use Rattle.std.specs.Ordering.{nat_cmp}
 use Rattle.std.proofs.lemmas.Bool.{cases_Bool, eq-eqb, eqb-true, ne_eqb}
 use Rattle.std.proofs.lemmas.List.Quantifiers.{position-Some}
 use Rattle.mon_window.specs.Window.{Samples, In}
 use Rattle.mon_window.proofs.Promised.{chosen_none, from_list-append, in_left, in_right}
 use Rattle.mon_board.specs.Board.{is_marked, window_of}
-use Rattle.mon_board.specs.Owed.{kept_marks, owed_in}
+use Rattle.mon_board.specs.Owed.{kept_marks}
 use Rattle.mon_board.specs.Rules.{rule_of}
-use Rattle.mon_board.specs.Watch.{Watch}
 use Rattle.mon_board.specs.Windows.{Has, IsPartOf, KeepingRule, joined, paired, samples_of, set_of, window}
 use Rattle.mon_exchange.specs.declared.noted.Noted.{Noted}
 use Rattle.mon_exchange.specs.Debts.{Heard, TellsDebts, WereTaken, said_of}
 use Rattle.mon_exchange.specs.Peers.{is_claimed, latest, marked_by, noted_as}
-use Rattle.mon_exchange.specs.Peers as exchange
 use Rattle.mon_saved.specs.Restored.{saved_pairs}
 use Rattle.mon_station.specs.declared.fault.StationFault.{StationFault}
-use Rattle.mon_station.specs.Lived.{BeginsFrom, HandledIn, IsLived, Reopens, last_state, saved_states}
+use Rattle.mon_station.specs.Lived.{BeginsFrom, IsLived, Reopens, last_state, saved_states}
 use Rattle.mon_station.specs.ReadEvent.{ReadEvent, StartPoll, Timeout, FromAgent, FromPeer, Share, Save, Said}
 use Rattle.mon_station.specs.Saved.{IsBegun, saved_octets}
 use Rattle.mon_station.specs.State.{State, IsAfter, IsHandled, known_after, known_of, marks_after, marks_by, setting_of}
 use Rattle.mon_station.specs.Taken.{Entry, Restart, Answered, Origin, Nothing, Saved, Other, at_place}
 use Rattle.mon_station.specs.Verdict.{Setting, added, claim_fault, slot_of}
-use Rattle.mon_world.specs.Debts.{heard_as, heard_by, heard_in}
+use Rattle.mon_world.specs.Debts.{heard_of_claim, heard_by, heard_in}
 use Rattle.mon_world.specs.Moves.{AreLives}
 use Rattle.mon_world.proofs.Lives.{before, not_some, setting_is, some_same}
 use Rattle.mon_world.proofs.Offers.{all_map, has_paired}
@@ -211,8 +208,8 @@ module _ (taking : (rule : KeepingRule) (y : ℕ) (old new : List (ℕ × ℕ)) 
                 (noting_other y (window rule pairs_then) claims (known_of o y) (kept_marks (window rule was.pairs) (window rule pairs_then) (is_marked o.board slot)) c not (kept_then (FromPeer (Ok said)) None h.after));
           }
 
-      claimed : Knows s (heard_as said.claim said.number ++ claims)
-      claimed = subst (λ m. Knows s (heard_as said.claim m ++ claims)) (sym number) (elim (cases_Bool (said.claim.station == y)) [
+      claimed : Knows s (heard_of_claim said.claim said.number ++ claims)
+      claimed = subst (λ m. Knows s (heard_of_claim said.claim m ++ claims)) (sym number) (elim (cases_Bool (said.claim.station == y)) [
         | inl is ↦ own (eqb-true said.claim.station y is)
         | inr not ↦ other (λ e. let test : (said.claim.station == y) ≡ true = eq-eqb said.claim.station y e in cc)
       ])

@@ -14,13 +14,13 @@ use Rattle.mon_window.specs.Window.{Samples}
 use Rattle.mon_world.specs.Moves.{Move, lives_of}
 
 -- what a claim of the instance of this number says
-abbrev pub heard_as : Claim → Option ℕ → List Heard
-heard_as c None = []
-heard_as c (Some i) = record { station = c.station; incarnation = c.incarnation; instance = i; samples = c.samples } ∷ []
+abbrev pub heard_of_claim : Claim → Option ℕ → List Heard
+heard_of_claim c None = []
+heard_of_claim c (Some i) = record { station = c.station; incarnation = c.incarnation; instance = i; samples = c.samples } ∷ []
 
 -- what is heard by an event with this answer: an accepted claim
 abbrev pub heard_by : ReadEvent → Option StationFault → List Heard
-heard_by (FromPeer (Ok said)) None = heard_as said.claim said.number
+heard_by (FromPeer (Ok said)) None = heard_of_claim said.claim said.number
 heard_by e answer = []
 
 -- what the claims that a station accepted in its present life said, the newest first

@@ -1,5 +1,5 @@
 -- What a step of a world does: the moves that it adds.
-use Rattle.std.specs.Prelude.{ℕ, ◌≡◌, ◌+◌, ◌-◌, nat_lt, ◌&&◌, if◌then◌else◌, List, [], ◌∷◌, Option, Some, None, Result, Ok, Err, All, ◌<◌, ◌≤◌, length}
+use Rattle.std.specs.Prelude.{ℕ, ◌≡◌, ◌+◌, ◌-◌, nat_lt, ◌&&◌, if◌then◌else◌, List, [], ◌∷◌, Option, Some, None, Result, Ok, Err, All, length}
 use Rattle.mon_disk.specs.declared.fault.KeeperFault.TheVariants as keeper
 use Rattle.mon_exchange.specs.Claim.{claim_octets}
 use Rattle.mon_poller.specs.declared.addr.Addr.{Addr}
@@ -27,13 +27,13 @@ abbrev pub answers : ℕ → ReadEvent → Option StationFault → State → Mov
 answers x e answer s = record { station = x; entry = Answered e answer; after = s }
 
 -- station x began a life of this setting from there, which is now so
-abbrev pub begins : ℕ → Origin → Setting → State → Move
-begins x origin w s = record { station = x; entry = Restart origin w; after = s }
+abbrev pub life_begins : ℕ → Origin → Setting → State → Move
+life_begins x origin w s = record { station = x; entry = Restart origin w; after = s }
 
 -- the first lives of stations, from this number on
 abbrev pub first_lives : (ℕ → Setting) → ℕ → List State → List Move
 first_lives settings x [] = []
-first_lives settings x (s ∷ states) = begins x Nothing (settings x) s ∷ first_lives settings (x + 1) states
+first_lives settings x (s ∷ states) = life_begins x Nothing (settings x) s ∷ first_lives settings (x + 1) states
 
 -- ---- what is handed to stations
 -- the number by which a station knows the target of this number, counted from 1; there is none of number 65535
@@ -54,7 +54,7 @@ pub record Hands (w : Setting) (x : ℕ) (event : OwnedEvent) (answer : Option S
 
 -- station x is opened again: a new life begins, or the station runs on as it was
 abbrev pub Opens : (settings : ℕ → Setting) → ℕ → Option StationFault → List Move → List Move → Type 0
-Opens settings x None past now = (origin : Origin) × (s : State) × (now ≡ begins x origin (settings x) s ∷ past)
+Opens settings x None past now = (origin : Origin) × (s : State) × (now ≡ life_begins x origin (settings x) s ∷ past)
 Opens settings x (Some f) past now = now ≡ past
 
 -- station x stops within a save, which met the disk's fault, and is opened again; or it runs on as it was
@@ -102,11 +102,11 @@ IsUnforged (step.Forge s octets) = ⊥
 IsUnforged step = Unit {0}
 
 -- what a step with this result does
-abbrev pub IsOutcome : (ℕ → Setting) → Step → Result Sent WorldFault → List Move → List Move → Type 0
-IsOutcome settings step result past now = Does (Makes settings step) result past now
+abbrev pub IsStepOutcome : (ℕ → Setting) → Step → Result Sent WorldFault → List Move → List Move → Type 0
+IsStepOutcome settings step result past now = Does (Makes settings step) result past now
 
 -- what steps with these results do, the first first
-abbrev pub AreOutcomes : (ℕ → Setting) → List Step → List (Result Sent WorldFault) → List Move → List Move → Type 0
-AreOutcomes settings [] [] past now = now ≡ past
-AreOutcomes settings (s ∷ steps) (r ∷ results) past now = (middle : List Move) × IsOutcome settings s r past middle × AreOutcomes settings steps results middle now
-AreOutcomes settings steps results past now = ⊥
+abbrev pub AreStepOutcomes : (ℕ → Setting) → List Step → List (Result Sent WorldFault) → List Move → List Move → Type 0
+AreStepOutcomes settings [] [] past now = now ≡ past
+AreStepOutcomes settings (s ∷ steps) (r ∷ results) past now = (middle : List Move) × IsStepOutcome settings s r past middle × AreStepOutcomes settings steps results middle now
+AreStepOutcomes settings steps results past now = ⊥

@@ -1,18 +1,24 @@
 //! Laws of worlds. Each is a function that does nothing; its clauses are the law.
 
-ghost use Rattle.std.specs.Prelude.{◌≡◌, ℕ, List, Some};
+ghost use Rattle.std.specs.Prelude.{◌≡◌, ℕ, List, Result, Some, map};
+ghost use Rattle.std.specs.List.{AllByRecursion};
 ghost use Rattle.mon_board.specs.Board.{window_of};
 ghost use Rattle.mon_board.specs.Watch.{IsWatch};
 ghost use Rattle.mon_board.specs.Windows.{Has};
+ghost use Rattle.mon_exchange.specs.Claim.{IsClaim};
 ghost use Rattle.mon_report.specs.Report.{report};
 ghost use Rattle.mon_settings.specs.StationCore.{Core};
 ghost use Rattle.mon_station.specs.Lived.{entries_of, last_state};
 ghost use Rattle.mon_station.specs.State.{State, known_of, owed_count, owed_to, setting_of};
 ghost use Rattle.mon_station.specs.Taken as lives;
-ghost use Rattle.mon_station.specs.Verdict.{slot_of};
+ghost use Rattle.mon_station.specs.Verdict.{Setting, slot_of};
 ghost use Rattle.mon_window.specs.Window.{In};
 ghost use Rattle.mon_world.specs.Debts.{offered_in, owed_by};
-ghost use Rattle.mon_world.specs.Moves.{AreMoves, AreUnforged, Move, lives_of};
+ghost use Rattle.mon_world.specs.declared.fault.WorldFault.{WorldFault};
+ghost use Rattle.mon_world.specs.declared.sending.Sent.{Sent};
+ghost use Rattle.mon_world.specs.declared.step.Step.{Step};
+ghost use Rattle.mon_world.specs.Moves.{AreMoves, AreUnforged, Move, lives_of, sent_in};
+ghost use Rattle.mon_world.specs.Outcome.{AreStepOutcomes, IsUnforged, first_lives};
 ghost use Rattle.mon_world.specs.Places.{setting_at};
 
 /// Over all moves of a world in which no claim was forged, restarts and stops among them: what a station does not owe a peer whose
@@ -42,4 +48,14 @@ pub fn debts()
     mon_window::laws::bound();
     mon_window::laws::rising_list();
     mon_saved::laws::one_image();
+}
+
+/// Where no step forges a claim, every claim that was accepted had been sent: of the first lives of stations, and over steps with their
+/// results, if what was sent are claims, as of every world.
+pub fn unforged()
+    ensures first { (settings : ℕ → Setting) (x : ℕ) (states : List State) → AreUnforged (first_lives settings x states) }
+    ensures steps { (settings : ℕ → Setting) (steps : List Step) (results : List (Result Sent WorldFault)) (past now : List Move) → AllByRecursion IsUnforged steps
+        → AllByRecursion IsClaim (map (λ l. l.claim) (sent_in now)) → AreStepOutcomes settings steps results past now → AreUnforged past → AreUnforged now }
+{
+    mon_exchange::laws::one_spelling();
 }

@@ -6,7 +6,7 @@ ghost use Rattle.mon_disk.specs.Memory.{memory_octets, memory_leaves};
 ghost use Rattle.mon_station.specs.ReadEvent.{Save};
 ghost use Rattle.mon_station.specs.Saved.{FindsRunning};
 ghost use Rattle.mon_station.specs.State.{IsHandled};
-ghost use Rattle.mon_world.specs.Shows.{left_by, state_in};
+ghost use Rattle.mon_world.specs.Shows.{disk_leaves, state_in};
 
 use mon_disk::{FuseDisk, Keeper, KeeperFault, MemoryDisk, NotOpened};
 use mon_saved::write_image;
@@ -21,7 +21,7 @@ pub(crate) fn stopped(
     calls: u8,
     keep: bool,
 ) -> Result<MemoryDisk, StationFault>
-    ensures found { IfOk result (λ left. FindsRunning (left_by station.now) (state_in station.now) (memory_octets left)) }
+    ensures found { IfOk result (λ left. FindsRunning (disk_leaves station.now) (state_in station.now) (memory_octets left)) }
     ensures crash { IfOk result (λ left. Only (memory_octets left) (memory_leaves left)) }
 {
     let image = write_image(alloc, station.board(), station.incarnation())?;

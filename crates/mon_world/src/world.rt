@@ -6,13 +6,14 @@ ghost use Rattle.mon_disk.specs.Memory.{memory_octets};
 ghost use Rattle.mon_settings.specs.StationCore.{Core as AnyCore};
 ghost use Rattle.mon_station.specs.ReadEvent.{owned};
 ghost use Rattle.mon_world.specs.Fault.{IsCause, IsDeliveryCause, IsStationCause, IsStopCause, IsThere, refusal_in};
-ghost use Rattle.mon_world.specs.Moves.{Move};
-ghost use Rattle.mon_world.specs.Outcome.{AreOutcomes, Delivers, Does, Hands, Hears, IsOutcome, Opens, StopsAndOpens, first_lives, target_number};
+ghost use Rattle.mon_world.specs.Moves.{AreUnforged, Move};
+ghost use Rattle.mon_world.specs.Outcome.{AreStepOutcomes, Delivers, Does, Hands, Hears, IsStepOutcome, Opens, StopsAndOpens, first_lives, target_number};
 ghost use Rattle.mon_world.specs.Places.{HasNumber, IsNoCount, IsNoNumberTo, IsNumberTo, setting_at};
 ghost use Rattle.mon_world.specs.Sending.{to_peers};
-ghost use Rattle.mon_world.specs.Shows.{AreShown, IsAsked, IsRefused, IsReplaced, LeadsTo, Shows, state_in};
+ghost use Rattle.mon_world.specs.Shows.{AreShown, DebtsAreTrue, IsStationAsked, IsStationRefused, IsReplaced, LeadsTo, Shows, state_in};
 
 use crate::fault::WorldFault;
+use crate::laws;
 use crate::opening::{core_at, open_all};
 use crate::sending::{Datagram, Sent, append};
 use crate::speaker::speaker;
@@ -76,6 +77,15 @@ impl World {
             Ok(place) => Some(&self.stations[place]),
             Err(_) => None,
         }
+    }
+
+    /// What stations say of their debts is true in every world to which moves led in which no claim was forged; restarts and stops may be
+    /// among them. It does nothing.
+    pub fn debts(&self)
+        ensures { (moves : List Move) → Shows self.now.core self.now.stations.items self.now.sent.items moves → AreUnforged moves → DebtsAreTrue self.now.stations.items moves }
+    {
+        laws::debts();
+        let _ = self.core.watch();
     }
 
     /// The place of the station of this number.
@@ -231,7 +241,7 @@ impl World {
     pub fn step(&mut self, step: Step<'_>) -> Result<Sent, WorldFault>
         // Whatever moves led here, the step adds its own: what the station does about its event.
         ensures outcome { (past : List Move) → Shows self.old.core self.old.stations.items self.old.sent.items past
-            → LeadsTo self.new.core self.new.stations.items self.new.sent.items (λ now. IsOutcome (setting_at self.old.core (length self.old.stations.items)) step.entry result past now) }
+            → LeadsTo self.new.core self.new.stations.items self.new.sent.items (λ now. IsStepOutcome (setting_at self.old.core (length self.old.stations.items)) step.entry result past now) }
         // Each fault has its cause, and what a step names is there where it has none.
         ensures there { OnOk result (IsThere (length self.old.stations.items) (length self.old.sent.items) step.entry) }
         ensures cause { (past : List Move) → Shows self.old.core self.old.stations.items self.old.sent.items past → IfErr result (IsCause (length self.old.stations.items) (length self.old.sent.items) step.entry) }
@@ -262,7 +272,7 @@ impl World {
     /// `OutOfMemory` where there is no room for the results: no step was made.
     pub fn run(&mut self, steps: &[Step<'_>]) -> Result<Vec<Result<Sent, WorldFault>>, WorldFault>
         ensures outcomes { IfOk result (λ results. (past : List Move) → Shows self.old.core self.old.stations.items self.old.sent.items past
-            → LeadsTo self.new.core self.new.stations.items self.new.sent.items (λ now. AreOutcomes (setting_at self.old.core (length self.old.stations.items)) steps.now results.items past now)) }
+            → LeadsTo self.new.core self.new.stations.items self.new.sent.items (λ now. AreStepOutcomes (setting_at self.old.core (length self.old.stations.items)) steps.now results.items past now)) }
         ensures count { IfOk result (λ results. length results.items ≡ length steps.now) }
         ensures fault { IfErr result (λ fault. fault ≡ WorldFault.OutOfMemory) }
         ensures same_stations { OnErr result (self.new.stations ≡ self.old.stations) }
@@ -287,8 +297,8 @@ fn ask(
     event: Event<'_>,
 ) -> Result<Told, WorldFault>
     requires { place < length stations.old.items }
-    ensures told { IfOk result (λ told. (core : AnyCore) (past : List Move) → AreShown core stations.old.items past → IsAsked core (place + 1) (owned event.entry) None (to_peers told.sends.items) past stations.new.items) }
-    ensures refused { IfErr result (λ fault. (core : AnyCore) (past : List Move) → AreShown core stations.old.items past → IsRefused core (place + 1) (owned event.entry) (refusal_in fault) past stations.new.items) }
+    ensures told { IfOk result (λ told. (core : AnyCore) (past : List Move) → AreShown core stations.old.items past → IsStationAsked core (place + 1) (owned event.entry) None (to_peers told.sends.items) past stations.new.items) }
+    ensures refused { IfErr result (λ fault. (core : AnyCore) (past : List Move) → AreShown core stations.old.items past → IsStationRefused core (place + 1) (owned event.entry) (refusal_in fault) past stations.new.items) }
     ensures few { IfOk result (λ told. length told.sends.items ≤ 512) }
     ensures cause { IfErr result (IsStationCause (length stations.old.items) (place + 1)) }
     ensures count { length stations.new.items ≡ length stations.old.items }

@@ -1,5 +1,4 @@
 use Rattle.std.proofs.Common.{◌≡◌, ◌∙◌, ap, sym, subst}
-use Rattle.mon_board.specs.Board.{window_of}
 use Rattle.mon_board.specs.Rules.{rule_of}
 use Rattle.mon_report.specs.Report.{report}
 use Rattle.mon_station.specs.Lived.{entries_of}

@@ -1,4 +1,4 @@
-use Rattle.std.proofs.Common.{◌≡◌, ◌≤◌, ◌<◌, ◌+◌, ◌++◌, ◌∷◌, [], List, length, inl, inr, sym, subst, ap, ◌∙◌, arith, length-append}
+use Rattle.std.proofs.Common.{◌≡◌, ◌++◌, ◌∷◌, [], length, inl, inr, sym, subst, ap, ◌∙◌, arith, length-append}
 use Rattle.mon_world.specs.Places.{HasNumber}
 use Rattle.mon_world.specs.Shows.{IsFirst}
 use Rattle.mon_world.proofs.Stations.{number_push}

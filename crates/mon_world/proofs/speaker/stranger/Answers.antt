@@ -1,4 +1,4 @@
-use Rattle.std.proofs.Common.{rules, ◌≡◌, ◌<◌, ◌≤◌, ℕ, true, inl, inr, Any, sym, subst, arith}
+use Rattle.std.proofs.Common.{rules, ◌≡◌, true, inl, inr, Any, subst, arith}
 use Rattle.std.proofs.lemmas.Bool.{cases_lt}
 use Rattle.mon_world.proofs.Strangers.{one_free, stranger_at}
 use Rattle.mon_world.proofs.speaker.stranger.Goals as goal

@@ -1,15 +1,11 @@
-use Rattle.std.proofs.Common.{◌≡◌, ◌⊎◌, inl, inr, Some, List, ℕ, sym, ◌∙◌, ap, subst}
-use Rattle.mon_board.specs.Instance.{instances_of}
+use Rattle.std.proofs.Common.{◌⊎◌, inl, inr, Some, List, ℕ, ◌∙◌, ap, subst}
 use Rattle.mon_disk.specs.Disk.{Leaves}
 use Rattle.mon_disk.specs.Keeper.{FindsAs, FindsBody}
 use Rattle.mon_disk.specs.Kept.{device_of}
 use Rattle.mon_disk.specs.Memory.{memory_leaves, memory_octets}
 use Rattle.mon_disk.specs.Wrapped.{under_fuse}
 use Rattle.mon_disk.proofs.Promised.{as_before}
-use Rattle.mon_saved.specs.Image.{SpellsImage}
-use Rattle.mon_saved.specs.Written.{image_of}
-use Rattle.mon_station.specs.Saved.{saved_octets}
-use Rattle.mon_world.specs.Shows.{left_by, state_in}
+use Rattle.mon_world.specs.Shows.{state_in}
 use Rattle.mon_world.proofs.Fused.{finds_written, fuse_end}
 use Rattle.mon_world.proofs.stop.stopped.Goals as goal
 

@@ -1,9 +1,5 @@
-use Rattle.std.proofs.Common.{◌≡◌, rules, arith, ◌+◌, ◌<◌, ◌≤◌, List, length, vec_len, Some, Err, sym, subst, ap, ◌∙◌}
-use Rattle.std.specs.Prelude.{slice_get}
-use Rattle.mon_station.specs.declared.fault.StationFault.{StationFault}
+use Rattle.std.proofs.Common.{◌+◌, Err, ap, ◌∙◌}
 use Rattle.mon_world.specs.Places.{HasNumber}
-use Rattle.mon_world.specs.Shows.{AreShown, IsRefused}
-use Rattle.mon_world.specs.Fault.{refusal_in}
 use Rattle.mon_world.proofs.Asked.{asked_err, asked_ok, refused_as, torn, unmoved}
 use Rattle.mon_world.proofs.Stations.{get_at, number_at}
 use Rattle.mon_world.proofs.Results.{err_is}

@@ -1,17 +1,13 @@
-use Rattle.std.proofs.Common.{ℕ, ◌≡◌, ◌≤◌, ◌<◌, ◌+◌, ◌++◌, inl, inr, List, Some, Ok, length, sym, ap, subst, ◌∙◌, arith}
+use Rattle.std.proofs.Common.{◌≡◌, ◌++◌, List, Some, Ok, length, sym, ap, subst, ◌∙◌}
 use Rattle.std.specs.Prelude.{slice_get}
-use Rattle.mon_exchange.specs.Claim.{claim_octets}
 use Rattle.mon_station.specs.declared.event.OwnedEvent.TheVariants as own
 use Rattle.mon_world.specs.declared.sending.Datagram.{Datagram}
-use Rattle.mon_world.specs.declared.fault.WorldFault.{WorldFault}
-use Rattle.mon_world.specs.Fault.{IsDeliveryCause, IsStationCause}
 use Rattle.mon_world.specs.Outcome.{Delivers, Hands}
 use Rattle.mon_world.specs.Places.{IsNumberTo, setting_at}
 use Rattle.mon_world.specs.Sending.{to_peers}
 use Rattle.mon_world.proofs.Addressed.{as_delivery, letter_addressed, letter_of, not_there}
 use Rattle.mon_world.proofs.Leading.{leads_as, leads_err, leads_ok, leads_refused}
 use Rattle.mon_world.proofs.Lives.{some_same}
-use Rattle.mon_world.proofs.Results.{err_is}
 use Rattle.mon_world.proofs.Stations.{get_at}
 use Rattle.mon_world.proofs.world.World.deliver.Goals as goal
 

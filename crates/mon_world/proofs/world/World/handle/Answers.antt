@@ -1,4 +1,4 @@
-use Rattle.std.proofs.Common.{◌≡◌, ◌++◌, List, ap, ◌∙◌}
+use Rattle.std.proofs.Common.{◌++◌, List, ap, ◌∙◌}
 use Rattle.mon_station.specs.ReadEvent.{owned}
 use Rattle.mon_world.specs.Sending.{to_peers}
 use Rattle.mon_world.specs.declared.sending.Datagram.{Datagram}

@@ -1,8 +1,3 @@
-use Rattle.std.proofs.Common.{◌≡◌, List, length, map, sym, subst, ap}
-use Rattle.mon_settings.specs.StationCore.{Core}
-use Rattle.mon_world.specs.Outcome.{first_lives}
-use Rattle.mon_world.specs.Places.{setting_at}
-use Rattle.mon_world.specs.Shows.{Shows, state_in}
 use Rattle.mon_world.proofs.First.{first_shown}
 use Rattle.mon_world.proofs.world.World.new.Goals as goal
 

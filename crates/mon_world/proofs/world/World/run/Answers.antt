@@ -1,11 +1,10 @@
-use Rattle.std.proofs.Common.{ℕ, ◌≡◌, ◌+◌, ◌++◌, ◌∷◌, [], List, length, take, get_or, ◌∙◌, ap, subst, arith, length-append}
+use Rattle.std.proofs.Common.{◌≡◌, ◌+◌, ◌++◌, ◌∷◌, [], List, length, take, get_or, ◌∙◌, ap, subst, arith, length-append}
 use Rattle.std.proofs.lemmas.List.{take_all, take_more}
 use Rattle.std.specs.Prelude.{Result}
-use Rattle.mon_settings.specs.StationCore.{Core}
 use Rattle.mon_world.specs.declared.fault.WorldFault.{WorldFault}
 use Rattle.mon_world.specs.declared.sending.Sent.{Sent}
 use Rattle.mon_world.specs.declared.step.Step.TheVariants as step
-use Rattle.mon_world.specs.Outcome.{AreOutcomes}
+use Rattle.mon_world.specs.Outcome.{AreStepOutcomes}
 use Rattle.mon_world.specs.Places.{setting_at}
 use Rattle.mon_world.specs.Shows.{LeadsTo}
 use Rattle.mon_world.proofs.Outcomes.{outcomes_step}
@@ -33,4 +32,4 @@ pub returns-clause-outcomes : goal.returns-clause-outcomes
 returns-clause-outcomes c past was =
     let all : take c.loop-step.step-index c.args.steps.now ≡ c.args.steps.now = take_all c.loop-step.step-index c.args.steps.now c.loop-step-test.false in
     subst (λ l. LeadsTo c.loop-step.self.core c.loop-step.self.stations.items c.loop-step.self.sent.items
-    (λ now. AreOutcomes (setting_at c.args.self.now.core (length c.args.self.now.stations.items)) l c.loop-step.results.items past now)) all (c.loop-step.invariant.outcomes past was)
+    (λ now. AreStepOutcomes (setting_at c.args.self.now.core (length c.args.self.now.stations.items)) l c.loop-step.results.items past now)) all (c.loop-step.invariant.outcomes past was)

@@ -1,4 +1,4 @@
-use Rattle.std.proofs.Common.{◌≡◌, List, length, subst}
+use Rattle.std.proofs.Common.{length, subst}
 use Rattle.mon_station.specs.declared.event.OwnedEvent.TheVariants as event
 use Rattle.mon_world.specs.declared.step.Step.TheVariants as step
 use Rattle.mon_world.specs.Outcome.{Does, Hands}

@@ -1,13 +1,8 @@
-use Rattle.std.proofs.Common.{◌≡◌, ◌<◌, ◌+◌, List, Some, length, sym, subst, ap, ◌∙◌}
+use Rattle.std.proofs.Common.{◌≡◌, Some, sym, subst, ◌∙◌}
 use Rattle.std.specs.Prelude.{slice_get}
-use Rattle.mon_disk.specs.declared.fault.KeeperFault.TheVariants as keeper
 use Rattle.mon_disk.specs.Memory.{memory_octets}
-use Rattle.mon_station.specs.declared.fault.StationFault.TheVariants as station
-use Rattle.mon_station.specs.ReadEvent.{Save}
 use Rattle.mon_station.specs.Saved.{FindsRunning}
-use Rattle.mon_station.specs.State.{IsHandled}
-use Rattle.mon_world.specs.Places.{HasNumber}
-use Rattle.mon_world.specs.Shows.{left_by, state_in}
+use Rattle.mon_world.specs.Shows.{disk_leaves, state_in}
 use Rattle.mon_world.proofs.Leading.{leads_same}
 use Rattle.mon_world.proofs.Lives.{some_same}
 use Rattle.mon_world.proofs.Reopened.{stop_leads}
@@ -25,5 +20,5 @@ returns-clause-outcome c past was =
     leads_same self.core c.reopen.new.self.core c.reopen.new.self.stations.items self.sent.items c.reopen.new.self.sent.items _ c.reopen.ensures.core c.reopen.ensures.sent
     (stop_leads self.core self.stations.items c.reopen.new.self.stations.items past place self.sent.items was c.args.number c.in_ok-place.ensures.place old (number_at self.stations.items place old here)
     c.unsaved.ensures (memory_octets c.in_ok-disk.disk)
-    (subst (λ s. FindsRunning (left_by s) (state_in s) (memory_octets c.in_ok-disk.disk)) same c.in_ok-disk.ensures.found)
+    (subst (λ s. FindsRunning (disk_leaves s) (state_in s) (memory_octets c.in_ok-disk.disk)) same c.in_ok-disk.ensures.found)
     c.reopen.result c.reopen.ensures.opened c.reopen.ensures.refused)
