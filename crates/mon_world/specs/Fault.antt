@@ -1,0 +1,83 @@
+-- The faults of a world, and why a step has one.
+use Rattle.std.specs.Prelude.{ℕ, List, codes, ◌≤◌, ◌<◌, Option, Some, None}
+use Rattle.mon_station.specs.declared.fault.StationFault.{StationFault}
+use Rattle.mon_station.specs.declared.fault.StationFault.TheVariants as station
+use Rattle.mon_world.specs.declared.fault.WorldFault.{WorldFault}
+use Rattle.mon_world.specs.declared.fault.WorldFault.TheVariants.{OutOfMemory, NoSuchStation, NoSuchDatagram, Refused, BadCount, BadStop}
+use Rattle.mon_world.specs.declared.step.Step.{Step}
+use Rattle.mon_world.specs.declared.step.Step.TheVariants as step
+use Rattle.mon_world.specs.Places.{IsNumberTo, IsNoNumberTo}
+
+-- the number of a fault
+abbrev pub number_of : WorldFault → ℕ
+number_of OutOfMemory = 1
+number_of NoSuchStation = 2
+number_of NoSuchDatagram = 3
+number_of (Refused f) = 4
+number_of BadCount = 5
+number_of BadStop = 6
+
+-- the name of a fault
+abbrev pub name_of : WorldFault → List ℕ
+name_of OutOfMemory = codes "OutOfMemory"
+name_of NoSuchStation = codes "NoSuchStation"
+name_of NoSuchDatagram = codes "NoSuchDatagram"
+name_of (Refused f) = codes "Refused"
+name_of BadCount = codes "BadCount"
+name_of BadStop = codes "BadStop"
+
+-- a station's fault as the world's: its want of memory is the world's own
+abbrev pub station_refusal : StationFault → WorldFault
+station_refusal station.OutOfMemory = OutOfMemory
+station_refusal f = Refused f
+
+-- the fault with which a station refused, where it was a station
+abbrev pub refusal_in : WorldFault → Option StationFault
+refusal_in (Refused f) = Some f
+refusal_in f = None
+
+-- what a step names is there, of so many stations and datagrams
+abbrev pub IsThere : (stations datagrams : ℕ) → Step → Type 0
+IsThere n m (step.StartPoll s t) = IsNumberTo n s
+IsThere n m (step.AgentSays s t octets) = IsNumberTo n s
+IsThere n m (step.Timeout s id) = IsNumberTo n s
+IsThere n m (step.Share s peer) = IsNumberTo n s
+IsThere n m (step.Deliver d) = IsNumberTo m d
+IsThere n m (step.Save s) = IsNumberTo n s
+IsThere n m (step.Restart s) = IsNumberTo n s
+IsThere n m (step.Forge s octets) = IsNumberTo n s
+IsThere n m (step.Stop s calls keep) = IsNumberTo n s × (calls ≤ 6)
+
+-- why an event at the station of this number has a fault
+abbrev pub IsStationCause : ℕ → ℕ → WorldFault → Type 0
+IsStationCause n s OutOfMemory = Unit {0}
+IsStationCause n s NoSuchStation = IsNoNumberTo n s
+IsStationCause n s (Refused f) = IsNumberTo n s
+IsStationCause n s f = ⊥
+
+-- why the delivery of the datagram of this number has a fault
+abbrev pub IsDeliveryCause : ℕ → ℕ → WorldFault → Type 0
+IsDeliveryCause m d OutOfMemory = Unit {0}
+IsDeliveryCause m d NoSuchDatagram = IsNoNumberTo m d
+IsDeliveryCause m d (Refused f) = IsNumberTo m d
+IsDeliveryCause m d f = ⊥
+
+-- why a stop of the station of this number has a fault
+abbrev pub IsStopCause : ℕ → ℕ → ℕ → WorldFault → Type 0
+IsStopCause n s calls OutOfMemory = Unit {0}
+IsStopCause n s calls NoSuchStation = IsNoNumberTo n s
+IsStopCause n s calls (Refused f) = IsNumberTo n s × (calls ≤ 6)
+IsStopCause n s calls BadStop = IsNumberTo n s × (6 < calls)
+IsStopCause n s calls f = ⊥
+
+-- why a step has a fault, of so many stations and datagrams
+abbrev pub IsCause : (stations datagrams : ℕ) → Step → WorldFault → Type 0
+IsCause n m (step.StartPoll s t) f = IsStationCause n s f
+IsCause n m (step.AgentSays s t octets) f = IsStationCause n s f
+IsCause n m (step.Timeout s id) f = IsStationCause n s f
+IsCause n m (step.Share s peer) f = IsStationCause n s f
+IsCause n m (step.Deliver d) f = IsDeliveryCause m d f
+IsCause n m (step.Save s) f = IsStationCause n s f
+IsCause n m (step.Restart s) f = IsStationCause n s f
+IsCause n m (step.Forge s octets) f = IsStationCause n s f
+IsCause n m (step.Stop s calls keep) f = IsStopCause n s calls f

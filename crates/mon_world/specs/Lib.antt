@@ -1,0 +1,7 @@
+pub mod Debts
+pub mod Fault
+pub mod Moves
+pub mod Outcome
+pub mod Places
+pub mod Sending
+pub mod Shows

@@ -1,0 +1,112 @@
+-- What a step of a world does: the moves that it adds.
+use Rattle.std.specs.Prelude.{ℕ, ◌≡◌, ◌+◌, ◌-◌, nat_lt, ◌&&◌, if◌then◌else◌, List, [], ◌∷◌, Option, Some, None, Result, Ok, Err, All, length}
+use Rattle.mon_disk.specs.declared.fault.KeeperFault.TheVariants as keeper
+use Rattle.mon_exchange.specs.Claim.{claim_octets}
+use Rattle.mon_poller.specs.declared.addr.Addr.{Addr}
+use Rattle.mon_poller.specs.declared.target.Target.{Target}
+use Rattle.mon_poller.specs.Target.{target_at}
+use Rattle.mon_station.specs.declared.event.OwnedEvent.{OwnedEvent}
+use Rattle.mon_station.specs.declared.event.OwnedEvent.TheVariants as event
+use Rattle.mon_station.specs.declared.fault.StationFault.{StationFault}
+use Rattle.mon_station.specs.declared.fault.StationFault.TheVariants as fault
+use Rattle.mon_station.specs.ReadEvent.{ReadEvent, Save, ReadsAs}
+use Rattle.mon_station.specs.State.{State}
+use Rattle.mon_station.specs.Taken.{Origin, Nothing, Restart, Answered}
+use Rattle.mon_station.specs.Verdict.{Setting}
+use Rattle.mon_world.specs.declared.fault.WorldFault.{WorldFault}
+use Rattle.mon_world.specs.declared.sending.Sent.{Sent}
+use Rattle.mon_world.specs.declared.step.Step.{Step}
+use Rattle.mon_world.specs.declared.step.Step.TheVariants as step
+use Rattle.mon_world.specs.Fault.{refusal_in}
+use Rattle.mon_world.specs.Moves.{Move, Letter, sent_in}
+use Rattle.mon_world.specs.Places.{HasNumber, IsNumberTo, IsNoNumberTo}
+
+-- ---- moves
+-- station x was handed an event, and this is its answer and what it left
+abbrev pub answers : ℕ → ReadEvent → Option StationFault → State → Move
+answers x e answer s = record { station = x; entry = Answered e answer; after = s }
+
+-- station x began a life of this setting from there, which is now so
+abbrev pub life_begins : ℕ → Origin → Setting → State → Move
+life_begins x origin w s = record { station = x; entry = Restart origin w; after = s }
+
+-- the first lives of stations, from this number on
+abbrev pub first_lives : (ℕ → Setting) → ℕ → List State → List Move
+first_lives settings x [] = []
+first_lives settings x (s ∷ states) = life_begins x Nothing (settings x) s ∷ first_lives settings (x + 1) states
+
+-- ---- what is handed to stations
+-- the number by which a station knows the target of this number, counted from 1; there is none of number 65535
+abbrev pub target_number : ℕ → ℕ
+target_number t = if nat_lt 0 t && nat_lt t 65536 then t - 1 else 65535
+
+-- the address of the target of this number, counted from 1, or an address of no target where there is no such target
+pub record IsSpeaker (targets : List Target) (t : ℕ) (from : Addr) : Type 0 where
+  pub target : IsNumberTo (length targets) t → from ≡ (target_at targets (t - 1)).address
+  pub stranger : IsNoNumberTo (length targets) t → All (λ target. ¬ (target.address ≡ from)) targets
+
+-- station x is handed this event: it answers what it reads in it, by its own rules
+pub record Hands (w : Setting) (x : ℕ) (event : OwnedEvent) (answer : Option StationFault) (past now : List Move) : Type 0 where
+  pub read : ReadEvent
+  pub reads : ReadsAs w.watch event read
+  pub after : State
+  pub is : now ≡ answers x read answer after ∷ past
+
+-- station x is opened again: a new life begins, or the station runs on as it was
+abbrev pub Opens : (settings : ℕ → Setting) → ℕ → Option StationFault → List Move → List Move → Type 0
+Opens settings x None past now = (origin : Origin) × (s : State) × (now ≡ life_begins x origin (settings x) s ∷ past)
+Opens settings x (Some f) past now = now ≡ past
+
+-- station x stops within a save, which met the disk's fault, and is opened again; or it runs on as it was
+abbrev pub StopsAndOpens : (settings : ℕ → Setting) → ℕ → Option StationFault → List Move → List Move → Type 0
+StopsAndOpens settings x None past now = (s : State) × Opens settings x None (answers x Save (Some (fault.Keeper keeper.DiskFault)) s ∷ past) now
+StopsAndOpens settings x (Some f) past now = now ≡ past
+
+-- station x hears octets from the address of the target of this number, or from a strange one
+pub record Hears (w : Setting) (x t : ℕ) (octets : List ℕ) (answer : Option StationFault) (past now : List Move) : Type 0 where
+  pub from : Addr
+  pub speaks : IsSpeaker w.targets t from
+  pub hands : Hands w x (event.FromAgent from octets) answer past now
+
+-- the datagram of this number comes to the station that it was sent to
+pub record Delivers (settings : ℕ → Setting) (d : ℕ) (answer : Option StationFault) (past now : List Move) : Type 0 where
+  pub letter : Letter
+  pub there : HasNumber (sent_in past) d letter
+  pub hands : Hands (settings letter.to) letter.to (event.FromPeer (claim_octets letter.claim)) answer past now
+
+-- what a step does to which the station gives this answer
+abbrev pub Makes : (ℕ → Setting) → Step → Option StationFault → List Move → List Move → Type 0
+Makes settings (step.StartPoll s t) = Hands (settings s) s (event.StartPoll (target_number t))
+Makes settings (step.AgentSays s t octets) = Hears (settings s) s t octets.now
+Makes settings (step.Timeout s id) = Hands (settings s) s (event.Timeout id)
+Makes settings (step.Share s peer) = Hands (settings s) s (event.Share peer)
+Makes settings (step.Deliver d) = Delivers settings d
+Makes settings (step.Save s) = Hands (settings s) s event.Save
+Makes settings (step.Restart s) = Opens settings s
+Makes settings (step.Forge s octets) = Hands (settings s) s (event.FromPeer octets.now)
+Makes settings (step.Stop s calls keep) = StopsAndOpens settings s
+
+-- what follows of an answer: nothing where no station gave one
+abbrev pub DoesOr : (Option StationFault → List Move → List Move → Type 0) → Option StationFault → List Move → List Move → Type 0
+DoesOr makes None past now = now ≡ past
+DoesOr makes (Some f) past now = makes (Some f) past now
+
+-- what follows of a result: nothing where what a step names is not there, or memory was refused
+abbrev pub Does : (Option StationFault → List Move → List Move → Type 0) → Result Sent WorldFault → List Move → List Move → Type 0
+Does makes (Ok sent) past now = makes None past now
+Does makes (Err f) past now = DoesOr makes (refusal_in f) past now
+
+-- a step forges no claim
+abbrev pub IsUnforged : Step → Type 0
+IsUnforged (step.Forge s octets) = ⊥
+IsUnforged step = Unit {0}
+
+-- what a step with this result does
+abbrev pub IsStepOutcome : (ℕ → Setting) → Step → Result Sent WorldFault → List Move → List Move → Type 0
+IsStepOutcome settings step result past now = Does (Makes settings step) result past now
+
+-- what steps with these results do, the first first
+abbrev pub AreStepOutcomes : (ℕ → Setting) → List Step → List (Result Sent WorldFault) → List Move → List Move → Type 0
+AreStepOutcomes settings [] [] past now = now ≡ past
+AreStepOutcomes settings (s ∷ steps) (r ∷ results) past now = (middle : List Move) × IsStepOutcome settings s r past middle × AreStepOutcomes settings steps results middle now
+AreStepOutcomes settings steps results past now = ⊥

@@ -1,0 +1,61 @@
+//! Laws of worlds. Each is a function that does nothing; its clauses are the law.
+
+ghost use Rattle.std.specs.Prelude.{◌≡◌, ℕ, List, Result, Some, map};
+ghost use Rattle.std.specs.List.{AllByRecursion};
+ghost use Rattle.mon_board.specs.Board.{window_of};
+ghost use Rattle.mon_board.specs.Watch.{IsWatch};
+ghost use Rattle.mon_board.specs.Windows.{Has};
+ghost use Rattle.mon_exchange.specs.Claim.{IsClaim};
+ghost use Rattle.mon_report.specs.Report.{report};
+ghost use Rattle.mon_settings.specs.StationCore.{Core};
+ghost use Rattle.mon_station.specs.Lived.{entries_of, last_state};
+ghost use Rattle.mon_station.specs.State.{State, known_of, owed_count, owed_to, setting_of};
+ghost use Rattle.mon_station.specs.Taken as lives;
+ghost use Rattle.mon_station.specs.Verdict.{Setting, slot_of};
+ghost use Rattle.mon_window.specs.Window.{In};
+ghost use Rattle.mon_world.specs.Debts.{offered_in, owed_by};
+ghost use Rattle.mon_world.specs.declared.fault.WorldFault.{WorldFault};
+ghost use Rattle.mon_world.specs.declared.sending.Sent.{Sent};
+ghost use Rattle.mon_world.specs.declared.step.Step.{Step};
+ghost use Rattle.mon_world.specs.Moves.{AreMoves, AreUnforged, Move, lives_of, sent_in};
+ghost use Rattle.mon_world.specs.Outcome.{AreStepOutcomes, IsUnforged, first_lives};
+ghost use Rattle.mon_world.specs.Places.{setting_at};
+
+/// Over all moves of a world in which no claim was forged, restarts and stops among them: what a station does not owe a peer whose
+/// present incarnation it knows, the peer has taken. Two stations that know each other's present incarnation and owe each other nothing
+/// hold equal windows and print equal reports. Every sample in a window was offered by an agent.
+pub fn debts()
+    ensures owed { (core : Core) (count x y slot : ℕ) (moves : List Move) (s : State) → IsWatch core.watch → AreMoves (setting_at core count) moves → last_state (lives_of x moves) ≡ Some s
+        → slot_of (setting_of s).peers y ≡ Some slot → (i : ℕ) → owed_to s slot i ≡ owed_by s (lives_of x moves) y i }
+    ensures paid { (core : Core) (count x y : ℕ) (moves : List Move) (s t : State) → IsWatch core.watch → AreMoves (setting_at core count) moves → AreUnforged moves
+        → last_state (lives_of x moves) ≡ Some s → last_state (lives_of y moves) ≡ Some t → known_of s y ≡ Some t.incarnation
+        → (i k : ℕ) → In k (window_of s.board i) → ¬ (In k (owed_by s (lives_of x moves) y i)) → In k (lives.taken (entries_of (lives_of y moves)) i) }
+    ensures equal { (core : Core) (count x y : ℕ) (moves : List Move) (s t : State) → IsWatch core.watch → AreMoves (setting_at core count) moves → AreUnforged moves
+        → last_state (lives_of x moves) ≡ Some s → last_state (lives_of y moves) ≡ Some t → known_of s y ≡ Some t.incarnation → known_of t x ≡ Some s.incarnation
+        → owed_count s (slot_of (setting_of s).peers y) ≡ 0 → owed_count t (slot_of (setting_of t).peers x) ≡ 0 → (i : ℕ) → window_of s.board i ≡ window_of t.board i }
+    ensures reports { (core : Core) (count x y : ℕ) (moves : List Move) (s t : State) → IsWatch core.watch → AreMoves (setting_at core count) moves → AreUnforged moves
+        → last_state (lives_of x moves) ≡ Some s → last_state (lives_of y moves) ≡ Some t → known_of s y ≡ Some t.incarnation → known_of t x ≡ Some s.incarnation
+        → owed_count s (slot_of (setting_of s).peers y) ≡ 0 → owed_count t (slot_of (setting_of t).peers x) ≡ 0
+        → report s.board.watch (window_of s.board) ≡ report t.board.watch (window_of t.board) }
+    ensures offered { (core : Core) (count x : ℕ) (moves : List Move) (s : State) → IsWatch core.watch → AreMoves (setting_at core count) moves → AreUnforged moves → last_state (lives_of x moves) ≡ Some s
+        → (i k : ℕ) → In k (window_of s.board i) → Has (offered_in moves) i k }
+{
+    mon_station::laws::taken();
+    mon_exchange::laws::taking();
+    mon_exchange::laws::noting();
+    mon_exchange::laws::owing();
+    mon_board::laws::joined_windows();
+    mon_window::laws::bound();
+    mon_window::laws::rising_list();
+    mon_saved::laws::one_image();
+}
+
+/// Where no step forges a claim, every claim that was accepted had been sent: of the first lives of stations, and over steps with their
+/// results, if what was sent are claims, as of every world.
+pub fn unforged()
+    ensures first { (settings : ℕ → Setting) (x : ℕ) (states : List State) → AreUnforged (first_lives settings x states) }
+    ensures steps { (settings : ℕ → Setting) (steps : List Step) (results : List (Result Sent WorldFault)) (past now : List Move) → AllByRecursion IsUnforged steps
+        → AllByRecursion IsClaim (map (λ l. l.claim) (sent_in now)) → AreStepOutcomes settings steps results past now → AreUnforged past → AreUnforged now }
+{
+    mon_exchange::laws::one_spelling();
+}
