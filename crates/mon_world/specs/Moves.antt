@@ -29,6 +29,7 @@ pub record Letter : Type 0 where
   pub to : ℕ
   pub claim : Claim
 
+-- this claim on its way to this station
 abbrev pub letter : ℕ → Claim → Letter
 letter y c = record { to = y; claim = c }
 
