@@ -1,16 +1,17 @@
 //! A station's trial of itself: it polls an agent in memory three times, saves and finds again what it took.
 
-ghost use Rattle.std.specs.Prelude.{◌≡◌, IfOk};
+ghost use Rattle.std.specs.Prelude.{◌≡◌, ◌++◌, IfOk};
 ghost use Rattle.mon_rounds.specs.Trial.{name_of, number_of, trial_text};
 
 use crate::saved::{saved_report, written};
 use mon_agent::{Agent, Reply};
+use mon_board::Watch;
 use mon_disk::{Disk, MemoryDisk};
 use mon_mib::{Device, Moment, SimDevice};
 use mon_poller::Addr;
 use mon_settings::{StationSettings, read_agent, read_station};
 use mon_smi::Names;
-use mon_station::{Event, Station, Told};
+use mon_station::{Event, Station};
 use std::alloc::{AllocError, Global};
 use thiserror::Error;
 
@@ -124,35 +125,61 @@ fn agent_address() -> Addr {
 pub fn selftest(alloc: Global) -> Result<Vec<u8>, TrialFault>
     ensures { IfOk result (λ text. text.items ≡ trial_text) }
 {
-    let Some(text) = tried_in_memory(alloc) else {
-        return Err(TrialFault::Unexpected);
-    };
-    if text.as_slice() != REPORT.as_bytes() {
+    match tried(alloc) {
+        Some(text) => judged(text, REPORT.as_bytes(), DONE.as_bytes()),
+        None => Err(TrialFault::Unexpected),
+    }
+}
+
+/// A text, with a last line after it, where it is what it has to be.
+fn judged(text: Vec<u8>, wanted: &[u8], last: &[u8]) -> Result<Vec<u8>, TrialFault>
+    ensures { IfOk result (λ all. all.items ≡ wanted.now ++ last.now) }
+{
+    if text.as_slice() != wanted {
         return Err(TrialFault::Unexpected);
     }
     let mut text = text;
-    text.extend_from_slice(DONE.as_bytes())?;
+    text.extend_from_slice(last)?;
     Ok(text)
 }
 
-/// The report of a station that was tried on a disk in memory.
-fn tried_in_memory(alloc: Global) -> Option<Vec<u8>> {
+/// The report of a station that was tried, where that of what it saved is the same.
+fn tried(alloc: Global) -> Option<Vec<u8>> {
+    let settings = station_settings(alloc, STATION)?;
+    let core = settings.core.try_clone(alloc).ok()?;
     let disk = MemoryDisk::new(alloc, &[]).ok()?;
-    tried(alloc, AGENT, STATION, disk)
+    let mut station = Station::open(alloc, core, disk).ok()?;
+    poll_agent(alloc, &mut station, AGENT)?;
+    reported(alloc, settings.core.watch(), station)
 }
 
-/// The report of a station of these settings that was tried on an agent of these settings, where that of what it saved is the same.
-fn tried<D: Disk + Drop>(alloc: Global, agent: &str, station: &str, disk: D) -> Option<Vec<u8>> {
-    let told = read_agent(alloc, agent).ok()?;
+/// Polls an agent of these settings at each of the moments.
+fn poll_agent<D: Disk + Drop>(alloc: Global, station: &mut Station<D>, text: &str) -> Option<()> {
+    let told = read_agent(alloc, text).ok()?;
     let device = SimDevice::new(told.interfaces, told.texts).ok()?;
     let mut agent = Agent::new(told.policy, told.settings, device);
-    let settings = station_settings(alloc, station)?;
-    let watch = settings.core.watch().try_clone(alloc).ok()?;
-    let mut station = Station::open(alloc, settings.core, disk).ok()?;
-    polled_thrice(alloc, &mut station, &mut agent)?;
+    polled_at(alloc, station, &mut agent, &MOMENTS)
+}
+
+/// Polls the agent at each of these moments of its life.
+fn polled_at<D: Disk + Drop, E: Device + Drop>(
+    alloc: Global,
+    station: &mut Station<D>,
+    agent: &mut Agent<E>,
+    moments: &[u64],
+) -> Option<()> {
+    for at in moments {
+        polled(alloc, station, agent, Moment::new(*at)?)?;
+    }
+    Some(())
+}
+
+/// Saves, and gives the station's report where that of what it saved is the same.
+fn reported<D: Disk + Drop>(alloc: Global, watch: &Watch, station: Station<D>) -> Option<Vec<u8>> {
+    let mut station = station;
     station.step(alloc, Event::Save).ok()?;
     let text = written(alloc, station.board()).ok()?;
-    let (saved, _) = saved_report(alloc, &watch, station.into_disk()).ok()?;
+    let (saved, _) = saved_report(alloc, watch, station.into_disk()).ok()?;
     if saved.as_slice() == text.as_slice() {
         Some(text)
     } else {
@@ -165,25 +192,13 @@ fn station_settings(alloc: Global, text: &str) -> Option<StationSettings> {
     read_station(alloc, text, &names).ok()
 }
 
-/// Polls the agent three times.
-fn polled_thrice<D: Disk + Drop, E: Device + Drop>(
-    alloc: Global,
-    station: &mut Station<D>,
-    agent: &mut Agent<E>,
-) -> Option<()> {
-    for at in MOMENTS {
-        polled(alloc, station, agent, Moment::new(at)?)?;
-    }
-    Some(())
-}
-
 /// Polls the agent at a moment of its life, and hands the station its response.
 fn polled<D: Disk + Drop, E: Device + Drop>(
     alloc: Global,
     station: &mut Station<D>,
     agent: &mut Agent<E>,
     at: Moment,
-) -> Option<Told> {
+) -> Option<()> {
     let told = station.step(alloc, Event::StartPoll(0)).ok()?;
     let [request] = told.sends.as_slice() else {
         return None;
@@ -191,7 +206,8 @@ fn polled<D: Disk + Drop, E: Device + Drop>(
     match agent.answer(alloc, request.octets.as_slice(), at).ok()? {
         Reply::Send(octets) => {
             let response = Event::FromAgent(agent_address(), octets.as_slice());
-            station.step(alloc, response).ok()
+            station.step(alloc, response).ok()?;
+            Some(())
         }
         Reply::Silent(_) => None,
     }
