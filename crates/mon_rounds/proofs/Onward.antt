@@ -1,6 +1,6 @@
 -- The events of a round as it goes on.
-use Rattle.std.proofs.Common.{◌≡◌, ◌≢◌, ◌≤◌, ◌<◌, ◌+◌, ◌-◌, ℕ, suc, Bool, true, false, List, [], ◌∷◌, ◌++◌, Option, Some, None, All, length, take, map, get_or, refl, sym, ap, ◌∙◌, subst, arith, append_assoc, length-append}
-use Rattle.std.specs.Prelude.{zero, sum_by, slice_get}
+use Rattle.std.proofs.Common.{◌≡◌, ◌≤◌, ◌<◌, ◌+◌, ◌-◌, ℕ, suc, true, List, [], ◌∷◌, ◌++◌, Some, None, All, length, take, refl, sym, ap, ◌∙◌, subst, arith, append_assoc, length-append}
+use Rattle.std.specs.Prelude.{zero, slice_get}
 use Rattle.std.proofs.lemmas.List.{append-nil, map-append, take_all, take_more}
 use Rattle.std.proofs.lemmas.List.Elements.{All-nil, All-push}
 use Rattle.std.proofs.lemmas.List.Sums.{sum_by-append}
@@ -9,9 +9,9 @@ use Rattle.mon_rounds.specs.declared.receiver.Wait.{Wait}
 use Rattle.mon_rounds.specs.declared.round.Phase.{Phase}
 use Rattle.mon_rounds.specs.declared.round.Phase.TheVariants.{Polling, Hearing, Sharing, Listening, Over, Resting, Rested}
 use Rattle.mon_rounds.specs.declared.round.RoundEvent.{RoundEvent}
-use Rattle.mon_rounds.specs.declared.round.RoundEvent.TheVariants.{StartPoll, Timeout, FromAgent, FromPeer, Share, Save}
+use Rattle.mon_rounds.specs.declared.round.RoundEvent.TheVariants.{StartPoll, Timeout, Share, Save}
 use Rattle.mon_rounds.specs.Next.{RoundState, events_left, is_hearing, share_at, slot_after}
-use Rattle.mon_rounds.specs.Order.{AreSoFar, HasListened, HasPolled, HasShared, IsDatagram, IsHeard, IsRound, datagrams_in, datagrams_of, polls_of, shares_with}
+use Rattle.mon_rounds.specs.Order.{AreSoFar, HasListened, HasPolled, HasShared, IsDatagram, IsHeard, datagrams_in, datagrams_of, polls_of, shares_with}
 use Rattle.mon_rounds.specs.Orderly.{IsOrderly, IsSaving, IsSharing}
 
 -- ---- counts

@@ -1,18 +1,16 @@
 -- What a round gave, by its events and what its receiver tells.
-use Rattle.std.proofs.Common.{◌≡◌, ℕ, suc, true, false, List, [], ◌∷◌, ◌++◌, Option, Some, None, Ok, drop, get_or, refl, sym, ap, ◌∙◌, subst, append_assoc}
+use Rattle.std.proofs.Common.{◌≡◌, ℕ, suc, true, false, List, [], ◌∷◌, ◌++◌, Option, Some, None, Ok, drop, get_or, refl, sym, ap, ◌∙◌, append_assoc}
 use Rattle.std.specs.Prelude.{zero, cond, nat_lt, option_map, reverse}
 use Rattle.std.proofs.lemmas.List.{append-nil, reverse-append}
 use Rattle.mon_edge.specs.Told.{extended}
-use Rattle.mon_rounds.specs.declared.receiver.Arrival.{Arrival}
 use Rattle.mon_rounds.specs.declared.round.Phase.{Phase}
 use Rattle.mon_rounds.specs.declared.round.Phase.TheVariants.{Polling, Hearing, Sharing, Listening, Over, Resting, Rested}
 use Rattle.mon_rounds.specs.declared.round.RoundEvent.{RoundEvent}
 use Rattle.mon_rounds.specs.declared.round.RoundEvent.TheVariants.{StartPoll, Timeout, FromAgent, FromPeer, Share, Save}
-use Rattle.mon_rounds.specs.Given.{arrived_octets, events_told, joined_back, octets_heard, round_told, with_octets}
+use Rattle.mon_rounds.specs.Given.{arrived_octets, joined_back, octets_heard, round_told, with_octets}
 use Rattle.mon_rounds.specs.Next.{RoundState, after_event, after_polls, event_from, event_in_phase, next_event, share_at, stands_in}
 use Rattle.mon_rounds.specs.Order.{datagrams_of}
 use Rattle.mon_rounds.specs.Reception.{Reception}
-use Rattle.mon_station.specs.declared.event.OwnedEvent.{OwnedEvent}
 use Rattle.mon_station.specs.declared.running.SourceFault.{SourceFault}
 use Rattle.mon_station.specs.Ran.{event_in}
 

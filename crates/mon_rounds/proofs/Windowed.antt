@@ -1,11 +1,11 @@
 -- The report of what a disk holds, and why there is none.
 use Rattle.std.proofs.Common.{◌≡◌, ℕ, List, Option, Some, None, Result, Ok, Err, Vec, Global, refl, sym, ap, subst, ◌∙◌}
-use Rattle.std.specs.Prelude.{false, IfOk}
+use Rattle.std.specs.Prelude.{IfOk}
 use Rattle.std.specs.FinSet as set
 use Rattle.mon_board.specs.Board.{Board, window_of}
 use Rattle.mon_board.specs.Instance.{instances_of}
 use Rattle.mon_board.specs.Watch.{Watch}
-use Rattle.mon_disk.specs.Keeper.{FindsBody, found_body}
+use Rattle.mon_disk.specs.Keeper.{FindsBody}
 use Rattle.mon_report.specs.Report.{report}
 use Rattle.mon_rounds.specs.Found.{IsFaultOfFound, IsFaultOfImage, IsReportOf}
 use Rattle.mon_saved.specs.declared.fault.ImageFault.{ImageFault}

@@ -1,9 +1,9 @@
 -- How rounds begin, and what every round has.
-use Rattle.std.specs.Prelude.{ℕ, ◌≡◌, ◌≤◌, ◌<◌, ◌+◌, List, [], ◌∷◌, length}
+use Rattle.std.specs.Prelude.{ℕ, ◌≡◌, ◌≤◌, ◌+◌, List, [], ◌∷◌, length}
 use Rattle.mon_poller.specs.declared.addr.Addr.{Addr}
 use Rattle.mon_rounds.specs.declared.receiver.Wait.TheVariants.{Anew}
 use Rattle.mon_rounds.specs.declared.round.Phase.{Phase}
-use Rattle.mon_rounds.specs.declared.round.Phase.TheVariants.{Polling, Hearing, Sharing, Listening, Over, Resting, Rested}
+use Rattle.mon_rounds.specs.declared.round.Phase.TheVariants.{Polling, Hearing, Sharing, Listening, Resting, Rested}
 use Rattle.mon_rounds.specs.Next.{RoundState, events_left}
 use Rattle.mon_rounds.specs.Order.{AreSoFar, datagrams_in}
 

@@ -1,6 +1,5 @@
-use Rattle.std.proofs.Common.{◌≡◌, ◌<◌, ◌≤◌, ◌++◌, ℕ, length, ap, sym, ◌∙◌, arith, rules}
+use Rattle.std.proofs.Common.{◌<◌, length, ◌∙◌, arith}
 use Rattle.std.specs.Prelude.{min}
-use Rattle.mon_rounds.specs.Alarms.{change_at}
 use Rattle.mon_rounds.proofs.Changing.{changes_all, changes_step}
 use Rattle.mon_rounds.proofs.alarms.alarm_changes.Goals as goal
 

@@ -1,6 +1,5 @@
 use Rattle.std.proofs.Common.{ℕ, List, Vec, Global, Option, sym, subst}
 use Rattle.std.specs.Prelude.{option_map}
-use Rattle.mon_disk.specs.Keeper.{found_body}
 use Rattle.mon_rounds.specs.Found.{IsReportOf}
 use Rattle.mon_rounds.proofs.Windowed.{fault_of_found}
 use Rattle.mon_rounds.proofs.saved.saved_report.Goals as goal

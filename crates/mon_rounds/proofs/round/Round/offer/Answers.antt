@@ -1,4 +1,4 @@
-use Rattle.std.proofs.Common.{◌≡◌, Some, sym, subst, ap, arith, rules}
+use Rattle.std.proofs.Common.{◌≡◌, Some, rules}
 use Rattle.std.specs.Prelude.{slice_get}
 use Rattle.mon_rounds.specs.Next.{RoundState}
 use Rattle.mon_rounds.specs.Orderly.{IsSharing}

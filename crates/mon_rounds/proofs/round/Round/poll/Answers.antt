@@ -1,4 +1,4 @@
-use Rattle.std.proofs.Common.{◌≡◌, sym, subst, arith, rules}
+use Rattle.std.proofs.Common.{◌≡◌, rules}
 use Rattle.mon_rounds.specs.declared.round.Phase.TheVariants.{Polling}
 use Rattle.mon_rounds.specs.Next.{RoundState}
 use Rattle.mon_rounds.proofs.Onward.{polled_last, polled_then}

@@ -1,4 +1,4 @@
-use Rattle.std.proofs.Common.{◌≡◌, sym, subst, rules}
+use Rattle.std.proofs.Common.{rules}
 use Rattle.mon_rounds.specs.Next.{RoundState}
 use Rattle.mon_rounds.specs.Orderly.{IsSaving}
 use Rattle.mon_rounds.proofs.Onward.{after_save}

@@ -1,4 +1,4 @@
-use Rattle.std.proofs.Common.{◌≡◌, [], Some, ap, sym, ◌∙◌, rules}
+use Rattle.std.proofs.Common.{[], Some, ap, sym, ◌∙◌, rules}
 use Rattle.mon_rounds.specs.declared.round.RoundEvent.{RoundEvent}
 use Rattle.mon_rounds.specs.Given.{with_octets}
 use Rattle.mon_rounds.specs.Next.{after_event}

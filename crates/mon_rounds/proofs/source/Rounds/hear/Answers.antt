@@ -1,4 +1,4 @@
-use Rattle.std.proofs.Common.{◌≡◌, [], ◌∷◌, ◌++◌, Option, Ok, Some, None, List, refl, ap, sym, ◌∙◌}
+use Rattle.std.proofs.Common.{[], ◌∷◌, ◌++◌, Option, Ok, Some, None, List, refl, ap, sym, ◌∙◌}
 use Rattle.mon_edge.specs.Told.{extended}
 use Rattle.mon_rounds.specs.declared.receiver.Arrival.{Arrival}
 use Rattle.mon_rounds.specs.Given.{arrived_octets, round_told}

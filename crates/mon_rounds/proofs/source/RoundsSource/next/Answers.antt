@@ -1,4 +1,4 @@
-use Rattle.std.proofs.Common.{◌≡◌, Option, Ok, ap, sym, ◌∙◌}
+use Rattle.std.proofs.Common.{Option, Ok, ap, sym, ◌∙◌}
 use Rattle.mon_edge.specs.Told.{extended}
 use Rattle.mon_rounds.specs.Given.{round_told}
 use Rattle.mon_rounds.specs.Next.{RoundState}
