@@ -1,6 +1,6 @@
 //! Alarms that change from one moment to another.
 
-ghost use Rattle.std.specs.Prelude.{◌≡◌, ◌≤◌, ◌^◌, ◌++◌, IfOk, OnOk, length, string_bytes};
+ghost use Rattle.std.specs.Prelude.{◌≡◌, ◌++◌, IfOk, OnOk, string_bytes};
 ghost use Rattle.mon_rounds.specs.Alarms.{change_at, change_line, change_on, changes_from, instance_text, is_same, rule_line, states_of, thresholds_text};
 ghost use Rattle.mon_report.specs.Report.{state_text};
 
@@ -12,7 +12,7 @@ use std::alloc::{AllocError, Global};
 #[derive(Clone, Copy, Debug, PartialEq, Eq)]
 pub struct AlarmChange {
     /// The number of its rule in the watch.
-    pub rule: u16,
+    pub rule: usize,
     /// The state that it has now.
     pub state: AlarmState,
 }
@@ -29,20 +29,19 @@ pub fn alarm_states(alloc: Global, board: &Board) -> Result<Vec<AlarmState>, All
     Ok(states)
 }
 
-/// What changed from the states before to those after, by the numbers of the rules, which are at most 65536.
+/// What changed from the states before to those after, by the numbers of the rules.
 pub fn alarm_changes(
     alloc: Global,
     before: &[AlarmState],
     after: &[AlarmState],
 ) -> Result<Vec<AlarmChange>, AllocError>
-    requires { length after.now ≤ 2 ^ 16 }
     ensures { IfOk result (λ v. v.items ≡ changes_from 0 before.now after.now) }
 {
     let mut changes = Vec::new(alloc);
     for rule in 0..before.len().min(after.len()) {
         let old = before[rule];
         let new = after[rule];
-        put_change(&mut changes, rule as u16, old, new)?;
+        put_change(&mut changes, rule, old, new)?;
     }
     Ok(changes)
 }
@@ -50,7 +49,7 @@ pub fn alarm_changes(
 /// Adds the change of a rule, where its state is another one.
 fn put_change(
     changes: &mut Vec<AlarmChange>,
-    rule: u16,
+    rule: usize,
     old: AlarmState,
     new: AlarmState,
 ) -> Result<(), AllocError>
@@ -85,7 +84,7 @@ fn is_same(a: AlarmState, b: AlarmState) -> bool
 pub fn alarm_line(alloc: Global, watch: &Watch, change: &AlarmChange) -> Result<String, AllocError>
     ensures { IfOk result (λ text. string_bytes text ≡ change_line watch.now change.now) }
 {
-    match watch.rules().get(usize::from(change.rule)) {
+    match watch.rules().get(change.rule) {
         Some(rule) => rule_line(alloc, watch, rule, change.state),
         None => Ok(String::new(alloc)),
     }

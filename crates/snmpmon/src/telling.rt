@@ -24,11 +24,11 @@ pub fn tell_notices(rt: &impl Eprint, round: u32, addresses: &Addresses, report:
 fn tell_notice(rt: &impl Eprint, round: u32, addresses: &Addresses, notice: Notice) {
     let _ = match notice {
         Notice::GaveUp(target) => {
-            let (number, at) = (target + 1, shown(addresses.target(target)));
+            let (number, at) = (u32::from(target) + 1, shown(addresses.target(target)));
             eprintln!(rt; "snmpmon: round {round}: target {number} at {at} gave up")
         }
         Notice::NotPolled(target, fault) => {
-            let (number, at) = (target + 1, shown(addresses.target(target)));
+            let (number, at) = (u32::from(target) + 1, shown(addresses.target(target)));
             eprintln!(rt; "snmpmon: round {round}: target {number} at {at} was not polled: {fault}")
         }
         Notice::BadResponse(from, fault) => {
