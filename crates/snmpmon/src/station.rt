@@ -9,25 +9,25 @@ use mon_app::AppFault;
 use mon_disk::FileDisk;
 use mon_report::write_report;
 use mon_rounds::{
-    Addresses, PollLog, RoundReport, Rounds, Socket, SocketOutbox, SocketReceiver, alarm_states,
-    rest, run_round, saved_report, selftest,
+    Addresses, PollLog, Receiver, RoundReport, Rounds, Socket, SocketOutbox, SocketReceiver,
+    alarm_states, rest, run_round, saved_report, selftest,
 };
 use mon_settings::{StationSettings, module_files, read_station};
 use mon_smi::{Names, read_module};
-use mon_station::{Run, Station};
+use mon_station::{Outbox, Run, Station, StationFault};
 use std::fs::File;
 use std::io;
 use std::io::Write;
-use std::net::Net;
+use std::net::{Net, SocketAddr};
 use std::rt::{Clock, Files};
 use std::time::{Duration, Instant};
 
 /// What a running station works with.
 #[derive(Drop)]
-struct Running<'a, R: Clock> {
+struct Running<S: Receiver + Drop, O: Outbox + Drop> {
     station: Station<FileDisk>,
-    rounds: Rounds<SocketReceiver<'a, R>>,
-    outbox: SocketOutbox<'a>,
+    rounds: Rounds<S>,
+    outbox: O,
     addresses: Addresses,
     log: PollLog,
     alarms: Vec<AlarmState>,
@@ -41,33 +41,67 @@ struct Timing {
     report_every: u32,
 }
 
+/// The most times that a station goes on hearing between two rounds.
+const MOST_RESTS: u32 = u32::MAX;
+
 /// Runs the station of the settings through its rounds, and prints its report.
 pub fn station<R: Clock + Files<File = File> + Net + Print + Eprint + AllocGlobal>(
     rt: &R,
     words: &ArgMatches<'_>,
 ) -> Result<(), Fault> {
     let settings = settings_of(rt, words)?;
-    let timing = timing_of(words);
     let (disk, socket) = opened(rt, &settings)?;
-    let mut running = begun(rt, settings, disk, &socket)?;
+    let at = socket.address().map_err(socket_fault)?;
+    let receiver = SocketReceiver::new(rt, rt.alloc(), &socket).map_err(socket_fault)?;
+    let outbox = SocketOutbox::new(&socket, Addresses::of(rt.alloc(), &settings)?);
+    let running = begun(rt, settings, at, disk, receiver, outbox)?;
+    run_rounds(rt, running, timing_of(words))
+}
+
+/// Runs a station through its rounds, and prints its report.
+fn run_rounds<R: Clock + Print + Eprint + AllocGlobal, S: Receiver + Drop, O: Outbox + Drop>(
+    rt: &R,
+    running: Running<S, O>,
+    timing: Timing,
+) -> Result<(), Fault> {
+    let mut running = running;
     for number in 1..=timing.rounds {
         let began = Instant::now(rt)?;
-        let ran = run_round(
-            rt.alloc(),
-            &mut running.station,
-            &mut running.rounds,
-            &mut running.outbox,
-        );
-        after(rt, &mut running, number, ran);
-        if number == timing.rounds {
-            break;
+        one_round(rt, &mut running, number);
+        if number != timing.rounds {
+            between(rt, &mut running, number, began, timing)?;
         }
-        if timing.report_every != 0 && number % timing.report_every == 0 {
-            print_report(rt, &running.station)?;
-        }
-        pause(rt, &mut running, number, began, timing.interval)?;
     }
     print_report(rt, &running.station)
+}
+
+/// Runs one round, and tells what there is to tell of it.
+fn one_round<R: Eprint + AllocGlobal, S: Receiver + Drop, O: Outbox + Drop>(
+    rt: &R,
+    running: &mut Running<S, O>,
+    number: u32,
+) {
+    let ran = run_round(
+        rt.alloc(),
+        &mut running.station,
+        &mut running.rounds,
+        &mut running.outbox,
+    );
+    after(rt, running, number, ran);
+}
+
+/// Prints the report where it is due after this round, and hands the station what comes until the next one is to begin.
+fn between<R: Clock + Print + Eprint + AllocGlobal, S: Receiver + Drop, O: Outbox + Drop>(
+    rt: &R,
+    running: &mut Running<S, O>,
+    number: u32,
+    began: Instant,
+    timing: Timing,
+) -> Result<(), Fault> {
+    if timing.report_every != 0 && number % timing.report_every == 0 {
+        print_report(rt, &running.station)?;
+    }
+    pause(rt, running, number, began, timing.interval)
 }
 
 /// Prints the report of the windows in the file of the settings. The station is not started.
@@ -133,17 +167,22 @@ fn opened<R: Files<File = File> + Net + AllocGlobal>(
 }
 
 /// Opens the station, and says where it stands.
-fn begun<'a, R: Clock + Eprint + AllocGlobal>(
-    rt: &'a R,
+fn begun<R: Eprint + AllocGlobal, S: Receiver + Drop, O: Outbox + Drop>(
+    rt: &R,
     settings: StationSettings,
+    at: SocketAddr,
     disk: FileDisk,
-    socket: &'a Socket,
-) -> Result<Running<'a, R>, Fault> {
+    receiver: S,
+    outbox: O,
+) -> Result<Running<S, O>, Fault> {
     let alloc = rt.alloc();
-    let at = socket.address().map_err(socket_fault)?;
-    let to = Addresses::of(alloc, &settings)?;
-    let from = Addresses::of(alloc, &settings)?;
     let addresses = Addresses::of(alloc, &settings)?;
+    let rounds = Rounds::new(
+        alloc,
+        Addresses::of(alloc, &settings)?,
+        settings.wait_ms,
+        receiver,
+    )?;
     let log = PollLog::new(alloc, settings.core.targets())?;
     let (number, file) = (settings.core.station(), settings.file);
     let (targets, peers) = (settings.core.targets().len(), settings.core.peers().len());
@@ -152,15 +191,14 @@ fn begun<'a, R: Clock + Eprint + AllocGlobal>(
         Err((fault, _)) => return Err(Fault::from(fault)),
     };
     let alarms = alarm_states(alloc, station.board())?;
-    let receiver = SocketReceiver::new(rt, alloc, socket).map_err(socket_fault)?;
     let incarnation = station.incarnation();
     let _ = eprintln!(rt;
         "snmpmon: station {number} at {at}, incarnation {incarnation}, file {file}, targets: {targets}, peers: {peers}"
     );
     Ok(Running {
         station,
-        rounds: Rounds::new(alloc, from, settings.wait_ms, receiver)?,
-        outbox: SocketOutbox::new(socket, to),
+        rounds,
+        outbox,
         addresses,
         log,
         alarms,
@@ -168,11 +206,11 @@ fn begun<'a, R: Clock + Eprint + AllocGlobal>(
 }
 
 /// Tells what a round, or the time after it, had to be told of. Where memory runs out that is told, and the station goes on.
-fn after<R: Clock + Eprint + AllocGlobal>(
+fn after<R: Eprint + AllocGlobal, S: Receiver + Drop, O: Outbox + Drop>(
     rt: &R,
-    running: &mut Running<'_, R>,
+    running: &mut Running<S, O>,
     number: u32,
-    ran: Result<Run, mon_station::StationFault>,
+    ran: Result<Run, StationFault>,
 ) {
     let told = match ran {
         Ok(run) => told_of(rt, running, number, &run),
@@ -183,58 +221,54 @@ fn after<R: Clock + Eprint + AllocGlobal>(
     }
 }
 
-fn told_of<R: Clock + Eprint + AllocGlobal>(
+fn told_of<R: Eprint + AllocGlobal, S: Receiver + Drop, O: Outbox + Drop>(
     rt: &R,
-    running: &mut Running<'_, R>,
+    running: &mut Running<S, O>,
     number: u32,
     run: &Run,
 ) -> Result<(), Fault> {
     let alloc = rt.alloc();
-    let round = running.rounds.round();
-    let report = RoundReport::of(
-        alloc,
-        round,
-        run,
-        running.station.oldest(),
-        &mut running.log,
-    )?;
+    let oldest = running.station.oldest();
+    let report = RoundReport::of(alloc, running.rounds.round(), run, oldest, &mut running.log)?;
     tell_notices(rt, number, &running.addresses, &report);
     let alarms = alarm_states(alloc, running.station.board())?;
-    tell_alarms(
-        rt,
-        running.station.board().watch(),
-        running.alarms.as_slice(),
-        alarms.as_slice(),
-    )?;
+    let watch = running.station.board().watch();
+    tell_alarms(rt, watch, running.alarms.as_slice(), alarms.as_slice())?;
     running.alarms = alarms;
     Ok(())
 }
 
 /// Hands the station what comes until the next round is to begin.
-fn pause<R: Clock + Eprint + AllocGlobal>(
+fn pause<R: Clock + Eprint + AllocGlobal, S: Receiver + Drop, O: Outbox + Drop>(
     rt: &R,
-    running: &mut Running<'_, R>,
+    running: &mut Running<S, O>,
     number: u32,
     began: Instant,
     interval: Duration,
 ) -> Result<(), Fault> {
-    loop {
-        let passed = Instant::now(rt)?.duration_since(began);
-        let left = interval
-            .checked_sub(passed)
-            .map_or(0, |left| left.as_millis());
+    for _ in 0..MOST_RESTS {
+        let left = left_of(rt, began, interval)?;
         if left == 0 {
             return Ok(());
         }
-        let milliseconds = left.min(60_000) as u32;
         let ran = rest(
             rt.alloc(),
             &mut running.station,
             &mut running.rounds,
             &mut running.outbox,
-            milliseconds,
+            left,
         );
         after(rt, running, number, ran);
+    }
+    Ok(())
+}
+
+/// How many milliseconds are left of a time that began then, at most a minute of them.
+fn left_of<R: Clock>(rt: &R, began: Instant, interval: Duration) -> Result<u32, Fault> {
+    let passed = Instant::now(rt)?.duration_since(began);
+    match interval.checked_sub(passed) {
+        Some(left) => Ok(left.as_millis().min(60_000) as u32),
+        None => Ok(0),
     }
 }
 
