@@ -1,0 +1,2 @@
+-- What scripts say.
+use Rattle.std.specs.Prelude.{ℕ, List}
