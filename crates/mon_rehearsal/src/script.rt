@@ -1,5 +1,10 @@
 //! Scripts: one step a line.
 
+ghost use Rattle.std.specs.Prelude.{◌≡◌, ◌<◌, ◌∷◌, IfOk, IfErr, length};
+ghost use Rattle.mon_rehearsal.specs.Reading.{agent_in, fields_in, forge_in, pair_in, short_in, step_in, stop_in};
+ghost use Rattle.mon_rehearsal.specs.Script.{AreSteps, lines_of};
+ghost use Rattle.mon_rehearsal.specs.ScriptFault.{IsFaultOfScript};
+
 use crate::fault::ScriptFault;
 use crate::field::{cut, is, number, numbers, octets};
 use mon_ber::Octets;
@@ -54,7 +59,10 @@ impl ScriptStep {
 ///
 /// # Errors
 /// `BadScript` with the number of the first line that says no step, as an empty one; `OutOfMemory`.
-pub fn read_script(alloc: Global, text: &[u8]) -> Result<Vec<ScriptStep>, ScriptFault> {
+pub fn read_script(alloc: Global, text: &[u8]) -> Result<Vec<ScriptStep>, ScriptFault>
+    ensures steps { IfOk result (λ steps. AreSteps (lines_of text.now) steps.items) }
+    ensures fault { IfErr result (IsFaultOfScript (lines_of text.now)) }
+{
     let mut steps = Vec::new(alloc);
     let mut rest = text;
     let mut line = 0;
@@ -71,7 +79,10 @@ pub fn read_script(alloc: Global, text: &[u8]) -> Result<Vec<ScriptStep>, Script
 }
 
 /// The first line of a text, without the LF that ends it, and what stands after that.
-fn first_line(text: &[u8]) -> (&[u8], &[u8]) {
+fn first_line(text: &[u8]) -> (&[u8], &[u8])
+    ensures lines { 0 < length text.now → lines_of text.now ≡ result.0.now ∷ lines_of result.1.now }
+    ensures shorter { 0 < length text.now → length result.1.now < length text.now }
+{
     match cut(text, b'\n') {
         Some((line, after)) => (line, after),
         None => (text, &[]),
@@ -79,7 +90,10 @@ fn first_line(text: &[u8]) -> (&[u8], &[u8]) {
 }
 
 /// What a line says.
-fn read_line(alloc: Global, line: &[u8]) -> Result<Option<ScriptStep>, AllocError> {
+#[tactic(auto, unfolding(crate::specs::Reading::step_in))]
+fn read_line(alloc: Global, line: &[u8]) -> Result<Option<ScriptStep>, AllocError>
+    ensures { IfOk result (λ step. step ≡ step_in line.now) }
+{
     match cut(line, b' ') {
         Some((verb, fields)) => read_step(alloc, verb, fields),
         None => Ok(None),
@@ -87,7 +101,10 @@ fn read_line(alloc: Global, line: &[u8]) -> Result<Option<ScriptStep>, AllocErro
 }
 
 /// What a verb and its fields say.
-fn read_step(alloc: Global, verb: &[u8], fields: &[u8]) -> Result<Option<ScriptStep>, AllocError> {
+#[tactic(auto, unfolding(crate::specs::Reading::fields_in))]
+fn read_step(alloc: Global, verb: &[u8], fields: &[u8]) -> Result<Option<ScriptStep>, AllocError>
+    ensures { IfOk result (λ step. step ≡ fields_in verb.now fields.now) }
+{
     if is(verb, "agent") {
         return read_agent(alloc, fields);
     }
@@ -104,7 +121,10 @@ fn read_step(alloc: Global, verb: &[u8], fields: &[u8]) -> Result<Option<ScriptS
 }
 
 /// What a verb of one number says: `deliver`, `save` or `restart`.
-fn read_short(verb: &[u8], fields: &[u8]) -> Option<ScriptStep> {
+#[tactic(auto, unfolding(crate::specs::Reading::short_in))]
+fn read_short(verb: &[u8], fields: &[u8]) -> Option<ScriptStep>
+    ensures { result ≡ short_in verb.now fields.now }
+{
     let Some(number) = number(fields) else {
         return None;
     };
@@ -121,7 +141,10 @@ fn read_short(verb: &[u8], fields: &[u8]) -> Option<ScriptStep> {
 }
 
 /// What a verb of two numbers says: `poll`, `timeout` or `share`.
-fn read_pair(verb: &[u8], fields: &[u8]) -> Option<ScriptStep> {
+#[tactic(auto, unfolding(crate::specs::Reading::pair_in))]
+fn read_pair(verb: &[u8], fields: &[u8]) -> Option<ScriptStep>
+    ensures { result ≡ pair_in verb.now fields.now }
+{
     let Some((first, second)) = numbers(fields) else {
         return None;
     };
@@ -138,7 +161,10 @@ fn read_pair(verb: &[u8], fields: &[u8]) -> Option<ScriptStep> {
 }
 
 /// The fields of `agent`: a station, a target and octets.
-fn read_agent(alloc: Global, fields: &[u8]) -> Result<Option<ScriptStep>, AllocError> {
+#[tactic(auto, unfolding(crate::specs::Reading::agent_in))]
+fn read_agent(alloc: Global, fields: &[u8]) -> Result<Option<ScriptStep>, AllocError>
+    ensures { IfOk result (λ step. step ≡ agent_in fields.now) }
+{
     let Some((station, fields)) = cut(fields, b' ') else {
         return Ok(None);
     };
@@ -158,7 +184,10 @@ fn read_agent(alloc: Global, fields: &[u8]) -> Result<Option<ScriptStep>, AllocE
 }
 
 /// The fields of `forge`: a station and octets.
-fn read_forge(alloc: Global, fields: &[u8]) -> Result<Option<ScriptStep>, AllocError> {
+#[tactic(auto, unfolding(crate::specs::Reading::forge_in))]
+fn read_forge(alloc: Global, fields: &[u8]) -> Result<Option<ScriptStep>, AllocError>
+    ensures { IfOk result (λ step. step ≡ forge_in fields.now) }
+{
     let Some((station, digits)) = cut(fields, b' ') else {
         return Ok(None);
     };
@@ -172,7 +201,10 @@ fn read_forge(alloc: Global, fields: &[u8]) -> Result<Option<ScriptStep>, AllocE
 }
 
 /// The fields of `stop`: a station, a number of calls, and `keep` or `lose`.
-fn read_stop(fields: &[u8]) -> Option<ScriptStep> {
+#[tactic(auto, unfolding(crate::specs::Reading::stop_in))]
+fn read_stop(fields: &[u8]) -> Option<ScriptStep>
+    ensures { result ≡ stop_in fields.now }
+{
     let Some((station, fields)) = cut(fields, b' ') else {
         return None;
     };
