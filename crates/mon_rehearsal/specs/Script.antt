@@ -43,19 +43,19 @@ Says line (Forge s octets) = (front digits : List ℕ) × HasNumber (codes "forg
 Says line (Stop s calls true) = (front : List ℕ) × HasNumbers (codes "stop") s calls front × (line ≡ front ++ codes " keep")
 Says line (Stop s calls false) = (front : List ℕ) × HasNumbers (codes "stop") s calls front × (line ≡ front ++ codes " lose")
 
--- each line says its step
-abbrev pub AreSteps : List (List ℕ) → List ScriptStep → Type 0
-AreSteps [] [] = Unit {0}
-AreSteps (line ∷ lines) (step ∷ steps) = Says line step × AreSteps lines steps
-AreSteps lines steps = ⊥
+-- each line, read in this way, is its step
+abbrev pub AreSteps : (List ℕ → ScriptStep → Type 0) → List (List ℕ) → List ScriptStep → Type 0
+AreSteps says [] [] = Unit {0}
+AreSteps says (line ∷ lines) (step ∷ steps) = says line step × AreSteps says lines steps
+AreSteps says lines steps = ⊥
 
--- the line of this number, counted from 1, is the first that says no step
-pub record IsFirstBad (lines : List (List ℕ)) (number : ℕ) : Type 0 where
+-- the line of this number, counted from 1, is the first that is no step, read in this way
+pub record IsFirstBad (says : List ℕ → ScriptStep → Type 0) (lines : List (List ℕ)) (number : ℕ) : Type 0 where
   pub before : List (List ℕ)
   pub line : List ℕ
   pub after : List (List ℕ)
   pub steps : List ScriptStep
   pub are : lines ≡ before ++ line ∷ after
-  pub said : AreSteps before steps
+  pub said : AreSteps says before steps
   pub at : number ≡ length before + 1
-  pub none : (step : ScriptStep) → ¬ (Says line step)
+  pub none : (step : ScriptStep) → ¬ (says line step)

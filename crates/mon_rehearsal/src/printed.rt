@@ -1,5 +1,7 @@
 //! What a rehearsal prints.
 
+ghost use Rattle.std.specs.Prelude.{◌≤◌};
+
 use mon_report::write_report;
 use mon_station::StationFault;
 use mon_world::{Sent, World, WorldFault};
@@ -28,7 +30,7 @@ fn put_sent(line: &mut String, sent: Sent) -> Result<(), AllocError> {
     if sent.count > 0 {
         line.push_str(" sent")?;
     }
-    for number in sent.first..sent.first + sent.count {
+    for number in sent.first..sent.first.saturating_add(sent.count) {
         write!(line, " {number}")?;
     }
     Ok(())
@@ -64,7 +66,9 @@ pub(crate) fn put_station(
     world: &World,
     count: u32,
     number: u32,
-) -> Result<(), AllocError> {
+) -> Result<(), AllocError>
+    requires { count ≤ 16 }
+{
     let Some(station) = world.station(number) else {
         return Ok(());
     };

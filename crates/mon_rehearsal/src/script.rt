@@ -1,7 +1,7 @@
 //! Scripts: one step a line.
 
 ghost use Rattle.std.specs.Prelude.{◌≡◌, ◌<◌, ◌∷◌, IfOk, IfErr, length};
-ghost use Rattle.mon_rehearsal.specs.Reading.{agent_in, fields_in, forge_in, pair_in, short_in, step_in, stop_in};
+ghost use Rattle.mon_rehearsal.specs.Reading.{Reads, agent_in, fields_in, forge_in, pair_in, short_in, step_in, stop_in};
 ghost use Rattle.mon_rehearsal.specs.Script.{AreSteps, lines_of};
 ghost use Rattle.mon_rehearsal.specs.ScriptFault.{IsFaultOfScript};
 
@@ -60,8 +60,8 @@ impl ScriptStep {
 /// # Errors
 /// `BadScript` with the number of the first line that says no step, as an empty one; `OutOfMemory`.
 pub fn read_script(alloc: Global, text: &[u8]) -> Result<Vec<ScriptStep>, ScriptFault>
-    ensures steps { IfOk result (λ steps. AreSteps (lines_of text.now) steps.items) }
-    ensures fault { IfErr result (IsFaultOfScript (lines_of text.now)) }
+    ensures steps { IfOk result (λ steps. AreSteps Reads (lines_of text.now) steps.items) }
+    ensures fault { IfErr result (IsFaultOfScript Reads (lines_of text.now)) }
 {
     let mut steps = Vec::new(alloc);
     let mut rest = text;
