@@ -1,6 +1,8 @@
 -- The faults of a script and of a rehearsal.
 use Rattle.std.specs.Prelude.{ℕ, List, codes}
 use Rattle.mon_world.specs.Fault as world
+use Rattle.mon_world.specs.declared.fault.WorldFault.{WorldFault}
+use Rattle.mon_world.specs.declared.fault.WorldFault.TheVariants as world_fault
 use Rattle.mon_rehearsal.specs.declared.fault.ScriptFault.{ScriptFault}
 use Rattle.mon_rehearsal.specs.declared.fault.ScriptFault.TheVariants as script
 use Rattle.mon_rehearsal.specs.declared.fault.RehearsalFault.{RehearsalFault}
@@ -32,3 +34,8 @@ name_of_rehearsal (rehearsal.World fault) = world.name_of fault
 abbrev pub rehearsal_fault : ScriptFault → RehearsalFault
 rehearsal_fault script.OutOfMemory = rehearsal.OutOfMemory
 rehearsal_fault (script.BadScript line) = rehearsal.BadScript line
+
+-- a world's fault as the rehearsal's: its want of memory is the rehearsal's own
+abbrev pub not_opened : WorldFault → RehearsalFault
+not_opened world_fault.OutOfMemory = rehearsal.OutOfMemory
+not_opened fault = rehearsal.World fault

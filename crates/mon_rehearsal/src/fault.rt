@@ -1,7 +1,7 @@
 //! Why a script was not read, or not rehearsed.
 
 ghost use Rattle.std.specs.Prelude.{◌≡◌};
-ghost use Rattle.mon_rehearsal.specs.Fault.{name_of, number_of, name_of_rehearsal, number_of_rehearsal, rehearsal_fault};
+ghost use Rattle.mon_rehearsal.specs.Fault.{name_of, number_of, name_of_rehearsal, not_opened, number_of_rehearsal, rehearsal_fault};
 ghost use Rattle.mon_rehearsal.specs.declared.fault.RehearsalFault.TheVariants as rehearsal;
 ghost use Rattle.mon_rehearsal.specs.declared.fault.ScriptFault.TheVariants as script;
 
@@ -125,6 +125,8 @@ impl From<ScriptFault> for RehearsalFault {
 
 /// The world's want of memory is the rehearsal's own.
 impl From<WorldFault> for RehearsalFault {
+    ghost from_gives = { λ part fault. fault ≡ not_opened part };
+
     fn from(fault: WorldFault) -> RehearsalFault {
         match fault {
             WorldFault::OutOfMemory => RehearsalFault::OutOfMemory,

@@ -1,6 +1,10 @@
 //! Rehearsals.
 
-ghost use Rattle.std.specs.Prelude.{◌≤◌};
+ghost use Rattle.std.specs.Prelude.{◌≡◌, ◌≤◌, IfErr, IfOk};
+ghost use Rattle.mon_rehearsal.specs.declared.fault.RehearsalFault.TheVariants as fault;
+ghost use Rattle.mon_rehearsal.specs.Reading.{Reads};
+ghost use Rattle.mon_rehearsal.specs.Script.{lines_of};
+ghost use Rattle.mon_rehearsal.specs.ScriptFault.{IsFaultOfRehearsal, IsScript};
 
 use crate::fault::RehearsalFault;
 use crate::printed::{put_station, put_step};
@@ -24,6 +28,8 @@ pub fn rehearse(
 ) -> Result<Vec<u8>, RehearsalFault>
     requires few { count ≤ 16 }
     requires some { 1 ≤ count }
+    ensures script { IfOk result (λ _. IsScript Reads (lines_of script.now)) }
+    ensures fault { IfErr result (IsFaultOfRehearsal Reads (lines_of script.now)) }
 {
     let steps = read_script(alloc, script)?;
     let mut world = World::new(alloc, core, count)?;
@@ -41,7 +47,9 @@ fn make_steps(
     world: &mut World,
     steps: &[ScriptStep],
     text: &mut Vec<u8>,
-) -> Result<(), RehearsalFault> {
+) -> Result<(), RehearsalFault>
+    ensures { IfErr result (λ f. f ≡ fault.OutOfMemory) }
+{
     let mut number: u64 = 0;
     for step in steps {
         number += 1;
