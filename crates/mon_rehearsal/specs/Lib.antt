@@ -1,0 +1,5 @@
+pub mod Fault
+pub mod Fields
+pub mod Reading
+pub mod Script
+pub mod ScriptFault

@@ -1,0 +1,136 @@
+//! Why a script was not read, or not rehearsed.
+
+ghost use Rattle.std.specs.Prelude.{◌≡◌};
+ghost use Rattle.mon_rehearsal.specs.Fault.{name_of, number_of, name_of_rehearsal, not_opened, number_of_rehearsal, rehearsal_fault};
+ghost use Rattle.mon_rehearsal.specs.declared.fault.RehearsalFault.TheVariants as rehearsal;
+ghost use Rattle.mon_rehearsal.specs.declared.fault.ScriptFault.TheVariants as script;
+
+use mon_world::WorldFault;
+use std::alloc::{AllocError, AllocFailed};
+use thiserror::Error;
+
+/// Why a script was not read.
+#[derive(Clone, Copy, Debug, PartialEq, Eq, Error)]
+pub enum ScriptFault {
+    /// Memory was refused.
+    #[error("out of memory")]
+    OutOfMemory,
+    /// The line of this number, counted from 1, is the first that says no step.
+    #[error("line {0} of the script is no step")]
+    BadScript(u64),
+}
+
+/// Why a rehearsal was not printed.
+#[derive(Clone, Copy, Debug, PartialEq, Eq, Error)]
+pub enum RehearsalFault {
+    /// Memory was refused.
+    #[error("out of memory")]
+    OutOfMemory,
+    /// The line of this number, counted from 1, is the first that says no step. No step was made.
+    #[error("line {0} of the script is no step")]
+    BadScript(u64),
+    /// The stations were not opened.
+    #[error("the stations were not opened: {0}")]
+    World(WorldFault),
+}
+
+impl ScriptFault {
+    /// The number that the line on standard error gives the fault: 1 or 7.
+    pub fn number(self) -> u8
+        ensures { result ≡ number_of self }
+    {
+        match self {
+            ScriptFault::OutOfMemory => 1,
+            ScriptFault::BadScript(_) => 7,
+        }
+    }
+
+    /// The name that the line on standard error gives the fault.
+    pub fn name(self) -> &'static str
+        ensures { result.now ≡ name_of self }
+    {
+        match self {
+            ScriptFault::OutOfMemory => "OutOfMemory",
+            ScriptFault::BadScript(_) => "BadScript",
+        }
+    }
+}
+
+impl RehearsalFault {
+    /// The number that the line on standard error gives the fault: 1 or 7, or the number of the world's fault.
+    pub fn number(self) -> u8
+        ensures { result ≡ number_of_rehearsal self }
+    {
+        match self {
+            RehearsalFault::OutOfMemory => 1,
+            RehearsalFault::BadScript(_) => 7,
+            RehearsalFault::World(fault) => fault.number(),
+        }
+    }
+
+    /// The name that the line on standard error gives the fault.
+    pub fn name(self) -> &'static str
+        ensures { result.now ≡ name_of_rehearsal self }
+    {
+        match self {
+            RehearsalFault::OutOfMemory => "OutOfMemory",
+            RehearsalFault::BadScript(_) => "BadScript",
+            RehearsalFault::World(fault) => fault.name(),
+        }
+    }
+}
+
+impl From<AllocError> for ScriptFault {
+    ghost from_gives = { λ _ fault. fault ≡ script.OutOfMemory };
+
+    fn from(_e: AllocError) -> ScriptFault {
+        ScriptFault::OutOfMemory
+    }
+}
+
+impl<T: Drop> From<AllocFailed<T>> for ScriptFault {
+    ghost from_gives = { λ _ fault. fault ≡ script.OutOfMemory };
+
+    fn from(_e: AllocFailed<T>) -> ScriptFault {
+        ScriptFault::OutOfMemory
+    }
+}
+
+impl From<AllocError> for RehearsalFault {
+    ghost from_gives = { λ _ fault. fault ≡ rehearsal.OutOfMemory };
+
+    fn from(_e: AllocError) -> RehearsalFault {
+        RehearsalFault::OutOfMemory
+    }
+}
+
+impl<T: Drop> From<AllocFailed<T>> for RehearsalFault {
+    ghost from_gives = { λ _ fault. fault ≡ rehearsal.OutOfMemory };
+
+    fn from(_e: AllocFailed<T>) -> RehearsalFault {
+        RehearsalFault::OutOfMemory
+    }
+}
+
+impl From<ScriptFault> for RehearsalFault {
+    ghost from_gives = { λ part fault. fault ≡ rehearsal_fault part };
+
+    fn from(fault: ScriptFault) -> RehearsalFault {
+        match fault {
+            ScriptFault::OutOfMemory => RehearsalFault::OutOfMemory,
+            ScriptFault::BadScript(line) => RehearsalFault::BadScript(line),
+        }
+    }
+}
+
+/// The world's want of memory is the rehearsal's own.
+impl From<WorldFault> for RehearsalFault {
+    ghost from_gives = { λ part fault. fault ≡ not_opened part };
+
+    fn from(fault: WorldFault) -> RehearsalFault {
+        match fault {
+            WorldFault::OutOfMemory => RehearsalFault::OutOfMemory,
+            other => RehearsalFault::World(other),
+        }
+    }
+}

@@ -1,0 +1,63 @@
+//! Rehearsals.
+
+ghost use Rattle.std.specs.Prelude.{◌≡◌, ◌≤◌, IfErr, IfOk};
+ghost use Rattle.mon_rehearsal.specs.declared.fault.RehearsalFault.TheVariants as fault;
+ghost use Rattle.mon_rehearsal.specs.Reading.{Reads};
+ghost use Rattle.mon_rehearsal.specs.Script.{lines_of};
+ghost use Rattle.mon_rehearsal.specs.ScriptFault.{IsFaultOfRehearsal, IsScript};
+
+use crate::fault::RehearsalFault;
+use crate::printed::{put_station, put_step};
+use crate::script::{ScriptStep, read_script};
+use mon_settings::Core;
+use mon_world::{World, WorldFault};
+use std::alloc::Global;
+
+/// Rehearses a script over a world of so many stations with this core's watch and targets, numbered from 1, on disks in memory. The whole
+/// script is read before the first step. A line says of each step what it sent, or why it was refused; then follows of each station its
+/// incarnation, what it owes each other station, and its report.
+///
+/// # Errors
+/// `BadScript` with the number of the first line that says no step; `World` where the stations were not opened; `OutOfMemory`, also where a
+/// step wanted memory: what is printed never hangs on how much there is.
+pub fn rehearse(
+    alloc: Global,
+    core: &Core,
+    count: u32,
+    script: &[u8],
+) -> Result<Vec<u8>, RehearsalFault>
+    requires few { count ≤ 16 }
+    requires some { 1 ≤ count }
+    ensures script { IfOk result (λ _. IsScript Reads (lines_of script.now)) }
+    ensures fault { IfErr result (IsFaultOfRehearsal Reads (lines_of script.now)) }
+{
+    let steps = read_script(alloc, script)?;
+    let mut world = World::new(alloc, core, count)?;
+    let mut text = Vec::new(alloc);
+    make_steps(alloc, &mut world, steps.as_slice(), &mut text)?;
+    for number in 1..count + 1 {
+        put_station(alloc, &mut text, &world, count, number)?;
+    }
+    Ok(text)
+}
+
+/// Makes the steps in order, and writes a line of each.
+fn make_steps(
+    alloc: Global,
+    world: &mut World,
+    steps: &[ScriptStep],
+    text: &mut Vec<u8>,
+) -> Result<(), RehearsalFault>
+    ensures { IfErr result (λ f. f ≡ fault.OutOfMemory) }
+{
+    let mut number: u64 = 0;
+    for step in steps {
+        number += 1;
+        let result = world.step(step.step());
+        if let Err(WorldFault::OutOfMemory) = result {
+            return Err(RehearsalFault::OutOfMemory);
+        }
+        put_step(alloc, text, number, result)?;
+    }
+    Ok(())
+}
