@@ -15,6 +15,7 @@ pub enum Choice {
     Station,
     Report,
     SelfTest,
+    Rehearse,
 }
 
 impl Choice {
@@ -32,6 +33,7 @@ impl Choice {
             "station" => Choice::Station,
             "report" => Choice::Report,
             "selftest" => Choice::SelfTest,
+            "rehearse" => Choice::Rehearse,
             _ => Choice::Replay,
         }
     }

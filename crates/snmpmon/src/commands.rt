@@ -6,7 +6,7 @@ use crate::answering::answers;
 use crate::choice::Choice;
 use crate::fault::Fault;
 use crate::listing::list;
-use crate::station::{report, self_test, station};
+use crate::station::{rehearsal, report, self_test, station};
 use crate::words::command;
 use clap::ArgMatches;
 use clap::error::ErrorKind;
@@ -107,6 +107,7 @@ fn run<R: Clock + Files<File = File> + Net + Input + Print + Eprint + AllocGloba
         Choice::Station => station(rt, words),
         Choice::Report => report(rt, words),
         Choice::SelfTest => self_test(rt),
+        Choice::Rehearse => rehearsal(rt, words),
         Choice::Replay => replay(rt, size_of(words), words.get_flag("report")),
     }
 }

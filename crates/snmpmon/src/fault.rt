@@ -3,6 +3,7 @@
 use mon_app::AppFault;
 use mon_disk::KeeperFault;
 use mon_mib::DeviceFault;
+use mon_rehearsal::RehearsalFault;
 use mon_rounds::TrialFault;
 use mon_saved::ImageFault;
 use mon_settings::SettingsFault;
@@ -23,6 +24,7 @@ pub enum Fault {
     Image(ImageFault),
     Station(StationFault),
     Trial(TrialFault),
+    Rehearsal(RehearsalFault),
 }
 
 impl Fault {
@@ -37,6 +39,8 @@ impl Fault {
             Fault::Image(_) => "mon_saved",
             Fault::Station(_) => "mon_station",
             Fault::Trial(_) => "mon_rounds",
+            Fault::Rehearsal(RehearsalFault::World(_)) => "mon_world",
+            Fault::Rehearsal(_) => "mon_app",
         }
     }
 
@@ -52,6 +56,7 @@ impl Fault {
             Fault::Image(fault) => fault.number(),
             Fault::Station(fault) => fault.number(),
             Fault::Trial(fault) => fault.number(),
+            Fault::Rehearsal(fault) => fault.number(),
         }
     }
 
@@ -67,6 +72,7 @@ impl Fault {
             Fault::Image(fault) => fault.name(),
             Fault::Station(fault) => fault.name(),
             Fault::Trial(fault) => fault.name(),
+            Fault::Rehearsal(fault) => fault.name(),
         }
     }
 }
@@ -109,6 +115,12 @@ impl From<StationFault> for Fault {
             StationFault::Image(fault) => Fault::Image(fault),
             other => Fault::Station(other),
         }
+    }
+}
+
+impl From<RehearsalFault> for Fault {
+    fn from(fault: RehearsalFault) -> Fault {
+        Fault::Rehearsal(fault)
     }
 }
 

@@ -1,12 +1,15 @@
-//! The commands of stations: `station`, `report` and `selftest`.
+//! The commands of stations: `station`, `report`, `selftest` and `rehearse`.
+
+ghost use Rattle.std.specs.Prelude.{◌≤◌};
 
 use crate::commands::{read_text, tell};
 use crate::fault::Fault;
 use crate::telling::{tell_alarms, tell_notices};
 use clap::ArgMatches;
 use mon_alarms::AlarmState;
-use mon_app::AppFault;
+use mon_app::{AppFault, Counted, read_all};
 use mon_disk::FileDisk;
+use mon_rehearsal::rehearse;
 use mon_report::write_report;
 use mon_rounds::{
     Addresses, PollLog, Receiver, RoundReport, Rounds, Socket, SocketOutbox, SocketReceiver,
@@ -117,6 +120,30 @@ pub fn report<R: Files<File = File> + Print + AllocGlobal>(
     };
     io::writer(rt).write_all(text.as_slice())?;
     Ok(())
+}
+
+/// Prints what the steps on standard input make of stations in memory.
+pub fn rehearsal<R: Files + Input + Print + AllocGlobal>(
+    rt: &R,
+    words: &ArgMatches<'_>,
+) -> Result<(), Fault> {
+    let settings = settings_of(rt, words)?;
+    let script = read_all(rt.alloc(), &mut Counted::new(rt.reader()))?;
+    let text = rehearse(
+        rt.alloc(),
+        &settings.core,
+        count_of(words),
+        script.as_slice(),
+    )?;
+    io::writer(rt).write_all(text.as_slice())?;
+    Ok(())
+}
+
+/// How many stations the words name. The command line takes 1 to 16 alone.
+fn count_of(words: &ArgMatches<'_>) -> u32
+    ensures { (1 ≤ result) × (result ≤ 16) }
+{
+    words.get_one::<u32>("K").unwrap_or(1).clamp(1, 16)
 }
 
 /// Prints what a station in memory measured of an agent in memory.

@@ -373,6 +373,40 @@ fn selftest<'a>(alloc: Global) -> Command<'a> {
         .long_about(SELFTEST_MORE)
 }
 
+const REHEARSE: &str =
+    "Makes the steps of a script with stations in memory, and prints what they answer";
+
+const REHEARSE_MORE: &str =
+    "Reads SETTINGS as `station` does, and steps from standard input, one a line, and makes them with K stations in memory that have the watch and
+the targets of the settings and are all peers of each other. It prints what each step answered, and then for each station its incarnation,
+how many samples it owes each of the others, and its report. It opens no socket and no file but SETTINGS and its modules.
+
+  poll S T         station S polls target T; both count from 1
+  agent S T HEX    these octets come to station S from target T
+  timeout S ID     the poll of station S with this request-id was not answered in time
+  share S P        station S offers station P what it owes it
+  deliver D        datagram D, counted from 1, comes to its addressee; as often as it is asked
+  save S           station S saves
+  restart S        station S is started again from what it saved
+  stop S N keep    station S saves, is stopped after N calls of its disk, 0 to 6, and started again; with lose in place of keep,
+                   what was written and not synced is lost
+  forge S HEX      these octets come to station S as from a peer
+
+A line that is no step ends it with mon_app 7 BadScript before the first step; docs/OPERATE.md explains a script.
+
+Example: snmpmon rehearse examples/rehearsal.toml 2 < examples/exchange.script";
+
+fn rehearse<'a>(alloc: Global) -> Result<Command<'a>, AllocError> {
+    let count = needed(alloc, "K", "How many stations, 1 to 16").value_parser(value_parser!(
+        u32
+    ).range(1..=16));
+    Command::new(alloc, "rehearse")
+        .about(REHEARSE)
+        .long_about(REHEARSE_MORE)
+        .arg(needed(alloc, "SETTINGS", STATION_SETTINGS))?
+        .arg(count)
+}
+
 /// The whole command line. With no words it names no command, which the caller takes for `replay 8`.
 pub fn command<'a>(alloc: Global) -> Result<Command<'a>, AllocError> {
     Command::new(alloc, "snmpmon")
@@ -389,5 +423,6 @@ pub fn command<'a>(alloc: Global) -> Result<Command<'a>, AllocError> {
         .subcommand(mib(alloc)?)?
         .subcommand(station(alloc)?)?
         .subcommand(report(alloc)?)?
-        .subcommand(selftest(alloc))
+        .subcommand(selftest(alloc))?
+        .subcommand(rehearse(alloc)?)
 }
