@@ -1,0 +1,24 @@
+"""Bugs of mon_rehearsal for planted_bugs: by a name the file, what stands there once, and the bug in its place."""
+
+BUGS = {
+    "counts_lines_from_0": (
+        "src/script.rt",
+        "            None => return Err(ScriptFault::BadScript(line)),",
+        "            None => return Err(ScriptFault::BadScript(line - 1)),",
+    ),
+    "passes_over_what_is_no_step": (
+        "src/script.rt",
+        "        Some((verb, fields)) => read_step(alloc, verb, fields),\n        None => Ok(None),",
+        "        Some((verb, fields)) => read_step(alloc, verb, fields),\n        None => Ok(Some(ScriptStep::Save(1))),",
+    ),
+    "saves_where_it_restarts": (
+        "src/script.rt",
+        "        return Some(ScriptStep::Restart(number));",
+        "        return Some(ScriptStep::Save(number));",
+    ),
+    "shares_the_other_way": (
+        "src/script.rt",
+        "        return Some(ScriptStep::Share(first, second));",
+        "        return Some(ScriptStep::Share(second, first));",
+    ),
+}
