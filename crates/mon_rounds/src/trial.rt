@@ -15,7 +15,7 @@ use mon_station::{Event, Station};
 use std::alloc::{AllocError, Global};
 use thiserror::Error;
 
-/// The settings of the agent, of which an interface counts 1000 octets a second.
+/// The settings of the agent, whose first interface counts 1000 octets a second.
 const AGENT: &str = "listen = \"127.0.0.1:16100\"
 limit = 484
 engine = \"8000000001\"
@@ -25,10 +25,17 @@ contact = \"\"
 name = \"r1\"
 location = \"\"
 services = 4
-community = [{ community = \"public\", security = \"ro\" }]
-group = [{ security = \"ro\", group = \"g1\" }]
-access = [{ group = \"g1\", model = 2, read = \"all\" }]
-view = [{ view = \"all\", subtree = \"1.3.6.1\", included = true }]
+community = [{ community = \"public\", security = \"ro\" }, { community = \"private\", security = \"rw\" }]
+group = [{ security = \"ro\", group = \"g1\" }, { security = \"rw\", group = \"g2\" }]
+access = [
+    { group = \"g1\", model = 2, read = \"all\" },
+    { group = \"g2\", model = 0, read = \"all\", write = \"mib\" },
+]
+view = [
+    { view = \"all\", subtree = \"1.3.6.1\", included = true },
+    { view = \"all\", subtree = \"1.3.6.1.2.1.2.2.1.6\", included = false },
+    { view = \"mib\", subtree = \"1.3.6.1.2.1\", included = true },
+]
 
 [[interface]]
 index = 1
@@ -40,6 +47,20 @@ phys = \"\"
 name = \"e1\"
 alias = \"\"
 in_octets = { start = 0, rate = 1000 }
+in_packets = { start = 0, rate = 0 }
+out_octets = { start = 0, rate = 0 }
+out_packets = { start = 0, rate = 0 }
+
+[[interface]]
+index = 2
+descr = \"e2\"
+type = 6
+mtu = 1500
+speed = 1000000000
+phys = \"\"
+name = \"e2\"
+alias = \"\"
+in_octets = { start = 0, rate = 0 }
 in_packets = { start = 0, rate = 0 }
 out_octets = { start = 0, rate = 0 }
 out_packets = { start = 0, rate = 0 }

@@ -1,6 +1,6 @@
 //! The agent without a socket: what it answers to recorded datagrams.
 
-use crate::fault::Fault;
+use crate::failure::Failure;
 use hex::FromHexError;
 use mon_agent::{Agent, Reply};
 use mon_app::AppFault;
@@ -16,7 +16,7 @@ pub fn answers<D: Device + Drop>(
     text: &str,
     at: Moment,
     times: u32,
-) -> Result<String, Fault> {
+) -> Result<String, Failure> {
     let mut told = String::new(alloc);
     for line in text.lines() {
         if line.is_empty() || line.starts_with('#') {
@@ -27,7 +27,7 @@ pub fn answers<D: Device + Drop>(
                 let reply = last_reply(alloc, agent, datagram.as_slice(), at, times)?;
                 put_reply(&mut told, alloc, &reply)?;
             }
-            Err(FromHexError::OutOfMemory) => return Err(Fault::App(AppFault::OutOfMemory)),
+            Err(FromHexError::OutOfMemory) => return Err(Failure::from(AppFault::OutOfMemory)),
             Err(_) => told.push_str("refused BadHex\n")?,
         }
     }
@@ -49,7 +49,7 @@ fn last_reply<D: Device + Drop>(
 }
 
 /// Adds the line of what was done about a datagram.
-fn put_reply(told: &mut String, alloc: Global, reply: &Reply) -> Result<(), Fault> {
+fn put_reply(told: &mut String, alloc: Global, reply: &Reply) -> Result<(), Failure> {
     match reply {
         Reply::Send(octets) => {
             let digits = hex::encode(alloc, octets.as_slice())?;

@@ -1,4 +1,4 @@
-//! Why a command failed.
+//! What may go wrong in a command.
 
 use mon_app::AppFault;
 use mon_disk::KeeperFault;
@@ -9,21 +9,30 @@ use mon_saved::ImageFault;
 use mon_settings::SettingsFault;
 use mon_smi::{NamesFault, TextFault};
 use mon_station::StationFault;
-use std::alloc::{AllocError, AllocFailed};
-use std::io;
+use thiserror::Error;
 
 /// A fault of a command, or of the crate below in which it arose.
-#[derive(Clone, Copy, Debug, PartialEq, Eq)]
+#[derive(Clone, Copy, Debug, PartialEq, Eq, Error)]
 pub enum Fault {
+    #[error("{0}")]
     App(AppFault),
+    #[error("{0}")]
     Names(NamesFault),
+    #[error("{0}")]
     Text(TextFault),
+    #[error("{0}")]
     Settings(SettingsFault),
+    #[error("{0}")]
     Device(DeviceFault),
+    #[error("{0}")]
     Keeper(KeeperFault),
+    #[error("{0}")]
     Image(ImageFault),
+    #[error("{0}")]
     Station(StationFault),
+    #[error("{0}")]
     Trial(TrialFault),
+    #[error("{0}")]
     Rehearsal(RehearsalFault),
 }
 
@@ -77,36 +86,6 @@ impl Fault {
     }
 }
 
-impl From<AppFault> for Fault {
-    fn from(fault: AppFault) -> Fault {
-        Fault::App(fault)
-    }
-}
-
-impl From<NamesFault> for Fault {
-    fn from(fault: NamesFault) -> Fault {
-        Fault::Names(fault)
-    }
-}
-
-impl From<TextFault> for Fault {
-    fn from(fault: TextFault) -> Fault {
-        Fault::Text(fault)
-    }
-}
-
-impl From<SettingsFault> for Fault {
-    fn from(fault: SettingsFault) -> Fault {
-        Fault::Settings(fault)
-    }
-}
-
-impl From<DeviceFault> for Fault {
-    fn from(fault: DeviceFault) -> Fault {
-        Fault::Device(fault)
-    }
-}
-
 // A part's fault is told as the part's own.
 impl From<StationFault> for Fault {
     fn from(fault: StationFault) -> Fault {
@@ -115,35 +94,5 @@ impl From<StationFault> for Fault {
             StationFault::Image(fault) => Fault::Image(fault),
             other => Fault::Station(other),
         }
-    }
-}
-
-impl From<RehearsalFault> for Fault {
-    fn from(fault: RehearsalFault) -> Fault {
-        Fault::Rehearsal(fault)
-    }
-}
-
-impl From<TrialFault> for Fault {
-    fn from(fault: TrialFault) -> Fault {
-        Fault::Trial(fault)
-    }
-}
-
-impl From<AllocError> for Fault {
-    fn from(_error: AllocError) -> Fault {
-        Fault::App(AppFault::OutOfMemory)
-    }
-}
-
-impl<T: Drop> From<AllocFailed<T>> for Fault {
-    fn from(_error: AllocFailed<T>) -> Fault {
-        Fault::App(AppFault::OutOfMemory)
-    }
-}
-
-impl From<io::Error> for Fault {
-    fn from(error: io::Error) -> Fault {
-        Fault::App(AppFault::from(error))
     }
 }

@@ -1,13 +1,17 @@
 //! The listing of a module's names.
 
-use crate::fault::Fault;
+use crate::failure::Failure;
+use crate::naming::{identifier, no_module};
 use mon_smi::{Names, read_module};
 use std::alloc::Global;
 
 /// The value names of the module in a text with their identifiers, a line each, by identifier and then by name.
 /// Where some name does not resolve, the fault is that of the first such name in the order of bytes.
-pub fn list(alloc: Global, text: &str) -> Result<String, Fault> {
-    let module = read_module(alloc, text)?;
+pub fn list(alloc: Global, path: &str, text: &str) -> Result<String, Failure> {
+    let module = match read_module(alloc, text) {
+        Ok(module) => module,
+        Err(fault) => return Err(no_module(alloc, path, text, fault)),
+    };
     let mut known = Names::new(alloc)?;
     known.add(alloc, &module)?;
     let mut names = Vec::new(alloc);
@@ -17,7 +21,7 @@ pub fn list(alloc: Global, text: &str) -> Result<String, Fault> {
     names.sort_unstable();
     let mut rows = Vec::new(alloc);
     for name in names.as_slice() {
-        let oid = known.resolve(alloc, name)?;
+        let oid = identifier(alloc, &known, name)?;
         rows.push((oid, *name))?;
     }
     rows.sort_unstable();

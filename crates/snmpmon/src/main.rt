@@ -1,13 +1,20 @@
 //! The program `snmpmon`: reads the command line and runs one command.
 //!
-//! Statuses: 0; 1 with one line on standard error that names the fault; 2 for a command line that it cannot read.
+//! Statuses: 0; 1 with a line on standard error that names the fault, and mostly a second one that says what was wrong and where; 2 for a command line that
+//! it cannot read.
 #![tactic(auto)]
 
+mod agent;
 mod answering;
 mod choice;
+mod client;
 mod commands;
+mod failure;
 mod fault;
+mod files;
 mod listing;
+mod naming;
+mod settings;
 mod station;
 mod telling;
 mod words;

@@ -2,13 +2,17 @@
 
 ghost use Rattle.std.specs.Prelude.{◌≤◌};
 
-use crate::commands::{read_text, tell};
+use crate::failure::Failure;
 use crate::fault::Fault;
-use crate::telling::{tell_alarms, tell_notices};
+use crate::files::{print, read_input, read_text};
+use crate::naming::add_module;
+use crate::settings::unset;
+use crate::telling::{shown, tell_alarms, tell_notices};
 use clap::ArgMatches;
 use mon_alarms::AlarmState;
-use mon_app::{AppFault, Counted, read_all};
+use mon_app::AppFault;
 use mon_disk::FileDisk;
+use mon_poller::Addr;
 use mon_rehearsal::rehearse;
 use mon_report::write_report;
 use mon_rounds::{
@@ -16,11 +20,11 @@ use mon_rounds::{
     alarm_states, rest, run_round, saved_report, selftest,
 };
 use mon_settings::{StationSettings, module_files, read_station};
-use mon_smi::{Names, read_module};
+use mon_smi::Names;
 use mon_station::{Outbox, Run, Station, StationFault};
+use std::alloc::Global;
 use std::fs::File;
 use std::io;
-use std::io::Write;
 use std::net::{Net, SocketAddr};
 use std::rt::{Clock, Files};
 use std::time::{Duration, Instant};
@@ -51,11 +55,12 @@ const MOST_RESTS: u32 = u32::MAX;
 pub fn station<R: Clock + Files<File = File> + Net + Print + Eprint + AllocGlobal>(
     rt: &R,
     words: &ArgMatches<'_>,
-) -> Result<(), Fault> {
+) -> Result<(), Failure> {
     let settings = settings_of(rt, words)?;
     let (disk, socket) = opened(rt, &settings)?;
-    let at = socket.address().map_err(socket_fault)?;
-    let receiver = SocketReceiver::new(rt, rt.alloc(), &socket).map_err(socket_fault)?;
+    let listen = settings.listen;
+    let at = used(rt.alloc(), listen, socket.address())?;
+    let receiver = used(rt.alloc(), listen, SocketReceiver::new(rt, rt.alloc(), &socket))?;
     let outbox = SocketOutbox::new(&socket, Addresses::of(rt.alloc(), &settings)?);
     let running = begun(rt, settings, at, disk, receiver, outbox)?;
     run_rounds(rt, running, timing_of(words))
@@ -66,10 +71,10 @@ fn run_rounds<R: Clock + Print + Eprint + AllocGlobal, S: Receiver + Drop, O: Ou
     rt: &R,
     running: Running<S, O>,
     timing: Timing,
-) -> Result<(), Fault> {
+) -> Result<(), Failure> {
     let mut running = running;
     for number in 1..=timing.rounds {
-        let began = Instant::now(rt)?;
+        let began = now(rt)?;
         one_round(rt, &mut running, number);
         if number != timing.rounds {
             between(rt, &mut running, number, began, timing)?;
@@ -100,7 +105,7 @@ fn between<R: Clock + Print + Eprint + AllocGlobal, S: Receiver + Drop, O: Outbo
     number: u32,
     began: Instant,
     timing: Timing,
-) -> Result<(), Fault> {
+) -> Result<(), Failure> {
     if timing.report_every != 0 && number % timing.report_every == 0 {
         print_report(rt, &running.station)?;
     }
@@ -111,32 +116,29 @@ fn between<R: Clock + Print + Eprint + AllocGlobal, S: Receiver + Drop, O: Outbo
 pub fn report<R: Files<File = File> + Print + AllocGlobal>(
     rt: &R,
     words: &ArgMatches<'_>,
-) -> Result<(), Fault> {
+) -> Result<(), Failure> {
     let settings = settings_of(rt, words)?;
-    let disk = FileDisk::open(rt, &settings.file)?;
-    let text = match saved_report(rt.alloc(), settings.core.watch(), disk) {
-        Ok((text, _)) => text,
-        Err((fault, _)) => return Err(Fault::from(fault)),
-    };
-    io::writer(rt).write_all(text.as_slice())?;
-    Ok(())
+    let disk = in_file(rt.alloc(), &settings.file, FileDisk::open(rt, &settings.file))?;
+    match saved_report(rt.alloc(), settings.core.watch(), disk) {
+        Ok((text, _)) => print(rt, text.as_slice()),
+        Err((fault, _)) => Err(unkept(rt.alloc(), &settings.file, fault)),
+    }
 }
 
 /// Prints what the steps on standard input make of stations in memory.
 pub fn rehearsal<R: Files + Input + Print + AllocGlobal>(
     rt: &R,
     words: &ArgMatches<'_>,
-) -> Result<(), Fault> {
+) -> Result<(), Failure> {
     let settings = settings_of(rt, words)?;
-    let script = read_all(rt.alloc(), &mut Counted::new(rt.reader()))?;
+    let script = read_input(rt)?;
     let text = rehearse(
         rt.alloc(),
         &settings.core,
         count_of(words),
         script.as_slice(),
     )?;
-    io::writer(rt).write_all(text.as_slice())?;
-    Ok(())
+    print(rt, text.as_slice())
 }
 
 /// How many stations the words name. The command line takes 1 to 16 alone.
@@ -147,24 +149,31 @@ fn count_of(words: &ArgMatches<'_>) -> u32
 }
 
 /// Prints what a station in memory measured of an agent in memory.
-pub fn self_test<R: Print + AllocGlobal>(rt: &R) -> Result<(), Fault> {
+pub fn self_test<R: Print + AllocGlobal>(rt: &R) -> Result<(), Failure> {
     let text = selftest(rt.alloc())?;
-    io::writer(rt).write_all(text.as_slice())?;
-    Ok(())
+    print(rt, text.as_slice())
 }
 
 /// What the file of a station's settings says, by the names of the modules that it lists.
 fn settings_of<R: Files + AllocGlobal>(
     rt: &R,
     words: &ArgMatches<'_>,
-) -> Result<StationSettings, Fault> {
-    let text = read_text(rt, words.get_str("SETTINGS").unwrap_or(""))?;
-    let mut names = Names::new(rt.alloc())?;
-    for path in module_files(rt.alloc(), &text)?.as_slice() {
-        let module = read_text(rt, path)?;
-        names.add(rt.alloc(), &read_module(rt.alloc(), &module)?)?;
+) -> Result<StationSettings, Failure> {
+    let alloc = rt.alloc();
+    let path = words.get_str("SETTINGS").unwrap_or("");
+    let text = read_text(rt, path)?;
+    let files = match module_files(alloc, &text) {
+        Ok(files) => files,
+        Err(fault) => return Err(unset(alloc, path, &text, fault)),
+    };
+    let mut names = Names::new(alloc)?;
+    for file in files.as_slice() {
+        add_module(rt, &mut names, file)?;
     }
-    Ok(read_station(rt.alloc(), &text, &names)?)
+    match read_station(alloc, &text, &names) {
+        Ok(settings) => Ok(settings),
+        Err(fault) => Err(unset(alloc, path, &text, fault)),
+    }
 }
 
 /// How often and when the words have rounds run. The command line takes no other numbers.
@@ -181,14 +190,15 @@ fn timing_of(words: &ArgMatches<'_>) -> Timing {
 fn opened<R: Files<File = File> + Net + AllocGlobal>(
     rt: &R,
     settings: &StationSettings,
-) -> Result<(FileDisk, Socket), Fault> {
+) -> Result<(FileDisk, Socket), Failure> {
+    let alloc = rt.alloc();
     let socket = Socket::open(rt, settings.listen);
-    let disk = FileDisk::open_or_create(rt, &settings.file)?;
+    let disk = in_file(alloc, &settings.file, FileDisk::open_or_create(rt, &settings.file))?;
     match socket {
         Ok(socket) => Ok((disk, socket)),
-        Err(error) => match saved_report(rt.alloc(), settings.core.watch(), disk) {
-            Ok(_) => Err(socket_fault(error)),
-            Err((fault, _)) => Err(Fault::from(fault)),
+        Err(error) => match saved_report(alloc, settings.core.watch(), disk) {
+            Ok(_) => Err(Failure::socket(alloc, shown(settings.listen), error)),
+            Err((fault, _)) => Err(unkept(alloc, &settings.file, fault)),
         },
     }
 }
@@ -201,7 +211,7 @@ fn begun<R: Eprint + AllocGlobal, S: Receiver + Drop, O: Outbox + Drop>(
     disk: FileDisk,
     receiver: S,
     outbox: O,
-) -> Result<Running<S, O>, Fault> {
+) -> Result<Running<S, O>, Failure> {
     let alloc = rt.alloc();
     let addresses = Addresses::of(alloc, &settings)?;
     let rounds = Rounds::new(
@@ -215,7 +225,7 @@ fn begun<R: Eprint + AllocGlobal, S: Receiver + Drop, O: Outbox + Drop>(
     let (targets, peers) = (settings.core.targets().len(), settings.core.peers().len());
     let station = match Station::open(alloc, settings.core, disk) {
         Ok(station) => station,
-        Err((fault, _)) => return Err(Fault::from(fault)),
+        Err((fault, _)) => return Err(unkept(alloc, &file, fault)),
     };
     let alarms = alarm_states(alloc, station.board())?;
     let incarnation = station.incarnation();
@@ -241,10 +251,10 @@ fn after<R: Eprint + AllocGlobal, S: Receiver + Drop, O: Outbox + Drop>(
 ) {
     let told = match ran {
         Ok(run) => told_of(rt, running, number, &run),
-        Err(fault) => Err(Fault::from(fault)),
+        Err(fault) => Err(Failure::from(fault)),
     };
-    if let Err(fault) = told {
-        tell(rt, fault);
+    if let Err(failure) = told {
+        failure.tell(rt);
     }
 }
 
@@ -253,7 +263,7 @@ fn told_of<R: Eprint + AllocGlobal, S: Receiver + Drop, O: Outbox + Drop>(
     running: &mut Running<S, O>,
     number: u32,
     run: &Run,
-) -> Result<(), Fault> {
+) -> Result<(), Failure> {
     let alloc = rt.alloc();
     let oldest = running.station.oldest();
     let report = RoundReport::of(alloc, running.rounds.round(), run, oldest, &mut running.log)?;
@@ -272,7 +282,7 @@ fn pause<R: Clock + Eprint + AllocGlobal, S: Receiver + Drop, O: Outbox + Drop>(
     number: u32,
     began: Instant,
     interval: Duration,
-) -> Result<(), Fault> {
+) -> Result<(), Failure> {
     for _ in 0..MOST_RESTS {
         let left = left_of(rt, began, interval)?;
         if left == 0 {
@@ -291,26 +301,58 @@ fn pause<R: Clock + Eprint + AllocGlobal, S: Receiver + Drop, O: Outbox + Drop>(
 }
 
 /// How many milliseconds are left of a time that began then, at most a minute of them.
-fn left_of<R: Clock>(rt: &R, began: Instant, interval: Duration) -> Result<u32, Fault> {
-    let passed = Instant::now(rt)?.duration_since(began);
+fn left_of<R: Clock + AllocGlobal>(
+    rt: &R,
+    began: Instant,
+    interval: Duration,
+) -> Result<u32, Failure> {
+    let passed = now(rt)?.duration_since(began);
     match interval.checked_sub(passed) {
         Some(left) => Ok(left.as_millis().min(60_000) as u32),
         None => Ok(0),
     }
 }
 
-/// Prints the report of a station's windows.
-fn print_report<R: Print>(rt: &R, station: &Station<FileDisk>) -> Result<(), Fault> {
-    match write_report(station.board(), &mut io::writer(rt)) {
-        Ok(()) => Ok(()),
-        Err(_) => Err(Fault::App(AppFault::FileFault)),
+/// The time.
+fn now<R: Clock + AllocGlobal>(rt: &R) -> Result<Instant, Failure> {
+    match Instant::now(rt) {
+        Ok(now) => Ok(now),
+        Err(error) => Err(Failure::stream(rt.alloc(), "the clock", error)),
     }
 }
 
-/// A failed call of a socket.
-fn socket_fault(error: io::Error) -> Fault {
-    match error.kind() {
-        io::ErrorKind::OutOfMemory => Fault::App(AppFault::OutOfMemory),
-        _ => Fault::App(AppFault::SocketFault),
+/// Prints the report of a station's windows.
+fn print_report<R: Print + AllocGlobal>(
+    rt: &R,
+    station: &Station<FileDisk>,
+) -> Result<(), Failure> {
+    match write_report(station.board(), &mut io::writer(rt)) {
+        Ok(()) => Ok(()),
+        Err(_) => Err(Failure::at(
+            rt.alloc(),
+            "standard output",
+            Fault::App(AppFault::FileFault),
+        )),
     }
+}
+
+/// What a call of the station's file gave.
+fn in_file<T: Drop>(alloc: Global, path: &str, result: io::Result<T>) -> Result<T, Failure> {
+    match result {
+        Ok(value) => Ok(value),
+        Err(error) => Err(Failure::stream(alloc, path, error)),
+    }
+}
+
+/// What a call of the station's socket gave.
+fn used<T: Drop>(alloc: Global, listen: Addr, result: io::Result<T>) -> Result<T, Failure> {
+    match result {
+        Ok(value) => Ok(value),
+        Err(error) => Err(Failure::socket(alloc, shown(listen), error)),
+    }
+}
+
+/// Why a station's file gave no station or no report.
+fn unkept(alloc: Global, path: &str, fault: StationFault) -> Failure {
+    Failure::at(alloc, path, Fault::from(fault))
 }

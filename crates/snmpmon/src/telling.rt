@@ -1,6 +1,6 @@
 //! What a running station says on standard error.
 
-use crate::fault::Fault;
+use crate::failure::Failure;
 use mon_alarms::AlarmState;
 use mon_board::Watch;
 use mon_poller::Addr;
@@ -24,19 +24,19 @@ pub fn tell_notices(rt: &impl Eprint, round: u32, addresses: &Addresses, report:
 fn tell_notice(rt: &impl Eprint, round: u32, addresses: &Addresses, notice: Notice) {
     let _ = match notice {
         Notice::GaveUp(target) => {
-            let (number, at) = (u32::from(target) + 1, shown(addresses.target(target)));
+            let (number, at) = (u32::from(target) + 1, shown_target(addresses, target));
             eprintln!(rt; "snmpmon: round {round}: target {number} at {at} gave up")
         }
         Notice::NotPolled(target, fault) => {
-            let (number, at) = (u32::from(target) + 1, shown(addresses.target(target)));
+            let (number, at) = (u32::from(target) + 1, shown_target(addresses, target));
             eprintln!(rt; "snmpmon: round {round}: target {number} at {at} was not polled: {fault}")
         }
         Notice::BadResponse(from, fault) => {
-            let at = shown(Some(from));
+            let at = shown(from);
             eprintln!(rt; "snmpmon: round {round}: from target {at}: {fault}")
         }
         Notice::BadClaim(from, fault) => {
-            let at = shown(Some(from));
+            let at = shown(from);
             eprintln!(rt; "snmpmon: round {round}: from peer {at}: {fault}")
         }
         Notice::NotShared(peer, fault) => {
@@ -55,7 +55,7 @@ pub fn tell_alarms<R: Eprint + AllocGlobal>(
     watch: &Watch,
     before: &[AlarmState],
     after: &[AlarmState],
-) -> Result<(), Fault> {
+) -> Result<(), Failure> {
     for change in alarm_changes(rt.alloc(), before, after)?.as_slice() {
         let line = alarm_line(rt.alloc(), watch, change)?;
         let _ = eprintln!(rt; "snmpmon: {line}");
@@ -63,10 +63,15 @@ pub fn tell_alarms<R: Eprint + AllocGlobal>(
     Ok(())
 }
 
-/// An address as `a.b.c.d:port`.
-fn shown(address: Option<Addr>) -> SocketAddrV4 {
-    match address {
-        Some(address) => SocketAddrV4::new(Ipv4Addr::from(address.octets), address.port),
+/// An address, which is printed as `a.b.c.d:port`.
+pub fn shown(address: Addr) -> SocketAddrV4 {
+    SocketAddrV4::new(Ipv4Addr::from(address.octets), address.port)
+}
+
+/// The address of a target, which is printed as `a.b.c.d:port`.
+fn shown_target(addresses: &Addresses, target: u16) -> SocketAddrV4 {
+    match addresses.target(target) {
+        Some(address) => shown(address),
         None => SocketAddrV4::new(Ipv4Addr::new(0, 0, 0, 0), 0),
     }
 }

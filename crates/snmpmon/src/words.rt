@@ -10,8 +10,11 @@ const ABOUT: &str =
 
 const MORE: &str = "With no command it does `replay 8`.
 
-A fault ends a command with status 1 and one line on standard error, `snmpmon: CRATE NUMBER NAME`.
-Words that cannot be read end it with status 2 and the usage.";
+A fault ends a command with status 1 and the line `snmpmon: CRATE NUMBER NAME` on standard error; mostly a second line
+says what was wrong and where. Words that cannot be read end it with status 2 and the usage.";
+
+/// The name and the version, as `--version` prints them.
+pub const VERSION: &str = "snmpmon 0.1.0\n";
 
 const REPLAY: &str = "Prints the newest samples of each instance in recorded responses";
 
@@ -71,7 +74,10 @@ const GET_MORE: &str =
 A name that the agent does not serve is printed as noSuchObject or noSuchInstance. The request is sent at most
 three times, two seconds apart; no reply ends the command with 2 Timeout, an error status with 6 AgentStatus.
 
-Example: snmpmon get 127.0.0.1:161 public 1.3.6.1.2.1.1.5.0";
+With --module the names of an SMIv2 module (RFC 2578) are known too, and with --names what is answered is printed by name.
+
+Examples: snmpmon get 127.0.0.1:161 public 1.3.6.1.2.1.1.5.0
+          snmpmon get --module examples/served.mib --names 127.0.0.1:161 public sysName.0";
 
 const NEXT: &str = "Asks an agent for the variables after names (GetNextRequest)";
 
@@ -86,7 +92,34 @@ const ADDRESS: &str = "The agent's address, a.b.c.d:port";
 const COMMUNITY: &str = "The community, 1 to 512 octets";
 
 const NAME: &str =
-    "A name, in numbers as 1.3.6.1.2.1.1.5.0, or after a built-in name as mib-2.1.5.0";
+    "A name, in numbers as 1.3.6.1.2.1.1.5.0, or after a built-in name or one of a module as mib-2.1.5.0";
+
+const MODULE: &str =
+    "A file with an SMIv2 module, whose names are known then; given as often as wanted, a module after those whose names it uses";
+
+const NAMES: &str = "Prints names as ifInOctets.1 where the modules give them, in place of numbers";
+
+/// The option that gives a module.
+fn module<'a>(alloc: Global) -> Arg<'a> {
+    Arg::new(alloc, "module")
+        .long("module")
+        .value_name("FILE")
+        .action(ArgAction::Append)
+        .help(MODULE)
+}
+
+/// A command that knows the names of modules, and prints by them.
+fn named<'a>(
+    alloc: Global,
+    command: Command<'a>,
+    module: Arg<'a>,
+) -> Result<Command<'a>, AllocError> {
+    let names = Arg::new(alloc, "names")
+        .long("names")
+        .action(ArgAction::SetTrue)
+        .help(NAMES);
+    command.arg(module)?.arg(names)
+}
 
 fn needed<'a>(alloc: Global, id: &'a str, help: &'a str) -> Arg<'a> {
     Arg::new(alloc, id).required(true).help(help)
@@ -108,6 +141,20 @@ fn client<'a>(
         .arg(names)
 }
 
+/// A command that asks an agent about names, which `-m` gives modules for.
+fn asking<'a>(
+    alloc: Global,
+    name: &'a str,
+    about: &'a str,
+    more: &'a str,
+) -> Result<Command<'a>, AllocError> {
+    named(
+        alloc,
+        client(alloc, name, about, more)?,
+        module(alloc).short('m'),
+    )
+}
+
 const BULK: &str = "Asks an agent for many variables after names (GetBulkRequest)";
 
 const BULK_MORE: &str =
@@ -124,7 +171,11 @@ fn count<'a>(alloc: Global, id: &'a str, short: char, help: &'a str) -> Arg<'a> 
 }
 
 fn bulk<'a>(alloc: Global) -> Result<Command<'a>, AllocError> {
-    client(alloc, "bulk", BULK, BULK_MORE)?
+    named(
+        alloc,
+        client(alloc, "bulk", BULK, BULK_MORE)?,
+        module(alloc),
+    )?
         .arg(count(
             alloc,
             "non-repeaters",
@@ -147,15 +198,17 @@ does. It ends at the first variable that is not under NAME, at the agent's last 
 
 An agent whose names do not increase ends it with 5 NotIncreasing, after what was printed so far.
 
-Example: snmpmon walk 127.0.0.1:161 public mib-2.2";
+Examples: snmpmon walk 127.0.0.1:161 public mib-2.2
+          snmpmon walk -m examples/served.mib --names 127.0.0.1:161 public ifTable";
 
 fn walk<'a>(alloc: Global) -> Result<Command<'a>, AllocError> {
-    Command::new(alloc, "walk")
+    let walk = Command::new(alloc, "walk")
         .about(WALK)
         .long_about(WALK_MORE)
         .arg(needed(alloc, "ADDRESS", ADDRESS))?
         .arg(needed(alloc, "COMMUNITY", COMMUNITY))?
-        .arg(needed(alloc, "NAME", NAME))
+        .arg(needed(alloc, "NAME", NAME))?;
+    named(alloc, walk, module(alloc).short('m'))
 }
 
 const SET: &str = "Has an agent assign a value to a variable (SetRequest)";
@@ -184,14 +237,15 @@ const VALUE: &str = "The value, a text that KIND can read";
 
 fn set<'a>(alloc: Global) -> Result<Command<'a>, AllocError> {
     let kind = needed(alloc, "KIND", "How VALUE is read").value_parser(KINDS.as_slice());
-    Command::new(alloc, "set")
+    let set = Command::new(alloc, "set")
         .about(SET)
         .long_about(SET_MORE)
         .arg(needed(alloc, "ADDRESS", ADDRESS))?
         .arg(needed(alloc, "COMMUNITY", COMMUNITY))?
         .arg(needed(alloc, "NAME", NAME))?
         .arg(kind)?
-        .arg(needed(alloc, "VALUE", VALUE))
+        .arg(needed(alloc, "VALUE", VALUE))?;
+    named(alloc, set, module(alloc).short('m'))
 }
 
 const AGENT: &str = "Serves an agent over a simulated device";
@@ -409,12 +463,17 @@ fn rehearse<'a>(alloc: Global) -> Result<Command<'a>, AllocError> {
 
 /// The whole command line. With no words it names no command, which the caller takes for `replay 8`.
 pub fn command<'a>(alloc: Global) -> Result<Command<'a>, AllocError> {
+    let version = Arg::new(alloc, "version")
+        .long("version")
+        .action(ArgAction::SetTrue)
+        .help("Prints the version");
     Command::new(alloc, "snmpmon")
         .about(ABOUT)
         .after_help(MORE)
+        .arg(version)?
         .subcommand(replay(alloc)?)?
-        .subcommand(client(alloc, "get", GET, GET_MORE)?)?
-        .subcommand(client(alloc, "next", NEXT, NEXT_MORE)?)?
+        .subcommand(asking(alloc, "get", GET, GET_MORE)?)?
+        .subcommand(asking(alloc, "next", NEXT, NEXT_MORE)?)?
         .subcommand(bulk(alloc)?)?
         .subcommand(walk(alloc)?)?
         .subcommand(set(alloc)?)?

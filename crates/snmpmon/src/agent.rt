@@ -1,0 +1,73 @@
+//! The commands of an agent: `agent` and `answer`.
+
+use crate::answering::answers;
+use crate::failure::Failure;
+use crate::fault::Fault;
+use crate::files::{print, read_input_text, read_text};
+use clap::ArgMatches;
+use mon_agent::Agent;
+use mon_app::{AppFault, SocketPort, room, serve_one};
+use mon_mib::{FuseDevice, Moment, SimDevice};
+use mon_settings::{AgentSettings, read_agent};
+use std::net::{Ipv4Addr, Net, SocketAddr, SocketAddrV4};
+use std::rt::{Clock, Files};
+
+/// The greatest moment of a device's life, in hundredths of a second.
+const MOMENTS: &str = "a moment up to 214748364799";
+
+/// Serves the agent of the settings, as many datagrams as `count` says. Where memory runs out for one of them that is told, and the agent stays as it was.
+pub fn agent<R: Clock + Files + Net + Eprint + AllocGlobal>(
+    rt: &R,
+    words: &ArgMatches<'_>,
+) -> Result<(), Failure> {
+    let told = told_of(rt, words)?;
+    let listen = SocketAddrV4::new(Ipv4Addr::from(told.listen.octets), told.listen.port);
+    let device = SimDevice::new(told.interfaces, told.texts)?;
+    let mut agent = Agent::new(told.policy, told.settings, device);
+    let mut room = room(rt.alloc())?;
+    let mut port = SocketPort::open(rt, listen)?;
+    let at = port.address()?;
+    let _ = eprintln!(rt; "snmpmon: agent at {at}");
+    for _ in 0..words.get_one::<u32>("count").unwrap_or(0) {
+        match serve_one(rt.alloc(), &mut port, &mut agent, room.as_mut_slice()) {
+            Err(AppFault::OutOfMemory) => Failure::from(AppFault::OutOfMemory).tell(rt),
+            served => served?,
+        }
+    }
+    Ok(())
+}
+
+/// What the file of an agent's settings says, with the boots that the words may give.
+fn told_of<R: Files + AllocGlobal>(
+    rt: &R,
+    words: &ArgMatches<'_>,
+) -> Result<AgentSettings, Failure> {
+    let path = words.get_str("SETTINGS").unwrap_or("");
+    let text = read_text(rt, path)?;
+    let mut told = match read_agent(rt.alloc(), &text) {
+        Ok(told) => told,
+        Err(fault) => return Err(unset(rt.alloc(), path, &text, fault)),
+    };
+    if let Some(boots) = words.get_one::<i32>("boots") {
+        told.settings.boots = boots;
+    }
+    Ok(told)
+}
+
+/// Prints what the agent of the settings answers to the datagrams on standard input.
+pub fn answer<R: Files + Input + Print + AllocGlobal>(
+    rt: &R,
+    words: &ArgMatches<'_>,
+) -> Result<(), Failure> {
+    let told = told_of(rt, words)?;
+    let simulated = SimDevice::new(told.interfaces, told.texts)?;
+    let device = FuseDevice::new(simulated, words.get_one::<u64>("fuses").unwrap_or(0));
+    let mut agent = Agent::new(told.policy, told.settings, device);
+    let Some(at) = Moment::new(words.get_one::<u64>("at").unwrap_or(0)) else {
+        return Err(Failure::text(rt.alloc(), "--at", MOMENTS));
+    };
+    let times = words.get_one::<u32>("times").unwrap_or(1);
+    let text = read_input_text(rt)?;
+    let lines = answers(rt.alloc(), &mut agent, &text, at, times)?;
+    print(rt, lines.as_bytes())
+}

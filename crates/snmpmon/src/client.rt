@@ -1,0 +1,187 @@
+//! The client commands: `get`, `next`, `bulk`, `walk` and `set`.
+
+use crate::failure::Failure;
+use crate::fault::Fault;
+use crate::files::print;
+use crate::naming::{identifier, names_of};
+use clap::ArgMatches;
+use mon_app::{
+    AppFault, Asking, Question, Repeats, SocketWire, ValueKind, answer_text, value_of,
+};
+use mon_oid::Oid;
+use mon_smi::Names;
+use std::alloc::Global;
+use std::net::{Net, SocketAddrV4};
+use std::rt::{Clock, Files};
+
+/// The longest community, in octets.
+const LONGEST_COMMUNITY: usize = 512;
+
+/// Prints variables of an agent.
+pub fn get<R: Clock + Files + Net + Print + AllocGlobal>(
+    rt: &R,
+    words: &ArgMatches<'_>,
+) -> Result<(), Failure> {
+    ask(rt, words, Asking::Get)
+}
+
+/// Prints the variables after some names.
+pub fn next<R: Clock + Files + Net + Print + AllocGlobal>(
+    rt: &R,
+    words: &ArgMatches<'_>,
+) -> Result<(), Failure> {
+    ask(rt, words, Asking::GetNext)
+}
+
+/// Prints many variables after some names.
+pub fn bulk<R: Clock + Files + Net + Print + AllocGlobal>(
+    rt: &R,
+    words: &ArgMatches<'_>,
+) -> Result<(), Failure> {
+    ask(rt, words, Asking::GetBulk(repeats(words)))
+}
+
+/// Has the agent assign the value of the words to the variable that they name, and prints its answer.
+pub fn set<R: Clock + Files + Net + Print + AllocGlobal>(
+    rt: &R,
+    words: &ArgMatches<'_>,
+) -> Result<(), Failure> {
+    let query = query_of(rt, words)?;
+    let value = value(rt.alloc(), words)?;
+    print_answer(rt, &query, Asking::Set(&value))
+}
+
+/// Walks through the variables under the name, and prints those that were met, also where the walk then fails.
+pub fn walk<R: Clock + Files + Net + Print + AllocGlobal>(
+    rt: &R,
+    words: &ArgMatches<'_>,
+) -> Result<(), Failure> {
+    let query = query_of(rt, words)?;
+    let mut text = String::new(rt.alloc());
+    let walked = walked(rt, &query, &mut text);
+    print(rt, text.as_bytes())?;
+    walked
+}
+
+/// Asks the agent that the words name, and prints its answer.
+fn ask<R: Clock + Files + Net + Print + AllocGlobal>(
+    rt: &R,
+    words: &ArgMatches<'_>,
+    asking: Asking<'_>,
+) -> Result<(), Failure> {
+    let query = query_of(rt, words)?;
+    print_answer(rt, &query, asking)
+}
+
+/// Whom a client command asks, about which variables, and how it prints their names.
+#[derive(Drop)]
+struct Query<'a> {
+    agent: AgentAt<'a>,
+    community: &'a [u8],
+    known: Names,
+    asked: Vec<Oid>,
+    prints_names: bool,
+}
+
+/// An agent's address, and the word that gives it.
+#[derive(Clone, Copy)]
+struct AgentAt<'a> {
+    word: &'a str,
+    address: SocketAddrV4,
+}
+
+/// Whom the words ask, and about which variables. Their faults are found from left to right, then those of the modules, then those of the names.
+fn query_of<'a, R: Files + AllocGlobal>(
+    rt: &R,
+    words: &ArgMatches<'a>,
+) -> Result<Query<'a>, Failure> {
+    let agent = agent_of(rt.alloc(), words)?;
+    let community = community(rt.alloc(), words)?;
+    let known = names_of(rt, words)?;
+    let asked = asked(rt.alloc(), words, &known)?;
+    Ok(Query {
+        agent,
+        community,
+        known,
+        asked,
+        prints_names: words.get_flag("names"),
+    })
+}
+
+/// The agent's address that the words give. It is never looked up.
+fn agent_of<'a>(alloc: Global, words: &ArgMatches<'a>) -> Result<AgentAt<'a>, Failure> {
+    let word = words.get_str("ADDRESS").unwrap_or("");
+    match word.parse() {
+        Ok(address) => Ok(AgentAt { word, address }),
+        Err(_) => Err(Failure::text(alloc, word, "an address, a.b.c.d:port,")),
+    }
+}
+
+/// The community that the words give.
+fn community<'a>(alloc: Global, words: &ArgMatches<'a>) -> Result<&'a [u8], Failure> {
+    let community = words.get_str("COMMUNITY").unwrap_or("").as_bytes();
+    if community.is_empty() || community.len() > LONGEST_COMMUNITY {
+        return Err(Failure::text(alloc, "COMMUNITY", "a text of 1 to 512 octets"));
+    }
+    Ok(community)
+}
+
+/// The identifiers that the words name.
+fn asked(alloc: Global, words: &ArgMatches<'_>, known: &Names) -> Result<Vec<Oid>, Failure> {
+    let mut asked = Vec::new(alloc);
+    for word in words.get_raw("NAME").unwrap_or(&[]) {
+        asked.push(identifier(alloc, known, word)?)?;
+    }
+    Ok(asked)
+}
+
+/// The value that the words give a variable.
+fn value(alloc: Global, words: &ArgMatches<'_>) -> Result<Value, Failure> {
+    let (kind, word) = (
+        words.get_str("KIND").unwrap_or(""),
+        words.get_str("VALUE").unwrap_or(""),
+    );
+    let Some(kind) = ValueKind::named(kind) else {
+        return Err(Failure::text(alloc, kind, "a kind of value"));
+    };
+    match value_of(alloc, kind, word) {
+        Ok(value) => Ok(value),
+        Err(AppFault::BadText) => Err(Failure::text(alloc, word, wanted_of(kind))),
+        Err(fault) => Err(Failure::from(fault)),
+    }
+}
+
+/// What is wanted as a value of a kind.
+fn wanted_of(kind: ValueKind) -> &'static str {
+    match kind {
+        ValueKind::Integer => "an integer, -2147483648 to 2147483647,",
+        ValueKind::String => "a text",
+        ValueKind::Hex => "an even number of hex digits",
+        ValueKind::Oid => "an object identifier in numbers, as 1.3.6.1.4.1,",
+        ValueKind::Ip => "an address, a.b.c.d,",
+        ValueKind::Counter32 | ValueKind::Gauge32 | ValueKind::TimeTicks => {
+            "a number, 0 to 4294967295,"
+        }
+        ValueKind::Counter64 => "a number, 0 to 18446744073709551615,",
+    }
+}
+
+/// How often a GetBulk asks. The command line takes 0 to 2147483647 alone.
+fn repeats(words: &ArgMatches<'_>) -> Repeats {
+    Repeats {
+        non_repeaters: words.get_one::<i32>("non-repeaters").unwrap_or(0),
+        max_repetitions: words.get_one::<i32>("max-repetitions").unwrap_or(0),
+    }
+}
+
+/// Asks the agent, and prints its answer.
+fn print_answer<'a, R: Clock + Net + Print + AllocGlobal>(
+    rt: &R,
+    query: &'a Query<'a>,
+    asking: Asking<'a>,
+) -> Result<(), Failure> {
+    match answered(rt, query, asking) {
+        Ok(text) => print(rt, text.as_bytes()),
+        Err(fault) => Err(failure(rt.alloc(), query, fault)),
+    }
+}

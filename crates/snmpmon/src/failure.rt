@@ -1,0 +1,124 @@
+//! Why a command failed, and where.
+
+use crate::fault::Fault;
+use mon_app::AppFault;
+use mon_rehearsal::RehearsalFault;
+use mon_rounds::TrialFault;
+use mon_smi::NamesFault;
+use mon_station::StationFault;
+use std::alloc::{AllocError, AllocFailed, Global};
+use std::io;
+use std::net::SocketAddrV4;
+
+/// A fault, and what else is known of it: the file, the address or the word in which it arose, and what is wanted there.
+#[derive(Debug, Drop)]
+pub struct Failure {
+    pub fault: Fault,
+    more: Option<String>,
+}
+
+impl Failure {
+    /// A fault that says all itself.
+    pub fn plain(fault: Fault) -> Self {
+        Failure { fault, more: None }
+    }
+
+    /// A fault, and a line that says more of it.
+    pub fn said(fault: Fault, more: Result<String, AllocError>) -> Self {
+        Failure {
+            fault,
+            more: more.ok(),
+        }
+    }
+
+    /// A fault that arose at this place: a file or an address.
+    pub fn at(alloc: Global, place: &str, fault: Fault) -> Self {
+        Failure::said(fault, format!(in alloc; "{place}: {fault}"))
+    }
+
+    /// A word or a text that is not what is wanted in its place.
+    pub fn text(alloc: Global, place: &str, wanted: &str) -> Self {
+        let fault = Fault::App(AppFault::BadText);
+        Failure::said(fault, format!(in alloc; "{place}: {wanted} is wanted"))
+    }
+
+    /// A file or a standard stream that could not be used, with the system's reason.
+    pub fn stream(alloc: Global, path: &str, error: io::Error) -> Self {
+        let more = format!(in alloc; "{path}: {error}");
+        Failure::said(Fault::App(AppFault::from(error)), more)
+    }
+
+    /// A socket that could not be had or used at this address, with the system's reason.
+    pub fn socket(alloc: Global, address: SocketAddrV4, error: io::Error) -> Self {
+        let fault = match error.kind() {
+            io::ErrorKind::OutOfMemory => AppFault::OutOfMemory,
+            _ => AppFault::SocketFault,
+        };
+        Failure::said(Fault::App(fault), format!(in alloc; "{address}: {error}"))
+    }
+
+    /// Prints the fault's line, and a second one that says what was wrong and where. Out of memory says all in one line.
+    pub fn tell(&self, rt: &impl Eprint) {
+        let fault = self.fault;
+        let (number, name, of) = (fault.number(), fault.name(), fault.of());
+        let _ = eprintln!(rt; "snmpmon: {of} {number} {name}");
+        if number != OUT_OF_MEMORY {
+            self.tell_more(rt);
+        }
+    }
+
+    fn tell_more(&self, rt: &impl Eprint) {
+        let _ = match &self.more {
+            Some(more) => eprintln!(rt; "{more}"),
+            None => {
+                let fault = self.fault;
+                eprintln!(rt; "{fault}")
+            }
+        };
+    }
+}
+
+/// The number of each crate's fault that memory was refused.
+const OUT_OF_MEMORY: u8 = 1;
+
+impl From<AppFault> for Failure {
+    fn from(fault: AppFault) -> Failure {
+        Failure::plain(Fault::App(fault))
+    }
+}
+
+impl From<NamesFault> for Failure {
+    fn from(fault: NamesFault) -> Failure {
+        Failure::plain(Fault::Names(fault))
+    }
+}
+
+impl From<RehearsalFault> for Failure {
+    fn from(fault: RehearsalFault) -> Failure {
+        Failure::plain(Fault::Rehearsal(fault))
+    }
+}
+
+impl From<TrialFault> for Failure {
+    fn from(fault: TrialFault) -> Failure {
+        Failure::plain(Fault::Trial(fault))
+    }
+}
+
+impl From<StationFault> for Failure {
+    fn from(fault: StationFault) -> Failure {
+        Failure::plain(Fault::from(fault))
+    }
+}
+
+impl From<AllocError> for Failure {
+    fn from(_error: AllocError) -> Failure {
+        Failure::plain(Fault::App(AppFault::OutOfMemory))
+    }
+}
+
+impl<T: Drop> From<AllocFailed<T>> for Failure {
+    fn from(_error: AllocFailed<T>) -> Failure {
+        Failure::plain(Fault::App(AppFault::OutOfMemory))
+    }
+}

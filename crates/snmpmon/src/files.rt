@@ -1,0 +1,61 @@
+//! What commands read and print.
+
+use crate::failure::Failure;
+use crate::fault::Fault;
+use mon_app::{AppFault, Counted, read_all};
+use std::alloc::Global;
+use std::fs::File;
+use std::io;
+use std::io::Write;
+use std::rt::Files;
+
+/// What second lines call the standard streams.
+const INPUT: &str = "standard input";
+const OUTPUT: &str = "standard output";
+
+/// Prints octets.
+pub fn print<R: Print + AllocGlobal>(rt: &R, octets: &[u8]) -> Result<(), Failure> {
+    match io::writer(rt).write_all(octets) {
+        Ok(()) => Ok(()),
+        Err(error) => Err(Failure::stream(rt.alloc(), OUTPUT, error)),
+    }
+}
+
+/// All octets of standard input.
+pub fn read_input<R: Input + AllocGlobal>(rt: &R) -> Result<Vec<u8>, Failure> {
+    match read_all(rt.alloc(), &mut Counted::new(rt.reader())) {
+        Ok(octets) => Ok(octets),
+        Err(fault) => Err(unread(rt.alloc(), INPUT, fault)),
+    }
+}
+
+/// The text on standard input.
+pub fn read_input_text<R: Input + AllocGlobal>(rt: &R) -> Result<String, Failure> {
+    text_of(rt.alloc(), INPUT, read_input(rt)?)
+}
+
+/// The text of a file.
+pub fn read_text<R: Files + AllocGlobal>(rt: &R, path: &str) -> Result<String, Failure> {
+    let alloc = rt.alloc();
+    let mut file = match File::open(rt, path) {
+        Ok(file) => Counted::new(file),
+        Err(error) => return Err(Failure::stream(alloc, path, error)),
+    };
+    match read_all(alloc, &mut file) {
+        Ok(octets) => text_of(alloc, path, octets),
+        Err(fault) => Err(unread(alloc, path, fault)),
+    }
+}
+
+/// What could not be read to its end.
+fn unread(alloc: Global, place: &str, fault: AppFault) -> Failure {
+    Failure::at(alloc, place, Fault::App(fault))
+}
+
+/// The text of octets in UTF-8.
+fn text_of(alloc: Global, place: &str, octets: Vec<u8>) -> Result<String, Failure> {
+    match String::from_utf8(octets) {
+        Ok(text) => Ok(text),
+        Err(_) => Err(Failure::text(alloc, place, "text in UTF-8")),
+    }
+}

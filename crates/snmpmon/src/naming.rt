@@ -1,0 +1,61 @@
+//! Names by the modules that are given.
+
+use crate::failure::Failure;
+use crate::fault::Fault;
+use crate::files::read_text;
+use clap::ArgMatches;
+use mon_oid::Oid;
+use mon_smi::{Names, Position, TextFault, read_module};
+use std::alloc::Global;
+use std::rt::Files;
+
+/// The built-in names, and those of the modules in the files that the words give, in this order.
+pub fn names_of<R: Files + AllocGlobal>(rt: &R, words: &ArgMatches<'_>) -> Result<Names, Failure> {
+    let mut names = Names::new(rt.alloc())?;
+    for path in words.get_raw("module").unwrap_or(&[]) {
+        add_module(rt, &mut names, path)?;
+    }
+    Ok(names)
+}
+
+/// Adds the names of the module in a file.
+pub fn add_module<R: Files + AllocGlobal>(
+    rt: &R,
+    names: &mut Names,
+    path: &str,
+) -> Result<(), Failure> {
+    let alloc = rt.alloc();
+    let text = read_text(rt, path)?;
+    match read_module(alloc, &text) {
+        Ok(module) => match names.add(alloc, &module) {
+            Ok(()) => Ok(()),
+            Err(fault) => Err(Failure::at(alloc, path, Fault::Names(fault))),
+        },
+        Err(fault) => Err(no_module(alloc, path, &text, fault)),
+    }
+}
+
+/// Why a file holds no module: where in it, and by which word.
+pub fn no_module(alloc: Global, path: &str, text: &str, fault: TextFault) -> Failure {
+    match fault {
+        TextFault::Unexpected(span) | TextFault::Duplicate(span) => {
+            let Position { line, column } = Position::of(text, span.start);
+            let word = text.get(span.start..span.end).unwrap_or("");
+            Failure::said(
+                Fault::Text(fault),
+                format!(in alloc; "{path}: line {line}, column {column}: {fault}: {word}"),
+            )
+        }
+        TextFault::OutOfMemory | TextFault::Unclosed => {
+            Failure::at(alloc, path, Fault::Text(fault))
+        }
+    }
+}
+
+/// The identifier that a word means.
+pub fn identifier(alloc: Global, names: &Names, word: &str) -> Result<Oid, Failure> {
+    match names.resolve(alloc, word) {
+        Ok(oid) => Ok(oid),
+        Err(fault) => Err(Failure::at(alloc, word, Fault::Names(fault))),
+    }
+}
