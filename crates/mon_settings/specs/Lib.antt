@@ -6,6 +6,7 @@ pub mod Keys
 pub mod Leaf
 pub mod Lists
 pub mod NamedLists
+pub mod Place
 pub mod Placing
 pub mod Resolving
 pub mod SettingsFault

@@ -13,7 +13,7 @@ use Rattle.mon_vacm.specs.declared.fault.PolicyFault.TheVariants.{DuplicateCommu
 use Rattle.mon_settings.specs.declared.key.Key.{Key}
 use Rattle.mon_settings.specs.declared.key.Key.TheVariants as key
 use Rattle.mon_settings.specs.declared.fault.SettingsFault.{SettingsFault}
-use Rattle.mon_settings.specs.declared.fault.SettingsFault.TheVariants as fault
+use Rattle.mon_settings.specs.SettingsFault.{bad_value}
 use Rattle.mon_oid.specs.Steps.{◌>>=◌}
 use Rattle.mon_settings.specs.Keys.{only, needed_at, default_at, optional_at}
 use Rattle.mon_settings.specs.Leaf.{text_in, hex_in, oid_in, model_in}
@@ -101,9 +101,9 @@ unfoldable pub policy_of : Lists → Result Lists SettingsFault
 policy_of tables =
     if communities_differ tables.communities then
     (if list_all (knows_views tables.families) tables.accesses then
-    (if families_differ tables.families then Ok tables else Err (fault.BadValue (list_of DuplicateFamily)))
-    else Err (fault.BadValue (list_of UnknownView)))
-    else Err (fault.BadValue (list_of DuplicateCommunity))
+    (if families_differ tables.families then Ok tables else Err (bad_value (list_of DuplicateFamily)))
+    else Err (bad_value (list_of UnknownView)))
+    else Err (bad_value (list_of DuplicateCommunity))
 
 -- the four lists, and then the policy of them
 unfoldable pub policy_in : Members → Result Lists SettingsFault

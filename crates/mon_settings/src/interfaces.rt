@@ -13,6 +13,7 @@ use crate::keys::{find, only};
 use crate::leaf::{index_at, int_at, number_at};
 use crate::list::{Row, list_at};
 use crate::octets::{hex_octets_at, octets_at};
+use crate::place::Step;
 use mon_mib::{Growth, Interface, Status};
 use std::alloc::Global;
 use toml::Table;
@@ -55,10 +56,10 @@ fn growth_at(table: &Table, key: Key) -> Result<Growth, SettingsFault>
 {
     match find(table, key) {
         Some(value) => match value.as_table() {
-            Some(inner) => growth_of(inner),
-            None => Err(SettingsFault::BadValue(key)),
+            Some(inner) => growth_of(inner).map_err(|fault| fault.within(Step::Value(key))),
+            None => Err(SettingsFault::bad(key)),
         },
-        None => Err(SettingsFault::Missing(key)),
+        None => Err(SettingsFault::missing(key)),
     }
 }
 
@@ -124,6 +125,6 @@ pub(crate) fn read_interfaces(alloc: Global, table: &Table) -> Result<Vec<Interf
     if rise(&interfaces) {
         Ok(interfaces)
     } else {
-        Err(SettingsFault::BadValue(Key::Interface))
+        Err(SettingsFault::bad(Key::Interface))
     }
 }

@@ -9,6 +9,7 @@ ghost use Rattle.mon_settings.specs.Keys.{is_one_of, only};
 
 use crate::fault::SettingsFault;
 use crate::key::Key;
+use crate::place::Place;
 use toml::{Table, Value};
 
 /// The value at a key, if there is one.
@@ -43,6 +44,6 @@ pub(crate) fn only(table: &Table, keys: &[Key]) -> Result<(), SettingsFault>
     if has_only(table, keys) {
         Ok(())
     } else {
-        Err(SettingsFault::UnknownKey)
+        Err(SettingsFault::UnknownKey(Place::Whole))
     }
 }

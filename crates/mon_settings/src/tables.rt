@@ -108,7 +108,7 @@ fn policy_of(tables: Tables) -> Result<Policy, SettingsFault>
 {
     match Policy::new(tables) {
         Ok(policy) => Ok(policy),
-        Err(fault) => Err(SettingsFault::BadValue(list_of(fault))),
+        Err(fault) => Err(SettingsFault::bad(list_of(fault))),
     }
 }
 
