@@ -85,7 +85,7 @@ one_from (k ∷ ks) name h =
           (suc i, l, omega arith, at, same)
     ]
 
-one_to : (ks : List Key) (name : List ℕ) → Any (λ k. key_name k ≡ name) ks → is_one_of ks name ≡ true
+pub one_to : (ks : List Key) (name : List ℕ) → Any (λ k. key_name k ≡ name) ks → is_one_of ks name ≡ true
 one_to [] name (i, l, lt, at, same) = absurd (omega arith)
 one_to (k ∷ ks) name (zero, l, lt, at, same) = rw ((bytes_eq-Decides name (key_name k)).1 (sym (ap key_name at ∙ same)))
 one_to (k ∷ ks) name (suc i, l, lt, at, same) =
@@ -106,13 +106,13 @@ module _ (ks : List Key) where
   known_at Equal name l e rest d is here more h = one_from ks name (rw (equal_same name l is) here)
   known_at Greater name l e rest d is here more h = more h
 
-  known_from : (t : Members) → has_only ks t ≡ true → KnowsOnly ks t
+  pub known_from : (t : Members) → has_only ks t ≡ true → KnowsOnly ks t
   known_from no_members h = λ name d is. absurd cc
   known_from (member l e ms) h =
       let (here, rest) = and_parts (is_one_of ks l) (has_only ks ms) h in
       λ name d is. known_at (slice_cmp nat_cmp name l) name l e (get_member name ms) d refl here (known_from ms rest name d) is
 
-  found_at : (o : Ordering) (e : Data) (rest : Option Data) (d : Data) → rest ≡ Some d → (x : Data) × (match_ordering o rest (Some e) rest ≡ Some x)
+  pub found_at : (o : Ordering) (e : Data) (rest : Option Data) (d : Data) → rest ≡ Some d → (x : Data) × (match_ordering o rest (Some e) rest ≡ Some x)
   found_at Less e rest d h = (d, h)
   found_at Equal e rest d h = (e, refl)
   found_at Greater e rest d h = (d, h)

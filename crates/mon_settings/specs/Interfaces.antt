@@ -18,10 +18,14 @@ use Rattle.mon_settings.specs.Lists.{list_at}
 abbrev pub long_in : Data → Option ℕ
 long_in d = number_in 0 9223372036854775807 d
 
+-- the keys of a count
+abbrev pub growth_keys : List Key
+growth_keys = key.Start ∷ key.Rate ∷ []
+
 -- how a count begins, and what each second adds
 unfoldable pub growth_of : Members → Result Growth SettingsFault
 growth_of t = do
-  known ← only (key.Start ∷ key.Rate ∷ []) t
+  known ← only growth_keys t
   start ← needed_at key.Start long_in t
   rate ← needed_at key.Rate long_in t
   Ok (record { start = start; rate = rate })

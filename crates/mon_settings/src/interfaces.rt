@@ -25,7 +25,7 @@ const INT: u64 = 2147483647;
 const LONG: u64 = 9223372036854775807;
 
 /// The keys of an interface.
-const KEYS: [Key; 12] = [
+pub(crate) const KEYS: [Key; 12] = [
     Key::Index,
     Key::Descr,
     Key::Type,
@@ -40,11 +40,14 @@ const KEYS: [Key; 12] = [
     Key::OutPackets,
 ];
 
+/// The keys of a count.
+pub(crate) const GROWTH_KEYS: [Key; 2] = [Key::Start, Key::Rate];
+
 #[tactic(auto, unfolding(crate::specs::Interfaces::growth_of))]
 fn growth_of(table: &Table) -> Result<Growth, SettingsFault>
     ensures { result ≡ growth_of (table_view table.now) }
 {
-    only(table, &[Key::Start, Key::Rate])?;
+    only(table, &GROWTH_KEYS)?;
     let start = number_at(table, Key::Start, 0, LONG)?;
     let rate = number_at(table, Key::Rate, 0, LONG)?;
     Ok(Growth { start, rate })

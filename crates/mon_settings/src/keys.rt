@@ -20,7 +20,7 @@ pub(crate) fn find(table: &Table, key: Key) -> Option<&Value>
 }
 
 /// Whether a name is that of one of the keys.
-fn is_one_of(name: &str, keys: &[Key]) -> bool
+pub(crate) fn is_one_of(name: &str, keys: &[Key]) -> bool
     ensures { result ≡ is_one_of keys.now name.now }
 {
     for key in keys {

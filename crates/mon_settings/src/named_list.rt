@@ -51,9 +51,7 @@ fn read_row<R: NamedRow>(
     ensures { Reads (λ r. r) (row step (R.row_of (resolution names.now) sizes) (view value.now)) result }
 {
     match value.as_table() {
-        Some(table) => {
-            R::read(alloc, names, sizes, table).map_err(|fault| fault.within(step))
-        }
+        Some(table) => { R::read(alloc, names, sizes, table).map_err(|fault| fault.within(step)) }
         None => Err(SettingsFault::BadValue(Place::At(step))),
     }
 }

@@ -47,7 +47,8 @@ fn at_top(key: Key) -> &'static str {
 fn in_table(table: Key, key: Key) -> &'static str {
     match key {
         Key::Name => match table {
-            Key::Objects | Key::Alarm => "a dotted identifier, or a known name with numbers after it, is wanted",
+            Key::Objects | Key::Alarm =>
+                "a dotted identifier, or a known name with numbers after it, is wanted",
             _ => value(key),
         },
         Key::Community => "a text of 1 to 512 octets is wanted",
