@@ -21,15 +21,16 @@ use Rattle.mon_settings.specs.declared.agent.System.{System}
 use Rattle.mon_settings.specs.declared.key.Key.{Key}
 use Rattle.mon_settings.specs.declared.key.Key.TheVariants as key
 use Rattle.mon_settings.specs.declared.fault.SettingsFault.{SettingsFault}
+use Rattle.mon_settings.specs.declared.place.Step.TheVariants as step
 use Rattle.mon_settings.specs.Accepted.{Holds, HoldsOr, HoldsRows, AreRows, HoldsGrowth, IsCommunity, IsGroup, IsAccess, IsFamily, IsGrowth, IsInterface, IsAgent}
 use Rattle.mon_settings.specs.Agent.{Agent, agent_keys, system_of, agent_of}
 use Rattle.mon_settings.specs.Interfaces.{interface_keys, long_in, growth_of, growth_at, interface_of, rise_from, rising, interfaces_in}
-use Rattle.mon_settings.specs.Keys.{only, needed_at, default_at}
+use Rattle.mon_settings.specs.Keys.{only, needed_at, default_at, within}
 use Rattle.mon_settings.specs.Leaf.{bounded, number_in, int_in, text_in, hex_in, oid_in, addr_in, model_in}
 use Rattle.mon_settings.specs.Lists.{list_at}
 use Rattle.mon_settings.specs.Tables.{community_of, group_of, access_entry_of, family_of, policy_in}
 use Rattle.mon_settings.proofs.Policies.{policy_made, policy_accepted}
-use Rattle.mon_settings.proofs.Steps.{bind_from, bind_to, ok_same, needed_from, needed_to, default_from, default_to, only_from, only_to, list_from, list_to}
+use Rattle.mon_settings.proofs.Steps.{bind_from, bind_to, ok_same, needed_from, needed_to, default_from, default_to, only_from, only_to, within_from, list_from, list_to}
 
 community_of-from : (t : Members) (x : Community) → community_of t ≡ Ok x → IsCommunity t x
 unfolding community_of
@@ -168,13 +169,13 @@ growth_of-to t x h =
 growth_at_from : (k : Key) (t : Members) (g : Growth) → growth_at k t ≡ Ok g → HoldsGrowth k t g
 unfolding growth_at
 growth_at_from k t g h =
-    let (inner, there, is) = bind_from (needed_at k as_table t) growth_of g h in
-    (inner, needed_from k as_table t inner there, growth_of-from inner g is)
+    let (inner, there, is) = bind_from (needed_at k as_table t) (λ inner. within (step.Value k) (growth_of inner)) g h in
+    (inner, needed_from k as_table t inner there, growth_of-from inner g (within_from (step.Value k) (growth_of inner) g is))
 
 growth_at_to : (k : Key) (t : Members) (g : Growth) → HoldsGrowth k t g → growth_at k t ≡ Ok g
 unfolding growth_at
 growth_at_to k t g (inner, there, is) =
-    bind_to (needed_at k as_table t) growth_of inner g (needed_to k as_table t inner there) (growth_of-to inner g is)
+    bind_to (needed_at k as_table t) (λ inner. within (step.Value k) (growth_of inner)) inner g (needed_to k as_table t inner there) (ap (within (step.Value k)) (growth_of-to inner g is))
 
 interface_of-from : (t : Members) (x : Interface) → interface_of t ≡ Ok x → IsInterface t x
 unfolding interface_of

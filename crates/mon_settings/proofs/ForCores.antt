@@ -152,6 +152,6 @@ core_read find t scalars targets instances peers rules positive plain read place
     let fit = scalars_limits t scalars plain in
     let within = between_limits key.Target 1 64 (target_of find scalars.sizes) t targets IsWithin (target_limits find scalars.sizes fit) read in
     let are = (instances_are targets instances).0 placed in
-    let (alarms, listed, put) = bind_from (rows_up_to key.Alarm 256 (alarm_of find scalars.sizes) t) (λ l. with_alarms instances l []) rules ruled in
+    let (alarms, listed, put) = bind_from (rows_up_to key.Alarm 256 (alarm_of find scalars.sizes) t) (λ l. with_alarms instances 1 l []) rules ruled in
     core_made scalars.station targets peers instances alarms rules positive within are others
     (up_to_limit key.Alarm 256 (alarm_of find scalars.sizes) t alarms listed) ((rules_are instances are.rising alarms rules).0 put)

@@ -10,7 +10,7 @@ use Rattle.toml.specs.Data.{Data, no_items, Members, get_member, as_str, as_inte
 use Rattle.mon_settings.specs.declared.key.Key.{Key}
 use Rattle.mon_settings.specs.declared.key.Key.TheVariants as key
 use Rattle.mon_settings.specs.declared.fault.SettingsFault.{SettingsFault}
-use Rattle.mon_settings.specs.declared.fault.SettingsFault.TheVariants as fault
+use Rattle.mon_settings.specs.SettingsFault.{bad_value}
 use Rattle.mon_settings.specs.declared.sizes.Sizes.{Sizes}
 use Rattle.mon_settings.specs.declared.station_tables.AlarmRow.{AlarmRow}
 use Rattle.mon_settings.specs.declared.station_tables.ObjectRow.{ObjectRow}
@@ -29,31 +29,31 @@ use Rattle.mon_settings.specs.StationTables.{object_of, target_of, peer_of, alar
 use Rattle.mon_settings.proofs.ForWatches.{instances_are, others_from, others_to, rules_are}
 use Rattle.mon_settings.proofs.Steps.{bind_from, bind_to, bad_from, ok_same, needed_from, needed_to, default_from, default_to, only_from, only_to, rows_from, rows_to}
 
-known_from : (o : Option (List ℕ)) (q : List ℕ) → (let r : Result (List ℕ) SettingsFault = or_unknown o in r) ≡ Ok q → o ≡ Some q
-known_from None q h = absurd cc
-known_from (Some p) q h = cc
+known_from : (k : Key) (o : Option (List ℕ)) (q : List ℕ) → (let r : Result (List ℕ) SettingsFault = or_unknown k o in r) ≡ Ok q → o ≡ Some q
+known_from k None q h = absurd cc
+known_from k (Some p) q h = cc
 
 -- a list with limits
 module _ {A : Type 0} (k : Key) (f : Members → Result A SettingsFault) (P : Members → A → Type 0) (same : (t : Members) (a : A) → (f t ≡ Ok a) ↔ P t a) (t : Members) (xs : List A) where
   between_from : (least most : ℕ) → rows_between k least most f t ≡ Ok xs → HoldsBetween k least most P t xs
   unfolding rows_between
   between_from least most h =
-      let (ds, is, all) = bind_from (needed_at k (list_between least most) t) (rows k f) xs h in
-      (ds, needed_from k (list_between least most) t ds is, rows_from k f P same ds xs all)
+      let (ds, is, all) = bind_from (needed_at k (list_between least most) t) (rows k f 1) xs h in
+      (ds, needed_from k (list_between least most) t ds is, rows_from k f P same 1 ds xs all)
 
   between_to : (least most : ℕ) → HoldsBetween k least most P t xs → rows_between k least most f t ≡ Ok xs
   unfolding rows_between
-  between_to least most (ds, is, all) = bind_to (needed_at k (list_between least most) t) (rows k f) ds xs (needed_to k (list_between least most) t ds is) (rows_to k f P same ds xs all)
+  between_to least most (ds, is, all) = bind_to (needed_at k (list_between least most) t) (rows k f 1) ds xs (needed_to k (list_between least most) t ds is) (rows_to k f P same 1 ds xs all)
 
   up_to_from : (most : ℕ) → rows_up_to k most f t ≡ Ok xs → MayHoldUpTo k most P t xs
   unfolding rows_up_to
   up_to_from most h =
-      let (ds, is, all) = bind_from (default_at k no_items (list_between 0 most) t) (rows k f) xs h in
-      (ds, default_from k (list_between 0 most) t ds no_items is, rows_from k f P same ds xs all)
+      let (ds, is, all) = bind_from (default_at k no_items (list_between 0 most) t) (rows k f 1) xs h in
+      (ds, default_from k (list_between 0 most) t ds no_items is, rows_from k f P same 1 ds xs all)
 
   up_to_to : (most : ℕ) → MayHoldUpTo k most P t xs → rows_up_to k most f t ≡ Ok xs
   unfolding rows_up_to
-  up_to_to most (ds, is, all) = bind_to (default_at k no_items (list_between 0 most) t) (rows k f) ds xs (default_to k (list_between 0 most) t ds no_items is) (rows_to k f P same ds xs all)
+  up_to_to most (ds, is, all) = bind_to (default_at k no_items (list_between 0 most) t) (rows k f 1) ds xs (default_to k (list_between 0 most) t ds no_items is) (rows_to k f P same 1 ds xs all)
 
 peer_of-from : (t : Members) (x : PeerRow) → peer_of t ≡ Ok x → IsPeer t x
 unfolding peer_of
@@ -115,7 +115,7 @@ pub scalars_of-is : (t : Members) (x : Scalars) → (scalars_of t ≡ Ok x) ↔ 
 scalars_of-is t x = (scalars_of-from t x, scalars_of-to t x)
 
 -- what is accepted of peers is what was read
-chosen_same : (b : Bool) (xs ys : List PeerRow) → (let r : Result (List PeerRow) SettingsFault = if b then Ok xs else Err (fault.BadValue key.Peer) in r) ≡ Ok ys → xs ≡ ys
+chosen_same : (b : Bool) (xs ys : List PeerRow) → (let r : Result (List PeerRow) SettingsFault = if b then Ok xs else Err (bad_value key.Peer) in r) ≡ Ok ys → xs ≡ ys
 chosen_same true xs ys h = ok_same xs ys h
 chosen_same false xs ys h = absurd cc
 
@@ -123,31 +123,31 @@ peers_same : (own : ℕ) (targets : List TargetRow) (xs ys : List PeerRow) → c
 peers_same own targets xs ys h = chosen_same (are_peer_numbers own (map (λ (p : PeerRow). p.station) xs) && are_apart targets xs) xs ys h
 
 module _ (defs : List Definition) (find : List ℕ → Option (List ℕ)) (means : Resolves defs find) where
-  text_from : (text q : List ℕ) → (let r : Result (List ℕ) SettingsFault = or_unknown (find text) in r) ≡ Ok q → IsOid q × MeansNumbers defs text q
-  text_from text q h = (means text q).0 (known_from (find text) q h)
+  text_from : (k : Key) (text q : List ℕ) → (let r : Result (List ℕ) SettingsFault = or_unknown k (find text) in r) ≡ Ok q → IsOid q × MeansNumbers defs text q
+  text_from k text q h = (means text q).0 (known_from k (find text) q h)
 
-  text_to : (text q : List ℕ) → IsOid q × MeansNumbers defs text q → (let r : Result (List ℕ) SettingsFault = or_unknown (find text) in r) ≡ Ok q
-  text_to text q h = ap or_unknown ((means text q).1 h)
+  text_to : (k : Key) (text q : List ℕ) → IsOid q × MeansNumbers defs text q → (let r : Result (List ℕ) SettingsFault = or_unknown k (find text) in r) ≡ Ok q
+  text_to k text q h = ap (or_unknown k) ((means text q).1 h)
 
   named_from : (k : Key) (t : Members) (q : List ℕ) → name_at find k t ≡ Ok q → Names defs k t q
   unfolding name_at
   named_from k t q h =
-      let (text, is, found) = bind_from (needed_at k as_str t) (λ s. or_unknown (find s)) q h in
-      (text, needed_from k as_str t text is, text_from text q found)
+      let (text, is, found) = bind_from (needed_at k as_str t) (λ s. or_unknown k (find s)) q h in
+      (text, needed_from k as_str t text is, text_from k text q found)
 
   named_to : (k : Key) (t : Members) (q : List ℕ) → Names defs k t q → name_at find k t ≡ Ok q
   unfolding name_at
-  named_to k t q (text, is, found) = bind_to (needed_at k as_str t) (λ s. or_unknown (find s)) text q (needed_to k as_str t text is) (text_to text q found)
+  named_to k t q (text, is, found) = bind_to (needed_at k as_str t) (λ s. or_unknown k (find s)) text q (needed_to k as_str t text is) (text_to k text q found)
 
   value_from : (k : Key) (d : Data) (q : List ℕ) → name_in find k d ≡ Ok q → (text : List ℕ) × (as_str d ≡ Some text) × (IsOid q × MeansNumbers defs text q)
   unfolding name_in
   value_from k d q h =
-      let (text, is, found) = bind_from (or_bad k (as_str d)) (λ s. or_unknown (find s)) q h in
-      (text, bad_from k (as_str d) text is, text_from text q found)
+      let (text, is, found) = bind_from (or_bad k (as_str d)) (λ s. or_unknown k (find s)) q h in
+      (text, bad_from k (as_str d) text is, text_from k text q found)
 
   value_to : (k : Key) (d : Data) (q text : List ℕ) → as_str d ≡ Some text → IsOid q × MeansNumbers defs text q → name_in find k d ≡ Ok q
   unfolding name_in
-  value_to k d q text is found = bind_to (or_bad k (as_str d)) (λ s. or_unknown (find s)) text q (ap (or_bad k) is) (text_to text q found)
+  value_to k d q text is found = bind_to (or_bad k (as_str d)) (λ s. or_unknown k (find s)) text q (ap (or_bad k) is) (text_to k text q found)
 
   at_from : (k : Key) (t : Members) (o : Option Data) (q : Option (List ℕ)) → get_member (key_name k) t ≡ o → name_in_some find k o ≡ Ok q → MayName defs k t q
   unfolding name_in_some
@@ -275,17 +275,17 @@ module _ (defs : List Definition) (find : List ℕ → Option (List ℕ)) (means
       bind_to (rows_up_to key.Peer 15 peer_of t) (checked_peers own targets) ps ps (up_to_to key.Peer peer_of IsPeer peer_of-is t ps 15 holds) checked
 
   rules_from : (sizes : Sizes) (instances : List Watched) (t : Members) (rules : List Rule) → rules_at find sizes instances t ≡ Ok rules
-      → (alarms : List AlarmRow) × MayHoldUpTo key.Alarm 256 (IsAlarm defs) t alarms × (with_alarms instances alarms [] ≡ Ok rules)
+      → (alarms : List AlarmRow) × MayHoldUpTo key.Alarm 256 (IsAlarm defs) t alarms × (with_alarms instances 1 alarms [] ≡ Ok rules)
   unfolding rules_at
   rules_from sizes instances t rules h =
-      let (alarms, p, placed) = bind_from (rows_up_to key.Alarm 256 (alarm_of find sizes) t) (λ l. with_alarms instances l []) rules h in
+      let (alarms, p, placed) = bind_from (rows_up_to key.Alarm 256 (alarm_of find sizes) t) (λ l. with_alarms instances 1 l []) rules h in
       (alarms, up_to_from key.Alarm (alarm_of find sizes) (IsAlarm defs) (alarm_of-is sizes) t alarms 256 p, placed)
 
   rules_to : (sizes : Sizes) (instances : List Watched) (t : Members) (rules : List Rule) (alarms : List AlarmRow) → MayHoldUpTo key.Alarm 256 (IsAlarm defs) t alarms
-      → with_alarms instances alarms [] ≡ Ok rules → rules_at find sizes instances t ≡ Ok rules
+      → with_alarms instances 1 alarms [] ≡ Ok rules → rules_at find sizes instances t ≡ Ok rules
   unfolding rules_at
   rules_to sizes instances t rules alarms holds placed =
-      bind_to (rows_up_to key.Alarm 256 (alarm_of find sizes) t) (λ l. with_alarms instances l []) alarms rules (up_to_to key.Alarm (alarm_of find sizes) (IsAlarm defs) (alarm_of-is sizes) t alarms 256 holds) placed
+      bind_to (rows_up_to key.Alarm 256 (alarm_of find sizes) t) (λ l. with_alarms instances 1 l []) alarms rules (up_to_to key.Alarm (alarm_of find sizes) (IsAlarm defs) (alarm_of-is sizes) t alarms 256 holds) placed
 
   peers_from : (own : ℕ) (targets : List TargetRow) (t : Members) (ps : List PeerRow) → peers_at own targets t ≡ Ok ps
       → MayHoldUpTo key.Peer 15 IsPeer t ps × (checked_peers own targets ps ≡ Ok ps)

@@ -18,4 +18,5 @@ pub mod Resolved
 pub mod Rows
 pub mod StationFaults
 pub mod Steps
+pub mod UnknownKeys
 pub mod WithRows

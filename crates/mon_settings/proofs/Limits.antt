@@ -1,5 +1,5 @@
 -- What was read of the tables of a station is within the limits of their keys.
-use Rattle.std.proofs.Common.{◌≡◌, ℕ, ◌≤◌, ◌&&◌, nat_le, List, [], ◌∷◌, length, Option, Some, None, Result, Ok, All, ℤ, pos, negsuc, sym, ap, subst, arith, inl, inr, if◌then◌else◌}
+use Rattle.std.proofs.Common.{◌≡◌, ℕ, ◌+◌, ◌≤◌, ◌&&◌, nat_le, List, [], ◌∷◌, length, Option, Some, None, Result, Ok, All, ℤ, pos, negsuc, sym, ap, subst, arith, inl, inr, if◌then◌else◌}
 use Rattle.std.specs.Prelude.{min}
 use Rattle.std.proofs.lemmas.Bool.{and_parts, cases_Bool}
 use Rattle.std.proofs.lemmas.Bool.Decides.{nat_tests}
@@ -13,10 +13,13 @@ use Rattle.mon_oid.specs.Steps.{◌>>=◌}
 use Rattle.mon_settings.specs.declared.key.Key.{Key}
 use Rattle.mon_settings.specs.declared.key.Key.TheVariants as key
 use Rattle.mon_settings.specs.declared.fault.SettingsFault.{SettingsFault}
+use Rattle.mon_settings.specs.declared.place.Place.TheVariants as place
+use Rattle.mon_settings.specs.declared.place.Step.{Step}
+use Rattle.mon_settings.specs.declared.place.Step.TheVariants as step
 use Rattle.mon_settings.specs.declared.sizes.Sizes.{Sizes}
 use Rattle.mon_settings.specs.declared.station_tables.ObjectRow.{ObjectRow}
 use Rattle.mon_settings.specs.declared.station_tables.TargetRow.{TargetRow}
-use Rattle.mon_settings.specs.Keys.{or_bad, only, needed_at, default_at}
+use Rattle.mon_settings.specs.Keys.{or_bad_at, only, needed_at, default_at, within}
 use Rattle.mon_settings.specs.Leaf.{bounded, number_in, sized, text_in, ok_of, hex_of, hex_in, addr_in}
 use Rattle.mon_settings.specs.Lists.{count, row, rows}
 use Rattle.mon_settings.specs.NamedLists.{between, list_between, rows_between, rows_up_to}
@@ -24,7 +27,7 @@ use Rattle.mon_settings.specs.Resolving.{name_at, name_or_none}
 use Rattle.mon_settings.specs.Station.{Scalars, scalars_of}
 use Rattle.mon_settings.specs.StationTables.{object_of, target_of}
 use Rattle.mon_settings.proofs.Insertions.{some_same, then_from}
-use Rattle.mon_settings.proofs.Steps.{bind_from, default_from, needed_from, ok_same}
+use Rattle.mon_settings.proofs.Steps.{bad_at_from, bind_from, default_from, needed_from, ok_same, within_from}
 
 abbrev some : {A : Type 0} → A → Option A
 some x = Some x
@@ -78,28 +81,30 @@ number_at k least most t n h = let (d, is, value) = needed_from k (number_in lea
 
 -- the rows of a list
 module _ {A : Type 0} (k : Key) (f : Members → Result A SettingsFault) where
-  as_many : (ds : Items) (xs : List A) → rows k f ds ≡ Ok xs → length xs ≡ count ds
+  as_many : (n : ℕ) (ds : Items) (xs : List A) → rows k f n ds ≡ Ok xs → length xs ≡ count ds
   unfolding rows
-  as_many no_items xs h = let same = ok_same [] xs h in sym (ap length same)
-  as_many (item d ds) xs h =
-      let (a, first, rest) = bind_from (row k f d) (λ a. rows k f ds >>= (λ more. Ok (a ∷ more))) xs h in
-      let (more, others, whole) = bind_from (rows k f ds) (λ more. Ok (a ∷ more)) xs rest in
+  as_many n no_items xs h = let same = ok_same [] xs h in sym (ap length same)
+  as_many n (item d ds) xs h =
+      let (a, first, rest) = bind_from (row (step.Entry k n) f d) (λ a. rows k f (n + 1) ds >>= (λ more. Ok (a ∷ more))) xs h in
+      let (more, others, whole) = bind_from (rows k f (n + 1) ds) (λ more. Ok (a ∷ more)) xs rest in
       let same = ok_same (a ∷ more) xs whole in
       let whole_length : length (a ∷ more) ≡ length xs = ap length same in
-      omega (arith, whole_length, as_many ds more others)
+      omega (arith, whole_length, as_many (n + 1) ds more others)
 
   module _ (P : A → Type 0) (each : (t : Members) (a : A) → f t ≡ Ok a → P a) where
-    row_is : (d : Data) (a : A) → row k f d ≡ Ok a → P a
+    row_is : (s : Step) (d : Data) (a : A) → row s f d ≡ Ok a → P a
     unfolding row
-    row_is d a h = let (t, is, found) = bind_from (or_bad k (as_table d)) f a h in each t a found
+    row_is s d a h =
+        let (t, is, found) = bind_from (or_bad_at (place.At s) (as_table d)) (λ t. within s (f t)) a h in
+        each t a (within_from s (f t) a found)
 
-    all_are : (ds : Items) (xs : List A) → rows k f ds ≡ Ok xs → All P xs
+    all_are : (n : ℕ) (ds : Items) (xs : List A) → rows k f n ds ≡ Ok xs → All P xs
     unfolding rows
-    all_are no_items xs h = subst (All P) (ok_same [] xs h) (All-nil P)
-    all_are (item d ds) xs h =
-        let (a, first, rest) = bind_from (row k f d) (λ a. rows k f ds >>= (λ more. Ok (a ∷ more))) xs h in
-        let (more, others, whole) = bind_from (rows k f ds) (λ more. Ok (a ∷ more)) xs rest in
-        subst (All P) (ok_same (a ∷ more) xs whole) (All-cons P a more (row_is d a first) (all_are ds more others))
+    all_are n no_items xs h = subst (All P) (ok_same [] xs h) (All-nil P)
+    all_are n (item d ds) xs h =
+        let (a, first, rest) = bind_from (row (step.Entry k n) f d) (λ a. rows k f (n + 1) ds >>= (λ more. Ok (a ∷ more))) xs h in
+        let (more, others, whole) = bind_from (rows k f (n + 1) ds) (λ more. Ok (a ∷ more)) xs rest in
+        subst (All P) (ok_same (a ∷ more) xs whole) (All-cons P a more (row_is (step.Entry k n) d a first) (all_are (n + 1) ds more others))
 
 counted : (least most : ℕ) (d : Data) (ds : Items) → list_between least most d ≡ Some ds → (least ≤ count ds) × (count ds ≤ most)
 counted least most d ds h =
@@ -112,16 +117,16 @@ pub between_limits : {A : Type 0} (k : Key) (least most : ℕ) (f : Members → 
     → rows_between k least most f t ≡ Ok xs → (least ≤ length xs) × (length xs ≤ most) × All P xs
 unfolding rows_between
 between_limits k least most f t xs P each h =
-    let (ds, is, read) = bind_from (needed_at k (list_between least most) t) (rows k f) xs h in
+    let (ds, is, read) = bind_from (needed_at k (list_between least most) t) (rows k f 1) xs h in
     let (d, there, value) = needed_from k (list_between least most) t ds is in
     let (low, high) = counted least most d ds value in
-    (omega (arith, low, as_many k f ds xs read), omega (arith, high, as_many k f ds xs read), all_are k f P each ds xs read)
+    (omega (arith, low, as_many k f 1 ds xs read), omega (arith, high, as_many k f 1 ds xs read), all_are k f P each 1 ds xs read)
 
 pub up_to_limit : {A : Type 0} (k : Key) (most : ℕ) (f : Members → Result A SettingsFault) (t : Members) (xs : List A) → rows_up_to k most f t ≡ Ok xs → length xs ≤ most
 unfolding rows_up_to
 up_to_limit k most f t xs h =
-    let (ds, is, read) = bind_from (default_at k no_items (list_between 0 most) t) (rows k f) xs h in
-    let long = as_many k f ds xs read in
+    let (ds, is, read) = bind_from (default_at k no_items (list_between 0 most) t) (rows k f 1) xs h in
+    let long = as_many k f 1 ds xs read in
     elim (default_from k (list_between 0 most) t ds no_items is) [
       | inl left ↦ omega (arith, long, ap count (sym left.1))
       | inr (d, there, value) ↦ omega (arith, long, (counted 0 most d ds value).1)

@@ -1,5 +1,5 @@
 -- A tree is refused for a missing key, a bad value or an unknown key, and for nothing else.
-use Rattle.std.proofs.Common.{◌≡◌, Bool, true, false, List, [], ◌∷◌, Option, Some, None, option_map, Result, Ok, Err, ap, ◌∙◌, subst, inl, inr, pos, if◌then◌else◌}
+use Rattle.std.proofs.Common.{◌≡◌, Bool, true, false, List, [], ◌∷◌, Option, Some, None, option_map, Result, Ok, Err, refl, ap, ◌∙◌, ℕ, ◌+◌, subst, inl, inr, pos, if◌then◌else◌}
 use Rattle.std.specs.List.{list_all}
 use Rattle.toml.specs.Data.{Data, Items, no_items, item, Members, get_member, as_table, as_bool}
 use Rattle.mon_mib.specs.declared.interface.Interface.{Interface}
@@ -8,14 +8,19 @@ use Rattle.mon_settings.specs.declared.key.Key.{Key}
 use Rattle.mon_settings.specs.declared.key.Key.TheVariants as key
 use Rattle.mon_settings.specs.declared.fault.SettingsFault.{SettingsFault}
 use Rattle.mon_settings.specs.declared.fault.SettingsFault.TheVariants as fault
+use Rattle.mon_settings.specs.declared.place.Place.{Place}
+use Rattle.mon_settings.specs.declared.place.Place.TheVariants as place
+use Rattle.mon_settings.specs.declared.place.Step.{Step}
+use Rattle.mon_settings.specs.declared.place.Step.TheVariants as step
 use Rattle.mon_settings.specs.Agent.{agent_keys, system_of, agent_of}
 use Rattle.mon_settings.specs.Interfaces.{interface_keys, long_in, growth_of, growth_at, interface_of, rise_from, rising, interfaces_in}
 use Rattle.mon_settings.specs.Key.{key_name}
 use Rattle.mon_oid.specs.Steps.{◌>>=◌}
-use Rattle.mon_settings.specs.Keys.{or_bad, needed, needed_at, or_default, default_at, has_only, only, Reads}
+use Rattle.mon_settings.specs.Keys.{or_bad, or_bad_at, needed, needed_at, or_default, default_at, has_only, only, within, Reads}
 use Rattle.mon_settings.specs.Leaf.{number_in, int_in, text_in, hex_in, oid_in, addr_in, model_in}
 use Rattle.mon_settings.specs.Lists.{list_in, row, rows, list_at}
-use Rattle.mon_settings.specs.SettingsFault.{IsOfTree}
+use Rattle.mon_settings.specs.Place.{at}
+use Rattle.mon_settings.specs.SettingsFault.{IsOfTree, bad_value, fault_within, missing_key}
 use Rattle.mon_settings.specs.Tables.{communities_differ, knows_views, families_differ, community_of, group_of, access_entry_of, family_of, policy_of, policy_in}
 
 abbrev pub Own : {A : Type 0} → Result A SettingsFault → Type 0
@@ -31,13 +36,28 @@ ok_own a = λ e h. absurd cc
 pub err_own : {A : Type 0} (x : SettingsFault) → IsOfTree x → Own {A = A} (Err x)
 err_own x is = λ e h. let same : x ≡ e = cc in subst IsOfTree same is
 
+pub bad_at_own : {A : Type 0} (p : Place) (o : Option A) → Own (or_bad_at p o)
+bad_at_own p None = err_own (fault.BadValue p) tt
+bad_at_own p (Some a) = ok_own a
+
 pub bad_own : {A : Type 0} (k : Key) (o : Option A) → Own (or_bad k o)
-bad_own k None = err_own (fault.BadValue k) tt
-bad_own k (Some a) = ok_own a
+bad_own k o = bad_at_own (at k) o
+
+of_within : (s : Step) (e : SettingsFault) → IsOfTree e → IsOfTree (fault_within s e)
+of_within s fault.OutOfMemory h = h
+of_within s fault.NotToml h = h
+of_within s (fault.Missing p) h = tt
+of_within s (fault.BadValue p) h = tt
+of_within s (fault.UnknownKey p) h = tt
+of_within s (fault.UnknownObject p) h = h
+
+pub within_own : {A : Type 0} (s : Step) (r : Result A SettingsFault) → Own r → Own (within s r)
+within_own s (Ok a) p = ok_own a
+within_own s (Err x) p = err_own (fault_within s x) (of_within s x (p x refl))
 
 module _ {A : Type 0} (k : Key) (f : Data → Option A) where
   at_key : (o : Option Data) → Own (needed k f o)
-  at_key None = err_own (fault.Missing k) tt
+  at_key None = err_own (missing_key k) tt
   at_key (Some d) = bad_own k (f d)
 
   pub needed_own : (t : Members) → Own (needed_at k f t)
@@ -56,21 +76,22 @@ either_own false r s p q = q
 
 pub only_own : (ks : List Key) (t : Members) → Own (only ks t)
 unfolding only
-only_own ks t = either_own (has_only ks t) (Ok tt) (Err fault.UnknownKey) (ok_own tt) (err_own fault.UnknownKey tt)
+only_own ks t = either_own (has_only ks t) (Ok tt) (Err (fault.UnknownKey place.Whole)) (ok_own tt) (err_own (fault.UnknownKey place.Whole) tt)
 
 module _ {A : Type 0} (k : Key) (f : Members → Result A SettingsFault) (each : (t : Members) → Own (f t)) where
-  row_own : (d : Data) → Own (row k f d)
+  row_own : (s : Step) (d : Data) → Own (row s f d)
   unfolding row
-  row_own d = bind_own (or_bad k (as_table d)) f (bad_own k (as_table d)) each
+  row_own s d = bind_own (or_bad_at (place.At s) (as_table d)) _ (bad_at_own (place.At s) (as_table d)) (λ t. within_own s (f t) (each t))
 
-  rows_own : (ds : Items) → Own (rows k f ds)
+  rows_own : (n : ℕ) (ds : Items) → Own (rows k f n ds)
   unfolding rows
-  rows_own no_items = ok_own []
-  rows_own (item d ds) = bind_own (row k f d) _ (row_own d) (λ a. bind_own (rows k f ds) _ (rows_own ds) (λ more. ok_own (a ∷ more)))
+  rows_own n no_items = ok_own []
+  rows_own n (item d ds) =
+      bind_own (row (step.Entry k n) f d) _ (row_own (step.Entry k n) d) (λ a. bind_own (rows k f (n + 1) ds) _ (rows_own (n + 1) ds) (λ more. ok_own (a ∷ more)))
 
   list_own : (t : Members) → Own (list_at k f t)
   unfolding list_at
-  list_own t = bind_own (needed_at k list_in t) (rows k f) (needed_own k list_in t) rows_own
+  list_own t = bind_own (needed_at k list_in t) (rows k f 1) (needed_own k list_in t) (rows_own 1)
 
 community_of-own : (t : Members) → Own (community_of t)
 unfolding community_of
@@ -118,7 +139,7 @@ growth_of-own t =
 
 growth_at-own : (k : Key) (t : Members) → Own (growth_at k t)
 unfolding growth_at
-growth_at-own k t = bind_own (needed_at k as_table t) growth_of (needed_own k as_table t) growth_of-own
+growth_at-own k t = bind_own (needed_at k as_table t) _ (needed_own k as_table t) (λ inner. within_own (step.Value k) (growth_of inner) (growth_of-own inner))
 
 interface_of-own : (t : Members) → Own (interface_of t)
 unfolding interface_of
@@ -140,7 +161,7 @@ interface_of-own t =
 
 rising-own : (ps : List Interface) → Own (rising ps)
 unfolding rising
-rising-own ps = either_own (rise_from 0 ps) (Ok ps) (Err (fault.BadValue key.Interface)) (ok_own ps) (err_own (fault.BadValue key.Interface) tt)
+rising-own ps = either_own (rise_from 0 ps) (Ok ps) (Err (bad_value key.Interface)) (ok_own ps) (err_own (bad_value key.Interface) tt)
 
 interfaces_in-own : (t : Members) → Own (interfaces_in t)
 unfolding interfaces_in
@@ -151,9 +172,9 @@ unfolding policy_of
 policy_of-own p =
     either_own (communities_differ p.communities) _ _
     (either_own (list_all (knows_views p.families) p.accesses) _ _
-    (either_own (families_differ p.families) (Ok p) (Err (fault.BadValue key.View)) (ok_own p) (err_own (fault.BadValue key.View) tt))
-    (err_own (fault.BadValue key.Access) tt))
-    (err_own (fault.BadValue key.Community) tt)
+    (either_own (families_differ p.families) (Ok p) (Err (bad_value key.View)) (ok_own p) (err_own (bad_value key.View) tt))
+    (err_own (bad_value key.Access) tt))
+    (err_own (bad_value key.Community) tt)
 
 policy_in-own : (t : Members) → Own (policy_in t)
 unfolding policy_in

@@ -17,6 +17,7 @@ use Rattle.mon_oid.specs.declared.fault.OidFault.{OidFault}
 use Rattle.mon_oid.specs.declared.fault.OidFault.TheVariants as oid_fault
 use Rattle.mon_settings.specs.declared.key.Key.{Key}
 use Rattle.mon_settings.specs.declared.fault.SettingsFault.TheVariants as fault
+use Rattle.mon_settings.specs.SettingsFault.{bad_value}
 use Rattle.mon_settings.specs.Keys.{or_bad}
 use Rattle.mon_oid.specs.Oid.{IsOid, AreNumbers, Spells, dotted}
 use Rattle.mon_settings.specs.Leaf.{is_rooted, is_oid, refused, numbers_in, checked_oid, oid_of}
@@ -154,7 +155,7 @@ oid_texts text parts = (oid_sound text parts, λ h. oid_complete text parts h.0 
 -- where a text is refused for another cause than memory, it is that of no identifier
 module _ (key : Key) (text : List ℕ) where
   bad : (e : OidFault) → (e ≡ oid_fault.OutOfMemory → ⊥) → ((parts : List ℕ) → IsOid parts → Spells text parts → e ≡ oid_fault.OutOfMemory)
-      → or_bad key (oid_of text) ≡ Err (fault.BadValue key)
+      → or_bad key (oid_of text) ≡ Err (bad_value key)
   bad e other h = ap (or_bad key) (oid_none text (λ parts is spelled. other (h parts is spelled)))
 
   pub refused_is : (e : OidFault) → ((parts : List ℕ) → IsOid parts → Spells text parts → e ≡ oid_fault.OutOfMemory)

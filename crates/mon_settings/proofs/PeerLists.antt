@@ -3,7 +3,7 @@ use Rattle.std.proofs.Common.{◌≡◌, ◌≢◌, ◌↔◌, ℕ, ◌==◌, �
 use Rattle.std.specs.List.{list_all}
 use Rattle.std.proofs.lemmas.Bool.{and_parts, cases_Bool, false≢true}
 use Rattle.std.proofs.lemmas.Bool.Decides.{nat_tests}
-use Rattle.mon_settings.specs.declared.fault.SettingsFault.TheVariants as fault
+use Rattle.mon_settings.specs.SettingsFault.{bad_value}
 use Rattle.mon_settings.specs.declared.key.Key.TheVariants as key
 use Rattle.mon_settings.specs.declared.station_tables.PeerRow.{PeerRow}
 use Rattle.mon_settings.specs.declared.station_tables.TargetRow.{TargetRow}
@@ -45,7 +45,7 @@ same_test own ns false is =
     ]
 
 module _ (own : ℕ) (targets : List TargetRow) (peers : List PeerRow) where
-  pub numbers_refused : are_peer_numbers own (map (λ (p : PeerRow). p.station) peers) ≡ false → checked_peers own targets peers ≡ Err (fault.BadValue key.Peer)
+  pub numbers_refused : are_peer_numbers own (map (λ (p : PeerRow). p.station) peers) ≡ false → checked_peers own targets peers ≡ Err (bad_value key.Peer)
   numbers_refused h = rw h
 
   pub peers_accepted : are_peer_numbers own (map (λ (p : PeerRow). p.station) peers) ≡ true → are_apart targets peers ≡ true → checked_peers own targets peers ≡ Ok peers

@@ -16,7 +16,7 @@ use Rattle.mon_vacm.specs.declared.fault.PolicyFault.TheVariants.{DuplicateCommu
 use Rattle.mon_settings.specs.declared.key.Key.{Key}
 use Rattle.mon_settings.specs.declared.key.Key.TheVariants as key
 use Rattle.mon_settings.specs.declared.fault.SettingsFault.{SettingsFault}
-use Rattle.mon_settings.specs.declared.fault.SettingsFault.TheVariants as fault
+use Rattle.mon_settings.specs.SettingsFault.{bad_value}
 use Rattle.mon_settings.specs.Tables.{all_pairs, other_names, communities_differ, has_view, is_known, knows_views, other_families, families_differ, list_of, policy_of}
 
 -- a test that holds of each element, and of each two
@@ -113,7 +113,7 @@ not_false true h = absurd (h refl)
 not_false false h = refl
 
 abbrev failed : Key → Result Lists SettingsFault
-failed k = Err (fault.BadValue k)
+failed k = Err (bad_value k)
 
 module _ (t : Lists) where
   distinct : (communities_differ t.communities ≡ true) ↔ AreCommunitiesDistinct t.communities
@@ -133,7 +133,7 @@ module _ (t : Lists) where
       → (e ≡ DuplicateCommunity → ¬ (AreCommunitiesDistinct t.communities))
       → (e ≡ UnknownView → AreCommunitiesDistinct t.communities × ¬ (All (NamesViews t.families) t.accesses))
       → (e ≡ DuplicateFamily → AreCommunitiesDistinct t.communities × All (NamesViews t.families) t.accesses × ¬ (AreFamiliesDistinct t.families))
-      → policy_of t ≡ Err (fault.BadValue (list_of e))
+      → policy_of t ≡ Err (bad_value (list_of e))
   unfolding policy_of
   policy_refused DuplicateCommunity a b c =
       let first = not_false (communities_differ t.communities) (λ h. a refl (distinct.0 h)) in

@@ -8,22 +8,24 @@ use Rattle.mon_smi.specs.declared.fault.NamesFault.{NamesFault}
 use Rattle.mon_smi.specs.declared.fault.NamesFault.TheVariants.{OutOfMemory, Duplicate, Unknown, Cycle, TooDeep, BadIdentifier}
 use Rattle.mon_settings.specs.declared.fault.SettingsFault.{SettingsFault}
 use Rattle.mon_settings.specs.declared.fault.SettingsFault.TheVariants as fault
+use Rattle.mon_settings.specs.declared.key.Key.{Key}
+use Rattle.mon_settings.specs.Place.{at}
 use Rattle.mon_settings.specs.Resolving.{Resolves, or_unknown, unresolved}
 
-none_found : (o : Option (List ℕ)) → ((q : List ℕ) → o ≡ Some q → ⊥) → (let r : Result (List ℕ) SettingsFault = or_unknown o in r) ≡ Err fault.UnknownObject
-none_found None none = refl
-none_found (Some q) none = absurd (none q refl)
+none_found : (k : Key) (o : Option (List ℕ)) → ((q : List ℕ) → o ≡ Some q → ⊥) → (let r : Result (List ℕ) SettingsFault = or_unknown k o in r) ≡ Err (fault.UnknownObject (at k))
+none_found k None none = refl
+none_found k (Some q) none = absurd (none q refl)
 
-module _ (find : List ℕ → Option (List ℕ)) (defs : List Definition) (text : List ℕ) (means : Resolves defs find) where
+module _ (find : List ℕ → Option (List ℕ)) (k : Key) (defs : List Definition) (text : List ℕ) (means : Resolves defs find) where
   -- a text that was refused for another cause than memory
   unknown : (e : NamesFault) → (IsOkUnless (let r : Result (List ℕ) NamesFault = Err e in r) OutOfMemory → ⊥)
       → ((q : List ℕ) → MeansNumbers defs text q → IsOid q → IsOkUnless (let r : Result (List ℕ) NamesFault = Err e in r) OutOfMemory)
-      → (let r : Result (List ℕ) SettingsFault = or_unknown (find text) in r) ≡ Err fault.UnknownObject
-  unknown e not_memory accepted = none_found (find text) (λ q is. let known = (means text q).0 is in not_memory (accepted q known.1 known.0))
+      → (let r : Result (List ℕ) SettingsFault = or_unknown k (find text) in r) ≡ Err (fault.UnknownObject (at k))
+  unknown e not_memory accepted = none_found k (find text) (λ q is. let known = (means text q).0 is in not_memory (accepted q known.1 known.0))
 
   pub unresolved_is : (e : NamesFault)
       → ((q : List ℕ) → MeansNumbers defs text q → IsOid q → IsOkUnless (let r : Result (List ℕ) NamesFault = Err e in r) OutOfMemory)
-      → (unresolved e ≡ fault.OutOfMemory) ⊎ ((let r : Result (List ℕ) SettingsFault = or_unknown (find text) in r) ≡ Err (unresolved e))
+      → (unresolved k e ≡ fault.OutOfMemory) ⊎ ((let r : Result (List ℕ) SettingsFault = or_unknown k (find text) in r) ≡ Err (unresolved k e))
   unresolved_is OutOfMemory accepted = inl refl
   unresolved_is Duplicate accepted = inr (unknown Duplicate (λ h. absurd cc) accepted)
   unresolved_is Unknown accepted = inr (unknown Unknown (λ h. absurd cc) accepted)

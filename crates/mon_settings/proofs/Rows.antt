@@ -7,6 +7,7 @@ use Rattle.toml.specs.declared.value.Value.{Value}
 use Rattle.toml.proofs.Views.{items_view-drop}
 use Rattle.mon_settings.specs.declared.key.Key.{Key}
 use Rattle.mon_settings.specs.declared.fault.SettingsFault.{SettingsFault}
+use Rattle.mon_settings.specs.declared.place.Step.TheVariants as step
 use Rattle.mon_oid.specs.Steps.{◌>>=◌}
 use Rattle.mon_settings.specs.Lists.{count, few, row, rows}
 
@@ -18,15 +19,15 @@ after_more : {A : Type 0} (xs : List A) (a : A) (r : Result (List A) SettingsFau
 after_more xs a (Err e) = refl
 after_more xs a (Ok ys) = ap Ok (sym (append_assoc xs (a ∷ []) ys))
 
-pub after_one : {A : Type 0} (k : Key) (f : Members → Result A SettingsFault) (xs : List A) (d : Data) (ds : Items) (a : A)
-    → row k f d ≡ Ok a → after xs (rows k f (item d ds)) ≡ after (xs ++ a ∷ []) (rows k f ds)
+pub after_one : {A : Type 0} (k : Key) (f : Members → Result A SettingsFault) (n : ℕ) (xs : List A) (d : Data) (ds : Items) (a : A)
+    → row (step.Entry k n) f d ≡ Ok a → after xs (rows k f n (item d ds)) ≡ after (xs ++ a ∷ []) (rows k f (n + 1) ds)
 unfolding rows
-after_one k f xs d ds a e = rw e (after_more xs a (rows k f ds))
+after_one k f n xs d ds a e = rw e (after_more xs a (rows k f (n + 1) ds))
 
-pub after_fault : {A : Type 0} (k : Key) (f : Members → Result A SettingsFault) (xs : List A) (d : Data) (ds : Items) (e : SettingsFault)
-    → row k f d ≡ Err e → after xs (rows k f (item d ds)) ≡ Err e
+pub after_fault : {A : Type 0} (k : Key) (f : Members → Result A SettingsFault) (n : ℕ) (xs : List A) (d : Data) (ds : Items) (e : SettingsFault)
+    → row (step.Entry k n) f d ≡ Err e → after xs (rows k f n (item d ds)) ≡ Err e
 unfolding rows
-after_fault k f xs d ds e h = rw h refl
+after_fault k f n xs d ds e h = rw h refl
 
 pub after_none : {A : Type 0} (r : Result (List A) SettingsFault) → after [] r ≡ r
 after_none (Ok ys) = refl
@@ -34,24 +35,24 @@ after_none (Err e) = refl
 
 -- the entry at a place is read, or ends the reading
 pub after_place : {A : Type 0} (k : Key) (f : Members → Result A SettingsFault) (xs : List A) (vs : List Value) (i : ℕ) (v : Value) (a : A)
-    → i < length vs → v ≡ get_or vs i v → row k f (view v) ≡ Ok a
-    → after xs (rows k f (items_view (drop i vs))) ≡ after (xs ++ a ∷ []) (rows k f (items_view (drop (i + 1) vs)))
+    → i < length vs → v ≡ get_or vs i v → row (step.Entry k (i + 1)) f (view v) ≡ Ok a
+    → after xs (rows k f (i + 1) (items_view (drop i vs))) ≡ after (xs ++ a ∷ []) (rows k f (i + 1 + 1) (items_view (drop (i + 1) vs)))
 after_place k f xs vs i v a h is e =
     let here : items_view (drop i vs) ≡ item (view v) (items_view (drop (i + 1) vs)) =
     items_view-drop vs i v h ∙ ap (λ w. item (view w) (items_view (drop (i + 1) vs))) (sym is) in
-    rw here (after_one k f xs (view v) _ a e)
+    rw here (after_one k f (i + 1) xs (view v) _ a e)
 
 pub fault_place : {A : Type 0} (k : Key) (f : Members → Result A SettingsFault) (xs : List A) (vs : List Value) (i : ℕ) (v : Value) (e : SettingsFault)
-    → i < length vs → v ≡ get_or vs i v → row k f (view v) ≡ Err e
-    → after xs (rows k f (items_view (drop i vs))) ≡ Err e
+    → i < length vs → v ≡ get_or vs i v → row (step.Entry k (i + 1)) f (view v) ≡ Err e
+    → after xs (rows k f (i + 1) (items_view (drop i vs))) ≡ Err e
 fault_place k f xs vs i v e h is bad =
     let here : items_view (drop i vs) ≡ item (view v) (items_view (drop (i + 1) vs)) =
     items_view-drop vs i v h ∙ ap (λ w. item (view w) (items_view (drop (i + 1) vs))) (sym is) in
-    rw here (after_fault k f xs (view v) _ e bad)
+    rw here (after_fault k f (i + 1) xs (view v) _ e bad)
 
 -- after the last place
 pub after_all : {A : Type 0} (k : Key) (f : Members → Result A SettingsFault) (xs : List A) (vs : List Value) (i : ℕ)
-    → length vs ≤ i → after xs (rows k f (items_view (drop i vs))) ≡ Ok xs
+    → length vs ≤ i → after xs (rows k f (i + 1) (items_view (drop i vs))) ≡ Ok xs
 unfolding rows
 after_all k f xs vs i h = rw (drop_of_length-le vs h) (ap Ok (append-nil xs))
 

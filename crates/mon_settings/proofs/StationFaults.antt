@@ -1,5 +1,5 @@
 -- A tree is refused as a station's settings for a key, a value or a name in it, and for nothing else.
-use Rattle.std.proofs.Common.{◌≡◌, ℕ, ◌&&◌, nat_le, List, [], ◌∷◌, length, map, Option, Some, None, Result, Ok, Err, ap, ◌∙◌, inl, inr, sym, subst}
+use Rattle.std.proofs.Common.{◌≡◌, refl, ℕ, ◌+◌, ◌&&◌, nat_le, List, [], ◌∷◌, length, map, Option, Some, None, Result, Ok, Err, ap, ◌∙◌, inl, inr, sym, subst}
 use Rattle.std.specs.Prelude.{int_lt, min}
 use Rattle.mon_alarms.specs.Rule.{Rule}
 use Rattle.mon_board.specs.Instance.{named}
@@ -11,24 +11,28 @@ use Rattle.mon_settings.specs.declared.key.Key.{Key}
 use Rattle.mon_settings.specs.declared.key.Key.TheVariants as key
 use Rattle.mon_settings.specs.declared.fault.SettingsFault.{SettingsFault}
 use Rattle.mon_settings.specs.declared.fault.SettingsFault.TheVariants as fault
+use Rattle.mon_settings.specs.declared.place.Place.TheVariants as place
+use Rattle.mon_settings.specs.declared.place.Step.{Step}
+use Rattle.mon_settings.specs.declared.place.Step.TheVariants as step
 use Rattle.mon_settings.specs.declared.sizes.Sizes.{Sizes}
 use Rattle.mon_settings.specs.declared.station_tables.AlarmRow.{AlarmRow}
 use Rattle.mon_settings.specs.declared.station_tables.PeerRow.{PeerRow}
 use Rattle.mon_settings.specs.declared.station_tables.TargetRow.{TargetRow}
 use Rattle.mon_settings.specs.Key.{key_name}
-use Rattle.mon_settings.specs.Keys.{or_bad, only, needed_at, default_at, Reads}
+use Rattle.mon_settings.specs.Keys.{or_bad, or_bad_at, only, needed_at, default_at, within, Reads}
 use Rattle.mon_settings.specs.Leaf.{number_in, text_in, hex_in, addr_in}
 use Rattle.mon_settings.specs.Lists.{row, rows}
 use Rattle.mon_settings.specs.NamedLists.{list_between, rows_between, rows_up_to}
+use Rattle.mon_settings.specs.Place.{at}
 use Rattle.mon_settings.specs.Placing.{few_instances, instances_of_rows, number_of_instance, placed, rule_from, rule_of_alarm, watched_cmp, with_alarm, with_alarms}
 use Rattle.mon_settings.specs.Resolving.{or_unknown, name_in, name_at, name_in_some, name_or_none}
-use Rattle.mon_settings.specs.SettingsFault.{IsOfStationTree, IsOfTree}
+use Rattle.mon_settings.specs.SettingsFault.{IsOfStationTree, IsOfTree, bad_value, fault_within}
 use Rattle.mon_settings.specs.Station.{are_apart, are_peer_numbers, checked_peers, modules_at, peers_at, rules_at, scalars_of, station_keys, station_of, texts_in}
 use Rattle.mon_settings.specs.StationTables.{object_of, target_of, peer_of, alarm_of}
 use Rattle.mon_settings.specs.Watching.{all_watched}
 use Rattle.mon_settings.proofs.ForWatches.{targets_are}
 use Rattle.mon_settings.proofs.Insertions.{place_all}
-use Rattle.mon_settings.proofs.Named.{Own, bad_own, bind_own, default_own, either_own, err_own, needed_own, ok_own, only_own}
+use Rattle.mon_settings.proofs.Named.{Own, bad_at_own, bad_own, bind_own, default_own, either_own, err_own, needed_own, ok_own, only_own, within_own}
 
 -- refused for something in the tree
 abbrev pub Told : {A : Type 0} → Result A SettingsFault → Type 0
@@ -39,8 +43,8 @@ of_any fault.OutOfMemory h = absurd h
 of_any fault.NotToml h = absurd h
 of_any (fault.Missing k) h = tt
 of_any (fault.BadValue k) h = tt
-of_any fault.UnknownKey h = tt
-of_any fault.UnknownObject h = absurd h
+of_any (fault.UnknownKey p) h = tt
+of_any (fault.UnknownObject p) h = absurd h
 
 told : {A : Type 0} (r : Result A SettingsFault) → Own r → Told r
 told r own = λ e h. of_any e (own e h)
@@ -52,27 +56,40 @@ bind_told (Ok a) f p q = q a
 ok_told : {A : Type 0} (a : A) → Told (Ok a)
 ok_told a = λ e h. absurd cc
 
-unknown_told : (o : Option (List ℕ)) → Told (let r : Result (List ℕ) SettingsFault = or_unknown o in r)
-unknown_told None = λ e h. let same : fault.UnknownObject ≡ e = cc in subst IsOfStationTree same tt
-unknown_told (Some q) = ok_told q
+unknown_told : (k : Key) (o : Option (List ℕ)) → Told (let r : Result (List ℕ) SettingsFault = or_unknown k o in r)
+unknown_told k None = λ e h. let same : fault.UnknownObject (at k) ≡ e = cc in subst IsOfStationTree same tt
+unknown_told k (Some q) = ok_told q
+
+of_within : (s : Step) (e : SettingsFault) → IsOfStationTree e → IsOfStationTree (fault_within s e)
+of_within s fault.OutOfMemory h = h
+of_within s fault.NotToml h = h
+of_within s (fault.Missing p) h = tt
+of_within s (fault.BadValue p) h = tt
+of_within s (fault.UnknownKey p) h = tt
+of_within s (fault.UnknownObject p) h = tt
+
+within_told : {A : Type 0} (s : Step) (r : Result A SettingsFault) → Told r → Told (within s r)
+within_told s (Ok a) p = ok_told a
+within_told s (Err x) p = λ e h. let same : fault_within s x ≡ e = cc in subst IsOfStationTree same (of_within s x (p x refl))
 
 module _ {A : Type 0} (k : Key) (f : Members → Result A SettingsFault) (each : (t : Members) → Told (f t)) where
-  row_told : (d : Data) → Told (row k f d)
+  row_told : (s : Step) (d : Data) → Told (row s f d)
   unfolding row
-  row_told d = bind_told (or_bad k (as_table d)) f (told (or_bad k (as_table d)) (bad_own k (as_table d))) each
+  row_told s d = bind_told (or_bad_at (place.At s) (as_table d)) _ (told _ (bad_at_own (place.At s) (as_table d))) (λ t. within_told s (f t) (each t))
 
-  rows_told : (ds : Items) → Told (rows k f ds)
+  rows_told : (n : ℕ) (ds : Items) → Told (rows k f n ds)
   unfolding rows
-  rows_told no_items = ok_told []
-  rows_told (item d ds) = bind_told (row k f d) _ (row_told d) (λ a. bind_told (rows k f ds) _ (rows_told ds) (λ more. ok_told (a ∷ more)))
+  rows_told n no_items = ok_told []
+  rows_told n (item d ds) =
+      bind_told (row (step.Entry k n) f d) _ (row_told (step.Entry k n) d) (λ a. bind_told (rows k f (n + 1) ds) _ (rows_told (n + 1) ds) (λ more. ok_told (a ∷ more)))
 
   between_told : (least most : ℕ) (t : Members) → Told (rows_between k least most f t)
   unfolding rows_between
-  between_told least most t = bind_told (needed_at k (list_between least most) t) (rows k f) (told _ (needed_own k (list_between least most) t)) rows_told
+  between_told least most t = bind_told (needed_at k (list_between least most) t) (rows k f 1) (told _ (needed_own k (list_between least most) t)) (rows_told 1)
 
   up_to_told : (most : ℕ) (t : Members) → Told (rows_up_to k most f t)
   unfolding rows_up_to
-  up_to_told most t = bind_told (default_at k no_items (list_between 0 most) t) (rows k f) (told _ (default_own k (list_between 0 most) no_items t)) rows_told
+  up_to_told most t = bind_told (default_at k no_items (list_between 0 most) t) (rows k f 1) (told _ (default_own k (list_between 0 most) no_items t)) (rows_told 1)
 
 peer_of-own : (t : Members) → Own (peer_of t)
 unfolding peer_of
@@ -98,25 +115,27 @@ unfolding instances_of_rows
 instances-own targets =
     subst (λ (r : Result (List Watched) SettingsFault). Own (r >>= few_instances)) (sym (targets_are targets []))
     (bind_own (or_bad key.Target (place_all watched_cmp (all_watched targets) [])) few_instances (bad_own key.Target (place_all watched_cmp (all_watched targets) []))
-    (λ v. either_own (nat_le (length v) 256) (Ok v) (Err (fault.BadValue key.Target)) (ok_own v) (err_own (fault.BadValue key.Target) tt)))
+    (λ v. either_own (nat_le (length v) 256) (Ok v) (Err (bad_value key.Target)) (ok_own v) (err_own (bad_value key.Target) tt)))
 
 rule-own : (a : AlarmRow) (n : ℕ) → Own (rule_from a n)
-rule-own a n = either_own (int_lt a.falling a.rising) (Ok _) (Err (fault.BadValue key.Falling)) (ok_own _) (err_own (fault.BadValue key.Falling) tt)
+rule-own a n = either_own (int_lt a.falling a.rising) (Ok _) (Err (bad_value key.Falling)) (ok_own _) (err_own (bad_value key.Falling) tt)
 
 alarm-own : (instances : List Watched) (a : AlarmRow) (done : List Rule) → Own (with_alarm instances a done)
 alarm-own instances a done =
-    bind_own (rule_of_alarm instances a) (λ rule. or_bad key.Alarm (placed rule_cmp rule done))
-    (bind_own (or_bad key.Alarm (number_of_instance (named a.engine a.name) instances)) (rule_from a) (bad_own key.Alarm (number_of_instance (named a.engine a.name) instances)) (rule-own a))
-    (λ rule. bad_own key.Alarm (placed rule_cmp rule done))
+    bind_own (rule_of_alarm instances a) (λ rule. or_bad_at place.Whole (placed rule_cmp rule done))
+    (bind_own (or_bad_at place.Whole (number_of_instance (named a.engine a.name) instances)) (rule_from a) (bad_at_own place.Whole (number_of_instance (named a.engine a.name) instances)) (rule-own a))
+    (λ rule. bad_at_own place.Whole (placed rule_cmp rule done))
 
-alarms-own : (instances : List Watched) (alarms : List AlarmRow) (done : List Rule) → Own (with_alarms instances alarms done)
+alarms-own : (instances : List Watched) (n : ℕ) (alarms : List AlarmRow) (done : List Rule) → Own (with_alarms instances n alarms done)
 unfolding with_alarms
-alarms-own instances [] done = ok_own done
-alarms-own instances (a ∷ alarms) done = bind_own (with_alarm instances a done) (with_alarms instances alarms) (alarm-own instances a done) (λ next. alarms-own instances alarms next)
+alarms-own instances n [] done = ok_own done
+alarms-own instances n (a ∷ alarms) done =
+    bind_own (within (step.Entry key.Alarm n) (with_alarm instances a done)) (with_alarms instances (n + 1) alarms)
+    (within_own (step.Entry key.Alarm n) (with_alarm instances a done) (alarm-own instances a done)) (λ next. alarms-own instances (n + 1) alarms next)
 
 checked-own : (own : ℕ) (targets : List TargetRow) (peers : List PeerRow) → Own (checked_peers own targets peers)
 checked-own own targets peers =
-    either_own (are_peer_numbers own (map (λ (p : PeerRow). p.station) peers) && are_apart targets peers) (Ok peers) (Err (fault.BadValue key.Peer)) (ok_own peers) (err_own (fault.BadValue key.Peer) tt)
+    either_own (are_peer_numbers own (map (λ (p : PeerRow). p.station) peers) && are_apart targets peers) (Ok peers) (Err (bad_value key.Peer)) (ok_own peers) (err_own (bad_value key.Peer) tt)
 
 peers-told : (own : ℕ) (targets : List TargetRow) (t : Members) → Told (peers_at own targets t)
 unfolding peers_at
@@ -127,11 +146,11 @@ peers-told own targets t =
 module _ (find : List ℕ → Option (List ℕ)) where
   name_at-told : (k : Key) (t : Members) → Told (name_at find k t)
   unfolding name_at
-  name_at-told k t = bind_told (needed_at k as_str t) _ (told _ (needed_own k as_str t)) (λ text. unknown_told (find text))
+  name_at-told k t = bind_told (needed_at k as_str t) _ (told _ (needed_own k as_str t)) (λ text. unknown_told k (find text))
 
   name_in-told : (k : Key) (d : Data) → Told (name_in find k d)
   unfolding name_in
-  name_in-told k d = bind_told (or_bad k (as_str d)) _ (told _ (bad_own k (as_str d))) (λ text. unknown_told (find text))
+  name_in-told k d = bind_told (or_bad k (as_str d)) _ (told _ (bad_own k (as_str d))) (λ text. unknown_told k (find text))
 
   name_some-told : (k : Key) (o : Option Data) → Told (name_in_some find k o)
   unfolding name_in_some
@@ -173,7 +192,7 @@ module _ (find : List ℕ → Option (List ℕ)) where
   unfolding rules_at
   rules-told sizes instances t =
       bind_told (rows_up_to key.Alarm 256 (alarm_of find sizes) t) _ (up_to_told key.Alarm (alarm_of find sizes) (alarm_of-told sizes) 256 t)
-      (λ alarms. told (with_alarms instances alarms []) (alarms-own instances alarms []))
+      (λ alarms. told (with_alarms instances 1 alarms []) (alarms-own instances 1 alarms []))
 
   pub station_of-told : (t : Members) → Told (station_of find t)
   unfolding station_of

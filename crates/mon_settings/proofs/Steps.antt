@@ -1,5 +1,5 @@
 -- What is known where the reading of a key, of a list or of a chain of keys gives something.
-use Rattle.std.proofs.Common.{◌≡◌, ◌↔◌, ℕ, zero, suc, true, List, [], ◌∷◌, Option, Some, None, Any, Result, Ok, Err, refl, sym, ap, ◌∙◌, subst, arith, inl, inr, nat_cmp, is_eq}
+use Rattle.std.proofs.Common.{◌≡◌, ◌↔◌, ℕ, zero, suc, ◌+◌, true, List, [], ◌∷◌, Option, Some, None, Any, Result, Ok, Err, refl, sym, ap, ◌∙◌, subst, arith, inl, inr, nat_cmp, is_eq}
 use Rattle.std.specs.Str.{bytes_eq}
 use Rattle.std.specs.Cmp.Lexicographic.{slice_cmp}
 use Rattle.std.specs.Cmp.{tied_itself}
@@ -13,9 +13,14 @@ use Rattle.std.proofs.lemmas.Slice.Eq.{bytes_eq-Decides}
 use Rattle.toml.specs.Data.{Data, Items, no_items, item, Members, no_members, member, get_member, as_table}
 use Rattle.mon_settings.specs.declared.key.Key.{Key}
 use Rattle.mon_settings.specs.declared.fault.SettingsFault.{SettingsFault}
+use Rattle.mon_settings.specs.declared.place.Place.{Place}
+use Rattle.mon_settings.specs.declared.place.Place.TheVariants as place
+use Rattle.mon_settings.specs.declared.place.Step.{Step}
+use Rattle.mon_settings.specs.declared.place.Step.TheVariants as step
 use Rattle.mon_settings.specs.Key.{key_name}
+use Rattle.mon_settings.specs.Place.{at}
 use Rattle.mon_oid.specs.Steps.{◌>>=◌}
-use Rattle.mon_settings.specs.Keys.{or_bad, needed, needed_at, or_default, default_at, is_one_of, has_only, only}
+use Rattle.mon_settings.specs.Keys.{or_bad, or_bad_at, needed, needed_at, or_default, default_at, is_one_of, has_only, only, within}
 use Rattle.mon_settings.specs.Lists.{list_in, row, rows, list_at}
 use Rattle.mon_settings.specs.Accepted.{KnowsOnly, Holds, HoldsOr, AreRows, HoldsRows}
 
@@ -33,9 +38,17 @@ ok a = Ok a
 pub ok_same : {A : Type 0} (a b : A) → ok a ≡ ok b → a ≡ b
 ok_same a b h = cc
 
+pub bad_at_from : {A : Type 0} (p : Place) (o : Option A) (a : A) → or_bad_at p o ≡ Ok a → o ≡ Some a
+bad_at_from p None a h = absurd cc
+bad_at_from p (Some x) a h = cc
+
 pub bad_from : {A : Type 0} (k : Key) (o : Option A) (a : A) → or_bad k o ≡ Ok a → o ≡ Some a
-bad_from k None a h = absurd cc
-bad_from k (Some x) a h = cc
+bad_from k o a h = bad_at_from (at k) o a h
+
+-- a table in a list or at a key gives what it gives by itself
+pub within_from : {A : Type 0} (s : Step) (r : Result A SettingsFault) (a : A) → within s r ≡ Ok a → r ≡ Ok a
+within_from s (Err e) a h = absurd cc
+within_from s (Ok x) a h = h
 
 -- a key
 module _ {A : Type 0} (k : Key) (f : Data → Option A) (t : Members) (a : A) where
@@ -72,7 +85,7 @@ one_from (k ∷ ks) name h =
           (suc i, l, omega arith, at, same)
     ]
 
-one_to : (ks : List Key) (name : List ℕ) → Any (λ k. key_name k ≡ name) ks → is_one_of ks name ≡ true
+pub one_to : (ks : List Key) (name : List ℕ) → Any (λ k. key_name k ≡ name) ks → is_one_of ks name ≡ true
 one_to [] name (i, l, lt, at, same) = absurd (omega arith)
 one_to (k ∷ ks) name (zero, l, lt, at, same) = rw ((bytes_eq-Decides name (key_name k)).1 (sym (ap key_name at ∙ same)))
 one_to (k ∷ ks) name (suc i, l, lt, at, same) =
@@ -93,13 +106,13 @@ module _ (ks : List Key) where
   known_at Equal name l e rest d is here more h = one_from ks name (rw (equal_same name l is) here)
   known_at Greater name l e rest d is here more h = more h
 
-  known_from : (t : Members) → has_only ks t ≡ true → KnowsOnly ks t
+  pub known_from : (t : Members) → has_only ks t ≡ true → KnowsOnly ks t
   known_from no_members h = λ name d is. absurd cc
   known_from (member l e ms) h =
       let (here, rest) = and_parts (is_one_of ks l) (has_only ks ms) h in
       λ name d is. known_at (slice_cmp nat_cmp name l) name l e (get_member name ms) d refl here (known_from ms rest name d) is
 
-  found_at : (o : Ordering) (e : Data) (rest : Option Data) (d : Data) → rest ≡ Some d → (x : Data) × (match_ordering o rest (Some e) rest ≡ Some x)
+  pub found_at : (o : Ordering) (e : Data) (rest : Option Data) (d : Data) → rest ≡ Some d → (x : Data) × (match_ordering o rest (Some e) rest ≡ Some x)
   found_at Less e rest d h = (d, h)
   found_at Equal e rest d h = (e, refl)
   found_at Greater e rest d h = (d, h)
@@ -126,41 +139,43 @@ module _ (ks : List Key) where
 
 -- the tables of a list
 module _ {A : Type 0} (k : Key) (f : Members → Result A SettingsFault) (P : Members → A → Type 0) (same : (t : Members) (a : A) → (f t ≡ Ok a) ↔ P t a) where
-  row_from : (d : Data) (a : A) → row k f d ≡ Ok a → (t : Members) × (as_table d ≡ Some t) × P t a
+  row_from : (s : Step) (d : Data) (a : A) → row s f d ≡ Ok a → (t : Members) × (as_table d ≡ Some t) × P t a
   unfolding row
-  row_from d a h =
-      let (t, is, gives) = bind_from (or_bad k (as_table d)) f a h in
-      (t, bad_from k (as_table d) t is, (same t a).0 gives)
+  row_from s d a h =
+      let (t, is, gives) = bind_from (or_bad_at (place.At s) (as_table d)) (λ t. within s (f t)) a h in
+      (t, bad_at_from (place.At s) (as_table d) t is, (same t a).0 (within_from s (f t) a gives))
 
-  row_to : (d : Data) (a : A) (t : Members) → as_table d ≡ Some t → P t a → row k f d ≡ Ok a
+  row_to : (s : Step) (d : Data) (a : A) (t : Members) → as_table d ≡ Some t → P t a → row s f d ≡ Ok a
   unfolding row
-  row_to d a t is holds = bind_to (or_bad k (as_table d)) f t a (ap (or_bad k) is) ((same t a).1 holds)
+  row_to s d a t is holds =
+      bind_to (or_bad_at (place.At s) (as_table d)) (λ t. within s (f t)) t a (ap (or_bad_at (place.At s)) is) (ap (within s) ((same t a).1 holds))
 
-  pub rows_from : (ds : Items) (rest : List A) → rows k f ds ≡ Ok rest → AreRows P ds rest
+  pub rows_from : (n : ℕ) (ds : Items) (rest : List A) → rows k f n ds ≡ Ok rest → AreRows P ds rest
   unfolding rows
-  rows_from no_items [] h = tt
-  rows_from no_items (b ∷ more) h = absurd cc
-  rows_from (item d ds) rest h =
-      let (a, first, next) = bind_from (row k f d) _ rest h in
-      let (more, others, all) = bind_from (rows k f ds) _ rest next in
+  rows_from n no_items [] h = tt
+  rows_from n no_items (b ∷ more) h = absurd cc
+  rows_from n (item d ds) rest h =
+      let (a, first, next) = bind_from (row (step.Entry k n) f d) _ rest h in
+      let (more, others, all) = bind_from (rows k f (n + 1) ds) _ rest next in
       let is : a ∷ more ≡ rest = cc in
-      let (t, table, holds) = row_from d a first in
-      subst (λ (l : List A). AreRows P (item d ds) l) is (t, table, holds, rows_from ds more others)
+      let (t, table, holds) = row_from (step.Entry k n) d a first in
+      subst (λ (l : List A). AreRows P (item d ds) l) is (t, table, holds, rows_from (n + 1) ds more others)
 
-  pub rows_to : (ds : Items) (rest : List A) → AreRows P ds rest → rows k f ds ≡ Ok rest
+  pub rows_to : (n : ℕ) (ds : Items) (rest : List A) → AreRows P ds rest → rows k f n ds ≡ Ok rest
   unfolding rows
-  rows_to no_items [] h = refl
-  rows_to no_items (b ∷ more) h = absurd h
-  rows_to (item d ds) [] h = absurd h
-  rows_to (item d ds) (a ∷ more) (t, table, holds, others) =
-      bind_to (row k f d) _ a (a ∷ more) (row_to d a t table holds) (bind_to (rows k f ds) _ more (a ∷ more) (rows_to ds more others) refl)
+  rows_to n no_items [] h = refl
+  rows_to n no_items (b ∷ more) h = absurd h
+  rows_to n (item d ds) [] h = absurd h
+  rows_to n (item d ds) (a ∷ more) (t, table, holds, others) =
+      bind_to (row (step.Entry k n) f d) _ a (a ∷ more) (row_to (step.Entry k n) d a t table holds)
+      (bind_to (rows k f (n + 1) ds) _ more (a ∷ more) (rows_to (n + 1) ds more others) refl)
 
   pub list_from : (t : Members) (rest : List A) → list_at k f t ≡ Ok rest → HoldsRows k P t rest
   unfolding list_at
   list_from t rest h =
-      let (ds, is, all) = bind_from (needed_at k list_in t) (rows k f) rest h in
-      (ds, needed_from k list_in t ds is, rows_from ds rest all)
+      let (ds, is, all) = bind_from (needed_at k list_in t) (rows k f 1) rest h in
+      (ds, needed_from k list_in t ds is, rows_from 1 ds rest all)
 
   pub list_to : (t : Members) (rest : List A) → HoldsRows k P t rest → list_at k f t ≡ Ok rest
   unfolding list_at
-  list_to t rest (ds, is, all) = bind_to (needed_at k list_in t) (rows k f) ds rest (needed_to k list_in t ds is) (rows_to ds rest all)
+  list_to t rest (ds, is, all) = bind_to (needed_at k list_in t) (rows k f 1) ds rest (needed_to k list_in t ds is) (rows_to 1 ds rest all)

@@ -7,9 +7,10 @@ use Rattle.mon_mib.specs.declared.interface.Interface.{Interface}
 use Rattle.mon_settings.specs.declared.key.Key.{Key}
 use Rattle.mon_settings.specs.declared.key.Key.TheVariants as key
 use Rattle.mon_settings.specs.declared.fault.SettingsFault.{SettingsFault}
-use Rattle.mon_settings.specs.declared.fault.SettingsFault.TheVariants as fault
+use Rattle.mon_settings.specs.declared.place.Step.TheVariants as step
+use Rattle.mon_settings.specs.SettingsFault.{bad_value}
 use Rattle.mon_oid.specs.Steps.{◌>>=◌}
-use Rattle.mon_settings.specs.Keys.{only, needed_at}
+use Rattle.mon_settings.specs.Keys.{only, needed_at, within}
 use Rattle.mon_settings.specs.Leaf.{number_in, int_in, text_in, hex_in}
 use Rattle.mon_settings.specs.Lists.{list_at}
 
@@ -17,17 +18,21 @@ use Rattle.mon_settings.specs.Lists.{list_at}
 abbrev pub long_in : Data → Option ℕ
 long_in d = number_in 0 9223372036854775807 d
 
+-- the keys of a count
+abbrev pub growth_keys : List Key
+growth_keys = key.Start ∷ key.Rate ∷ []
+
 -- how a count begins, and what each second adds
 unfoldable pub growth_of : Members → Result Growth SettingsFault
 growth_of t = do
-  known ← only (key.Start ∷ key.Rate ∷ []) t
+  known ← only growth_keys t
   start ← needed_at key.Start long_in t
   rate ← needed_at key.Rate long_in t
   Ok (record { start = start; rate = rate })
 
 -- a count at the start, and what each second adds
 unfoldable pub growth_at : Key → Members → Result Growth SettingsFault
-growth_at k t = needed_at k as_table t >>= growth_of
+growth_at k t = needed_at k as_table t >>= (λ inner. within (step.Value k) (growth_of inner))
 
 -- the keys of an interface
 abbrev pub interface_keys : List Key
@@ -74,7 +79,7 @@ rise_from last (p ∷ ps) = nat_lt last p.index && rise_from p.index ps
 
 -- the interfaces, if their indexes rise
 unfoldable pub rising : List Interface → Result (List Interface) SettingsFault
-rising ps = if rise_from 0 ps then Ok ps else Err (fault.BadValue key.Interface)
+rising ps = if rise_from 0 ps then Ok ps else Err (bad_value key.Interface)
 
 -- the list of the interfaces, whose indexes rise
 unfoldable pub interfaces_in : Members → Result (List Interface) SettingsFault

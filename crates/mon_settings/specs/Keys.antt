@@ -5,16 +5,25 @@ use Rattle.toml.specs.Data.{Data, Members, no_members, member, get_member}
 use Rattle.mon_settings.specs.declared.key.Key.{Key}
 use Rattle.mon_settings.specs.declared.fault.SettingsFault.{SettingsFault}
 use Rattle.mon_settings.specs.declared.fault.SettingsFault.TheVariants as fault
+use Rattle.mon_settings.specs.declared.place.Place.{Place}
+use Rattle.mon_settings.specs.declared.place.Place.TheVariants as place
+use Rattle.mon_settings.specs.declared.place.Step.{Step}
 use Rattle.mon_settings.specs.Key.{key_name}
+use Rattle.mon_settings.specs.Place.{at}
+use Rattle.mon_settings.specs.SettingsFault.{fault_within, missing_key}
 
--- what a value gives, or that it is bad
+-- what stands at a place gives, or that it is bad
+abbrev pub or_bad_at : {A : Type 0} → Place → Option A → Result A SettingsFault
+or_bad_at p None = Err (fault.BadValue p)
+or_bad_at p (Some a) = Ok a
+
+-- what the value of a key gives, or that it is bad
 abbrev pub or_bad : {A : Type 0} → Key → Option A → Result A SettingsFault
-or_bad k None = Err (fault.BadValue k)
-or_bad k (Some a) = Ok a
+or_bad k o = or_bad_at (at k) o
 
 -- what a key gives that has to be there
 abbrev pub needed : {A : Type 0} → Key → (Data → Option A) → Option Data → Result A SettingsFault
-needed k f None = Err (fault.Missing k)
+needed k f None = Err (missing_key k)
 needed k f (Some d) = or_bad k (f d)
 
 -- what a key gives that has to be there
@@ -46,7 +55,12 @@ has_only ks (member name d ms) = is_one_of ks name && has_only ks ms
 
 -- no key but these is there
 unfoldable pub only : List Key → Members → Result Unit SettingsFault
-only ks t = if has_only ks t then Ok tt else Err fault.UnknownKey
+only ks t = if has_only ks t then Ok tt else Err (fault.UnknownKey place.Whole)
+
+-- what a table gives, with its faults as they are called from around the table
+abbrev pub within : {A : Type 0} → Step → Result A SettingsFault → Result A SettingsFault
+within s (Ok a) = Ok a
+within s (Err e) = Err (fault_within s e)
 
 -- the result is the expected one, memory aside
 abbrev pub Reads : {T A : Type 0} → (T → A) → Result A SettingsFault → Result T SettingsFault → Type 0

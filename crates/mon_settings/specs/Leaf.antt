@@ -14,6 +14,7 @@ use Rattle.mon_oid.specs.declared.fault.OidFault.TheVariants as oid_fault
 use Rattle.mon_settings.specs.declared.key.Key.{Key}
 use Rattle.mon_settings.specs.declared.fault.SettingsFault.{SettingsFault}
 use Rattle.mon_settings.specs.declared.fault.SettingsFault.TheVariants as fault
+use Rattle.mon_settings.specs.SettingsFault.{bad_value}
 use Rattle.mon_poller.specs.declared.addr.Addr.{Addr}
 use Rattle.mon_poller.specs.Addr.{addr_of}
 
@@ -79,10 +80,10 @@ oid_in d = option_and_then oid_of (as_str d)
 -- what a refused identifier is to the settings
 abbrev pub refused : Key → OidFault → SettingsFault
 refused k oid_fault.OutOfMemory = fault.OutOfMemory
-refused k oid_fault.TooShort = fault.BadValue k
-refused k oid_fault.TooLong = fault.BadValue k
-refused k oid_fault.BadFirst = fault.BadValue k
-refused k oid_fault.BadText = fault.BadValue k
+refused k oid_fault.TooShort = bad_value k
+refused k oid_fault.TooLong = bad_value k
+refused k oid_fault.BadFirst = bad_value k
+refused k oid_fault.BadText = bad_value k
 
 -- an address
 abbrev pub addr_in : Data → Option Addr

@@ -6,7 +6,9 @@ pub mod Keys
 pub mod Leaf
 pub mod Lists
 pub mod NamedLists
+pub mod Place
 pub mod Placing
+pub mod Position
 pub mod Resolving
 pub mod SettingsFault
 pub mod Station
@@ -14,4 +16,5 @@ pub mod StationAccepted
 pub mod StationCore
 pub mod StationTables
 pub mod Tables
+pub mod Unknown
 pub mod Watching

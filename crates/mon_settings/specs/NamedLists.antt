@@ -17,8 +17,8 @@ list_between least most d = option_and_then (between least most) (as_array d)
 
 -- the tables of the list at a key, least to most of them
 unfoldable pub rows_between : {A : Type 0} → Key → ℕ → ℕ → (Members → Result A SettingsFault) → Members → Result (List A) SettingsFault
-rows_between k least most f t = needed_at k (list_between least most) t >>= rows k f
+rows_between k least most f t = needed_at k (list_between least most) t >>= rows k f 1
 
 -- the tables of the list at a key, at most this many, and none where the key is left out
 unfoldable pub rows_up_to : {A : Type 0} → Key → ℕ → (Members → Result A SettingsFault) → Members → Result (List A) SettingsFault
-rows_up_to k most f t = default_at k no_items (list_between 0 most) t >>= rows k f
+rows_up_to k most f t = default_at k no_items (list_between 0 most) t >>= rows k f 1

@@ -19,6 +19,7 @@ use Rattle.mon_settings.specs.declared.key.Key.{Key}
 use Rattle.mon_settings.specs.declared.fault.SettingsFault.{SettingsFault}
 use Rattle.mon_settings.specs.declared.fault.SettingsFault.TheVariants as fault
 use Rattle.mon_settings.specs.Key.{key_name}
+use Rattle.mon_settings.specs.Place.{at}
 use Rattle.mon_settings.specs.Keys.{or_bad, needed_at}
 use Rattle.mon_settings.specs.Leaf.{is_oid, oid_of}
 
@@ -66,27 +67,27 @@ oid_of_name defs name = option_and_then (λ known. only_oid (known ++ name.1)) (
 unfoldable pub resolution : List Definition → List ℕ → Option (List ℕ)
 resolution defs text = option_or (oid_of text) (option_and_then (oid_of_name defs) (name_of_text text))
 
--- what a text resolves to, or that the object is unknown
-abbrev pub or_unknown : {A : Type 0} → Option A → Result A SettingsFault
-or_unknown None = Err fault.UnknownObject
-or_unknown (Some a) = Ok a
+-- what the text at a key resolves to, or that the object is unknown
+abbrev pub or_unknown : {A : Type 0} → Key → Option A → Result A SettingsFault
+or_unknown k None = Err (fault.UnknownObject (at k))
+or_unknown k (Some a) = Ok a
 
--- what a name that does not resolve is to the settings
-abbrev pub unresolved : NamesFault → SettingsFault
-unresolved names.OutOfMemory = fault.OutOfMemory
-unresolved names.Duplicate = fault.UnknownObject
-unresolved names.Unknown = fault.UnknownObject
-unresolved names.Cycle = fault.UnknownObject
-unresolved names.TooDeep = fault.UnknownObject
-unresolved names.BadIdentifier = fault.UnknownObject
+-- what a name at a key that does not resolve is to the settings
+abbrev pub unresolved : Key → NamesFault → SettingsFault
+unresolved k names.OutOfMemory = fault.OutOfMemory
+unresolved k names.Duplicate = fault.UnknownObject (at k)
+unresolved k names.Unknown = fault.UnknownObject (at k)
+unresolved k names.Cycle = fault.UnknownObject (at k)
+unresolved k names.TooDeep = fault.UnknownObject (at k)
+unresolved k names.BadIdentifier = fault.UnknownObject (at k)
 
 -- the identifier that a value names
 unfoldable pub name_in : (List ℕ → Option (List ℕ)) → Key → Data → Result (List ℕ) SettingsFault
-name_in find k d = or_bad k (as_str d) >>= (λ text. or_unknown (find text))
+name_in find k d = or_bad k (as_str d) >>= (λ text. or_unknown k (find text))
 
 -- the identifier that a key names
 unfoldable pub name_at : (List ℕ → Option (List ℕ)) → Key → Members → Result (List ℕ) SettingsFault
-name_at find k t = needed_at k as_str t >>= (λ text. or_unknown (find text))
+name_at find k t = needed_at k as_str t >>= (λ text. or_unknown k (find text))
 
 -- the identifier that a value names, or nothing where there is no value
 unfoldable pub name_in_some : (List ℕ → Option (List ℕ)) → Key → Option Data → Result (Option (List ℕ)) SettingsFault

@@ -20,6 +20,7 @@ use Rattle.mon_settings.specs.Keys.{only, needed_at, default_at}
 use Rattle.mon_settings.specs.Leaf.{number_in, text_in, addr_in}
 use Rattle.mon_settings.specs.Lists.{list_in}
 use Rattle.mon_settings.specs.NamedLists.{rows_between, rows_up_to}
+use Rattle.mon_settings.specs.SettingsFault.{bad_value}
 use Rattle.mon_settings.specs.Placing.{instances_of_rows, target_from, with_alarms}
 use Rattle.mon_settings.specs.StationCore.{Core}
 use Rattle.mon_settings.specs.StationTables.{target_of, peer_of, alarm_of}
@@ -97,7 +98,7 @@ are_apart targets peers = list_all (λ p. not (list_any (λ t. is_address t.addr
 -- the peers: at most 15 other stations, none twice, and none at the address of a target
 abbrev pub checked_peers : ℕ → List TargetRow → List PeerRow → Result (List PeerRow) SettingsFault
 checked_peers own targets peers =
-    if are_peer_numbers own (map (λ p. p.station) peers) && are_apart targets peers then Ok peers else Err (fault.BadValue key.Peer)
+    if are_peer_numbers own (map (λ p. p.station) peers) && are_apart targets peers then Ok peers else Err (bad_value key.Peer)
 
 -- the peers, none where the key is left out
 unfoldable pub peers_at : ℕ → List TargetRow → Members → Result (List PeerRow) SettingsFault
@@ -105,7 +106,7 @@ peers_at own targets t = rows_up_to key.Peer 15 peer_of t >>= checked_peers own 
 
 -- the alarm rules, none where the key is left out
 unfoldable pub rules_at : (List ℕ → Option (List ℕ)) → Sizes → List Watched → Members → Result (List Rule) SettingsFault
-rules_at find sizes instances t = rows_up_to key.Alarm 256 (alarm_of find sizes) t >>= (λ alarms. with_alarms instances alarms [])
+rules_at find sizes instances t = rows_up_to key.Alarm 256 (alarm_of find sizes) t >>= (λ alarms. with_alarms instances 1 alarms [])
 
 -- the keys of a station's settings
 abbrev pub station_keys : List Key

@@ -13,16 +13,29 @@ use Rattle.mon_vacm.specs.declared.fault.PolicyFault.TheVariants.{DuplicateCommu
 use Rattle.mon_settings.specs.declared.key.Key.{Key}
 use Rattle.mon_settings.specs.declared.key.Key.TheVariants as key
 use Rattle.mon_settings.specs.declared.fault.SettingsFault.{SettingsFault}
-use Rattle.mon_settings.specs.declared.fault.SettingsFault.TheVariants as fault
+use Rattle.mon_settings.specs.SettingsFault.{bad_value}
 use Rattle.mon_oid.specs.Steps.{◌>>=◌}
 use Rattle.mon_settings.specs.Keys.{only, needed_at, default_at, optional_at}
 use Rattle.mon_settings.specs.Leaf.{text_in, hex_in, oid_in, model_in}
 use Rattle.mon_settings.specs.Lists.{list_at}
 
+-- the keys of the tables of the four lists
+abbrev pub community_keys : List Key
+community_keys = key.Community ∷ key.Security ∷ []
+
+abbrev pub group_keys : List Key
+group_keys = key.Security ∷ key.Group ∷ []
+
+abbrev pub access_keys : List Key
+access_keys = key.Group ∷ key.Model ∷ key.Read ∷ key.Write ∷ []
+
+abbrev pub view_keys : List Key
+view_keys = key.View ∷ key.Subtree ∷ key.Mask ∷ key.Included ∷ []
+
 -- a community and its security name
 unfoldable pub community_of : Members → Result Community SettingsFault
 community_of t = do
-  known ← only (key.Community ∷ key.Security ∷ []) t
+  known ← only community_keys t
   community ← needed_at key.Community (text_in 1 512) t
   security ← needed_at key.Security (text_in 1 32) t
   Ok (record { name = community; security_name = security })
@@ -30,7 +43,7 @@ community_of t = do
 -- a security name and its group
 unfoldable pub group_of : Members → Result Group SettingsFault
 group_of t = do
-  known ← only (key.Security ∷ key.Group ∷ []) t
+  known ← only group_keys t
   security ← needed_at key.Security (text_in 1 32) t
   group ← needed_at key.Group (text_in 1 32) t
   Ok (record { security_name = security; group_name = group })
@@ -38,7 +51,7 @@ group_of t = do
 -- the views of a group under a security model
 unfoldable pub access_entry_of : Members → Result AccessEntry SettingsFault
 access_entry_of t = do
-  known ← only (key.Group ∷ key.Model ∷ key.Read ∷ key.Write ∷ []) t
+  known ← only access_keys t
   group ← needed_at key.Group (text_in 1 32) t
   model ← needed_at key.Model model_in t
   read ← optional_at key.Read (text_in 1 32) t
@@ -48,7 +61,7 @@ access_entry_of t = do
 -- a family of a view: an empty mask, and one that is left out, is all ones
 unfoldable pub family_of : Members → Result Family SettingsFault
 family_of t = do
-  known ← only (key.View ∷ key.Subtree ∷ key.Mask ∷ key.Included ∷ []) t
+  known ← only view_keys t
   view ← needed_at key.View (text_in 1 32) t
   subtree ← needed_at key.Subtree oid_in t
   mask ← default_at key.Mask [] (hex_in 0 16) t
@@ -101,9 +114,9 @@ unfoldable pub policy_of : Lists → Result Lists SettingsFault
 policy_of tables =
     if communities_differ tables.communities then
     (if list_all (knows_views tables.families) tables.accesses then
-    (if families_differ tables.families then Ok tables else Err (fault.BadValue (list_of DuplicateFamily)))
-    else Err (fault.BadValue (list_of UnknownView)))
-    else Err (fault.BadValue (list_of DuplicateCommunity))
+    (if families_differ tables.families then Ok tables else Err (bad_value (list_of DuplicateFamily)))
+    else Err (bad_value (list_of UnknownView)))
+    else Err (bad_value (list_of DuplicateCommunity))
 
 -- the four lists, and then the policy of them
 unfoldable pub policy_in : Members → Result Lists SettingsFault

@@ -45,7 +45,7 @@ pub(crate) struct System {
 }
 
 /// The keys of an agent's settings.
-const KEYS: [Key; 15] = [
+pub(crate) const KEYS: [Key; 15] = [
     Key::Listen,
     Key::Limit,
     Key::Engine,
@@ -125,7 +125,7 @@ fn read_tree(alloc: Global, table: &Table) -> Result<AgentSettings, SettingsFaul
 /// keys are refused first. The policy is made once its four lists are read.
 ///
 /// # Errors
-/// `NotToml`; `UnknownKey`; `Missing` and `BadValue` with the key; `OutOfMemory`.
+/// `NotToml`; `UnknownKey` with the place of the table; `Missing` and `BadValue` with the place of the key; `OutOfMemory`.
 pub fn read_agent(alloc: Global, text: &str) -> Result<AgentSettings, SettingsFault>
     ensures gives { Reads (λ s. agent_view s) (agent_in (parse_document text.now)) result }
     ensures not_toml { result ≡ Err SettingsFault.NotToml → parse_document text.now ≡ None }

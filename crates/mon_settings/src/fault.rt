@@ -1,32 +1,28 @@
 ghost use Rattle.std.specs.Prelude.{◌≡◌};
-ghost use Rattle.mon_settings.specs.SettingsFault.{number_of, name_of};
+ghost use Rattle.mon_settings.specs.SettingsFault.{bad_value, fault_within, missing_key, number_of, name_of};
 ghost use Rattle.mon_settings.specs.declared.fault.SettingsFault.TheVariants.{OutOfMemory};
 
 use crate::key::Key;
+use crate::place::{Place, Step};
 use std::alloc::{AllocError, AllocFailed};
-use thiserror::Error;
+use std::error::Error;
+use std::fmt;
 
-/// Why there are no settings.
-#[derive(Clone, Copy, Debug, PartialEq, Eq, Error)]
+/// Why there are no settings, and where in them it stands.
+#[derive(Clone, Copy, Debug, PartialEq, Eq)]
 pub enum SettingsFault {
     /// Memory was refused.
-    #[error("out of memory")]
     OutOfMemory,
-    /// The text is not TOML.
-    #[error("the text is not TOML")]
+    /// The text is not TOML. `toml_position` says from where on.
     NotToml,
     /// A key that has to be there is not.
-    #[error("the key `{0}` is missing")]
-    Missing(Key),
-    /// The value of a key is of a wrong type, out of its range, or at odds with the rest of its list.
-    #[error("the value of the key `{0}` is bad")]
-    BadValue(Key),
-    /// A table has a key that is not asked for there.
-    #[error("a key is unknown")]
-    UnknownKey,
+    Missing(Place),
+    /// A value is of a wrong type, out of its range, or at odds with the rest of its list.
+    BadValue(Place),
+    /// The table at this place has a key that is not asked for there. `unknown_key` says which.
+    UnknownKey(Place),
     /// The name of an object does not resolve.
-    #[error("the name of an object is unknown")]
-    UnknownObject,
+    UnknownObject(Place),
 }
 
 impl SettingsFault {
@@ -39,8 +35,8 @@ impl SettingsFault {
             SettingsFault::NotToml => 2,
             SettingsFault::Missing(_) => 3,
             SettingsFault::BadValue(_) => 4,
-            SettingsFault::UnknownKey => 5,
-            SettingsFault::UnknownObject => 6,
+            SettingsFault::UnknownKey(_) => 5,
+            SettingsFault::UnknownObject(_) => 6,
         }
     }
 
@@ -53,11 +49,64 @@ impl SettingsFault {
             SettingsFault::NotToml => "NotToml",
             SettingsFault::Missing(_) => "Missing",
             SettingsFault::BadValue(_) => "BadValue",
-            SettingsFault::UnknownKey => "UnknownKey",
-            SettingsFault::UnknownObject => "UnknownObject",
+            SettingsFault::UnknownKey(_) => "UnknownKey",
+            SettingsFault::UnknownObject(_) => "UnknownObject",
+        }
+    }
+
+    /// A key of the table that is read is missing.
+    pub(crate) fn missing(key: Key) -> SettingsFault
+        ensures { result ≡ missing_key key }
+    {
+        SettingsFault::Missing(Place::At(Step::Value(key)))
+    }
+
+    /// The value at a key of the table that is read is bad.
+    pub(crate) fn bad(key: Key) -> SettingsFault
+        ensures { result ≡ bad_value key }
+    {
+        SettingsFault::BadValue(Place::At(Step::Value(key)))
+    }
+
+    /// A fault of a table, as it is called from around the table, from where this step leads to it.
+    pub(crate) fn within(self, step: Step) -> SettingsFault
+        ensures { result ≡ fault_within step self }
+    {
+        match self {
+            SettingsFault::OutOfMemory => SettingsFault::OutOfMemory,
+            SettingsFault::NotToml => SettingsFault::NotToml,
+            SettingsFault::Missing(place) => SettingsFault::Missing(place.within(step)),
+            SettingsFault::BadValue(place) => SettingsFault::BadValue(place.within(step)),
+            SettingsFault::UnknownKey(place) => SettingsFault::UnknownKey(place.within(step)),
+            SettingsFault::UnknownObject(place) => SettingsFault::UnknownObject(place.within(step)),
         }
     }
 }
+
+/// What is wrong, where, and what is wanted there: `access[2].model: 0 or 2 is wanted`.
+impl fmt::Display for SettingsFault {
+    fn fmt<W: fmt::Write>(&self, f: &mut fmt::Formatter<W>) -> fmt::Result {
+        match self {
+            SettingsFault::OutOfMemory => f.write_str("out of memory"),
+            SettingsFault::NotToml => f.write_str("the text is not TOML"),
+            SettingsFault::Missing(place) => {
+                let wanted = place.wanted();
+                write!(f, "{place} is missing: {wanted}")
+            }
+            SettingsFault::BadValue(place) => {
+                let wanted = place.wanted();
+                write!(f, "{place}: {wanted}")
+            }
+            SettingsFault::UnknownKey(place) => write!(f, "{place}: a key is unknown"),
+            SettingsFault::UnknownObject(place) => {
+                let wanted = place.wanted();
+                write!(f, "{place}: no object has this name; {wanted}")
+            }
+        }
+    }
+}
+
+impl Error for SettingsFault {}
 
 impl From<AllocError> for SettingsFault {
     ghost from_gives = { λ _ e. e ≡ OutOfMemory };

@@ -13,6 +13,7 @@ use crate::keys::{find, only};
 use crate::leaf::{index_at, int_at, number_at};
 use crate::list::{Row, list_at};
 use crate::octets::{hex_octets_at, octets_at};
+use crate::place::Step;
 use mon_mib::{Growth, Interface, Status};
 use std::alloc::Global;
 use toml::Table;
@@ -24,7 +25,7 @@ const INT: u64 = 2147483647;
 const LONG: u64 = 9223372036854775807;
 
 /// The keys of an interface.
-const KEYS: [Key; 12] = [
+pub(crate) const KEYS: [Key; 12] = [
     Key::Index,
     Key::Descr,
     Key::Type,
@@ -39,11 +40,14 @@ const KEYS: [Key; 12] = [
     Key::OutPackets,
 ];
 
+/// The keys of a count.
+pub(crate) const GROWTH_KEYS: [Key; 2] = [Key::Start, Key::Rate];
+
 #[tactic(auto, unfolding(crate::specs::Interfaces::growth_of))]
 fn growth_of(table: &Table) -> Result<Growth, SettingsFault>
     ensures { result ≡ growth_of (table_view table.now) }
 {
-    only(table, &[Key::Start, Key::Rate])?;
+    only(table, &GROWTH_KEYS)?;
     let start = number_at(table, Key::Start, 0, LONG)?;
     let rate = number_at(table, Key::Rate, 0, LONG)?;
     Ok(Growth { start, rate })
@@ -55,10 +59,10 @@ fn growth_at(table: &Table, key: Key) -> Result<Growth, SettingsFault>
 {
     match find(table, key) {
         Some(value) => match value.as_table() {
-            Some(inner) => growth_of(inner),
-            None => Err(SettingsFault::BadValue(key)),
+            Some(inner) => growth_of(inner).map_err(|fault| fault.within(Step::Value(key))),
+            None => Err(SettingsFault::bad(key)),
         },
-        None => Err(SettingsFault::Missing(key)),
+        None => Err(SettingsFault::missing(key)),
     }
 }
 
@@ -124,6 +128,6 @@ pub(crate) fn read_interfaces(alloc: Global, table: &Table) -> Result<Vec<Interf
     if rise(&interfaces) {
         Ok(interfaces)
     } else {
-        Err(SettingsFault::BadValue(Key::Interface))
+        Err(SettingsFault::bad(Key::Interface))
     }
 }

@@ -9,6 +9,7 @@ ghost use Rattle.mon_settings.specs.Keys.{is_one_of, only};
 
 use crate::fault::SettingsFault;
 use crate::key::Key;
+use crate::place::Place;
 use toml::{Table, Value};
 
 /// The value at a key, if there is one.
@@ -19,7 +20,7 @@ pub(crate) fn find(table: &Table, key: Key) -> Option<&Value>
 }
 
 /// Whether a name is that of one of the keys.
-fn is_one_of(name: &str, keys: &[Key]) -> bool
+pub(crate) fn is_one_of(name: &str, keys: &[Key]) -> bool
     ensures { result ≡ is_one_of keys.now name.now }
 {
     for key in keys {
@@ -43,6 +44,6 @@ pub(crate) fn only(table: &Table, keys: &[Key]) -> Result<(), SettingsFault>
     if has_only(table, keys) {
         Ok(())
     } else {
-        Err(SettingsFault::UnknownKey)
+        Err(SettingsFault::UnknownKey(Place::Whole))
     }
 }

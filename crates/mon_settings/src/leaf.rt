@@ -52,9 +52,9 @@ pub(crate) fn number_at(
     match find(table, key) {
         Some(value) => match number_in(value, least, most) {
             Some(n) => Ok(n),
-            None => Err(SettingsFault::BadValue(key)),
+            None => Err(SettingsFault::bad(key)),
         },
-        None => Err(SettingsFault::Missing(key)),
+        None => Err(SettingsFault::missing(key)),
     }
 }
 
@@ -74,8 +74,8 @@ pub(crate) fn int_at(table: &Table, key: Key, least: u64, most: u64) -> Result<i
     ensures { result ≡ needed_at key (int_in least most) (table_view table.now) }
 {
     match find(table, key) {
-        Some(value) => int_in(value, least, most).ok_or(SettingsFault::BadValue(key)),
-        None => Err(SettingsFault::Missing(key)),
+        Some(value) => int_in(value, least, most).ok_or(SettingsFault::bad(key)),
+        None => Err(SettingsFault::missing(key)),
     }
 }
 
@@ -91,7 +91,7 @@ pub(crate) fn int_or(
     ensures { result ≡ default_at key default (int_in least most) (table_view table.now) }
 {
     match find(table, key) {
-        Some(value) => int_in(value, least, most).ok_or(SettingsFault::BadValue(key)),
+        Some(value) => int_in(value, least, most).ok_or(SettingsFault::bad(key)),
         None => Ok(default),
     }
 }
@@ -101,8 +101,8 @@ pub(crate) fn bool_at(table: &Table, key: Key) -> Result<bool, SettingsFault>
     ensures { result ≡ needed_at key as_bool (table_view table.now) }
 {
     match find(table, key) {
-        Some(value) => value.as_bool().ok_or(SettingsFault::BadValue(key)),
-        None => Err(SettingsFault::Missing(key)),
+        Some(value) => value.as_bool().ok_or(SettingsFault::bad(key)),
+        None => Err(SettingsFault::missing(key)),
     }
 }
 
@@ -129,9 +129,9 @@ pub(crate) fn text_at(
     match find(table, key) {
         Some(value) => match text_in(value, least, most) {
             Some(text) => Ok(text),
-            None => Err(SettingsFault::BadValue(key)),
+            None => Err(SettingsFault::bad(key)),
         },
-        None => Err(SettingsFault::Missing(key)),
+        None => Err(SettingsFault::missing(key)),
     }
 }
 
@@ -146,9 +146,9 @@ fn decoded(
 {
     match hex::decode(alloc, text) {
         Ok(octets) if least <= octets.len() && octets.len() <= most => Ok(octets),
-        Ok(_) => Err(SettingsFault::BadValue(key)),
+        Ok(_) => Err(SettingsFault::bad(key)),
         Err(FromHexError::OutOfMemory) => Err(SettingsFault::OutOfMemory),
-        Err(_) => Err(SettingsFault::BadValue(key)),
+        Err(_) => Err(SettingsFault::bad(key)),
     }
 }
 
@@ -163,7 +163,7 @@ fn hex_in(
 {
     match value.as_str() {
         Some(text) => decoded(alloc, text, key, least, most),
-        None => Err(SettingsFault::BadValue(key)),
+        None => Err(SettingsFault::bad(key)),
     }
 }
 
@@ -179,7 +179,7 @@ pub(crate) fn hex_at(
 {
     match find(table, key) {
         Some(value) => hex_in(alloc, value, key, least, most),
-        None => Err(SettingsFault::Missing(key)),
+        None => Err(SettingsFault::missing(key)),
     }
 }
 
@@ -212,7 +212,7 @@ fn refused(fault: OidFault, key: Key) -> SettingsFault
 {
     match fault {
         OidFault::OutOfMemory => SettingsFault::OutOfMemory,
-        _ => SettingsFault::BadValue(key),
+        _ => SettingsFault::bad(key),
     }
 }
 
@@ -221,7 +221,7 @@ fn oid_in(alloc: Global, value: &Value, key: Key) -> Result<Oid, SettingsFault>
 {
     match value.as_str() {
         Some(text) => parsed(alloc, text, key),
-        None => Err(SettingsFault::BadValue(key)),
+        None => Err(SettingsFault::bad(key)),
     }
 }
 
@@ -231,7 +231,7 @@ pub(crate) fn oid_at(alloc: Global, table: &Table, key: Key) -> Result<Oid, Sett
 {
     match find(table, key) {
         Some(value) => oid_in(alloc, value, key),
-        None => Err(SettingsFault::Missing(key)),
+        None => Err(SettingsFault::missing(key)),
     }
 }
 
@@ -249,8 +249,8 @@ pub(crate) fn addr_at(table: &Table, key: Key) -> Result<Addr, SettingsFault>
     ensures { result ≡ needed_at key addr_in (table_view table.now) }
 {
     match find(table, key) {
-        Some(value) => addr_in(value).ok_or(SettingsFault::BadValue(key)),
-        None => Err(SettingsFault::Missing(key)),
+        Some(value) => addr_in(value).ok_or(SettingsFault::bad(key)),
+        None => Err(SettingsFault::missing(key)),
     }
 }
 
@@ -278,8 +278,8 @@ pub(crate) fn model_at(table: &Table, key: Key) -> Result<SecurityModel, Setting
     ensures { result ≡ needed_at key model_in (table_view table.now) }
 {
     match find(table, key) {
-        Some(value) => model_in(value).ok_or(SettingsFault::BadValue(key)),
-        None => Err(SettingsFault::Missing(key)),
+        Some(value) => model_in(value).ok_or(SettingsFault::bad(key)),
+        None => Err(SettingsFault::missing(key)),
     }
 }
 
@@ -288,7 +288,7 @@ pub(crate) fn index_at(table: &Table, key: Key) -> Result<u32, SettingsFault>
     ensures { result ≡ needed_at key (number_in 1 2147483647) (table_view table.now) }
 {
     let index = number_at(table, key, 1, 2147483647)?;
-    u32::try_from(index).map_err(|_| SettingsFault::BadValue(key))
+    u32::try_from(index).map_err(|_| SettingsFault::bad(key))
 }
 
 /// The number at a key, from least to most, in 32 bits.
@@ -329,7 +329,7 @@ pub(crate) fn size_or(
     match find(table, key) {
         Some(value) => match number_in(value, 1, most as u64) {
             Some(n) => Ok(n as usize),
-            None => Err(SettingsFault::BadValue(key)),
+            None => Err(SettingsFault::bad(key)),
         },
         None => Ok(default),
     }
@@ -340,7 +340,7 @@ pub(crate) fn long_at(table: &Table, key: Key) -> Result<i64, SettingsFault>
     ensures { result ≡ needed_at key as_integer (table_view table.now) }
 {
     match find(table, key) {
-        Some(value) => value.as_integer().ok_or(SettingsFault::BadValue(key)),
-        None => Err(SettingsFault::Missing(key)),
+        Some(value) => value.as_integer().ok_or(SettingsFault::bad(key)),
+        None => Err(SettingsFault::missing(key)),
     }
 }

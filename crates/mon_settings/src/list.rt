@@ -8,6 +8,7 @@ ghost use Rattle.mon_settings.specs.Lists.{few, list_in, row, rows, list_at};
 use crate::fault::SettingsFault;
 use crate::key::Key;
 use crate::keys::find;
+use crate::place::{Place, Step};
 use std::alloc::Global;
 use toml::{Table, Value};
 
@@ -28,25 +29,26 @@ pub(crate) trait Row: Drop {
 }
 
 #[tactic(auto, unfolding(crate::specs::Lists::row))]
-fn read_row<R: Row>(alloc: Global, key: Key, value: &Value) -> Result<R, SettingsFault>
-    ensures { Reads (λ r. r) (row key R.row_of (view value.now)) result }
+fn read_row<R: Row>(alloc: Global, step: Step, value: &Value) -> Result<R, SettingsFault>
+    ensures { Reads (λ r. r) (row step R.row_of (view value.now)) result }
 {
     match value.as_table() {
-        Some(table) => R::read(alloc, table),
-        None => Err(SettingsFault::BadValue(key)),
+        Some(table) => R::read(alloc, table).map_err(|fault| fault.within(step)),
+        None => Err(SettingsFault::BadValue(Place::At(step))),
     }
 }
 
+/// The tables of these values, which are the list at a key.
 pub(crate) fn read_rows<R: Row>(
     alloc: Global,
     key: Key,
     values: &[Value],
 ) -> Result<Vec<R>, SettingsFault>
-    ensures { Reads (λ rs. rs.items) (rows key R.row_of (items_view values.now)) result }
+    ensures { Reads (λ rs. rs.items) (rows key R.row_of 1 (items_view values.now)) result }
 {
     let mut read = Vec::new(alloc);
-    for value in values {
-        let entry = match read_row(alloc, key, value) {
+    for (index, value) in values.iter().enumerate() {
+        let entry = match read_row(alloc, Step::Entry(key, index + 1), value) {
             Ok(entry) => entry,
             Err(fault) => return Err(fault),
         };
@@ -91,8 +93,8 @@ pub(crate) fn list_at<R: Row>(
     match find(table, key) {
         Some(value) => match list_in(value) {
             Some(values) => read_rows(alloc, key, values),
-            None => Err(SettingsFault::BadValue(key)),
+            None => Err(SettingsFault::bad(key)),
         },
-        None => Err(SettingsFault::Missing(key)),
+        None => Err(SettingsFault::missing(key)),
     }
 }

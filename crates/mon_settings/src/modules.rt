@@ -20,7 +20,7 @@ fn text_of(alloc: Global, value: &Value) -> Result<String, SettingsFault>
 {
     match text_in(value, 0, 4095) {
         Some(text) => Ok(String::from_str(alloc, text)?),
-        None => Err(SettingsFault::BadValue(Key::Modules)),
+        None => Err(SettingsFault::bad(Key::Modules)),
     }
 }
 
@@ -46,7 +46,7 @@ fn texts_in(alloc: Global, value: &Value) -> Result<Vec<String>, SettingsFault>
 {
     match list_in(value) {
         Some(values) => texts_of(alloc, values),
-        None => Err(SettingsFault::BadValue(Key::Modules)),
+        None => Err(SettingsFault::bad(Key::Modules)),
     }
 }
 

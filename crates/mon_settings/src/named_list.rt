@@ -11,6 +11,7 @@ ghost use Rattle.mon_settings.specs.Resolving.{resolution};
 use crate::fault::SettingsFault;
 use crate::key::Key;
 use crate::keys::find;
+use crate::place::{Place, Step};
 use crate::sizes::Sizes;
 use mon_smi::Names;
 use std::alloc::Global;
@@ -44,14 +45,14 @@ fn read_row<R: NamedRow>(
     alloc: Global,
     names: &Names,
     sizes: Sizes,
-    key: Key,
+    step: Step,
     value: &Value,
 ) -> Result<R, SettingsFault>
-    ensures { Reads (λ r. r) (row key (R.row_of (resolution names.now) sizes) (view value.now)) result }
+    ensures { Reads (λ r. r) (row step (R.row_of (resolution names.now) sizes) (view value.now)) result }
 {
     match value.as_table() {
-        Some(table) => R::read(alloc, names, sizes, table),
-        None => Err(SettingsFault::BadValue(key)),
+        Some(table) => { R::read(alloc, names, sizes, table).map_err(|fault| fault.within(step)) }
+        None => Err(SettingsFault::BadValue(Place::At(step))),
     }
 }
 
@@ -62,11 +63,11 @@ fn read_rows<R: NamedRow>(
     key: Key,
     values: &[Value],
 ) -> Result<Vec<R>, SettingsFault>
-    ensures { Reads (λ rs. rs.items) (rows key (R.row_of (resolution names.now) sizes) (items_view values.now)) result }
+    ensures { Reads (λ rs. rs.items) (rows key (R.row_of (resolution names.now) sizes) 1 (items_view values.now)) result }
 {
     let mut read = Vec::new(alloc);
-    for value in values {
-        let entry = match read_row(alloc, names, sizes, key, value) {
+    for (index, value) in values.iter().enumerate() {
+        let entry = match read_row(alloc, names, sizes, Step::Entry(key, index + 1), value) {
             Ok(entry) => entry,
             Err(fault) => return Err(fault),
         };
@@ -112,9 +113,9 @@ pub(crate) fn values_at(
     match find(table, key) {
         Some(value) => match list_between(value, least, most) {
             Some(values) => Ok(values),
-            None => Err(SettingsFault::BadValue(key)),
+            None => Err(SettingsFault::bad(key)),
         },
-        None => Err(SettingsFault::Missing(key)),
+        None => Err(SettingsFault::missing(key)),
     }
 }
 
@@ -129,7 +130,7 @@ pub(crate) fn values_or_none(
     match find(table, key) {
         Some(value) => match list_between(value, 0, most) {
             Some(values) => Ok(values),
-            None => Err(SettingsFault::BadValue(key)),
+            None => Err(SettingsFault::bad(key)),
         },
         None => Ok(&[]),
     }

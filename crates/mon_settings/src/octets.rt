@@ -77,7 +77,7 @@ fn name_in(
 {
     match text_in(value, 1, most) {
         Some(text) => Ok(Some(PolicyOctets::from_slice(alloc, text.as_bytes())?)),
-        None => Err(SettingsFault::BadValue(key)),
+        None => Err(SettingsFault::bad(key)),
     }
 }
 

@@ -113,10 +113,10 @@ fn checked_peers(
 {
     let numbers = stations_of(alloc, peers.as_slice())?;
     if !are_peers(own, numbers.as_slice()) {
-        return Err(SettingsFault::BadValue(Key::Peer));
+        return Err(SettingsFault::bad(Key::Peer));
     }
     if !are_apart(targets, peers.as_slice()) {
-        return Err(SettingsFault::BadValue(Key::Peer));
+        return Err(SettingsFault::bad(Key::Peer));
     }
     Ok(peers)
 }

@@ -8,29 +8,30 @@ ghost use Rattle.mon_settings.specs.Resolving.{resolution, or_unknown, unresolve
 use crate::fault::SettingsFault;
 use crate::key::Key;
 use crate::keys::find;
+use crate::place::{Place, Step};
 use mon_oid::Oid;
 use mon_smi::{Names, NamesFault};
 use std::alloc::Global;
 use toml::{Table, Value};
 
-/// What a name that does not resolve is to the settings.
-fn unresolved(fault: NamesFault) -> SettingsFault
-    ensures { result ≡ unresolved fault }
+/// What a name at a key that does not resolve is to the settings.
+fn unresolved(fault: NamesFault, key: Key) -> SettingsFault
+    ensures { result ≡ unresolved key fault }
 {
     match fault {
         NamesFault::OutOfMemory => SettingsFault::OutOfMemory,
-        _ => SettingsFault::UnknownObject,
+        _ => SettingsFault::UnknownObject(Place::At(Step::Value(key))),
     }
 }
 
-/// What a text resolves to.
-fn resolved(alloc: Global, names: &Names, text: &str) -> Result<Oid, SettingsFault>
-    ensures { Reads (λ o. o) (or_unknown (resolution names.now text.now)) result }
+/// What the text at a key resolves to.
+fn resolved(alloc: Global, names: &Names, key: Key, text: &str) -> Result<Oid, SettingsFault>
+    ensures { Reads (λ o. o) (or_unknown key (resolution names.now text.now)) result }
 {
     crate::laws::resolving();
     match names.resolve(alloc, text) {
         Ok(oid) => Ok(oid),
-        Err(fault) => Err(unresolved(fault)),
+        Err(fault) => Err(unresolved(fault, key)),
     }
 }
 
@@ -39,8 +40,8 @@ fn name_in(alloc: Global, names: &Names, key: Key, value: &Value) -> Result<Oid,
     ensures { Reads (λ o. o) (name_in (resolution names.now) key (view value.now)) result }
 {
     match value.as_str() {
-        Some(text) => resolved(alloc, names, text),
-        None => Err(SettingsFault::BadValue(key)),
+        Some(text) => resolved(alloc, names, key, text),
+        None => Err(SettingsFault::bad(key)),
     }
 }
 
@@ -56,7 +57,7 @@ pub(crate) fn name_at(
 {
     match find(table, key) {
         Some(value) => name_in(alloc, names, key, value),
-        None => Err(SettingsFault::Missing(key)),
+        None => Err(SettingsFault::missing(key)),
     }
 }
 

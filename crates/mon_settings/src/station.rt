@@ -56,7 +56,7 @@ pub(crate) struct Scalars {
 }
 
 /// The keys of a station's settings.
-const KEYS: [Key; 10] = [
+pub(crate) const KEYS: [Key; 10] = [
     Key::Station,
     Key::Listen,
     Key::File,
@@ -245,7 +245,8 @@ fn read_tree(alloc: Global, table: &Table, names: &Names) -> Result<StationSetti
 /// once the later one was read.
 ///
 /// # Errors
-/// `NotToml`; `UnknownKey`; `Missing` and `BadValue` with the key; `UnknownObject` where a name does not resolve; `OutOfMemory`.
+/// `NotToml`; `UnknownKey` with the place of the table; `Missing`, `BadValue` and `UnknownObject`, for a name that does not
+/// resolve, with the place of the key; `OutOfMemory`.
 pub fn read_station(
     alloc: Global,
     text: &str,

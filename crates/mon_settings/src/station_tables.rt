@@ -78,6 +78,24 @@ pub(crate) struct AlarmRow {
     pub(crate) falling: i64,
 }
 
+/// The keys of an object.
+pub(crate) const OBJECT_KEYS: [Key; 4] = [Key::Name, Key::Mark, Key::Window, Key::Epoch];
+
+/// The keys of a target.
+pub(crate) const TARGET_KEYS: [Key; 5] = [
+    Key::Address,
+    Key::Community,
+    Key::Engine,
+    Key::Tries,
+    Key::Objects,
+];
+
+/// The keys of a peer.
+pub(crate) const PEER_KEYS: [Key; 2] = [Key::Station, Key::Address];
+
+/// The keys of an alarm.
+pub(crate) const ALARM_KEYS: [Key; 4] = [Key::Engine, Key::Name, Key::Rising, Key::Falling];
+
 impl NamedRow for ObjectRow {
     ghost use Rattle.mon_settings.specs.StationTables.{object_of};
 
@@ -90,7 +108,7 @@ impl NamedRow for ObjectRow {
         sizes: Sizes,
         table: &Table,
     ) -> Result<Self, SettingsFault> {
-        only(table, &[Key::Name, Key::Mark, Key::Window, Key::Epoch])?;
+        only(table, &OBJECT_KEYS)?;
         let name = name_at(alloc, names, table, Key::Name)?;
         let mark = name_or_none(alloc, names, table, Key::Mark)?;
         let window = size_or(table, Key::Window, sizes.window, 64)?;
@@ -116,16 +134,7 @@ impl NamedRow for TargetRow {
         sizes: Sizes,
         table: &Table,
     ) -> Result<Self, SettingsFault> {
-        only(
-            table,
-            &[
-                Key::Address,
-                Key::Community,
-                Key::Engine,
-                Key::Tries,
-                Key::Objects,
-            ],
-        )?;
+        only(table, &TARGET_KEYS)?;
         let address = addr_at(table, Key::Address)?;
         let community = octets_between(alloc, table, Key::Community, 1, 512)?;
         let engine = hex_octets_at(alloc, table, Key::Engine, 5, 32)?;
@@ -148,7 +157,7 @@ impl Row for PeerRow {
 
     #[tactic(auto, unfolding(crate::specs::StationTables::peer_of))]
     fn read(_alloc: Global, table: &Table) -> Result<Self, SettingsFault> {
-        only(table, &[Key::Station, Key::Address])?;
+        only(table, &PEER_KEYS)?;
         let station = u32_at(table, Key::Station, 1, 4294967295)?;
         let address = addr_at(table, Key::Address)?;
         Ok(PeerRow { station, address })
@@ -167,7 +176,7 @@ impl NamedRow for AlarmRow {
         _sizes: Sizes,
         table: &Table,
     ) -> Result<Self, SettingsFault> {
-        only(table, &[Key::Engine, Key::Name, Key::Rising, Key::Falling])?;
+        only(table, &ALARM_KEYS)?;
         let engine = hex_octets_at(alloc, table, Key::Engine, 5, 32)?;
         let name = name_at(alloc, names, table, Key::Name)?;
         let rising = long_at(table, Key::Rising)?;

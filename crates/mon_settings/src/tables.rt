@@ -16,6 +16,18 @@ use mon_vacm::{AccessEntry, Community, Family, Group, Octets, Policy, PolicyFaul
 use std::alloc::Global;
 use toml::Table;
 
+/// The keys of a table of the list of communities.
+pub(crate) const COMMUNITY_KEYS: [Key; 2] = [Key::Community, Key::Security];
+
+/// The keys of a table of the list of groups.
+pub(crate) const GROUP_KEYS: [Key; 2] = [Key::Security, Key::Group];
+
+/// The keys of a table of the list of access entries.
+pub(crate) const ACCESS_KEYS: [Key; 4] = [Key::Group, Key::Model, Key::Read, Key::Write];
+
+/// The keys of a table of the list of view families.
+pub(crate) const VIEW_KEYS: [Key; 4] = [Key::View, Key::Subtree, Key::Mask, Key::Included];
+
 impl Row for Community {
     ghost use Rattle.mon_settings.specs.Tables.{community_of};
 
@@ -23,7 +35,7 @@ impl Row for Community {
 
     #[tactic(auto, unfolding(crate::specs::Tables::community_of))]
     fn read(alloc: Global, table: &Table) -> Result<Self, SettingsFault> {
-        only(table, &[Key::Community, Key::Security])?;
+        only(table, &COMMUNITY_KEYS)?;
         let name = name_at(alloc, table, Key::Community, 512)?;
         let security_name = name_at(alloc, table, Key::Security, 32)?;
         Ok(Community {
@@ -40,7 +52,7 @@ impl Row for Group {
 
     #[tactic(auto, unfolding(crate::specs::Tables::group_of))]
     fn read(alloc: Global, table: &Table) -> Result<Self, SettingsFault> {
-        only(table, &[Key::Security, Key::Group])?;
+        only(table, &GROUP_KEYS)?;
         let security_name = name_at(alloc, table, Key::Security, 32)?;
         let group_name = name_at(alloc, table, Key::Group, 32)?;
         Ok(Group {
@@ -57,7 +69,7 @@ impl Row for AccessEntry {
 
     #[tactic(auto, unfolding(crate::specs::Tables::access_entry_of))]
     fn read(alloc: Global, table: &Table) -> Result<Self, SettingsFault> {
-        only(table, &[Key::Group, Key::Model, Key::Read, Key::Write])?;
+        only(table, &ACCESS_KEYS)?;
         let group_name = name_at(alloc, table, Key::Group, 32)?;
         let security_model = model_at(table, Key::Model)?;
         let read_view = name_or_none(alloc, table, Key::Read, 32)?;
@@ -78,7 +90,7 @@ impl Row for Family {
 
     #[tactic(auto, unfolding(crate::specs::Tables::family_of))]
     fn read(alloc: Global, table: &Table) -> Result<Self, SettingsFault> {
-        only(table, &[Key::View, Key::Subtree, Key::Mask, Key::Included])?;
+        only(table, &VIEW_KEYS)?;
         let view_name = name_at(alloc, table, Key::View, 32)?;
         let subtree = oid_at(alloc, table, Key::Subtree)?;
         let mask = hex_or_none(alloc, table, Key::Mask, 16)?;
@@ -108,7 +120,7 @@ fn policy_of(tables: Tables) -> Result<Policy, SettingsFault>
 {
     match Policy::new(tables) {
         Ok(policy) => Ok(policy),
-        Err(fault) => Err(SettingsFault::BadValue(list_of(fault))),
+        Err(fault) => Err(SettingsFault::bad(list_of(fault))),
     }
 }
 

@@ -14,4 +14,4 @@ returns-in-Err c =
     (λ e. c.in-Err.ensures.duplicate_community.0 (ap Err e))
     (λ e. c.in-Err.ensures.unknown_view.0 (ap Err e))
     (λ e. c.in-Err.ensures.duplicate_family.0 (ap Err e)) in
-    rw c.list_of.ensures (sym refused)
+    rw c.bad.ensures (rw c.list_of.ensures (sym refused))
