@@ -21,7 +21,7 @@ abbrev pub AreTold : (List ℕ → Option ℕ) → List Definition → Type 0
 AreTold f defs = (w : List ℕ) → IsPlace defs w (f w)
 
 -- the first of the definitions with one more is at the place behind the others
-more_is : (defs : List Definition) (i : ℕ) (d : Definition) → i < length defs → d ≡ get_or defs i d → take (i + 1) defs ≡ take i defs ++ d ∷ []
+pub more_is : (defs : List Definition) (i : ℕ) (d : Definition) → i < length defs → d ≡ get_or defs i d → take (i + 1) defs ≡ take i defs ++ d ∷ []
 more_is defs i d lt is = take_more defs i d lt ∙ ap (λ (y : Definition). take i defs ++ y ∷ []) (sym is)
 
 one_undefined : (d : Definition) (w : List ℕ) → (d.name ≡ w → ⊥) → IsUndefined (d ∷ []) w

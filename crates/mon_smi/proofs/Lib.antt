@@ -19,3 +19,5 @@ pub mod Begun
 pub mod ForText
 pub mod Indexed
 pub mod Standing
+pub mod Labelled
+pub mod Named

@@ -12,3 +12,5 @@ pub mod ModuleFaults
 pub mod BuiltIn
 pub mod Nearest
 pub mod Places
+pub mod Labels
+pub mod Positions

@@ -8,6 +8,9 @@ ghost use Rattle.mon_smi.specs.Lexemes.{AreTokensOf};
 ghost use Rattle.mon_smi.specs.Grammar.{Derives};
 ghost use Rattle.mon_smi.specs.Names.{AreDistinct, StandsFor, MeansNumbers, EndsUndefined, IsCircular};
 ghost use Rattle.mon_smi.specs.Parents.{numbers_of};
+ghost use Rattle.mon_smi.specs.Nearest.{IsNameOf};
+ghost use Rattle.mon_smi.specs.Labels.{name_text};
+ghost use Rattle.mon_oid.specs.Oid.{IsOid};
 
 /// A name stands for one identifier at most.
 pub fn one_meaning()
@@ -27,6 +30,11 @@ pub fn circular()
 /// Following the parents of a name gives the numbers that it stands for, and nothing where it stands for none.
 pub fn parents()
     ensures { (defs : List AnyDefinition) (w q : List ℕ) → AreDistinct defs → (numbers_of defs w ≡ Some q) ↔ StandsFor defs w q }
+{}
+
+/// Each identifier is written in one way: as its nearest name and the rest, or with dots where it has none.
+pub fn one_text()
+    ensures { (defs : List AnyDefinition) (oid text : List ℕ) → AreDistinct defs → IsOid oid → (text ≡ name_text defs oid) ↔ IsNameOf defs oid text }
 {}
 
 /// A text means one list of numbers at most.

@@ -9,7 +9,7 @@ use crate::built_in::built_in;
 use crate::chain::identifier_of;
 use crate::definition::{Definition, Module};
 use crate::fault::NamesFault;
-use crate::nearest::name_of;
+use crate::labels::Labels;
 use crate::places::{add_places, first_twice, is_defined};
 use crate::text::is_word;
 use mon_oid::{Oid, OidFault, dotted_numbers};
@@ -84,7 +84,15 @@ impl Names {
     pub fn name_of(&self, alloc: Global, oid: &Oid) -> Result<String, AllocError>
         ensures { IfOk result (λ text. IsNameOf self.now oid.now (string_bytes text)) }
     {
-        name_of(alloc, &self.places, self.defs.as_slice(), oid)
+        self.labels(alloc)?.name_of(alloc, oid)
+    }
+
+    /// The same names by their identifiers, for whoever wants the names of many: made once, they find
+    /// a name without going over all definitions.
+    pub fn labels(&self, alloc: Global) -> Result<Labels<'_>, AllocError>
+        ensures { IfOk result (λ labels. labels ≡ self.now) }
+    {
+        Labels::new(alloc, &self.places, self.defs.as_slice())
     }
 }
 

@@ -1,5 +1,8 @@
 //! Tokens, which are slices of the text that they were read from.
 
+ghost use Rattle.std.specs.Prelude.{◌≡◌, ◌≤◌, ◌-◌, length, take, drop, IfSome, IfNone};
+ghost use Rattle.std.specs.Str.{IsUtf8};
+
 use crate::kind::Kind;
 
 /// The bytes of a text from `start` up to, and without, `end`.
@@ -9,6 +12,17 @@ pub struct Span {
     pub start: usize,
     /// Where the first byte after it stands.
     pub end: usize,
+}
+
+impl Span {
+    /// The part of the text that stands there. `None` where the text ends before it, or it cuts a character.
+    pub fn slice(self, text: &str) -> Option<&str>
+        ensures some { IfSome result (λ slice. slice.now ≡ take (self.end - self.start) (drop self.start text.now)) }
+        ensures none { IfNone result (self.start ≤ self.end → self.end ≤ length text.now → ¬ (IsUtf8 (take (self.end - self.start) (drop self.start text.now)))) }
+    {
+        let octets = text.as_bytes().get(self.start..self.end)?;
+        str::from_utf8(octets).ok()
+    }
 }
 
 /// A token of a text.

@@ -182,14 +182,44 @@ BUGS = {
         "    first.is_word(word) && second.is_word(other)",
     ),
     "looks_for_the_shortest_prefix": (
-        "src/nearest.rt",
-        "        return len < best_len;",
-        "        return len > best_len;",
+        "src/labels.rt",
+        "        let mut len = parts.len();",
+        "        let mut len = parts.len().min(2);",
+    ),
+    "passes_over_two_numbers": (
+        "src/labels.rt",
+        "        while len >= 2 {",
+        "        while len >= 3 {",
     ),
     "takes_the_greater_of_equal_names": (
-        "src/nearest.rt",
-        "        Ordering::Greater => false,\n        Ordering::Less | Ordering::Equal => true,",
-        "        Ordering::Less => false,\n        Ordering::Greater | Ordering::Equal => true,",
+        "src/labels.rt",
+        "        Some(known) => known.cmp(name).is_le(),",
+        "        Some(known) => known.cmp(name).is_gt(),",
+    ),
+    "labels_nothing": (
+        "src/labels.rt",
+        "        Ok(oid) => Ok(Some(oid)),",
+        "        Ok(_) => Ok(None),",
+    ),
+    "forgets_the_first_number": (
+        "src/labels.rt",
+        "    text.push_str(Buffer::new().format(*first))?;\n",
+        "",
+    ),
+    "columns_go_on_after_a_line": (
+        "src/position.rt",
+        "                place.column = 1;",
+        "                place.column += 1;",
+    ),
+    "counts_lines_to_the_end": (
+        "src/position.rt",
+        "&octets[..before.min(octets.len())]",
+        "&octets[..octets.len()]",
+    ),
+    "cuts_a_word_short": (
+        "src/token.rt",
+        "get(self.start..self.end)?",
+        "get(self.start..self.start)?",
     ),
     "calls_a_cycle_unknown": (
         "src/chain.rt",
