@@ -8,7 +8,7 @@ use clap::ArgMatches;
 use mon_agent::Agent;
 use mon_app::{AppFault, SocketPort, room, serve_one};
 use mon_mib::{FuseDevice, Moment, SimDevice};
-use mon_settings::{AgentSettings, read_agent};
+use mon_settings::{AgentSettings, Kind, read_agent};
 use std::net::{Ipv4Addr, Net, SocketAddr, SocketAddrV4};
 use std::rt::{Clock, Files};
 
@@ -46,7 +46,7 @@ fn told_of<R: Files + AllocGlobal>(
     let text = read_text(rt, path)?;
     let mut told = match read_agent(rt.alloc(), &text) {
         Ok(told) => told,
-        Err(fault) => return Err(unset(rt.alloc(), path, &text, fault)),
+        Err(fault) => return Err(unset(rt.alloc(), Kind::Agent, path, &text, fault)),
     };
     if let Some(boots) = words.get_one::<i32>("boots") {
         told.settings.boots = boots;

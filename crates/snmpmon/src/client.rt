@@ -6,8 +6,10 @@ use crate::files::print;
 use crate::naming::{identifier, names_of};
 use clap::ArgMatches;
 use mon_app::{
-    AppFault, Asking, Question, Repeats, SocketWire, ValueKind, answer_text, value_of,
+    AppFault, Asking, InNumbers, NameTexts, Question, Repeats, SocketWire, ValueKind, answer_text,
+    value_of,
 };
+use mon_ber::Value;
 use mon_oid::Oid;
 use mon_smi::Names;
 use std::alloc::Global;
@@ -58,7 +60,7 @@ pub fn walk<R: Clock + Files + Net + Print + AllocGlobal>(
 ) -> Result<(), Failure> {
     let query = query_of(rt, words)?;
     let mut text = String::new(rt.alloc());
-    let walked = walked(rt, &query, &mut text);
+    let walked = walk_through(rt, &query, &mut text);
     print(rt, text.as_bytes())?;
     walked
 }
@@ -180,8 +182,84 @@ fn print_answer<'a, R: Clock + Net + Print + AllocGlobal>(
     query: &'a Query<'a>,
     asking: Asking<'a>,
 ) -> Result<(), Failure> {
-    match answered(rt, query, asking) {
-        Ok(text) => print(rt, text.as_bytes()),
-        Err(fault) => Err(failure(rt.alloc(), query, fault)),
+    if query.prints_names {
+        print_shown(rt, query, asking, &query.known.labels(rt.alloc())?)
+    } else {
+        print_shown(rt, query, asking, &InNumbers)
     }
+}
+
+/// Asks the agent, and prints its answer, names in this way.
+fn print_shown<'a, R: Clock + Net + Print + AllocGlobal, S: NameTexts>(
+    rt: &R,
+    query: &'a Query<'a>,
+    asking: Asking<'a>,
+    names: &S,
+) -> Result<(), Failure> {
+    let question = Question {
+        asking,
+        request_id: 1,
+        community: query.community,
+        names: query.asked.as_slice(),
+    };
+    match answered(rt, query.agent.address, &question, names) {
+        Ok(text) => print(rt, text.as_bytes()),
+        Err(fault) => Err(unanswered(rt.alloc(), query, fault)),
+    }
+}
+
+/// What an agent answers to a question.
+fn answered<R: Clock + Net + AllocGlobal, S: NameTexts>(
+    rt: &R,
+    agent: SocketAddrV4,
+    question: &Question<'_>,
+    names: &S,
+) -> Result<String, AppFault> {
+    let mut wire = SocketWire::open(rt, agent)?;
+    answer_text(rt.alloc(), &mut wire, question, names)
+}
+
+/// Walks through the variables under the name, and adds a line for each to the text.
+fn walk_through<R: Clock + Net + AllocGlobal>(
+    rt: &R,
+    query: &Query<'_>,
+    text: &mut String,
+) -> Result<(), Failure> {
+    if query.prints_names {
+        walk_shown(rt, query, &query.known.labels(rt.alloc())?, text)
+    } else {
+        walk_shown(rt, query, &InNumbers, text)
+    }
+}
+
+/// Walks through the variables under the name, and adds a line for each to the text, names in this way.
+fn walk_shown<R: Clock + Net + AllocGlobal, S: NameTexts>(
+    rt: &R,
+    query: &Query<'_>,
+    names: &S,
+    text: &mut String,
+) -> Result<(), Failure> {
+    let [start] = query.asked.as_slice() else {
+        return Ok(());
+    };
+    match walked(rt, query, start, names, text) {
+        Ok(()) => Ok(()),
+        Err(fault) => Err(unanswered(rt.alloc(), query, fault)),
+    }
+}
+
+fn walked<R: Clock + Net + AllocGlobal, S: NameTexts>(
+    rt: &R,
+    query: &Query<'_>,
+    start: &Oid,
+    names: &S,
+    text: &mut String,
+) -> Result<(), AppFault> {
+    let mut wire = SocketWire::open(rt, query.agent.address)?;
+    mon_app::walk(rt.alloc(), &mut wire, query.community, start, names, text)
+}
+
+/// Why the agent gave no answer that is printed.
+fn unanswered(alloc: Global, query: &Query<'_>, fault: AppFault) -> Failure {
+    Failure::at(alloc, query.agent.word, Fault::App(fault))
 }

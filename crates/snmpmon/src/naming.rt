@@ -40,7 +40,7 @@ pub fn no_module(alloc: Global, path: &str, text: &str, fault: TextFault) -> Fai
     match fault {
         TextFault::Unexpected(span) | TextFault::Duplicate(span) => {
             let Position { line, column } = Position::of(text, span.start);
-            let word = text.get(span.start..span.end).unwrap_or("");
+            let word = span.slice(text).unwrap_or("");
             Failure::said(
                 Fault::Text(fault),
                 format!(in alloc; "{path}: line {line}, column {column}: {fault}: {word}"),

@@ -19,7 +19,7 @@ use mon_rounds::{
     Addresses, PollLog, Receiver, RoundReport, Rounds, Socket, SocketOutbox, SocketReceiver,
     alarm_states, rest, run_round, saved_report, selftest,
 };
-use mon_settings::{StationSettings, module_files, read_station};
+use mon_settings::{Kind, StationSettings, module_files, read_station};
 use mon_smi::Names;
 use mon_station::{Outbox, Run, Station, StationFault};
 use std::alloc::Global;
@@ -164,7 +164,7 @@ fn settings_of<R: Files + AllocGlobal>(
     let text = read_text(rt, path)?;
     let files = match module_files(alloc, &text) {
         Ok(files) => files,
-        Err(fault) => return Err(unset(alloc, path, &text, fault)),
+        Err(fault) => return Err(unset(alloc, Kind::Station, path, &text, fault)),
     };
     let mut names = Names::new(alloc)?;
     for file in files.as_slice() {
@@ -172,7 +172,7 @@ fn settings_of<R: Files + AllocGlobal>(
     }
     match read_station(alloc, &text, &names) {
         Ok(settings) => Ok(settings),
-        Err(fault) => Err(unset(alloc, path, &text, fault)),
+        Err(fault) => Err(unset(alloc, Kind::Station, path, &text, fault)),
     }
 }
 
