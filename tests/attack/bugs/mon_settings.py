@@ -318,8 +318,8 @@ BUGS = {
     ),
     "leaves_out_the_alarm": (
         "src/placing.rt",
-        "            Err(fault) => return Err(fault.within(Step::Entry(Key::Alarm, index + 1))),",
-        "            Err(fault) => return Err(fault),",
+        "        .map_err(|fault| fault.within(Step::Entry(Key::Alarm, number)))",
+        "        .map_err(|fault| fault.within(Step::Value(Key::Alarm)))",
     ),
     "leaves_out_the_target_around_an_object": (
         "src/place.rt",
