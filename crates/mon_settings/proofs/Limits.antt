@@ -27,7 +27,7 @@ use Rattle.mon_settings.specs.Resolving.{name_at, name_or_none}
 use Rattle.mon_settings.specs.Station.{Scalars, scalars_of}
 use Rattle.mon_settings.specs.StationTables.{object_of, target_of}
 use Rattle.mon_settings.proofs.Insertions.{some_same, then_from}
-use Rattle.mon_settings.proofs.Steps.{bad_at_from, bind_from, default_from, needed_from, ok_same, within_from}
+use Rattle.mon_settings.proofs.Steps.{bind_from, default_from, needed_from, ok_same, within_from}
 
 abbrev some : {A : Type 0} → A → Option A
 some x = Some x

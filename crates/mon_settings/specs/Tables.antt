@@ -19,16 +19,19 @@ use Rattle.mon_settings.specs.Keys.{only, needed_at, default_at, optional_at}
 use Rattle.mon_settings.specs.Leaf.{text_in, hex_in, oid_in, model_in}
 use Rattle.mon_settings.specs.Lists.{list_at}
 
--- the keys of the tables of the four lists
+-- the keys of a table of the list of communities
 abbrev pub community_keys : List Key
 community_keys = key.Community ∷ key.Security ∷ []
 
+-- the keys of a table of the list of groups
 abbrev pub group_keys : List Key
 group_keys = key.Security ∷ key.Group ∷ []
 
+-- the keys of a table of the list of access entries
 abbrev pub access_keys : List Key
 access_keys = key.Group ∷ key.Model ∷ key.Read ∷ key.Write ∷ []
 
+-- the keys of a table of the list of view families
 abbrev pub view_keys : List Key
 view_keys = key.View ∷ key.Subtree ∷ key.Mask ∷ key.Included ∷ []
 

@@ -4,6 +4,7 @@
 #![tactic(auto)]
 
 mod agent;
+mod explaining;
 mod fault;
 mod interfaces;
 mod key;
@@ -28,6 +29,7 @@ mod unknown;
 mod wanted;
 
 pub use agent::{AgentSettings, read_agent};
+pub use explaining::explained;
 pub use fault::SettingsFault;
 pub use key::Key;
 pub use modules::module_files;

@@ -4,7 +4,7 @@ BUGS = {
     "calls_what_is_not_toml_an_unknown_key": (
         "src/agent.rt",
         "                Err(SettingsFault::NotToml)",
-        "                Err(SettingsFault::UnknownKey)",
+        "                Err(SettingsFault::UnknownKey(crate::place::Place::Whole))",
     ),
     "displays_listen_for_limit": (
         "src/key.rt",
@@ -18,8 +18,8 @@ BUGS = {
     ),
     "numbers_unknown_key_6": (
         "src/fault.rt",
-        "            SettingsFault::UnknownKey => 5,",
-        "            SettingsFault::UnknownKey => 6,",
+        "            SettingsFault::UnknownKey(_) => 5,",
+        "            SettingsFault::UnknownKey(_) => 6,",
     ),
     "spells_rate_otherwise": (
         "src/key.rt",
@@ -58,8 +58,8 @@ BUGS = {
     ),
     "calls_a_missing_list_a_bad_value": (
         "src/list.rt",
-        "        None => Err(SettingsFault::Missing(key)),",
-        "        None => Err(SettingsFault::BadValue(key)),",
+        "        None => Err(SettingsFault::missing(key)),",
+        "        None => Err(SettingsFault::bad(key)),",
     ),
     "refuses_the_greatest_number": (
         "src/leaf.rt",
@@ -188,8 +188,8 @@ BUGS = {
     ),
     "calls_falling_a_bad_alarm": (
         "src/placing.rt",
-        "        Err(_) => Err(SettingsFault::BadValue(Key::Falling)),",
-        "        Err(_) => Err(SettingsFault::BadValue(Key::Alarm)),",
+        "        Err(_) => Err(SettingsFault::bad(Key::Falling)),",
+        "        Err(_) => Err(SettingsFault::bad(Key::Alarm)),",
     ),
     "takes_the_address_of_a_target": (
         "src/peers.rt",
@@ -233,8 +233,8 @@ BUGS = {
     ),
     "numbers_unknown_object_5": (
         "src/fault.rt",
-        "            SettingsFault::UnknownObject => 6,",
-        "            SettingsFault::UnknownObject => 5,",
+        "            SettingsFault::UnknownObject(_) => 6,",
+        "            SettingsFault::UnknownObject(_) => 5,",
     ),
     "takes_a_wait_of_60001": (
         "src/station.rt",
@@ -253,8 +253,8 @@ BUGS = {
     ),
     "calls_an_unknown_object_an_unknown_key": (
         "src/resolving.rt",
-        "        _ => SettingsFault::UnknownObject,",
-        "        _ => SettingsFault::UnknownKey,",
+        "        _ => SettingsFault::UnknownObject(Place::At(Step::Value(key))),",
+        "        _ => SettingsFault::UnknownKey(Place::At(Step::Value(key))),",
     ),
     "takes_a_peer_of_number_0": (
         "src/station_tables.rt",
@@ -269,7 +269,7 @@ BUGS = {
     "needs_modules": (
         "src/modules.rt",
         "        None => Ok(Vec::new(alloc)),",
-        "        None => Err(SettingsFault::Missing(Key::Modules)),",
+        "        None => Err(SettingsFault::missing(Key::Modules)),",
     ),
     "watches_an_epoch_for_a_window": (
         "src/placing.rt",
@@ -284,7 +284,7 @@ BUGS = {
     "calls_a_station_that_is_not_toml_an_unknown_key": (
         "src/station.rt",
         "                Err(SettingsFault::NotToml)",
-        "                Err(SettingsFault::UnknownKey)",
+        "                Err(SettingsFault::UnknownKey(crate::place::Place::Whole))",
     ),
     "calls_a_bad_tree_of_modules_not_toml": (
         "src/modules.rt",
@@ -300,5 +300,50 @@ BUGS = {
         "src/resolving.rt",
         "    match names.resolve(alloc, text) {",
         "    let front = match text.split_once('.') {\n        Some((front, _)) => front,\n        None => text,\n    };\n    match names.resolve(alloc, front) {",
+    ),
+    "counts_entries_from_0": (
+        "src/list.rt",
+        "        let entry = match read_row(alloc, Step::Entry(key, index + 1), value) {",
+        "        let entry = match read_row(alloc, Step::Entry(key, index), value) {",
+    ),
+    "blames_the_entry_after_the_bad_one": (
+        "src/named_list.rt",
+        "Step::Entry(key, index + 1), value) {",
+        "Step::Entry(key, index + 2), value) {",
+    ),
+    "leaves_out_the_table_of_a_count": (
+        "src/interfaces.rt",
+        "growth_of(inner).map_err(|fault| fault.within(Step::Value(key)))",
+        "growth_of(inner)",
+    ),
+    "leaves_out_the_alarm": (
+        "src/placing.rt",
+        "        .map_err(|fault| fault.within(Step::Entry(Key::Alarm, number)))",
+        "        .map_err(|fault| fault.within(Step::Value(Key::Alarm)))",
+    ),
+    "leaves_out_the_target_around_an_object": (
+        "src/place.rt",
+        "            Place::At(last) => Place::In(step, last),",
+        "            Place::At(last) => Place::At(last),",
+    ),
+    "prints_the_inner_table_alone": (
+        "src/place.rt",
+        "            Place::In(table, last) => write!(f, \"{table}.{last}\"),",
+        "            Place::In(_, last) => write!(f, \"{last}\"),",
+    ),
+    "takes_the_entry_before": (
+        "src/unknown.rt",
+        "    match number.checked_sub(1) {",
+        "    match number.checked_sub(2) {",
+    ),
+    "names_a_known_key": (
+        "src/unknown.rt",
+        "    table.keys().find(|name| !is_one_of(name.as_str(), keys))",
+        "    table.keys().find(|name| is_one_of(name.as_str(), keys))",
+    ),
+    "counts_lines_from_0": (
+        "src/position.rt",
+        "        line: line_feeds(octets) + 1,",
+        "        line: line_feeds(octets),",
     ),
 }
