@@ -6,7 +6,9 @@ ghost use Rattle.mon_agent_tests.specs.Log.{at_wire};
 
 use crate::event::Event;
 use crate::small_agent::question;
-use mon_app::{AppFault, Asking, Heard, Repeats, SocketFault, Wire, answer_text, request};
+use mon_app::{
+    AppFault, Asking, Heard, InNumbers, Repeats, SocketFault, Wire, answer_text, request,
+};
 use mon_ber::{Octets, Value};
 use mon_edge::failed_after;
 use mon_oid::Oid;
@@ -170,7 +172,7 @@ fn answered(alloc: Global, heard: Vec<Vec<u8>>, community: &[u8]) -> Result<Stri
 fn answered_by(alloc: Global, wire: &mut Memory, community: &[u8]) -> Result<String, AppFault> {
     let names = names(alloc)?;
     let question = question(Asking::Get, community, names.as_slice());
-    answer_text(alloc, wire, &question)
+    answer_text(alloc, wire, &question, &InNumbers)
 }
 
 fn names(alloc: Global) -> Result<Vec<Oid>, AllocError> {

@@ -1,7 +1,7 @@
 //! A walk through an agent whose names do not increase. Walks through others are in tests/live.expected.
 
 use crate::small_agent::oid;
-use mon_app::{AppFault, Heard, SocketFault, Wire, walk};
+use mon_app::{AppFault, Heard, InNumbers, SocketFault, Wire, walk};
 use mon_oid::Oid;
 use std::alloc::Global;
 use std::test::Fail;
@@ -48,7 +48,7 @@ fn walked<W: Wire>(
     start: &Oid,
     text: &mut String,
 ) -> Result<(), AppFault> {
-    walk(alloc, wire, community, start, text)
+    walk(alloc, wire, community, start, &InNumbers, text)
 }
 
 #[test]

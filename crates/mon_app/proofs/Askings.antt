@@ -181,7 +181,7 @@ fault_of_wait q before after fault wait = record { more = wait.more; holds = by_
     by_cases faults.Timeout log ends = absurd ends.wait
     by_cases faults.FileFault log ends = absurd ends.wait
     by_cases faults.NotIncreasing log ends = absurd ends.wait
-    by_cases faults.AgentStatus log ends = absurd ends.wait
+    by_cases (faults.AgentStatus status index) log ends = absurd ends.wait
     by_cases faults.BadText log ends = absurd ends.wait
 
 -- a sending that failed

@@ -27,20 +27,20 @@ counted true false n reply fine = cc
 counted false true n reply fine = cc
 counted false false n reply fine = cc
 
-chosen : (z : Bool) (bs others : List Binding) → Ok bs ≡ (if z then Ok others else Err faults.AgentStatus) → (z ≡ true) × (bs ≡ others)
-chosen true bs others is = (refl, cc)
-chosen false bs others is = cc
+chosen : (z : Bool) (bs others : List Binding) (status index : ℤ) → Ok bs ≡ (if z then Ok others else Err (faults.AgentStatus status index)) → (z ≡ true) × (bs ≡ others)
+chosen true bs others status index is = (refl, cc)
+chosen false bs others status index is = cc
 
-unchosen : (z : Bool) (others : List Binding) → Err faults.NotIncreasing ≡ (if z then Ok others else Err faults.AgentStatus) → ⊥
-unchosen true others is = cc
-unchosen false others is = cc
+unchosen : (z : Bool) (others : List Binding) (status index : ℤ) → Err faults.NotIncreasing ≡ (if z then Ok others else Err (faults.AgentStatus status index)) → ⊥
+unchosen true others status index is = cc
+unchosen false others status index is = cc
 
 -- a GetNext of one name is answered by one variable binding
 one_in : (community name from : List ℕ) (n : ℕ) (body : Body) (bindings : List Binding)
     → is_reply (question_after community n name) (record { community = from; body = body }) ≡ true → Ok bindings ≡ bindings_in body → length bindings ≡ 1
 one_in community name from n (bodies.Bulk b) bindings reply given = cc
 one_in community name from n (bodies.Pdu p) bindings reply given =
-    let found = chosen (is_zero p.error_status) bindings p.bindings given in
+    let found = chosen (is_zero p.error_status) bindings p.bindings p.error_status p.error_index given in
     ap length found.1 ∙ counted _ (is_zero p.error_status) (length p.bindings) reply found.0
 
 pub one_answer : (community name : List ℕ) (n : ℕ) (log : List AtWire) (bindings : List Binding)
@@ -82,7 +82,7 @@ never_none community name n before after bindings answered none =
 
 of_body : (body : Body) → Err faults.NotIncreasing ≡ bindings_in body → ⊥
 of_body (bodies.Bulk b) is = cc
-of_body (bodies.Pdu p) is = unchosen (is_zero p.error_status) p.bindings is
+of_body (bodies.Pdu p) is = unchosen (is_zero p.error_status) p.bindings p.error_status p.error_index is
 
 not_of_asking : (q : Asked) (log : List AtWire) → IsQuestionAnswered q log (Err faults.NotIncreasing) → ⊥
 not_of_asking q log answered = by_asked answered.asked answered.asking answered.answer_is
@@ -93,43 +93,43 @@ not_of_asking q log answered = by_asked answered.asked answered.asking answered.
         let same : fault ≡ faults.NotIncreasing = cc in subst (λ (f : AppFault). IsAsked q log (Err f)) same asking
 
 -- a fault of the question is the turn's; a walk's own fault is none of asking
-pub fault_of_turn : (q : Asked) (start last text : List ℕ) (before after : Log) (fault : AppFault) → GoesOnBy (λ log. IsNextAsked q log (Err fault)) before after
-    → GoesOnBy (λ log. IsTurn q start last text text log (Err fault)) before after
-fault_of_turn q start last text before after fault next = record { more = next.more; holds = by_cases fault next.more next.holds; told = next.told }
+pub fault_of_turn : (show : List ℕ → List ℕ) (q : Asked) (start last text : List ℕ) (before after : Log) (fault : AppFault) → GoesOnBy (λ log. IsNextAsked q log (Err fault)) before after
+    → GoesOnBy (λ log. IsTurn show q start last text text log (Err fault)) before after
+fault_of_turn show q start last text before after fault next = record { more = next.more; holds = by_cases fault next.more next.holds; told = next.told }
   where
-    by_cases : (fault : AppFault) (log : List AtWire) → IsNextAsked q log (Err fault) → IsTurn q start last text text log (Err fault)
+    by_cases : (fault : AppFault) (log : List AtWire) → IsNextAsked q log (Err fault) → IsTurn show q start last text text log (Err fault)
     by_cases faults.OutOfMemory log next = (Err faults.OutOfMemory, next)
     by_cases faults.NotIncreasing log next = absurd (not_of_asking q log next)
     by_cases faults.SocketFault log next = (next, refl)
     by_cases faults.Timeout log next = (next, refl)
     by_cases faults.FileFault log next = (next, refl)
-    by_cases faults.AgentStatus log next = (next, refl)
+    by_cases (faults.AgentStatus status index) log next = (next, refl)
     by_cases faults.BadText log next = (next, refl)
 
 -- so far was walked
-abbrev pub IsAt : List ℕ → List ℕ → List ℕ → ℕ → List ℕ → List ℕ → Log → Log → Type 0
-IsAt community start said n text last before after = GoesOnBy (λ log. HasWalked community start said n log text last) before after
+abbrev pub IsAt : (List ℕ → List ℕ) → List ℕ → List ℕ → List ℕ → ℕ → List ℕ → List ℕ → Log → Log → Type 0
+IsAt show community start said n text last before after = GoesOnBy (λ log. HasWalked show community start said n log text last) before after
 
-pub begins : (community start said last : List ℕ) (told : Log) → last ≡ start → IsAt community start said 0 said last told told
-begins community start said last told is = record { more = []; holds = (refl, refl, is); told = sym (extended_by_none told) }
+pub begins : (show : List ℕ → List ℕ) (community start said last : List ℕ) (told : Log) → last ≡ start → IsAt show community start said 0 said last told told
+begins show community start said last told is = record { more = []; holds = (refl, refl, is); told = sym (extended_by_none told) }
 
 -- one turn more
-pub goes_on : (community start said text later last name : List ℕ) (n : ℕ) (before between after : Log) → IsAt community start said n text last before between
-    → GoesOnBy (λ log. IsTurn (question_after community n last) start last text later log (Ok (Some name))) between after
-    → IsAt community start said (n + 1) later name before after
-goes_on community start said text later last name n before between after at turn =
-    subst (λ (k : ℕ). IsAt community start said k later name before after) (sym (add-one n)) (record {
+pub goes_on : (show : List ℕ → List ℕ) (community start said text later last name : List ℕ) (n : ℕ) (before between after : Log) → IsAt show community start said n text last before between
+    → GoesOnBy (λ log. IsTurn show (question_after community n last) start last text later log (Ok (Some name))) between after
+    → IsAt show community start said (n + 1) later name before after
+goes_on show community start said text later last name n before between after at turn =
+    subst (λ (k : ℕ). IsAt show community start said k later name before after) (sym (add-one n)) (record {
       more = at.more ++ turn.more;
       holds = (at.more, turn.more, text, last, at.holds, turn.holds, refl);
       told = extended_on before between after at.more turn.more at.told turn.told;
     })
 
 -- the last turn
-pub ends : {A : Type 0} → (community start said text later last : List ℕ) (n : ℕ) (before between after : Log) (result : Result A AppFault)
-    → IsAt community start said n text last before between → n < 65536
-    → GoesOnBy (λ log. IsTurn (question_after community n last) start last text later log (last_answer result)) between after
-    → GoesOnBy (λ log. IsWalk community start said later log result) before after
-ends community start said text later last n before between after result at few turn = record {
+pub ends : {A : Type 0} → (show : List ℕ → List ℕ) (community start said text later last : List ℕ) (n : ℕ) (before between after : Log) (result : Result A AppFault)
+    → IsAt show community start said n text last before between → n < 65536
+    → GoesOnBy (λ log. IsTurn show (question_after community n last) start last text later log (last_answer result)) between after
+    → GoesOnBy (λ log. IsWalk show community start said later log result) before after
+ends show community start said text later last n before between after result at few turn = record {
   more = at.more ++ turn.more;
   holds = record {
     turns = n;
@@ -145,9 +145,9 @@ ends community start said text later last n before between after result at few t
 }
 
 -- all the turns that a walk may take
-pub all_turns : {A : Type 0} → (community start said text last : List ℕ) (before after : Log) (result : Result A AppFault)
-    → IsAt community start said 65536 text last before after → IsOk result → GoesOnBy (λ log. IsWalk community start said text log result) before after
-all_turns community start said text last before after result at fine = record {
+pub all_turns : {A : Type 0} → (show : List ℕ → List ℕ) (community start said text last : List ℕ) (before after : Log) (result : Result A AppFault)
+    → IsAt show community start said 65536 text last before after → IsOk result → GoesOnBy (λ log. IsWalk show community start said text log result) before after
+all_turns show community start said text last before after result at fine = record {
   more = at.more;
   holds = record {
     turns = 65536;
@@ -163,9 +163,9 @@ all_turns community start said text last before after result at fine = record {
 }
 
 -- no memory for the first turn
-pub no_turn : {A : Type 0} → (community start said text : List ℕ) (told : Log) (result : Result A AppFault) → result ≡ Err faults.OutOfMemory
-    → GoesOnBy (λ log. IsWalk community start said text log result) told told
-no_turn community start said text told result is = record {
+pub no_turn : {A : Type 0} → (show : List ℕ → List ℕ) (community start said text : List ℕ) (told : Log) (result : Result A AppFault) → result ≡ Err faults.OutOfMemory
+    → GoesOnBy (λ log. IsWalk show community start said text log result) told told
+no_turn show community start said text told result is = record {
   more = [];
   holds = record {
     turns = 0;

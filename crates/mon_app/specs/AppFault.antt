@@ -14,7 +14,7 @@ number_of Timeout = 2
 number_of FileFault = 3
 number_of SocketFault = 4
 number_of NotIncreasing = 5
-number_of AgentStatus = 6
+number_of (AgentStatus status index) = 6
 number_of BadText = 8
 
 -- its name
@@ -24,7 +24,7 @@ name_of Timeout = codes "Timeout"
 name_of FileFault = codes "FileFault"
 name_of SocketFault = codes "SocketFault"
 name_of NotIncreasing = codes "NotIncreasing"
-name_of AgentStatus = codes "AgentStatus"
+name_of (AgentStatus status index) = codes "AgentStatus"
 name_of BadText = codes "BadText"
 
 -- the fault of a file or a stream that failed so

@@ -18,6 +18,7 @@ pub mod Replay
 pub mod Reported
 pub mod Response
 pub mod Served
+pub mod Status
 pub mod Taken
 pub mod Text
 pub mod Walk

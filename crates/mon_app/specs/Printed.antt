@@ -1,11 +1,10 @@
--- How variable bindings are printed: `NAME = KIND: VALUE`.
+-- How variable bindings are printed: `NAME = KIND: VALUE`, where a function shows names.
 use Rattle.std.specs.Prelude.{◌≡◌, ℕ, Bool, List, [], ◌∷◌, ◌++◌, codes, decimal, nat_le, ◌==◌, ◌||◌, ◌&&◌, if◌then◌else◌, Result, Ok, Err}
 use Rattle.std.specs.Fmt.{signed_decimal}
 use Rattle.std.specs.List.{flat_map, list_all}
 use Rattle.hex.specs.Hex.{encode_lower}
 use Rattle.mon_ber.specs.declared.value.Value.{Value}
 use Rattle.mon_ber.specs.declared.value.Value.TheVariants.{Integer, Octets, Null, Name, IpAddress, Counter32, Gauge32, TimeTicks, Opaque, Counter64, NoSuchObject, NoSuchInstance, EndOfMibView}
-use Rattle.mon_oid.specs.Oid.{dotted}
 use Rattle.mon_pdu.specs.declared.message.Binding.{Binding}
 use Rattle.mon_pdu.specs.declared.message.Body.{Body}
 use Rattle.mon_pdu.specs.declared.message.Body.TheVariants.{Pdu, Bulk}
@@ -51,29 +50,29 @@ address_text (a ∷ b ∷ c ∷ d ∷ []) = quad_text a b c d
 address_text _ = []
 
 -- a value with its kind
-abbrev pub value_shown : Value → List ℕ
-value_shown (Integer z) = kind_text (codes "Integer") (signed_decimal z)
-value_shown (Octets o) = kind_text (codes "String") (string_text o)
-value_shown Null = codes "null"
-value_shown (Name o) = kind_text (codes "Oid") (dotted o)
-value_shown (IpAddress a) = kind_text (codes "IpAddress") (address_text a)
-value_shown (Counter32 n) = number_text (codes "Counter32") n
-value_shown (Gauge32 n) = number_text (codes "Gauge32") n
-value_shown (TimeTicks n) = number_text (codes "TimeTicks") n
-value_shown (Opaque o) = kind_text (codes "Opaque") (hex_text o)
-value_shown (Counter64 n) = number_text (codes "Counter64") n
-value_shown NoSuchObject = codes "noSuchObject"
-value_shown NoSuchInstance = codes "noSuchInstance"
-value_shown EndOfMibView = codes "endOfMibView"
+abbrev pub value_shown : (List ℕ → List ℕ) → Value → List ℕ
+value_shown show (Integer z) = kind_text (codes "Integer") (signed_decimal z)
+value_shown show (Octets o) = kind_text (codes "String") (string_text o)
+value_shown show Null = codes "null"
+value_shown show (Name o) = kind_text (codes "Oid") (show o)
+value_shown show (IpAddress a) = kind_text (codes "IpAddress") (address_text a)
+value_shown show (Counter32 n) = number_text (codes "Counter32") n
+value_shown show (Gauge32 n) = number_text (codes "Gauge32") n
+value_shown show (TimeTicks n) = number_text (codes "TimeTicks") n
+value_shown show (Opaque o) = kind_text (codes "Opaque") (hex_text o)
+value_shown show (Counter64 n) = number_text (codes "Counter64") n
+value_shown show NoSuchObject = codes "noSuchObject"
+value_shown show NoSuchInstance = codes "noSuchInstance"
+value_shown show EndOfMibView = codes "endOfMibView"
 
 -- a binding's line
-unfoldable pub binding_line : Binding → List ℕ
-binding_line b = dotted b.name ++ codes " = " ++ value_shown b.value ++ codes "\n"
+unfoldable pub binding_line : (List ℕ → List ℕ) → Binding → List ℕ
+binding_line show b = show b.name ++ codes " = " ++ value_shown show b.value ++ codes "\n"
 
--- what a reply comes to: its variable bindings, or where it has an error status that fault
+-- what a reply comes to: its variable bindings, or where it has an error status that fault; a Bulk has none, and is no reply
 abbrev pub bindings_in : Body → Result (List Binding) AppFault
-bindings_in (Pdu p) = if is_zero p.error_status then Ok p.bindings else Err AgentStatus
-bindings_in (Bulk b) = Err AgentStatus
+bindings_in (Pdu p) = if is_zero p.error_status then Ok p.bindings else Err (AgentStatus p.error_status p.error_index)
+bindings_in (Bulk b) = Ok b.bindings
 
 -- what asking comes to, as variable bindings
 abbrev pub answer_of : Result Message AppFault → Result (List Binding) AppFault
@@ -87,14 +86,14 @@ pub record IsQuestionAnswered (q : Asked) (log : List AtWire) (answer : Result (
   pub answer_is : answer ≡ answer_of asked
 
 -- the text of an answer, a line for each variable binding, or its fault; unless memory runs out
-abbrev pub Prints : {T : Type 0} → (T → List ℕ) → Result (List Binding) AppFault → Result T AppFault → Type 0
-Prints bytes (Ok bindings) (Ok text) = bytes text ≡ flat_map binding_line bindings
-Prints bytes (Ok bindings) (Err fault) = fault ≡ OutOfMemory
-Prints bytes (Err fault) (Ok text) = ⊥
-Prints bytes (Err fault) (Err other) = other ≡ fault
+abbrev pub Prints : {T : Type 0} → (List ℕ → List ℕ) → (T → List ℕ) → Result (List Binding) AppFault → Result T AppFault → Type 0
+Prints show bytes (Ok bindings) (Ok text) = bytes text ≡ flat_map (binding_line show) bindings
+Prints show bytes (Ok bindings) (Err fault) = fault ≡ OutOfMemory
+Prints show bytes (Err fault) (Ok text) = ⊥
+Prints show bytes (Err fault) (Err other) = other ≡ fault
 
 -- The question was asked, this happened at the wire, and the answer was printed so.
-pub record IsPrinted {T : Type 0} (bytes : T → List ℕ) (q : Asked) (log : List AtWire) (printed : Result T AppFault) : Type 0 where
+pub record IsPrinted {T : Type 0} (show : List ℕ → List ℕ) (bytes : T → List ℕ) (q : Asked) (log : List AtWire) (printed : Result T AppFault) : Type 0 where
   pub answer : Result (List Binding) AppFault
   pub answered : IsQuestionAnswered q log answer
-  pub text : Prints bytes answer printed
+  pub text : Prints show bytes answer printed

@@ -44,21 +44,21 @@ IsWalkStep start last b Back = IsUnderStart start b × ¬ (Exceeds last b)
 
 -- A turn of a walk, with the text before and after it: the line of one more variable, whose name is given; none at the walk's
 -- end; or a fault. Where memory runs out nothing is said of the text.
-abbrev pub IsTurn : Asked → List ℕ → List ℕ → List ℕ → List ℕ → List AtWire → Result (Option (List ℕ)) AppFault → Type 0
-IsTurn q start last before after log (Ok (Some name)) =
-    (b : Binding) × IsNextAsked q log (Ok b) × IsWalkStep start last b On × (name ≡ b.name) × (after ≡ before ++ binding_line b)
-IsTurn q start last before after log (Ok None) = (b : Binding) × IsNextAsked q log (Ok b) × IsWalkStep start last b Past × (after ≡ before)
-IsTurn q start last before after log (Err OutOfMemory) = (answer : Result Binding AppFault) × IsNextAsked q log answer
-IsTurn q start last before after log (Err NotIncreasing) = (b : Binding) × IsNextAsked q log (Ok b) × IsWalkStep start last b Back × (after ≡ before)
-IsTurn q start last before after log (Err other) = IsNextAsked q log (Err other) × (after ≡ before)
+abbrev pub IsTurn : (List ℕ → List ℕ) → Asked → List ℕ → List ℕ → List ℕ → List ℕ → List AtWire → Result (Option (List ℕ)) AppFault → Type 0
+IsTurn show q start last before after log (Ok (Some name)) =
+    (b : Binding) × IsNextAsked q log (Ok b) × IsWalkStep start last b On × (name ≡ b.name) × (after ≡ before ++ binding_line show b)
+IsTurn show q start last before after log (Ok None) = (b : Binding) × IsNextAsked q log (Ok b) × IsWalkStep start last b Past × (after ≡ before)
+IsTurn show q start last before after log (Err OutOfMemory) = (answer : Result Binding AppFault) × IsNextAsked q log answer
+IsTurn show q start last before after log (Err NotIncreasing) = (b : Binding) × IsNextAsked q log (Ok b) × IsWalkStep start last b Back × (after ≡ before)
+IsTurn show q start last before after log (Err other) = IsNextAsked q log (Err other) × (after ≡ before)
 
 -- After this many turns, each with one more line: what happened at the wire, the text, and the last name. The first question is
 -- for the variable after the start, and each other one for the variable after the name that was answered.
-abbrev pub HasWalked : List ℕ → List ℕ → List ℕ → ℕ → List AtWire → List ℕ → List ℕ → Type 0
-HasWalked community start before zero log text last = (log ≡ []) × (text ≡ before) × (last ≡ start)
-HasWalked community start before (suc n) log text last =
-    (earlier : List AtWire) × (others : List AtWire) × (said : List ℕ) × (name : List ℕ) × HasWalked community start before n earlier said name
-    × IsTurn (question_after community n name) start name said text others (Ok (Some last)) × (log ≡ earlier ++ others)
+abbrev pub HasWalked : (List ℕ → List ℕ) → List ℕ → List ℕ → List ℕ → ℕ → List AtWire → List ℕ → List ℕ → Type 0
+HasWalked show community start before zero log text last = (log ≡ []) × (text ≡ before) × (last ≡ start)
+HasWalked show community start before (suc n) log text last =
+    (earlier : List AtWire) × (others : List AtWire) × (said : List ℕ) × (name : List ℕ) × HasWalked show community start before n earlier said name
+    × IsTurn show (question_after community n name) start name said text others (Ok (Some last)) × (log ≡ earlier ++ others)
 
 -- a walk's answer as that of its last turn
 abbrev pub last_answer : {A : Type 0} → Result A AppFault → Result (Option (List ℕ)) AppFault
@@ -66,14 +66,14 @@ last_answer (Ok done) = Ok None
 last_answer (Err fault) = Err fault
 
 -- A whole walk: turns with a line each, and then one that ends it; or 65536 of them. It may want memory before its first turn.
-pub record IsWalk {A : Type 0} (community start before after : List ℕ) (log : List AtWire) (result : Result A AppFault) : Type 0 where
+pub record IsWalk {A : Type 0} (show : List ℕ → List ℕ) (community start before after : List ℕ) (log : List AtWire) (result : Result A AppFault) : Type 0 where
   pub turns : ℕ
   pub earlier : List AtWire
   pub text : List ℕ
   pub last : List ℕ
-  pub walked : HasWalked community start before turns earlier text last
+  pub walked : HasWalked show community start before turns earlier text last
   pub others : List AtWire
   pub log_is : log ≡ earlier ++ others
-  pub ended : ((turns < 65536) × IsTurn (question_after community turns last) start last text after others (last_answer result))
+  pub ended : ((turns < 65536) × IsTurn show (question_after community turns last) start last text after others (last_answer result))
       ⊎ (((turns ≡ 65536) × (others ≡ []) × (after ≡ text) × IsOk result)
       ⊎ ((log ≡ []) × (result ≡ Err OutOfMemory)))

@@ -9,26 +9,29 @@ ghost use Rattle.mon_app.specs.Question.{asked_in};
 
 use crate::asking::send_request;
 use crate::fault::AppFault;
+use crate::names::NameTexts;
 use crate::printed::bindings_text;
 use crate::question::Question;
 use crate::wire::Wire;
 use mon_pdu::{Bindings, Body, Message, Pdu};
 use std::alloc::Global;
 
-/// Asks an agent, and gives its answer as text: a line for each variable binding of the reply.
+/// Asks an agent, and gives its answer as text: a line for each variable binding of the reply. Names are printed as `names`
+/// has it, also those that are values.
 ///
 /// # Errors
 /// `AgentStatus` where the reply has an error status; else as `send_request`.
-pub fn answer_text<W: Wire>(
+pub fn answer_text<W: Wire, S: NameTexts>(
     alloc: Global,
     wire: &mut W,
     question: &Question<'_>,
+    names: &S,
 ) -> Result<String, AppFault>
-    ensures answer { GoesOnBy (λ log. IsPrinted string_bytes (asked_in question.now) log result) (W.told wire.old) (W.told wire.new) }
+    ensures answer { GoesOnBy (λ log. IsPrinted (S.shown names.now) string_bytes (asked_in question.now) log result) (W.told wire.old) (W.told wire.new) }
     ensures failures { W.failures wire.new ≡ socket_failures result (W.failures wire.old) }
 {
     let bindings = answers(alloc, wire, question)?;
-    Ok(bindings_text(alloc, bindings.as_slice())?)
+    Ok(bindings_text(alloc, bindings.as_slice(), names)?)
 }
 
 /// Asks an agent, and gives the variable bindings of its reply.
@@ -43,7 +46,7 @@ pub(crate) fn answers<W: Wire>(
     let Message { body, .. } = send_request(alloc, wire, question)?;
     match body {
         Body::Pdu(pdu) => fine(pdu),
-        Body::Bulk(_) => Err(AppFault::AgentStatus),
+        Body::Bulk(bulk) => Ok(bulk.bindings),
     }
 }
 
@@ -52,7 +55,10 @@ fn fine(pdu: Pdu) -> Result<Bindings, AppFault>
     ensures { result ≡ bindings_in (bodies.Pdu pdu) }
 {
     if pdu.error_status != 0 {
-        return Err(AppFault::AgentStatus);
+        return Err(AppFault::AgentStatus {
+            status: pdu.error_status,
+            index: pdu.error_index,
+        });
     }
     Ok(pdu.bindings)
 }

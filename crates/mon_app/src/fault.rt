@@ -15,31 +15,41 @@ use thiserror::Error;
 #[derive(Clone, Copy, Debug, PartialEq, Eq)]
 pub struct SocketFault;
 
-/// Why a command of the program failed, where no crate below names a fault of its own.
+/// Why a command of the program failed, where no crate below names a fault of its own, in the order of the faults' numbers.
 #[derive(Clone, Copy, Debug, PartialEq, Eq, Error)]
 pub enum AppFault {
     #[error("out of memory")]
-    OutOfMemory = 1,
+    OutOfMemory,
     #[error("no reply came")]
-    Timeout = 2,
+    Timeout,
     #[error("a file or a standard stream could not be read or written")]
-    FileFault = 3,
+    FileFault,
     #[error("a socket could not be opened or used")]
-    SocketFault = 4,
+    SocketFault,
     #[error("the agent answered with a name that does not increase")]
-    NotIncreasing = 5,
+    NotIncreasing,
+    /// The error-status and the error-index of the agent's reply (RFC 3416 section 3). The status is not 0; the index is the
+    /// place of the variable binding that is at fault, from 1, or 0 where none is.
     #[error("the agent answered with an error status")]
-    AgentStatus = 6,
+    AgentStatus { status: i32, index: i32 },
     #[error("a word of the command line or a text is of no form that is read")]
-    BadText = 8,
+    BadText,
 }
 
 impl AppFault {
-    /// The number that the line on standard error gives the fault.
+    /// The number that the line on standard error gives the fault: 1 to 6, or 8.
     pub fn number(self) -> u8
         ensures { result ≡ number_of self }
     {
-        self as u8
+        match self {
+            AppFault::OutOfMemory => 1,
+            AppFault::Timeout => 2,
+            AppFault::FileFault => 3,
+            AppFault::SocketFault => 4,
+            AppFault::NotIncreasing => 5,
+            AppFault::AgentStatus { .. } => 6,
+            AppFault::BadText => 8,
+        }
     }
 
     /// The name that the line on standard error gives the fault.
@@ -52,7 +62,7 @@ impl AppFault {
             AppFault::FileFault => "FileFault",
             AppFault::SocketFault => "SocketFault",
             AppFault::NotIncreasing => "NotIncreasing",
-            AppFault::AgentStatus => "AgentStatus",
+            AppFault::AgentStatus { .. } => "AgentStatus",
             AppFault::BadText => "BadText",
         }
     }

@@ -3,47 +3,58 @@
 ghost use Rattle.std.specs.Prelude.{◌≡◌, ◌++◌, ◌∷◌, [], IfOk, OnOk, length, string_bytes, map, decimal, codes, IsTrue};
 ghost use Rattle.std.specs.List.{flat_map, list_all, join_with_byte};
 ghost use Rattle.std.specs.Fmt.{signed_decimal};
-ghost use Rattle.mon_oid.specs.Oid.{dotted};
 ghost use Rattle.mon_app.specs.Printed.{is_seen, escaped, hex_text, string_text, number_text, kind_text, quad_text, address_text, value_shown, binding_line};
 
+use crate::names::NameTexts;
 use mon_ber::Value;
 use mon_oid::Oid;
 use mon_pdu::Binding;
 use std::alloc::{AllocError, Global};
 
-/// The bindings, a line each: the name in decimal numbers with dots between them, and the value with its kind.
-pub fn bindings_text(alloc: Global, bindings: &[Binding]) -> Result<String, AllocError>
-    ensures { IfOk result (λ text. string_bytes text ≡ flat_map binding_line bindings.now) }
+/// The bindings, a line each: the name and the value with its kind. The names, and values that are names, are printed as
+/// `names` has it.
+pub fn bindings_text<S: NameTexts>(
+    alloc: Global,
+    bindings: &[Binding],
+    names: &S,
+) -> Result<String, AllocError>
+    ensures { IfOk result (λ text. string_bytes text ≡ flat_map (binding_line (S.shown names.now)) bindings.now) }
 {
     let mut text = String::new(alloc);
     for binding in bindings {
-        put_binding(alloc, &mut text, binding)?;
+        put_binding(alloc, &mut text, binding, names)?;
     }
     Ok(text)
 }
 
 #[tactic(auto, unfolding(crate::specs::Printed::binding_line))]
-pub(crate) fn put_binding(
+pub(crate) fn put_binding<S: NameTexts>(
     alloc: Global,
     text: &mut String,
     binding: &Binding,
+    names: &S,
 ) -> Result<(), AllocError>
-    ensures { OnOk result (string_bytes text.new ≡ string_bytes text.old ++ binding_line binding.now) }
+    ensures { OnOk result (string_bytes text.new ≡ string_bytes text.old ++ binding_line (S.shown names.now) binding.now) }
 {
-    let name = binding.name.text(alloc)?;
-    write!(text, "{name} = ")?;
-    put_value(alloc, text, &binding.value)?;
+    names.put(alloc, text, &binding.name)?;
+    text.push_str(" = ")?;
+    put_value(alloc, text, &binding.value, names)?;
     text.push_str("\n")
 }
 
-fn put_value(alloc: Global, text: &mut String, value: &Value) -> Result<(), AllocError>
-    ensures { OnOk result (string_bytes text.new ≡ string_bytes text.old ++ value_shown value.now) }
+fn put_value<S: NameTexts>(
+    alloc: Global,
+    text: &mut String,
+    value: &Value,
+    names: &S,
+) -> Result<(), AllocError>
+    ensures { OnOk result (string_bytes text.new ≡ string_bytes text.old ++ value_shown (S.shown names.now) value.now) }
 {
     match value {
         Value::Integer(number) => put_integer(text, *number),
         Value::Octets(octets) => put_octets(alloc, text, octets.as_slice()),
         Value::Null => put_word(text, "null"),
-        Value::Name(name) => put_name(alloc, text, name),
+        Value::Name(name) => put_name(alloc, text, name, names),
         Value::IpAddress(address) => put_address(alloc, text, address.as_slice()),
         Value::Counter32(number) => put_number(text, "Counter32", u64::from(*number)),
         Value::Gauge32(number) => put_number(text, "Gauge32", u64::from(*number)),
@@ -83,11 +94,17 @@ fn put_integer(text: &mut String, number: i32) -> Result<(), AllocError>
     write!(text, "Integer: {number}")
 }
 
-fn put_name(alloc: Global, text: &mut String, name: &Oid) -> Result<(), AllocError>
-    ensures { OnOk result (string_bytes text.new ≡ string_bytes text.old ++ kind_text (codes "Oid") (dotted name.now)) }
+#[tactic(auto, unfolding(crate::specs::Printed::kind_text))]
+fn put_name<S: NameTexts>(
+    alloc: Global,
+    text: &mut String,
+    name: &Oid,
+    names: &S,
+) -> Result<(), AllocError>
+    ensures { OnOk result (string_bytes text.new ≡ string_bytes text.old ++ kind_text (codes "Oid") (S.shown names.now name.now)) }
 {
-    let name = name.text(alloc)?;
-    put_text(text, "Oid", name.as_str())
+    text.push_str("Oid: ")?;
+    names.put(alloc, text, name)
 }
 
 fn put_address(alloc: Global, text: &mut String, address: &[u8]) -> Result<(), AllocError>

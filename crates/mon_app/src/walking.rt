@@ -7,6 +7,7 @@ ghost use Rattle.mon_app.specs.Walk.{IsNextAsked, IsWalkStep, IsTurn, IsWalk, qu
 
 use crate::client::answers;
 use crate::fault::AppFault;
+use crate::names::NameTexts;
 use crate::printed::put_binding;
 use crate::question::{Asking, Question};
 use crate::wire::Wire;
@@ -20,24 +21,28 @@ use std::slice;
 const REQUESTS: u32 = 65_536;
 
 /// Asks an agent for the variable after the start, then for the one after that, and so on, and adds a line for each to the
-/// text. It ends at the first name that is not under the start, at endOfMibView, or after 65536 requests.
+/// text. It ends at the first name that is not under the start, at endOfMibView, or after 65536 requests. Names are printed as
+/// `names` has it, also those that are values.
 ///
 /// # Errors
 /// `NotIncreasing` where the agent answers with a name that does not increase; else as `answer_text`. The lines before stay,
 /// but for `OutOfMemory`, where the text is not told.
-pub fn walk<W: Wire>(
+pub fn walk<W: Wire, S: NameTexts>(
     alloc: Global,
     wire: &mut W,
     community: &[u8],
     start: &Oid,
+    names: &S,
     text: &mut String,
 ) -> Result<(), AppFault>
-    ensures walk { GoesOnBy (λ log. IsWalk community.now start.now (string_bytes text.old) (string_bytes text.new) log result) (W.told wire.old) (W.told wire.new) }
+    ensures walk { GoesOnBy (λ log. IsWalk (S.shown names.now) community.now start.now (string_bytes text.old) (string_bytes text.new) log result) (W.told wire.old) (W.told wire.new) }
     ensures failures { W.failures wire.new ≡ socket_failures result (W.failures wire.old) }
 {
     let mut last = start.try_clone(alloc)?;
     for request_id in 0..REQUESTS {
-        match walk_on(alloc, wire, community, start, &last, request_id, text)? {
+        match walk_on(
+            alloc, wire, community, start, &last, request_id, names, text,
+        )? {
             Some(name) => last = name,
             None => return Ok(()),
         }
@@ -46,17 +51,18 @@ pub fn walk<W: Wire>(
 }
 
 /// Adds the line of the variable after the last name, and gives its name; none where the walk is at its end.
-fn walk_on<W: Wire>(
+fn walk_on<W: Wire, S: NameTexts>(
     alloc: Global,
     wire: &mut W,
     community: &[u8],
     start: &Oid,
     last: &Oid,
     request_id: u32,
+    names: &S,
     text: &mut String,
 ) -> Result<Option<Oid>, AppFault>
     requires { request_id < 65536 }
-    ensures turn { GoesOnBy (λ log. IsTurn (question_after community.now request_id last.now) start.now last.now (string_bytes text.old) (string_bytes text.new) log result)
+    ensures turn { GoesOnBy (λ log. IsTurn (S.shown names.now) (question_after community.now request_id last.now) start.now last.now (string_bytes text.old) (string_bytes text.new) log result)
         (W.told wire.old) (W.told wire.new) }
     ensures failures { W.failures wire.new ≡ socket_failures result (W.failures wire.old) }
 {
@@ -65,7 +71,7 @@ fn walk_on<W: Wire>(
         Step::Past => Ok(None),
         Step::Back => Err(AppFault::NotIncreasing),
         Step::On => {
-            put_binding(alloc, text, &found)?;
+            put_binding(alloc, text, &found, names)?;
             Ok(Some(found.name))
         }
     }
@@ -122,6 +128,6 @@ fn after<'a, W: Wire>(
     let mut bindings = answers(alloc, wire, &question)?.into_vec();
     match bindings.pop() {
         Some(binding) => Ok(binding),
-        None => Err(AppFault::AgentStatus),
+        None => unreachable!(),
     }
 }

@@ -1,4 +1,4 @@
--- The nearest of the names so far.
+-- What covers an identifier, and the order of the words that do.
 use Rattle.std.proofs.Common.{◌⊎◌, ◌≡◌, ◌≢◌, ℕ, ◌-◌, ◌<◌, ◌≤◌, List, [], ◌∷◌, ◌++◌, length, sym, refl, ap, ◌∙◌, subst, arith, append-nil, Option, Some, None, ⊎_elim, inl, inr, length-append}
 use Rattle.std.specs.Prelude.{IfSome, IfNone}
 use Rattle.std.specs.Ordering.{nat_cmp}
@@ -11,7 +11,7 @@ use Rattle.mon_smi.specs.declared.definition.Definition.{Definition}
 use Rattle.mon_smi.specs.declared.fault.NamesFault.{NamesFault}
 use Rattle.mon_smi.specs.declared.fault.NamesFault.TheVariants.{OutOfMemory, Duplicate, Unknown, Cycle, TooDeep, BadIdentifier}
 use Rattle.mon_smi.specs.Names.{IsOneOf, AreDistinct, Leads, IsFaultOfName}
-use Rattle.mon_smi.specs.Nearest.{Covers, IsAsNear}
+use Rattle.mon_smi.specs.Nearest.{Covers}
 use Rattle.mon_smi.proofs.Chains.{at_split, only_one}
 use Rattle.mon_smi.proofs.Unique.{stands_once, not_lost, not_circular}
 
@@ -53,16 +53,6 @@ at_most_trans a b c ab bc = go (slice_cmp nat_cmp a b) (slice_cmp nat_cmp b c) r
         let one = nat_list_cmp_total.antisymm a c in
         let two = nat_list_cmp_total.antisymm a b in
         absurd (cc)
-
-pub near_trans : (a b c : List ℕ) (k m n : ℕ) → IsAsNear a k b m → IsAsNear b m c n → IsAsNear a k c n
-near_trans a b c k m n ab bc =
-    ⊎_elim
-    (λ less. ⊎_elim (λ less2. inl (omega arith)) (λ same2. let e = same2.0 in inl (omega arith)) bc)
-    (λ same. let e = same.0 in ⊎_elim (λ less2. inl (omega arith)) (λ same2. let f = same2.0 in inr (omega arith, at_most_trans a b c same.1 same2.1)) bc)
-    ab
-
-pub near_refl : (a : List ℕ) (k : ℕ) → IsAsNear a k a k
-near_refl a k = inr (refl, λ bad. not_after a a bad bad)
 
 -- one of more is one of those before, or the last
 pub one_of : (xs : List Definition) (x d : Definition) → IsOneOf (xs ++ x ∷ []) d → IsOneOf xs d ⊎ (d ≡ x)

@@ -1,6 +1,5 @@
 -- The name of an identifier.
-use Rattle.std.specs.Prelude.{◌⊎◌, ◌≡◌, ◌≢◌, ℕ, ◌<◌, List, ◌∷◌, ◌++◌, length, drop, Option, Some, None, decimal}
-use Rattle.std.specs.Borrow.{Bor}
+use Rattle.std.specs.Prelude.{◌⊎◌, ◌≡◌, ◌≢◌, ℕ, ◌<◌, List, ◌∷◌, ◌++◌, length, drop, decimal}
 use Rattle.std.specs.List.{flat_map}
 use Rattle.std.specs.Ordering.{nat_cmp}
 use Rattle.std.specs.Cmp.Lexicographic.{slice_cmp}
@@ -16,11 +15,6 @@ Covers defs oid w n = (q : List ℕ) × StandsFor defs w q × IsOid q × IsPrefi
 -- the longer identifier is nearer, and of equal ones the word that is the least by its bytes
 abbrev pub IsAsNear : List ℕ → ℕ → List ℕ → ℕ → Type 0
 IsAsNear w n other m = (m < n) ⊎ ((m ≡ n) × (slice_cmp nat_cmp w other ≢ Greater))
-
--- a word is known, and it is as near as this one
-abbrev pub IsEquallyNear : Option (Bor (List ℕ) × ℕ) → List ℕ → ℕ → Type 0
-IsEquallyNear None other m = ⊥
-IsEquallyNear (Some b) other m = IsAsNear b.0.now b.1 other m
 
 -- the nearest of the words that cover the identifier
 abbrev pub IsNearest : List Definition → List ℕ → List ℕ → ℕ → Type 0

@@ -81,14 +81,14 @@ impl Names {
 
     /// The name with the longest identifier that the other one begins with (of equal ones the least
     /// by bytes) and the rest with dots, as `ifInOctets.1`. Without such a name all of it with dots.
+    /// It goes over all definitions: for the names of many identifiers see `labels`.
     pub fn name_of(&self, alloc: Global, oid: &Oid) -> Result<String, AllocError>
         ensures { IfOk result (λ text. IsNameOf self.now oid.now (string_bytes text)) }
     {
         self.labels(alloc)?.name_of(alloc, oid)
     }
 
-    /// The same names by their identifiers, for whoever wants the names of many: made once, they find
-    /// a name without going over all definitions.
+    /// The names by their identifiers. Made once, they find each name without going over all definitions.
     pub fn labels(&self, alloc: Global) -> Result<Labels<'_>, AllocError>
         ensures { IfOk result (λ labels. labels ≡ self.now) }
     {

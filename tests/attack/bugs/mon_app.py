@@ -63,8 +63,8 @@ BUGS = {
     ),
     "numbers_file_fault_4": (
         "src/fault.rt",
-        "        self as u8",
-        "        (self as u8).max(2)",
+        "            AppFault::FileFault => 3,",
+        "            AppFault::FileFault => 4,",
     ),
     "orders_engines_backwards": (
         "src/instance.rt",
@@ -73,8 +73,8 @@ BUGS = {
     ),
     "prints_a_colon_for_the_sign": (
         "src/printed.rt",
-        '    write!(text, "{name} = ")?;',
-        '    write!(text, "{name} : ")?;',
+        '    text.push_str(" = ")?;',
+        '    text.push_str(" : ")?;',
     ),
     "prints_negative_statuses": (
         "src/client.rt",
@@ -218,8 +218,8 @@ BUGS = {
     ),
     "prints_no_binding": (
         "src/client.rt",
-        "    Ok(bindings_text(alloc, bindings.as_slice())?)",
-        "    Ok(bindings_text(alloc, &bindings.as_slice()[..0])?)",
+        "    Ok(bindings_text(alloc, bindings.as_slice(), names)?)",
+        "    Ok(bindings_text(alloc, &bindings.as_slice()[..0], names)?)",
     ),
     "prints_another_status": (
         "src/client.rt",
@@ -290,5 +290,35 @@ BUGS = {
         "src/value.rt",
         "    let number = number(text)?;",
         "    let number = number(text)? % 4294967296;",
+    ),
+    "gives_the_index_as_status": (
+        "src/client.rt",
+        "            status: pdu.error_status,",
+        "            status: pdu.error_index,",
+    ),
+    "walks_in_numbers": (
+        "src/walking.rt",
+        "put_binding(alloc, text, &found, names)?;",
+        "put_binding(alloc, text, &found, &crate::names::InNumbers)?;",
+    ),
+    "prints_values_in_numbers": (
+        "src/printed.rt",
+        "    names.put(alloc, text, name)",
+        "    crate::names::InNumbers.put(alloc, text, name)",
+    ),
+    "leaves_out_the_name": (
+        "src/printed.rt",
+        "    names.put(alloc, text, &binding.name)?;\n",
+        "",
+    ),
+    "names_statuses_from_one": (
+        "src/status.rt",
+        "NAMES.get(number).copied()",
+        "NAMES.get(number.saturating_sub(1)).copied()",
+    ),
+    "has_no_inconsistent_name": (
+        "src/status.rt",
+        '    "inconsistentName",',
+        '    "inconsistentValue",',
     ),
 }

@@ -5,4 +5,4 @@ use Rattle.mon_app.proofs.printed.bindings_text.Given as goal
 
 -- those so far are written
 abbrev pub invariant-loop-binding : goal.invariant-loop-binding
-invariant-loop-binding l = string_bytes l.text ≡ flat_map binding_line (take l.binding-index l.bindings)
+invariant-loop-binding g l = string_bytes l.text ≡ flat_map (binding_line (g.S.NameTexts.shown l.names)) (take l.binding-index l.bindings)

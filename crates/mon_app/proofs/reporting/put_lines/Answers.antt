@@ -1,4 +1,4 @@
-use Rattle.std.proofs.Common.{◌∙◌, Some, true, ap, sym, subst, map, length, arith}
+use Rattle.std.proofs.Common.{◌∙◌, Some, true, ap, sym, subst, map, arith}
 use Rattle.std.proofs.lemmas.List.{get_or-map, length-map}
 use Rattle.mon_report.specs.Report.{entry_line}
 use Rattle.mon_report.specs.Written.{AppendsIf}

@@ -15,7 +15,7 @@ refused text Timeout h = h
 refused text FileFault h = h
 refused text SocketFault h = h
 refused text NotIncreasing h = h
-refused text AgentStatus h = h
+refused text (AgentStatus status index) h = h
 refused text BadText h = λ v means. h means.0 means.1
 
 passed : (kind : ValueKind) (text : List ℕ) (r : Result Value AppFault) (e : AppFault) → kind ≡ Ip → IsErr r → IsErrAnd r (λ x. x ≡ e) → IsFault (IsDotted text) e → IfErr r (IsFault (MeansValue kind text))

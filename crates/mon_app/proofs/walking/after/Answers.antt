@@ -7,8 +7,8 @@ use Rattle.mon_app.specs.Question.{Asked}
 use Rattle.mon_app.proofs.Walks.{asked_next, next_found}
 use Rattle.mon_app.proofs.walking.after.Goals as goal
 
-pub returns-in-Some-clause-next : goal.returns-in-Some-clause-next
-returns-in-Some-clause-next g c =
+pub returns-clause-next : goal.returns-clause-next
+returns-clause-next g c =
     let is : to_z w32 c.args.request_id ≡ pos c.args.request_id = to_z_pos w32 c.args.request_id (omega (arith, c.requires)) in
     let asked = asked_next c.args.community.now c.args.name.now c.from_ref.result.now (to_z w32 c.args.request_id) c.args.request_id is c.from_ref.ensures.value in
     let answered = subst (λ (q : Asked). GoesOnBy (λ log. IsQuestionAnswered q log (Ok c.in_ok-answers.field-0)) (g.W.Wire.told c.args.wire.now) (g.W.Wire.told c.answers.new.wire))

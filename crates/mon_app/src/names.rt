@@ -1,0 +1,43 @@
+//! How the names of variables are printed.
+
+use mon_oid::Oid;
+use mon_smi::Labels;
+use std::alloc::{AllocError, Global};
+
+/// How the names of variables are printed, and the identifiers among their values.
+pub trait NameTexts {
+    ghost use Rattle.std.specs.Prelude.{◌≡◌, ◌++◌, ℕ, List, OnOk, string_bytes};
+
+    // The text of an identifier.
+    ghost shown: { Self → List ℕ → List ℕ };
+
+    /// Adds the text of the identifier.
+    fn put(&self, alloc: Global, text: &mut String, oid: &Oid) -> Result<(), AllocError>
+        ensures { OnOk result (string_bytes text.new ≡ string_bytes text.old ++ shown self.now oid.now) };
+}
+
+/// In decimal numbers with dots between them, as `1.3.6.1.2.1.1.5.0`.
+#[derive(Clone, Copy, Debug, PartialEq, Eq)]
+pub struct InNumbers;
+
+impl NameTexts for InNumbers {
+    ghost use Rattle.mon_oid.specs.Oid.{dotted};
+
+    ghost shown = { λ _ oid. dotted oid };
+
+    fn put(&self, alloc: Global, text: &mut String, oid: &Oid) -> Result<(), AllocError> {
+        let numbers = oid.text(alloc)?;
+        text.push_str(numbers.as_str())
+    }
+}
+
+/// By the nearest name and the rest in numbers, as `sysName.0`.
+impl NameTexts for Labels<'_> {
+    ghost use Rattle.mon_smi.specs.Labels.{name_text};
+
+    ghost shown = { λ labels oid. name_text labels oid };
+
+    fn put(&self, _alloc: Global, text: &mut String, oid: &Oid) -> Result<(), AllocError> {
+        self.put_name(text, oid)
+    }
+}
