@@ -1,3 +1,4 @@
 pub mod Cuts
 pub mod Numbers
+pub mod Said
 pub mod Scripts
