@@ -1,5 +1,5 @@
 -- What a line says is what it is read as.
-use Rattle.std.proofs.Common.{◌≡◌, ℕ, ◌+◌, ◌<◌, ◌^◌, Bool, true, false, List, [], ◌∷◌, ◌++◌, length, Option, Some, None, refl, sym, ap, ◌∙◌, subst, append_assoc, arith, ◌⊎◌, inl, inr}
+use Rattle.std.proofs.Common.{◌≡◌, ℕ, ◌<◌, ◌^◌, Bool, true, false, List, [], ◌∷◌, ◌++◌, length, Option, Some, None, refl, sym, ap, ◌∙◌, subst, append_assoc, arith, ◌⊎◌, inl, inr}
 use Rattle.std.specs.Prelude.{◌==◌, if◌then◌else◌, codes, decimal, Result, Ok, Err}
 use Rattle.std.specs.Str.{bytes_eq}
 use Rattle.std.specs.Str.Parse.{AllDigits}
@@ -78,12 +78,12 @@ module _ (line verb fields : List ℕ) (step : ScriptStep) (joined : line ≡ ve
       elim (either (bytes_eq verb (codes "deliver")) (Some (Deliver n)) _ step number.2) [
         | inl is ↦ subst (Says line) (same_Some (Deliver n) step is.1) (has_number line verb fields (codes "deliver") n joined is.0 number.1)
         | inr not ↦ elim (either (bytes_eq verb (codes "save")) (Some (Save n)) _ step not.1) [
-            | inl is ↦ subst (Says line) (same_Some (Save n) step is.1) (has_number line verb fields (codes "save") n joined is.0 number.1)
-            | inr nor ↦ elim (either (bytes_eq verb (codes "restart")) (Some (Restart n)) None step nor.1) [
-                | inl is ↦ subst (Says line) (same_Some (Restart n) step is.1) (has_number line verb fields (codes "restart") n joined is.0 number.1)
-                | inr none ↦ cc
-              ]
+          | inl is ↦ subst (Says line) (same_Some (Save n) step is.1) (has_number line verb fields (codes "save") n joined is.0 number.1)
+          | inr nor ↦ elim (either (bytes_eq verb (codes "restart")) (Some (Restart n)) None step nor.1) [
+            | inl is ↦ subst (Says line) (same_Some (Restart n) step is.1) (has_number line verb fields (codes "restart") n joined is.0 number.1)
+            | inr none ↦ cc
           ]
+        ]
       ]
 
   pair_says : pair_in verb fields ≡ Some step → Says line step
@@ -96,12 +96,12 @@ module _ (line verb fields : List ℕ) (step : ScriptStep) (joined : line ≡ ve
       elim (either (bytes_eq verb (codes "poll")) (Some (StartPoll n.0 n.1)) _ step both.2) [
         | inl is ↦ subst (Says line) (same_Some (StartPoll n.0 n.1) step is.1) (has_numbers line verb (codes "poll") parts.0 parts.1 n.0 n.1 is_line is.0 parts.3 parts.4)
         | inr not ↦ elim (either (bytes_eq verb (codes "timeout")) (Some (Timeout n.0 n.1)) _ step not.1) [
-            | inl is ↦ subst (Says line) (same_Some (Timeout n.0 n.1) step is.1) (has_numbers line verb (codes "timeout") parts.0 parts.1 n.0 n.1 is_line is.0 parts.3 parts.4)
-            | inr nor ↦ elim (either (bytes_eq verb (codes "share")) (Some (Share n.0 n.1)) None step nor.1) [
-                | inl is ↦ subst (Says line) (same_Some (Share n.0 n.1) step is.1) (has_numbers line verb (codes "share") parts.0 parts.1 n.0 n.1 is_line is.0 parts.3 parts.4)
-                | inr none ↦ cc
-              ]
+          | inl is ↦ subst (Says line) (same_Some (Timeout n.0 n.1) step is.1) (has_numbers line verb (codes "timeout") parts.0 parts.1 n.0 n.1 is_line is.0 parts.3 parts.4)
+          | inr nor ↦ elim (either (bytes_eq verb (codes "share")) (Some (Share n.0 n.1)) None step nor.1) [
+            | inl is ↦ subst (Says line) (same_Some (Share n.0 n.1) step is.1) (has_numbers line verb (codes "share") parts.0 parts.1 n.0 n.1 is_line is.0 parts.3 parts.4)
+            | inr none ↦ cc
           ]
+        ]
       ]
 
   agent_says : bytes_eq verb (codes "agent") ≡ true → agent_in fields ≡ Some step → Says line step
@@ -116,7 +116,7 @@ module _ (line verb fields : List ℕ) (step : ScriptStep) (joined : line ≡ ve
       let inner : fields ≡ one.0.0 ++ 32 ∷ (two.0.0 ++ 32 ∷ two.0.1) = cut_joined 32 fields one.0.0 one.0.1 one.1 ∙ ap (λ l. one.0.0 ++ 32 ∷ l) (cut_joined 32 one.0.1 two.0.0 two.0.1 two.1) in
       let whole : line ≡ front ++ 32 ∷ two.0.1 = joined ∙ ap (λ l. verb ++ 32 ∷ l) inner ∙ last_of_three verb one.0.0 two.0.0 two.0.1 in
       subst (Says line) (same_Some (AgentSays s.0 target.0 octets.0) step octets.2)
-          (front, two.0.1, has_numbers front verb (codes "agent") one.0.0 two.0.0 s.0 target.0 refl same s.1 target.1, are_digits two.0.1 octets.0 octets.1, whole)
+      (front, two.0.1, has_numbers front verb (codes "agent") one.0.0 two.0.0 s.0 target.0 refl same s.1 target.1, are_digits two.0.1 octets.0 octets.1, whole)
 
   forge_says : bytes_eq verb (codes "forge") ≡ true → forge_in fields ≡ Some step → Says line step
   unfolding forge_in
@@ -127,7 +127,7 @@ module _ (line verb fields : List ℕ) (step : ScriptStep) (joined : line ≡ ve
       let front : List ℕ = verb ++ 32 ∷ one.0.0 in
       let whole : line ≡ front ++ 32 ∷ one.0.1 = joined ∙ ap (λ l. verb ++ 32 ∷ l) (cut_joined 32 fields one.0.0 one.0.1 one.1) ∙ last_apart verb one.0.0 one.0.1 in
       subst (Says line) (same_Some (Forge s.0 octets.0) step octets.2)
-          (front, one.0.1, has_number front verb one.0.0 (codes "forge") s.0 refl same s.1, are_digits one.0.1 octets.0 octets.1, whole)
+      (front, one.0.1, has_number front verb one.0.0 (codes "forge") s.0 refl same s.1, are_digits one.0.1 octets.0 octets.1, whole)
 
   stop_says : bytes_eq verb (codes "stop") ≡ true → stop_in fields ≡ Some step → Says line step
   unfolding stop_in
@@ -143,9 +143,9 @@ module _ (line verb fields : List ℕ) (step : ScriptStep) (joined : line ≡ ve
       elim (either (bytes_eq two.0.1 (codes "keep")) (Some (Stop s.0 calls.0 true)) _ step calls.2) [
         | inl is ↦ subst (Says line) (same_Some (Stop s.0 calls.0 true) step is.1) (front, numbers, whole ∙ ap (λ l. front ++ 32 ∷ l) (word_is two.0.1 (codes "keep") is.0))
         | inr not ↦ elim (either (bytes_eq two.0.1 (codes "lose")) (Some (Stop s.0 calls.0 false)) None step not.1) [
-            | inl is ↦ subst (Says line) (same_Some (Stop s.0 calls.0 false) step is.1) (front, numbers, whole ∙ ap (λ l. front ++ 32 ∷ l) (word_is two.0.1 (codes "lose") is.0))
-            | inr none ↦ cc
-          ]
+          | inl is ↦ subst (Says line) (same_Some (Stop s.0 calls.0 false) step is.1) (front, numbers, whole ∙ ap (λ l. front ++ 32 ∷ l) (word_is two.0.1 (codes "lose") is.0))
+          | inr none ↦ cc
+        ]
       ]
 
   fields_say : fields_in verb fields ≡ Some step → Says line step
@@ -154,12 +154,12 @@ module _ (line verb fields : List ℕ) (step : ScriptStep) (joined : line ≡ ve
       elim (either (bytes_eq verb (codes "agent")) (agent_in fields) _ step h) [
         | inl is ↦ agent_says is.0 is.1
         | inr a ↦ elim (either (bytes_eq verb (codes "forge")) (forge_in fields) _ step a.1) [
-            | inl is ↦ forge_says is.0 is.1
-            | inr b ↦ elim (either (bytes_eq verb (codes "stop")) (stop_in fields) _ step b.1) [
-                | inl is ↦ stop_says is.0 is.1
-                | inr c ↦ short_or_pair c.1
-              ]
+          | inl is ↦ forge_says is.0 is.1
+          | inr b ↦ elim (either (bytes_eq verb (codes "stop")) (stop_in fields) _ step b.1) [
+            | inl is ↦ stop_says is.0 is.1
+            | inr c ↦ short_or_pair c.1
           ]
+        ]
       ]
     where
       short_or_pair : (if bytes_eq verb (codes "deliver") then short_in verb fields else (if bytes_eq verb (codes "save") then short_in verb fields else (if bytes_eq verb (codes "restart") then short_in verb fields else pair_in verb fields))) ≡ Some step → Says line step
@@ -167,12 +167,12 @@ module _ (line verb fields : List ℕ) (step : ScriptStep) (joined : line ≡ ve
           elim (either (bytes_eq verb (codes "deliver")) (short_in verb fields) _ step h) [
             | inl is ↦ short_says is.1
             | inr a ↦ elim (either (bytes_eq verb (codes "save")) (short_in verb fields) _ step a.1) [
+              | inl is ↦ short_says is.1
+              | inr b ↦ elim (either (bytes_eq verb (codes "restart")) (short_in verb fields) (pair_in verb fields) step b.1) [
                 | inl is ↦ short_says is.1
-                | inr b ↦ elim (either (bytes_eq verb (codes "restart")) (short_in verb fields) (pair_in verb fields) step b.1) [
-                    | inl is ↦ short_says is.1
-                    | inr c ↦ pair_says c.1
-                  ]
+                | inr c ↦ pair_says c.1
               ]
+            ]
           ]
 
 -- what is read is what the line says

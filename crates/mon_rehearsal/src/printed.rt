@@ -180,11 +180,7 @@ fn put_debt(
 }
 
 #[tactic(auto, unfolding(crate::specs::Printed::owed_line))]
-fn put_owed(
-    lines: &mut String,
-    station: &Station<MemoryDisk>,
-    peer: u32,
-) -> Result<(), AllocError>
+fn put_owed(lines: &mut String, station: &Station<MemoryDisk>, peer: u32) -> Result<(), AllocError>
     ensures { OnOk result (string_bytes lines.new ≡ string_bytes lines.old ++ owed_line (state_in station.now) peer) }
 {
     let owed = station.owed(peer);
