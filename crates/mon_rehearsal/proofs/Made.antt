@@ -1,5 +1,5 @@
 -- Steps of a script that were made one after another, and the text of a rehearsal.
-use Rattle.std.proofs.Common.{ℕ, suc, ◌≡◌, ◌+◌, List, [], ◌∷◌, ◌++◌, Result, Ok, Err, length, map, refl, sym, ap, ◌∙◌, append_assoc, subst, arith}
+use Rattle.std.proofs.Common.{ℕ, suc, ◌≡◌, ◌≢◌, ◌+◌, List, [], ◌∷◌, ◌++◌, Result, Ok, Err, length, map, refl, sym, ap, ◌∙◌, append_assoc, subst, arith}
 use Rattle.std.specs.Prelude.{IfOk}
 use Rattle.std.proofs.lemmas.List.{append-nil, length-map}
 use Rattle.mon_disk.specs.declared.disk.Disk.{Ghosts}
@@ -8,6 +8,7 @@ use Rattle.mon_settings.specs.StationCore.{Core}
 use Rattle.mon_station.specs.declared.station.Station.{Station}
 use Rattle.mon_station.specs.Verdict.{Setting}
 use Rattle.mon_world.specs.declared.fault.WorldFault.{WorldFault}
+use Rattle.mon_world.specs.declared.fault.WorldFault.TheVariants.{OutOfMemory}
 use Rattle.mon_world.specs.declared.sending.Datagram.{Datagram}
 use Rattle.mon_world.specs.declared.sending.Sent.{Sent}
 use Rattle.mon_world.specs.declared.step.Step.{Step}
@@ -53,9 +54,9 @@ none_made core stations sent settings past text shows = record { answers = []; t
 pub one_made : {G : Ghosts MemoryDisk} (core now_core : Core) (settings now_settings : ℕ → Setting) (stations now_stations : List (Station MemoryDisk G)) (sent now_sent : List Datagram) (steps more : List ScriptStep) (said : ScriptStep) (made : Step)
     (answer : Result Sent WorldFault) (past : List Move) (start text now_text : List ℕ) (number : ℕ) → more ≡ steps ++ said ∷ [] → number ≡ length steps + 1 → now_settings ≡ settings → IsStepOf said made → now_text ≡ text ++ step_line number answer
     → ((middle : List Move) → Shows core stations sent middle → LeadsTo now_core now_stations now_sent (λ now. IsStepOutcome now_settings made answer middle now))
-    → IfOk answer (λ s. s.first ≡ length sent + 1) → IfOk answer (λ s. length sent + s.count ≡ length now_sent)
+    → answer ≢ Err OutOfMemory → IfOk answer (λ s. s.first ≡ length sent + 1) → IfOk answer (λ s. length sent + s.count ≡ length now_sent)
     → HaveBeenMade core stations sent settings steps past start text → HaveBeenMade now_core now_stations now_sent settings more past start now_text
-one_made core now_core settings now_settings stations now_stations sent now_sent steps more said made answer past start text now_text number is_more is_number same is written next first count were =
+one_made core now_core settings now_settings stations now_stations sent now_sent steps more said made answer past start text now_text number is_more is_number same is written next ample first count were =
     let leads = next were.leads.now were.leads.shows in
     let counted : length were.answers ≡ length steps = answers_count settings steps were.answers past were.leads.now were.leads.is in
     let numbered : number ≡ 1 + length were.answers = omega (arith, is_number, counted) in
@@ -65,6 +66,7 @@ one_made core now_core settings now_settings stations now_stations sent now_sent
       outcome = subst (λ (w : ℕ → Setting). IsStepOutcome w made answer were.leads.now leads.now) same leads.is;
       numbers = are_numbers (length sent) (length now_sent) were.leads.now leads.now answer (sent_count core stations sent were.leads.now were.leads.shows)
           (sent_count now_core now_stations now_sent leads.now leads.shows) first count;
+      ample = ample;
     } in
     record {
       answers = were.answers ++ answer ∷ [];

@@ -1,5 +1,5 @@
 -- What a rehearsal is: the steps of its script, made one after another in a world, and what that prints.
-use Rattle.std.specs.Prelude.{ℕ, ◌≡◌, ◌+◌, List, [], ◌∷◌, ◌++◌, Result, IfOk, length, min}
+use Rattle.std.specs.Prelude.{ℕ, ◌≡◌, ◌≢◌, ◌+◌, List, [], ◌∷◌, ◌++◌, Result, Err, IfOk, length, min}
 use Rattle.std.specs.Borrow.{Bor}
 use Rattle.mon_disk.specs.declared.disk.Disk.{Ghosts}
 use Rattle.mon_disk.specs.declared.memory.MemoryDisk.{MemoryDisk}
@@ -8,6 +8,7 @@ use Rattle.mon_station.specs.declared.station.Station.{Station}
 use Rattle.mon_station.specs.State.{State}
 use Rattle.mon_station.specs.Verdict.{Setting}
 use Rattle.mon_world.specs.declared.fault.WorldFault.{WorldFault}
+use Rattle.mon_world.specs.declared.fault.WorldFault.TheVariants.{OutOfMemory}
 use Rattle.mon_world.specs.declared.sending.Datagram.{Datagram}
 use Rattle.mon_world.specs.declared.sending.Sent.{Sent}
 use Rattle.mon_world.specs.declared.step.Step.{Step}
@@ -42,12 +43,13 @@ pub record AreNumbers (past now : List Move) (sent : Sent) : Type 0 where
   pub first : sent.first ≡ length (sent_in past) + 1
   pub count : length (sent_in past) + sent.count ≡ length (sent_in now)
 
--- a step of a script, with this answer, led from moves to moves
+-- a step of a script, with this answer, led from moves to moves; it did not want memory
 pub record IsMade (settings : ℕ → Setting) (said : ScriptStep) (answer : Result Sent WorldFault) (past now : List Move) : Type 0 where
   pub made : Step
   pub is : IsStepOf said made
   pub outcome : IsStepOutcome settings made answer past now
   pub numbers : IfOk answer (AreNumbers past now)
+  pub ample : answer ≢ Err OutOfMemory
 
 -- the steps of a script, with these answers, the first first
 abbrev pub AreMade : (ℕ → Setting) → List ScriptStep → List (Result Sent WorldFault) → List Move → List Move → Type 0
