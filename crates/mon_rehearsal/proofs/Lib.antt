@@ -1,3 +1,6 @@
 pub mod Cuts
+pub mod Made
 pub mod Numbers
+pub mod Said
 pub mod Scripts
+pub mod Texts

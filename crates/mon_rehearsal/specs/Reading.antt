@@ -1,5 +1,5 @@
 -- Reading a line of a script.
-use Rattle.std.specs.Prelude.{ℕ, ◌≡◌, List, if◌then◌else◌, Option, Some, None, codes, true, false}
+use Rattle.std.specs.Prelude.{ℕ, List, if◌then◌else◌, Option, Some, None, codes, true, false}
 use Rattle.std.specs.Str.{bytes_eq}
 use Rattle.mon_rehearsal.specs.declared.script.ScriptStep.{ScriptStep}
 use Rattle.mon_rehearsal.specs.declared.script.ScriptStep.TheVariants.{StartPoll, AgentSays, Timeout, Share, Deliver, Save, Restart, Forge, Stop}
@@ -38,7 +38,3 @@ fields_in verb fields =
 -- what a line says
 unfoldable pub step_in : List ℕ → Option ScriptStep
 step_in line = and_then (cut 32 line) (λ parts. fields_in parts.0 parts.1)
-
--- a line is read as this step
-abbrev pub Reads : List ℕ → ScriptStep → Type 0
-Reads line step = step_in line ≡ Some step

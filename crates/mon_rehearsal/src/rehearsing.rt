@@ -1,13 +1,16 @@
 //! Rehearsals.
 
-ghost use Rattle.std.specs.Prelude.{◌≡◌, ◌≤◌, IfErr, IfOk};
+ghost use Rattle.std.specs.Prelude.{◌≡◌, ◌≤◌, List, IfErr, IfOk, OnOk, length};
+ghost use Rattle.mon_world.specs.Moves.{Move};
+ghost use Rattle.mon_world.specs.Places.{setting_at};
+ghost use Rattle.mon_world.specs.Shows.{Shows};
 ghost use Rattle.mon_rehearsal.specs.declared.fault.RehearsalFault.TheVariants as fault;
-ghost use Rattle.mon_rehearsal.specs.Reading.{Reads};
-ghost use Rattle.mon_rehearsal.specs.Script.{lines_of};
-ghost use Rattle.mon_rehearsal.specs.ScriptFault.{IsFaultOfRehearsal, IsScript};
+ghost use Rattle.mon_rehearsal.specs.Rehearsed.{HaveBeenMade, IsRehearsal};
+ghost use Rattle.mon_rehearsal.specs.Script.{Says, lines_of};
+ghost use Rattle.mon_rehearsal.specs.ScriptFault.{IsFaultOfRehearsal};
 
 use crate::fault::RehearsalFault;
-use crate::printed::{put_station, put_step};
+use crate::printed::{put_stations, put_step};
 use crate::script::{ScriptStep, read_script};
 use mon_settings::Core;
 use mon_world::{World, WorldFault};
@@ -28,16 +31,14 @@ pub fn rehearse(
 ) -> Result<Vec<u8>, RehearsalFault>
     requires few { count ≤ 16 }
     requires some { 1 ≤ count }
-    ensures script { IfOk result (λ _. IsScript Reads (lines_of script.now)) }
-    ensures fault { IfErr result (IsFaultOfRehearsal Reads (lines_of script.now)) }
+    ensures printed { IfOk result (λ text. IsRehearsal core.now count (lines_of script.now) text.items) }
+    ensures fault { IfErr result (IsFaultOfRehearsal Says (lines_of script.now)) }
 {
     let steps = read_script(alloc, script)?;
     let mut world = World::new(alloc, core, count)?;
     let mut text = Vec::new(alloc);
     make_steps(alloc, &mut world, steps.as_slice(), &mut text)?;
-    for number in 1..count + 1 {
-        put_station(alloc, &mut text, &world, count, number)?;
-    }
+    put_stations(alloc, &mut text, &world, count)?;
     Ok(text)
 }
 
@@ -48,7 +49,11 @@ fn make_steps(
     steps: &[ScriptStep],
     text: &mut Vec<u8>,
 ) -> Result<(), RehearsalFault>
-    ensures { IfErr result (λ f. f ≡ fault.OutOfMemory) }
+    ensures made { OnOk result ((past : List Move) → Shows world.old.core world.old.stations.items world.old.sent.items past
+        → HaveBeenMade world.new.core world.new.stations.items world.new.sent.items (setting_at world.old.core (length world.old.stations.items)) steps.now past text.old.items text.new.items) }
+    ensures core { world.new.core ≡ world.old.core }
+    ensures stations { length world.new.stations.items ≡ length world.old.stations.items }
+    ensures fault { IfErr result (λ f. f ≡ fault.OutOfMemory) }
 {
     let mut number: u64 = 0;
     for step in steps {

@@ -1,8 +1,8 @@
 //! Scripts: one step a line.
 
 ghost use Rattle.std.specs.Prelude.{◌≡◌, ◌<◌, ◌∷◌, IfOk, IfErr, length};
-ghost use Rattle.mon_rehearsal.specs.Reading.{Reads, agent_in, fields_in, forge_in, pair_in, short_in, step_in, stop_in};
-ghost use Rattle.mon_rehearsal.specs.Script.{AreSteps, lines_of};
+ghost use Rattle.mon_rehearsal.specs.Reading.{agent_in, fields_in, forge_in, pair_in, short_in, step_in, stop_in};
+ghost use Rattle.mon_rehearsal.specs.Script.{AreSteps, Says, lines_of};
 ghost use Rattle.mon_rehearsal.specs.ScriptFault.{IsFaultOfScript};
 
 use crate::fault::ScriptFault;
@@ -36,8 +36,12 @@ pub enum ScriptStep {
 }
 
 impl ScriptStep {
+    ghost use Rattle.mon_rehearsal.specs.Rehearsed.{IsStepOf};
+
     /// The step that a world makes. A stop after more than 255 calls is one after 255, which every world refuses too.
-    pub fn step(&self) -> Step<'_> {
+    pub fn step(&self) -> Step<'_>
+        ensures { IsStepOf self.now result }
+    {
         match self {
             ScriptStep::StartPoll(s, target) => Step::StartPoll(*s, *target),
             ScriptStep::AgentSays(s, target, octets) => {
@@ -60,8 +64,8 @@ impl ScriptStep {
 /// # Errors
 /// `BadScript` with the number of the first line that says no step, as an empty one; `OutOfMemory`.
 pub fn read_script(alloc: Global, text: &[u8]) -> Result<Vec<ScriptStep>, ScriptFault>
-    ensures steps { IfOk result (λ steps. AreSteps Reads (lines_of text.now) steps.items) }
-    ensures fault { IfErr result (IsFaultOfScript Reads (lines_of text.now)) }
+    ensures steps { IfOk result (λ steps. AreSteps Says (lines_of text.now) steps.items) }
+    ensures fault { IfErr result (IsFaultOfScript Says (lines_of text.now)) }
 {
     let mut steps = Vec::new(alloc);
     let mut rest = text;

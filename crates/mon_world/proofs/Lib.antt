@@ -6,6 +6,7 @@ mod First
 mod Fused
 mod Heard
 mod Instances
+mod Kept
 mod Leading
 mod Letters
 mod Lives

@@ -1,5 +1,6 @@
 pub mod Debts
 pub mod Fault
+pub mod Kept
 pub mod Moves
 pub mod Outcome
 pub mod Places

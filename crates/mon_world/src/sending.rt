@@ -1,6 +1,6 @@
 //! What stations send one another.
 
-ghost use Rattle.std.specs.Prelude.{◌≡◌, ◌≤◌, ◌+◌, ◌++◌, length, map, vec_len, vec_capacity};
+ghost use Rattle.std.specs.Prelude.{◌≡◌, ◌≤◌, ◌<◌, ◌+◌, ◌^◌, ◌++◌, length, map, vec_len, vec_capacity};
 ghost use Rattle.mon_world.specs.Sending.{to_peers};
 
 use mon_ber::Octets;
@@ -22,6 +22,7 @@ pub struct Sent {
     pub first: u64,
     /// How many were sent.
     pub count: u64,
+    ghost numbered: { first + count < 2 ^ 64 },
 }
 
 /// Appends what goes to peers, in order. It takes no memory.
@@ -40,8 +41,18 @@ pub(crate) fn append(sent: &mut Vec<Datagram>, sends: Vec<Outgoing>) -> Sent
             });
         }
     }
+    sent_between(before, sent.len())
+}
+
+/// The numbers of what was sent after so many datagrams, until there were so many.
+pub(crate) fn sent_between(before: usize, now: usize) -> Sent
+    requires more { before ≤ now }
+    requires small { now < 2 ^ 63 }
+    ensures first { result.first ≡ before + 1 }
+    ensures count { before + result.count ≡ now }
+{
     Sent {
         first: before as u64 + 1,
-        count: (sent.len() - before) as u64,
+        count: (now - before) as u64,
     }
 }

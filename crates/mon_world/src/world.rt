@@ -6,6 +6,7 @@ ghost use Rattle.mon_disk.specs.Memory.{memory_octets};
 ghost use Rattle.mon_settings.specs.StationCore.{Core as AnyCore};
 ghost use Rattle.mon_station.specs.ReadEvent.{owned};
 ghost use Rattle.mon_world.specs.Fault.{IsCause, IsDeliveryCause, IsStationCause, IsStopCause, IsThere, refusal_in};
+ghost use Rattle.mon_world.specs.Kept.{AreKept};
 ghost use Rattle.mon_world.specs.Moves.{AreUnforged, Move};
 ghost use Rattle.mon_world.specs.Outcome.{AreStepOutcomes, Delivers, Does, Hands, Hears, IsStepOutcome, Opens, StopsAndOpens, first_lives, target_number};
 ghost use Rattle.mon_world.specs.Places.{HasNumber, IsNoCount, IsNoNumberTo, IsNumberTo, setting_at};
@@ -15,7 +16,7 @@ ghost use Rattle.mon_world.specs.Shows.{AreShown, DebtsAreTrue, IsStationAsked, 
 use crate::fault::WorldFault;
 use crate::laws;
 use crate::opening::{core_at, open_all};
-use crate::sending::{Datagram, Sent, append};
+use crate::sending::{Datagram, Sent, append, sent_between};
 use crate::speaker::speaker;
 use crate::step::Step;
 use crate::stop::{stopped, unsaved};
@@ -110,6 +111,7 @@ impl World {
         ensures first { IfOk result (λ sent. sent.first ≡ length self.old.sent.items + 1) }
         ensures count { IfOk result (λ sent. length self.old.sent.items + sent.count ≡ length self.new.sent.items) }
         ensures refused { OnErr result (self.new.sent.items ≡ self.old.sent.items) }
+        ensures kept { IfErr result (AreKept self.old.stations.items self.new.stations.items) }
         ensures core { self.new.core ≡ self.old.core }
         ensures stations { length self.new.stations.items ≡ length self.old.stations.items }
     {
@@ -141,6 +143,7 @@ impl World {
         ensures first { IfOk result (λ sent. sent.first ≡ length self.old.sent.items + 1) }
         ensures count { IfOk result (λ sent. length self.old.sent.items + sent.count ≡ length self.new.sent.items) }
         ensures refused { OnErr result (self.new.sent.items ≡ self.old.sent.items) }
+        ensures kept { IfErr result (AreKept self.old.stations.items self.new.stations.items) }
         ensures core { self.new.core ≡ self.old.core }
         ensures stations { length self.new.stations.items ≡ length self.old.stations.items }
     {
@@ -161,6 +164,7 @@ impl World {
         ensures first { IfOk result (λ sent. sent.first ≡ length self.old.sent.items + 1) }
         ensures count { IfOk result (λ sent. length self.old.sent.items + sent.count ≡ length self.new.sent.items) }
         ensures refused { OnErr result (self.new.sent.items ≡ self.old.sent.items) }
+        ensures kept { IfErr result (AreKept self.old.stations.items self.new.stations.items) }
         ensures core { self.new.core ≡ self.old.core }
         ensures stations { length self.new.stations.items ≡ length self.old.stations.items }
     {
@@ -184,10 +188,7 @@ impl World {
         match Station::open(self.alloc, core, disk) {
             Ok(station) => {
                 self.stations[place] = station;
-                Ok(Sent {
-                    first: self.sent.len() as u64 + 1,
-                    count: 0,
-                })
+                Ok(sent_between(self.sent.len(), self.sent.len()))
             }
             Err((fault, _)) => Err(WorldFault::from(fault)),
         }
@@ -249,6 +250,8 @@ impl World {
         ensures first { IfOk result (λ sent. sent.first ≡ length self.old.sent.items + 1) }
         ensures count { IfOk result (λ sent. length self.old.sent.items + sent.count ≡ length self.new.sent.items) }
         ensures refused { OnErr result (self.new.sent.items ≡ self.old.sent.items) }
+        // With it every station holds, knows and owes what it did before.
+        ensures kept { IfErr result (AreKept self.old.stations.items self.new.stations.items) }
         // The stations are as many, with the same core.
         ensures core { self.new.core ≡ self.old.core }
         ensures stations { length self.new.stations.items ≡ length self.old.stations.items }
@@ -299,6 +302,7 @@ fn ask(
     requires { place < length stations.old.items }
     ensures told { IfOk result (λ told. (core : AnyCore) (past : List Move) → AreShown core stations.old.items past → IsStationAsked core (place + 1) (owned event.entry) None (to_peers told.sends.items) past stations.new.items) }
     ensures refused { IfErr result (λ fault. (core : AnyCore) (past : List Move) → AreShown core stations.old.items past → IsStationRefused core (place + 1) (owned event.entry) (refusal_in fault) past stations.new.items) }
+    ensures kept { IfErr result (AreKept stations.old.items stations.new.items) }
     ensures few { IfOk result (λ told. length told.sends.items ≤ 512) }
     ensures cause { IfErr result (IsStationCause (length stations.old.items) (place + 1)) }
     ensures count { length stations.new.items ≡ length stations.old.items }

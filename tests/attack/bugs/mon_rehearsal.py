@@ -21,4 +21,19 @@ BUGS = {
         "        return Some(ScriptStep::Share(first, second));",
         "        return Some(ScriptStep::Share(second, first));",
     ),
+    "prints_a_want_of_memory": (
+        "src/rehearsing.rt",
+        "        if let Err(WorldFault::OutOfMemory) = result {",
+        "        if let Err(WorldFault::BadStop) = result {",
+    ),
+    "says_the_first_number_again": (
+        "src/printed.rt",
+        "        let number = sent.first + i;",
+        "        let number = sent.first + i / 2;",
+    ),
+    "says_the_first_incarnation": (
+        "src/printed.rt",
+        "    let incarnation = station.incarnation();",
+        "    let incarnation = station.owed(1);",
+    ),
 }

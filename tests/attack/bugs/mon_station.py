@@ -156,4 +156,14 @@ BUGS = {
         "            StationFault::Image(_) => 6,",
         "            StationFault::Image(_) => 5,",
     ),
+    "begins_with_serial_2": (
+        "src/opening.rt",
+        "        serial: 1,",
+        "        serial: 2,",
+    ),
+    "confirms_nothing": (
+        "src/life.rt",
+        "            ClaimKind::Offer => self.confirm_offer(alloc, claim),",
+        "            ClaimKind::Offer => Ok(Vec::new(alloc)),",
+    ),
 }

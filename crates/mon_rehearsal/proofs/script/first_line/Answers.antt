@@ -1,4 +1,4 @@
-use Rattle.std.proofs.Common.{◌≡◌, sym, ap, ◌∙◌}
+use Rattle.std.proofs.Common.{sym, ap, ◌∙◌}
 use Rattle.std.specs.Prelude.{option_map}
 use Rattle.mon_rehearsal.proofs.Cuts.{cut_shorter, line_alone, line_first}
 use Rattle.mon_rehearsal.proofs.script.first_line.Goals as goal

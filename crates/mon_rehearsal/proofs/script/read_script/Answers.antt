@@ -1,6 +1,6 @@
 use Rattle.std.proofs.Common.{◌≡◌, ◌+◌, ◌<◌, ◌≤◌, length, Some, sym, ◌∙◌, arith}
 use Rattle.mon_rehearsal.specs.Reading.{step_in}
-use Rattle.mon_rehearsal.proofs.Scripts.{went_on}
+use Rattle.mon_rehearsal.proofs.Scripts.{stopped_at, went_on}
 use Rattle.mon_rehearsal.proofs.script.read_script.Goals as goal
 
 pub loop-rest-preserved : goal.loop-rest-preserved
@@ -14,3 +14,8 @@ loop-rest-preserved c =
           (c.first_line.ensures.lines some) reads c.in_ok-push-in-Some.ensures.items;
       bounded = omega arith;
     }
+
+pub returns-in-None-clause-fault : goal.returns-in-None-clause-fault
+returns-in-None-clause-fault c =
+    let some : 0 < length c.loop-rest.rest.now = grind arith in
+    stopped_at c.loop-rest.invariant.so_far c.first_line.result.0.now c.first_line.result.1.now (c.first_line.ensures.lines some) (sym c.in-None.is ∙ c.in_ok-step.ensures)

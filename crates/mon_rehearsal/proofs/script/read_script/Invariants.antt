@@ -1,4 +1,4 @@
-use Rattle.std.proofs.Common.{◌≡◌, ◌≤◌, ◌+◌, ℕ, length}
+use Rattle.std.proofs.Common.{◌≤◌, ◌+◌, length}
 use Rattle.mon_rehearsal.specs.Script.{lines_of}
 use Rattle.mon_rehearsal.proofs.Scripts.{SoFar}
 use Rattle.mon_rehearsal.proofs.script.read_script.Given as goal

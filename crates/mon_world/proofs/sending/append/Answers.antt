@@ -39,9 +39,6 @@ loop-send-preserved c = record {
   longer = c.loop-send.invariant.longer;
 }
 
-pub overflow_sub-result : goal.overflow_sub-result
-overflow_sub-result c = omega (arith, c.loop-send.invariant.before, c.loop-send.invariant.longer, c.len.ensures)
-
 pub returns-clause-appended : goal.returns-clause-appended
 returns-clause-appended c =
     let none : c.loop-send.send-iterator.rest.items ≡ [] = nil_from_length c.loop-send.send-iterator.rest.items (search (rules, c.in-None.ensures.steps.0)) in

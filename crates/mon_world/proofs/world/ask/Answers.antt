@@ -1,6 +1,7 @@
 use Rattle.std.proofs.Common.{◌+◌, Err, ap, ◌∙◌}
 use Rattle.mon_world.specs.Places.{HasNumber}
 use Rattle.mon_world.proofs.Asked.{asked_err, asked_ok, refused_as, torn, unmoved}
+use Rattle.mon_world.proofs.Kept.{kept_step}
 use Rattle.mon_world.proofs.Stations.{get_at, number_at}
 use Rattle.mon_world.proofs.Results.{err_is}
 use Rattle.mon_world.proofs.world.ask.Goals as goal
@@ -28,3 +29,13 @@ returns-in_err-told-clause-refused c =
     (λ other. let read = c.in_err-told.ensures.read other in
     asked_err core stations past was c.args.place old new at c.args.event read.0 read.1 c.step.ensures.disk f (c.in_err-told.ensures.answered read.0 read.1) c.in_err-told.ensures.unsaved
     (torn _ _ _ (c.step.ensures.any_moment tt))))
+
+pub returns-in_err-told-clause-kept : goal.returns-in_err-told-clause-kept
+returns-in_err-told-clause-kept c =
+    let stations = c.args.stations.now.items in
+    let old = c.index_mut.result.now in
+    let new = c.step.new.self in
+    let f = c.in_err-told.field-0.0 in
+    let at : HasNumber stations (c.args.place + 1) old = number_at stations c.args.place old (get_at stations c.args.place old c.requires c.index_mut.ensures.value) in
+    err_is c.from_residual.result _ _ c.from_residual.ensures.1
+    (kept_step stations c.args.place old new f at c.in_err-told.ensures.refused c.in_err-told.ensures.unsaved (λ is. (c.step.ensures.memory (c.in_err-told.was ∙ ap Err is)).0))

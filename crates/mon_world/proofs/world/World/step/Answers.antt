@@ -4,6 +4,7 @@ use Rattle.mon_world.specs.declared.step.Step.TheVariants as step
 use Rattle.mon_world.specs.Outcome.{Does, Hands}
 use Rattle.mon_world.specs.Places.{setting_at}
 use Rattle.mon_world.specs.Shows.{LeadsTo}
+use Rattle.mon_world.proofs.Kept.{kept_on}
 use Rattle.mon_world.proofs.Outcomes.{outcome_of}
 use Rattle.mon_world.proofs.world.World.step.Goals as goal
 
@@ -61,3 +62,9 @@ returns-in-Stop-clause-outcome c past was =
     let new = c.stop.new.self in
     outcome_of new.core new.stations.items new.sent.items (setting_at c.args.self.now.core (length c.args.self.now.stations.items)) c.args.step (step.Stop c.in-Stop.s c.in-Stop.calls c.in-Stop.keep) c.stop.result past c.in-Stop.is
     (c.stop.ensures.outcome past was)
+
+pub returns-in-Restart-clause-kept : goal.returns-in-Restart-clause-kept
+returns-in-Restart-clause-kept c = kept_on c.restart.result c.args.self.now.stations.items c.restart.new.self.stations.items c.restart.ensures.refused
+
+pub returns-in-Stop-clause-kept : goal.returns-in-Stop-clause-kept
+returns-in-Stop-clause-kept c = kept_on c.stop.result c.args.self.now.stations.items c.stop.new.self.stations.items c.stop.ensures.refused
