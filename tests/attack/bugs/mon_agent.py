@@ -171,4 +171,19 @@ BUGS = {
         "        if all {\n            send(",
         "        if false && all {\n            send(",
     ),
+    "answers_get_as_next": (
+        "src/agent.rt",
+        "        if pdu.kind == PduKind::Get {",
+        "        if pdu.kind == PduKind::GetNext {",
+    ),
+    "bulk_repeats_the_first_names": (
+        "src/bulk.rt",
+        "            let found = self.step(alloc, gaps, access, reply.name_before(width), moment)?;",
+        "            let found = self.step(alloc, gaps, access, reply.name_before(1), moment)?;",
+    ),
+    "set_is_measured_without_index": (
+        "src/assigning.rt",
+        "        let response = returned(message, NO_ERROR, count);",
+        "        let response = returned(message, NO_ERROR, count.min(0));",
+    ),
 }

@@ -321,4 +321,14 @@ BUGS = {
         '    "inconsistentName",',
         '    "inconsistentValue",',
     ),
+    "holds_257_instances": (
+        "src/table.rt",
+        "const LIMIT: usize = 256;",
+        "const LIMIT: usize = 257;",
+    ),
+    "ends_after_64_reads": (
+        "src/input.rt",
+        "const READS: u32 = 1_048_576;",
+        "const READS: u32 = 64;",
+    ),
 }

@@ -346,4 +346,24 @@ BUGS = {
         "        self.counters = counters;",
         "        let _ = counters;",
     ),
+    "gap_covers_what_comes_before_it": (
+        "src/start.rt",
+        "            (Start::Above(own), Start::Above(last)) => last <= own,",
+        "            (Start::Above(own), Start::Above(last)) => own <= last,",
+    ),
+    "next_answers_the_name_itself": (
+        "src/start.rt",
+        "        [instance, ..] => Start::Above(*instance),",
+        "        [_, ..] => Start::First,",
+    ),
+    "object_left_out": (
+        "src/object.rt",
+        "    Object::Column(Column::IfSpeed),",
+        "    Object::Column(Column::IfMtu),",
+    ),
+    "own_name_is_not_reached": (
+        "src/mib.rt",
+        "    let reached = all_objects().partition_point(|object| object.prefix().cmp(&name).is_le());",
+        "    let reached = all_objects().partition_point(|object| object.prefix().cmp(&name).is_lt());",
+    ),
 }

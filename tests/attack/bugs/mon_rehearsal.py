@@ -36,4 +36,29 @@ BUGS = {
         "    let incarnation = station.incarnation();",
         "    let incarnation = station.owed(1);",
     ),
+    "keeps_what_a_stop_loses": (
+        "src/script.rt",
+        "ScriptStep::Stop(s, calls, keep) => Step::Stop(*s, (*calls).min(255) as u8, *keep),",
+        "ScriptStep::Stop(s, calls, keep) => Step::Stop(*s, (*calls).min(255) as u8, !*keep),",
+    ),
+    "leaves_out_a_single_datagram": (
+        "src/printed.rt",
+        "if sent.count == 0 {",
+        "if sent.count < 2 {",
+    ),
+    "owes_itself_and_not_the_first": (
+        "src/printed.rt",
+        "if peer == number {",
+        "if peer == 1 {",
+    ),
+    "passes_over_what_is_no_octet": (
+        "src/field.rt",
+        "Err(_) => Ok(None),",
+        "Err(_) => Ok(Some(Octets::new(Vec::new(alloc)))),",
+    ),
+    "reads_tabs_for_blanks": (
+        "src/script.rt",
+        "match cut(line, b' ') {",
+        "match cut(line, b'\\t') {",
+    ),
 }

@@ -61,4 +61,24 @@ BUGS = {
         "        states.push(state(rule, board.items(rule.instance())))?;",
         "        states.push(state(rule, &[]))?;",
     ),
+    "ends_hearing_at_the_first_failure": (
+        "src/round.rt",
+        "        self.failures -= 1;",
+        "        self.failures = 0;",
+    ),
+    "polls_a_target_again_and_again": (
+        "src/round.rt",
+        "            Phase::Polling(target + 1)",
+        "            Phase::Polling(target)",
+    ),
+    "sends_to_the_first_peer": (
+        "src/addresses.rt",
+        "        Some(place) => addresses.get(place).copied(),",
+        "        Some(_) => addresses.first().copied(),",
+    ),
+    "times_out_once": (
+        "src/round.rt",
+        "                self.timeouts -= 1;",
+        "                self.timeouts = 0;",
+    ),
 }

@@ -346,4 +346,29 @@ BUGS = {
         "        line: line_feeds(octets) + 1,",
         "        line: line_feeds(octets),",
     ),
+    "ignores_the_epoch": (
+        "src/station.rt",
+        "    let epoch = size_or(table, Key::Epoch, window, window)?;",
+        "    let epoch = window;",
+    ),
+    "includes_what_is_excluded": (
+        "src/tables.rt",
+        "            included,",
+        "            included: !included,",
+    ),
+    "reads_model_3_as_2": (
+        "src/leaf.rt",
+        "        2 => Some(SecurityModel::V2c),",
+        "        3 => Some(SecurityModel::V2c),",
+    ),
+    "reads_the_name_as_contact": (
+        "src/agent.rt",
+        "    let contact = octets_at(alloc, table, Key::Contact, 255)?;",
+        "    let contact = octets_at(alloc, table, Key::Name, 255)?;",
+    ),
+    "takes_equal_indexes": (
+        "src/interfaces.rt",
+        "        if interface.index <= last {",
+        "        if interface.index < last {",
+    ),
 }

@@ -261,4 +261,19 @@ BUGS = {
         "    text[i] == b'-' && i + 1 < text.len() && is_part(text[i + 1])",
         "    text[i] == b'-' && i + 1 < text.len()",
     ),
+    "columns_from_zero": (
+        "src/position.rt",
+        "                place.column = 1;",
+        "                place.column = 0;",
+    ),
+    "rest_begins_too_early": (
+        "src/labels.rt",
+        "                return Some((*name, len));",
+        "                return Some((*name, 2));",
+    ),
+    "comment_past_its_line": (
+        "src/scan.rt",
+        "        if *byte == b'\\n' || (*byte == b'-' && byte_at(after, 0) == b'-') {",
+        "        if *byte == b'\\r' || (*byte == b'-' && byte_at(after, 0) == b'-') {",
+    ),
 }

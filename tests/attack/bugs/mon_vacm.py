@@ -93,4 +93,21 @@ BUGS = {
         "            None => Err(Denied::NoSuchView),",
         "            None => Err(Denied::NoAccessEntry),",
     ),
+    "last_group": (
+        "src/tables.rt",
+        "            .find(|g| is_named(&g.security_name, security))",
+        "            .rev().find(|g| is_named(&g.security_name, security))",
+    ),
+    "lesser_wins": (
+        "src/family.rt",
+        "self.subtree.compare(&other.subtree)",
+        "other.subtree.compare(&self.subtree)",
+    ),
+    "shorter_name_matches": (
+        "src/family.rt",
+        "if parts.len() < subtree.len() {",
+        "if parts.len() < 1 {",
+        "if parts[i] != *part && must_agree",
+        "if i < parts.len() && parts[i] != *part && must_agree",
+    ),
 }
