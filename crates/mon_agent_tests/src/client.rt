@@ -7,7 +7,8 @@ ghost use Rattle.mon_agent_tests.specs.Log.{at_wire};
 use crate::event::Event;
 use crate::small_agent::question;
 use mon_app::{
-    AppFault, Asking, Heard, InNumbers, Repeats, SocketFault, Wire, answer_text, request,
+    AppFault, Asking, Heard, InNumbers, Repeats, SocketFault, SocketReason, Wire, answer_text,
+    request,
 };
 use mon_ber::{Octets, Value};
 use mon_edge::failed_after;
@@ -15,6 +16,11 @@ use mon_oid::Oid;
 use mon_pdu::write_message;
 use std::alloc::{AllocError, Global};
 use std::test::Fail;
+
+/// There is no room to write down what happened.
+const NO_ROOM: SocketFault = SocketFault {
+    reason: SocketReason::Other,
+};
 
 /// A Get of sysName.0 under request-id 7, and its reply.
 const REQUEST: &str =
@@ -67,7 +73,7 @@ impl Memory {
         ensures same { OnErr result (self.new.log.items ≡ self.old.log.items) }
         ensures failures { self.new.failures ≡ self.old.failures }
     {
-        self.log.push(event).map_err(|_| SocketFault)
+        self.log.push(event).map_err(|_| NO_ROOM)
     }
 
     fn note_sent(&mut self, octets: &[u8]) -> Result<(), SocketFault>
@@ -76,7 +82,7 @@ impl Memory {
         ensures failures { self.new.failures ≡ self.old.failures }
     {
         let Ok(octets) = Vec::from_slice(self.alloc, octets) else {
-            return Err(SocketFault);
+            return Err(NO_ROOM);
         };
         self.note(Event::Sent(octets))
     }
@@ -87,7 +93,7 @@ impl Memory {
         ensures failures { self.new.failures ≡ self.old.failures }
     {
         let Ok(octets) = Vec::from_slice(self.alloc, octets) else {
-            return Err(SocketFault);
+            return Err(NO_ROOM);
         };
         self.note(Event::Heard(octets))
     }

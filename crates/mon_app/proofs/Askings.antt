@@ -13,6 +13,7 @@ use Rattle.mon_pdu.specs.Reading.{Fails, message_at}
 use Rattle.mon_pdu.specs.Writing.{message_contents}
 use Rattle.mon_app.specs.AppFault.{of_message}
 use Rattle.mon_app.specs.declared.fault.AppFault.{AppFault}
+use Rattle.mon_app.specs.declared.reason.SocketReason.{SocketReason}
 use Rattle.mon_app.specs.declared.fault.AppFault.TheVariants as faults
 use Rattle.mon_app.specs.declared.wire.Heard.{Heard as AnyHeard}
 use Rattle.mon_app.specs.Asking.{AreUnanswered, HoldsNone, HoldsReply, IsAsked, IsStrange, IsWait, EndsWith, request_octets}
@@ -127,9 +128,9 @@ no_room q n before between after octets heard few told = record {
 }
 
 -- a wire that failed
-pub failed : (q : Asked) (n : ℕ) (before between after : Log) → AreHeard q n before between → n < 65 → after ≡ extended between []
-    → GoesOnBy (λ log. IsWait q log (Err faults.SocketFault)) before after
-failed q n before between after heard few told = record {
+pub failed : (reason : SocketReason) (q : Asked) (n : ℕ) (before between after : Log) → AreHeard q n before between → n < 65 → after ≡ extended between []
+    → GoesOnBy (λ log. IsWait q log (Err (faults.SocketFault reason))) before after
+failed reason q n before between after heard few told = record {
   more = heard.strange;
   holds = (heard.none, omega (arith, heard.count));
   told = told ∙ (extended_by_none between ∙ heard.told);
@@ -176,7 +177,7 @@ pub fault_of_wait : (q : Asked) (before after : Log) (fault : AppFault) → Goes
 fault_of_wait q before after fault wait = record { more = wait.more; holds = by_cases fault wait.more wait.holds; told = wait.told }
   where
     by_cases : (fault : AppFault) (log : List AtWire) → EndsWith q log (Err fault) → IsAsked q log (Err fault)
-    by_cases faults.SocketFault log ends = inl ends
+    by_cases (faults.SocketFault reason) log ends = inl ends
     by_cases faults.OutOfMemory log ends = inl ends
     by_cases faults.Timeout log ends = absurd ends.wait
     by_cases faults.FileFault log ends = absurd ends.wait
@@ -185,9 +186,9 @@ fault_of_wait q before after fault wait = record { more = wait.more; holds = by_
     by_cases faults.BadText log ends = absurd ends.wait
 
 -- a sending that failed
-pub unsent : (q : Asked) (n : ℕ) (before between after : Log) → AreSent q n before between → n < 3 → after ≡ extended between []
-    → GoesOnBy (λ log. IsAsked q log (Err faults.SocketFault)) before after
-unsent q n before between after earlier few told = record {
+pub unsent : (reason : SocketReason) (q : Asked) (n : ℕ) (before between after : Log) → AreSent q n before between → n < 3 → after ≡ extended between []
+    → GoesOnBy (λ log. IsAsked q log (Err (faults.SocketFault reason))) before after
+unsent reason q n before between after earlier few told = record {
   more = earlier.more;
   holds = inr (record { sendings = n; few = few; unanswered = earlier.holds });
   told = told ∙ (extended_by_none between ∙ earlier.told);

@@ -100,7 +100,7 @@ fault_of_turn show q start last text before after fault next = record { more = n
     by_cases : (fault : AppFault) (log : List AtWire) → IsNextAsked q log (Err fault) → IsTurn show q start last text text log (Err fault)
     by_cases faults.OutOfMemory log next = (Err faults.OutOfMemory, next)
     by_cases faults.NotIncreasing log next = absurd (not_of_asking q log next)
-    by_cases faults.SocketFault log next = (next, refl)
+    by_cases (faults.SocketFault reason) log next = (next, refl)
     by_cases faults.Timeout log next = (next, refl)
     by_cases faults.FileFault log next = (next, refl)
     by_cases (faults.AgentStatus status index) log next = (next, refl)

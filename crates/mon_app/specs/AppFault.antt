@@ -5,6 +5,8 @@ use Rattle.std.specs.declared.io.ErrorKind.TheVariants as kinds
 use Rattle.mon_pdu.specs.declared.fault.PduFault.{PduFault}
 use Rattle.mon_pdu.specs.declared.fault.PduFault.TheVariants as pdu
 use Rattle.mon_app.specs.declared.fault.AppFault.{AppFault}
+use Rattle.mon_app.specs.declared.reason.SocketReason.{SocketReason}
+use Rattle.mon_app.specs.declared.reason.SocketReason.TheVariants as reasons
 use Rattle.mon_app.specs.declared.fault.AppFault.TheVariants.{OutOfMemory, Timeout, FileFault, SocketFault, NotIncreasing, AgentStatus, BadText}
 
 -- the number that a printed line gives a fault
@@ -12,7 +14,7 @@ abbrev pub number_of : AppFault → ℕ
 number_of OutOfMemory = 1
 number_of Timeout = 2
 number_of FileFault = 3
-number_of SocketFault = 4
+number_of (SocketFault reason) = 4
 number_of NotIncreasing = 5
 number_of (AgentStatus status index) = 6
 number_of BadText = 8
@@ -22,7 +24,7 @@ abbrev pub name_of : AppFault → List ℕ
 name_of OutOfMemory = codes "OutOfMemory"
 name_of Timeout = codes "Timeout"
 name_of FileFault = codes "FileFault"
-name_of SocketFault = codes "SocketFault"
+name_of (SocketFault reason) = codes "SocketFault"
 name_of NotIncreasing = codes "NotIncreasing"
 name_of (AgentStatus status index) = codes "AgentStatus"
 name_of BadText = codes "BadText"
@@ -31,6 +33,31 @@ name_of BadText = codes "BadText"
 abbrev pub of_stream : ErrorKind → AppFault
 of_stream kinds.OutOfMemory = OutOfMemory
 of_stream _ = FileFault
+
+-- the system's reason for a failure of a socket
+abbrev pub reason_of : ErrorKind → SocketReason
+reason_of kinds.AddrInUse = reasons.AddressInUse
+reason_of kinds.AddrNotAvailable = reasons.AddressNotAvailable
+reason_of kinds.PermissionDenied = reasons.PermissionDenied
+reason_of kinds.HostUnreachable = reasons.HostUnreachable
+reason_of kinds.NetworkUnreachable = reasons.NetworkUnreachable
+reason_of kinds.NetworkDown = reasons.NetworkDown
+reason_of _ = reasons.Other
+
+-- what a printed line says of a reason
+abbrev pub text_of_reason : SocketReason → List ℕ
+text_of_reason reasons.AddressInUse = codes "the address is in use"
+text_of_reason reasons.AddressNotAvailable = codes "the address is not available"
+text_of_reason reasons.PermissionDenied = codes "permission is denied"
+text_of_reason reasons.HostUnreachable = codes "the host is unreachable"
+text_of_reason reasons.NetworkUnreachable = codes "the network is unreachable"
+text_of_reason reasons.NetworkDown = codes "the network is down"
+text_of_reason reasons.Other = codes "another reason"
+
+-- the fault of a socket that could not be opened, with the system's reason
+abbrev pub of_socket : ErrorKind → AppFault
+of_socket kinds.OutOfMemory = OutOfMemory
+of_socket kind = SocketFault (reason_of kind)
 
 -- the fault of a message that cannot be written
 abbrev pub of_message : PduFault → AppFault

@@ -53,7 +53,7 @@ pub record IsHeardInPart (q : Asked) (heard : List AtWire) : Type 0 where
 abbrev pub IsWait : Asked → List AtWire → Result (Option Message) AppFault → Type 0
 IsWait q heard (Ok (Some m)) = HearsReply q m heard
 IsWait q heard (Ok None) = HearsNone q heard
-IsWait q heard (Err SocketFault) = ArePassedOver q heard
+IsWait q heard (Err (SocketFault reason)) = ArePassedOver q heard
 IsWait q heard (Err OutOfMemory) = IsHeardInPart q heard
 IsWait q heard (Err other) = ⊥
 
@@ -87,7 +87,7 @@ pub record IsCutShort (q : Asked) (log : List AtWire) : Type 0 where
 abbrev pub IsAsked : Asked → List AtWire → Result Message AppFault → Type 0
 IsAsked q log (Ok m) = EndsWith q log (Ok (Some m))
 IsAsked q log (Err Timeout) = AreUnanswered q 3 log
-IsAsked q log (Err SocketFault) = EndsWith q log (Err SocketFault) ⊎ IsCutShort q log
+IsAsked q log (Err (SocketFault reason)) = EndsWith q log (Err (SocketFault reason)) ⊎ IsCutShort q log
 IsAsked q log (Err OutOfMemory) = EndsWith q log (Err OutOfMemory) ⊎ IsCutShort q log
 IsAsked q log (Err BadText) = (log ≡ []) × (2 ^ 32 ≤ length (message_contents (request_of q)))
 IsAsked q log (Err other) = ⊥

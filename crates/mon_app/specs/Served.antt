@@ -11,6 +11,8 @@ use Rattle.mon_mib.specs.Held.{Held}
 use Rattle.mon_mib.specs.Known.{known_of}
 use Rattle.mon_agent.specs.declared.reply.Reply.{Reply}
 use Rattle.mon_agent.specs.Answer.{IsAnswer, raised_by}
+use Rattle.mon_app.specs.declared.fault.AppFault.{AppFault}
+use Rattle.mon_app.specs.declared.fault.AppFault.TheVariants as faults
 use Rattle.mon_app.specs.AtPort.{AtPort, IsToBeSent, Received, sent_for}
 
 -- A datagram came at a moment, and the agent answered it: this is what became of the counters and of the device, of which devices
@@ -42,3 +44,9 @@ pub record IsUnanswered (told_before told_after : Option (List AtPort)) : Type 0
   pub datagram : List ℕ
   pub moment : ℕ
   pub told : told_after ≡ extended told_before (Received datagram moment ∷ [])
+
+-- memory ran out, or a socket failed
+abbrev pub IsServingFault : AppFault → Type 0
+IsServingFault faults.OutOfMemory = Unit {0}
+IsServingFault (faults.SocketFault reason) = Unit {0}
+IsServingFault _ = ⊥

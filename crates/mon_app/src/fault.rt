@@ -5,6 +5,7 @@ ghost use Rattle.mon_app.specs.AppFault.{number_of, name_of, of_stream, of_messa
 ghost use Rattle.std.specs.IoError.{error_kind};
 ghost use Rattle.mon_app.specs.declared.fault.AppFault.TheVariants.{OutOfMemory, SocketFault as FaultOfSocket};
 
+use crate::reason::SocketReason;
 use mon_agent::AgentFault;
 use mon_pdu::PduFault;
 use std::alloc::AllocError;
@@ -13,7 +14,10 @@ use thiserror::Error;
 
 /// A socket, or what stands for one, failed.
 #[derive(Clone, Copy, Debug, PartialEq, Eq)]
-pub struct SocketFault;
+pub struct SocketFault {
+    /// The system's reason.
+    pub reason: SocketReason,
+}
 
 /// Why a command of the program failed, where no crate below names a fault of its own, in the order of the faults' numbers.
 #[derive(Clone, Copy, Debug, PartialEq, Eq, Error)]
@@ -24,8 +28,9 @@ pub enum AppFault {
     Timeout,
     #[error("a file or a standard stream could not be read or written")]
     FileFault,
+    /// A socket failed, for this reason of the system's.
     #[error("a socket could not be opened or used")]
-    SocketFault,
+    SocketFault { reason: SocketReason },
     #[error("the agent answered with a name that does not increase")]
     NotIncreasing,
     /// The error-status and the error-index of the agent's reply (RFC 3416 section 3). The status is not 0; the index is the
@@ -45,7 +50,7 @@ impl AppFault {
             AppFault::OutOfMemory => 1,
             AppFault::Timeout => 2,
             AppFault::FileFault => 3,
-            AppFault::SocketFault => 4,
+            AppFault::SocketFault { .. } => 4,
             AppFault::NotIncreasing => 5,
             AppFault::AgentStatus { .. } => 6,
             AppFault::BadText => 8,
@@ -60,7 +65,7 @@ impl AppFault {
             AppFault::OutOfMemory => "OutOfMemory",
             AppFault::Timeout => "Timeout",
             AppFault::FileFault => "FileFault",
-            AppFault::SocketFault => "SocketFault",
+            AppFault::SocketFault { .. } => "SocketFault",
             AppFault::NotIncreasing => "NotIncreasing",
             AppFault::AgentStatus { .. } => "AgentStatus",
             AppFault::BadText => "BadText",
@@ -77,10 +82,12 @@ impl From<AllocError> for AppFault {
 }
 
 impl From<SocketFault> for AppFault {
-    ghost from_gives = { λ _ e. e ≡ FaultOfSocket };
+    ghost from_gives = { λ fault e. e ≡ FaultOfSocket fault.reason };
 
-    fn from(_e: SocketFault) -> AppFault {
-        AppFault::SocketFault
+    fn from(fault: SocketFault) -> AppFault {
+        AppFault::SocketFault {
+            reason: fault.reason,
+        }
     }
 }
 

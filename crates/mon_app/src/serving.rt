@@ -4,7 +4,8 @@ ghost use Rattle.std.specs.Prelude.{◌≡◌, ◌⊎◌, Err, OnOk, OnErr, IfEr
 ghost use Rattle.mon_agent.specs.State.{policy_of, settings_of, counters_of, device_of};
 ghost use Rattle.mon_mib.specs.Counters.{one_more};
 ghost use Rattle.mon_app.specs.AtWire.{socket_failures};
-ghost use Rattle.mon_app.specs.Served.{AnswersIt, IsLost, IsServed, IsUnanswered};
+ghost use Rattle.mon_app.specs.Served.{AnswersIt, IsLost, IsServed, IsServingFault, IsUnanswered};
+ghost use Rattle.mon_app.specs.declared.reason.SocketReason.{SocketReason};
 
 use crate::fault::AppFault;
 use crate::port::Port;
@@ -31,10 +32,10 @@ pub fn serve_one<P: Port, D: Device + Drop>(
     // Where memory runs out nothing changes but that the datagram came.
     ensures memory { result ≡ Err AppFault.OutOfMemory → (agent.new ≡ agent.old) × IsUnanswered (P.told port.old) (P.told port.new) }
     // Where the port failed nothing came, or the reply was lost.
-    ensures socket { result ≡ Err AppFault.SocketFault → ((agent.new ≡ agent.old) × (P.told port.new ≡ P.told port.old))
+    ensures socket { (reason : SocketReason) → result ≡ Err (AppFault.SocketFault reason) → ((agent.new ≡ agent.old) × (P.told port.new ≡ P.told port.old))
         ⊎ IsLost (AnswersIt D.held D.failed D.refuses (policy_of agent.old) (settings_of agent.old)
         (counters_of agent.old) (counters_of agent.new) (device_of agent.old) (device_of agent.new)) (P.told port.old) (P.told port.new) }
-    ensures fault { IfErr result (λ f. (f ≡ AppFault.OutOfMemory) ⊎ (f ≡ AppFault.SocketFault)) }
+    ensures fault { IfErr result IsServingFault }
     ensures failures { P.failures port.new ≡ socket_failures result (P.failures port.old) }
     // The agent's policy and settings stay.
     ensures policy { policy_of agent.new ≡ policy_of agent.old }

@@ -1,9 +1,12 @@
 //! A wire over UDP and IPv4.
 
 ghost use Rattle.std.specs.Prelude.{◌≡◌, IfOk, length};
+ghost use Rattle.std.specs.IoError.{error_kind};
+ghost use Rattle.mon_app.specs.AppFault.{of_socket, reason_of};
 ghost use Rattle.mon_app.specs.AtWire.{FitsRoom};
 
 use crate::fault::{AppFault, SocketFault};
+use crate::reason::SocketReason;
 use crate::wire::{Heard, Wire};
 use mon_edge::failed_after;
 use std::io;
@@ -72,7 +75,9 @@ impl<R: Clock> SocketWire<'_, R> {
             Err(error) => match error.kind() {
                 io::ErrorKind::WouldBlock | io::ErrorKind::TimedOut => Ok(Heard::Quiet),
                 io::ErrorKind::Interrupted => Ok(Heard::Other),
-                _ => Err(SocketFault),
+                kind => Err(SocketFault {
+                    reason: SocketReason::of(kind),
+                }),
             },
         }
     }
@@ -100,14 +105,22 @@ impl<R: Clock> Wire for SocketWire<'_, R> {
 }
 
 /// A socket that could not be opened, unless memory ran out in it.
-pub(crate) fn socket_fault(error: io::Error) -> AppFault {
+pub(crate) fn socket_fault(error: io::Error) -> AppFault
+    ensures { result ≡ of_socket (error_kind error) }
+{
     match error.kind() {
         io::ErrorKind::OutOfMemory => AppFault::OutOfMemory,
-        _ => AppFault::SocketFault,
+        kind => AppFault::SocketFault {
+            reason: SocketReason::of(kind),
+        },
     }
 }
 
 /// A failed call of a socket.
-pub(crate) fn failed(_error: io::Error) -> SocketFault {
-    SocketFault
+pub(crate) fn failed(error: io::Error) -> SocketFault
+    ensures { result.reason ≡ reason_of (error_kind error) }
+{
+    SocketFault {
+        reason: SocketReason::of(error.kind()),
+    }
 }

@@ -4,6 +4,7 @@ ghost use Rattle.std.specs.Prelude.{◌≡◌, ◌≤◌, IfOk, length};
 
 use crate::fault::{AppFault, SocketFault};
 use crate::port::{Port, Received};
+use crate::reason::SocketReason;
 use crate::socket::{failed, socket_fault};
 use mon_edge::failed_after;
 use mon_mib::Moment;
@@ -14,6 +15,11 @@ use std::time::Instant;
 
 /// How often a wait that a signal ended is begun anew.
 const TRIES: u8 = 255;
+
+/// The agent's life is over, which is no failure of the system's.
+const OVER: SocketFault = SocketFault {
+    reason: SocketReason::Other,
+};
 
 /// A port over a socket. The agent's life begins where it is opened.
 #[derive(Drop)]
@@ -55,8 +61,8 @@ impl<R: Clock> SocketPort<'_, R> {
         let now = Instant::now(self.rt).map_err(failed)?;
         let hundredths = now.duration_since(self.began).as_millis() / 10;
         match u64::try_from(hundredths) {
-            Ok(hundredths) => Moment::new(hundredths).ok_or(SocketFault),
-            Err(_) => Err(SocketFault),
+            Ok(hundredths) => Moment::new(hundredths).ok_or(OVER),
+            Err(_) => Err(OVER),
         }
     }
 
@@ -77,10 +83,12 @@ impl<R: Clock> SocketPort<'_, R> {
                     });
                 }
                 Err(error) if error.kind() == io::ErrorKind::Interrupted => {}
-                Err(_) => return Err(SocketFault),
+                Err(error) => return Err(failed(error)),
             }
         }
-        Err(SocketFault)
+        Err(SocketFault {
+            reason: SocketReason::Other,
+        })
     }
 }
 

@@ -6,7 +6,7 @@ use Rattle.mon_app.specs.AtPort.{IsToBeSent, Received, Replied, sent_for}
 use Rattle.mon_app.proofs.serving.serve_one.Goals as goal
 
 pub returns-in_err-reply-in-Send-clause-socket : goal.returns-in_err-reply-in-Send-clause-socket
-returns-in_err-reply-in-Send-clause-socket g c = λ is. inr (record {
+returns-in_err-reply-in-Send-clause-socket g c = λ reason is. inr (record {
   datagram = take c.in_ok-received.received.len c.receive.new.room;
   moment = c.in_ok-received.received.moment;
   reply = c.in_ok-octets.field-0;

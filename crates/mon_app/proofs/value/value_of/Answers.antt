@@ -13,7 +13,7 @@ refused : (text : List ℕ) (e : AppFault) → IsFault (IsDotted text) e → IsF
 refused text OutOfMemory h = h
 refused text Timeout h = h
 refused text FileFault h = h
-refused text SocketFault h = h
+refused text (SocketFault reason) h = h
 refused text NotIncreasing h = h
 refused text (AgentStatus status index) h = h
 refused text BadText h = λ v means. h means.0 means.1
