@@ -2,7 +2,8 @@
 
 use crate::small_agent::{changed, settings};
 use mon_settings::{
-    Addr, Key, Kind, Place, Position, SettingsFault, Step, known_keys, toml_position, unknown_key,
+    Addr, Key, Kind, Place, Position, SettingsFault, Step, explained, known_keys, toml_position,
+    unknown_key,
 };
 use std::alloc::Global;
 use std::test::Fail;
@@ -17,7 +18,7 @@ fn refused(alloc: Global, old: &str, new: &str) -> Result<String, Fail> {
 fn told(alloc: Global, text: &str) -> Result<String, Fail> {
     match settings(alloc, text) {
         Ok(_) => Ok(String::new(alloc)),
-        Err(fault) => Ok(format!(in alloc; "{fault}")?),
+        Err(fault) => Ok(explained(alloc, fault, Kind::Agent, text)?),
     }
 }
 
@@ -130,7 +131,11 @@ fn refuses_values(rt: HostRuntime) -> Result<(), Fail> {
 fn refuses_texts(rt: HostRuntime) -> Result<(), Fail> {
     let alloc = rt.alloc();
     let rows = [
-        ("listen =", "listen", "the text is not TOML"),
+        (
+            "listen =",
+            "listen",
+            "line 2, column 8: the text is not TOML from here on",
+        ),
         ("limit = 484", "", "limit is missing: 484 to 8192 is wanted"),
         (
             ", rate = 0",
@@ -140,17 +145,17 @@ fn refuses_texts(rt: HostRuntime) -> Result<(), Fail> {
         (
             "limit = 484",
             "limit = 0\ncolour = 1",
-            "the settings: a key is unknown",
+            "the settings: \"colour\" is no key here; the keys are listen, limit, engine, boots, descr, object_id, contact, name, location, services, community, group, access, view, interface",
         ),
         (
             "security = \"ro\"",
             "security = \"ro\", colour = 1",
-            "community[1]: a key is unknown",
+            "community[1]: \"colour\" is no key here; the keys are community, security",
         ),
         (
             "rate = 0",
             "rate = 0, x = 1",
-            "interface[1].in_octets: a key is unknown",
+            "interface[1].in_octets: \"x\" is no key here; the keys are start, rate",
         ),
     ];
     for (old, new, wanted) in rows {
