@@ -4,12 +4,14 @@ use crate::answering::answers;
 use crate::failure::Failure;
 use crate::fault::Fault;
 use crate::files::{print, read_input_text, read_text};
+use crate::settings::unset;
 use clap::ArgMatches;
 use mon_agent::Agent;
 use mon_app::{AppFault, SocketPort, room, serve_one};
 use mon_mib::{FuseDevice, Moment, SimDevice};
 use mon_settings::{AgentSettings, Kind, read_agent};
-use std::net::{Ipv4Addr, Net, SocketAddr, SocketAddrV4};
+use std::alloc::Global;
+use std::net::{Ipv4Addr, Net, SocketAddrV4};
 use std::rt::{Clock, Files};
 
 /// The greatest moment of a device's life, in hundredths of a second.
@@ -25,7 +27,10 @@ pub fn agent<R: Clock + Files + Net + Eprint + AllocGlobal>(
     let device = SimDevice::new(told.interfaces, told.texts)?;
     let mut agent = Agent::new(told.policy, told.settings, device);
     let mut room = room(rt.alloc())?;
-    let mut port = SocketPort::open(rt, listen)?;
+    let mut port = match SocketPort::open(rt, listen) {
+        Ok(port) => port,
+        Err(fault) => return Err(unheard(rt.alloc(), listen, fault)),
+    };
     let at = port.address()?;
     let _ = eprintln!(rt; "snmpmon: agent at {at}");
     for _ in 0..words.get_one::<u32>("count").unwrap_or(0) {
@@ -35,6 +40,16 @@ pub fn agent<R: Clock + Files + Net + Eprint + AllocGlobal>(
         }
     }
     Ok(())
+}
+
+/// Why an agent does not listen at its address.
+fn unheard(alloc: Global, listen: SocketAddrV4, fault: AppFault) -> Failure {
+    match fault {
+        AppFault::SocketFault { reason } => {
+            Failure::without_socket(alloc, listen, reason)
+        }
+        _ => Failure::from(fault),
+    }
 }
 
 /// What the file of an agent's settings says, with the boots that the words may give.

@@ -7,12 +7,12 @@ use crate::naming::{identifier, names_of};
 use clap::ArgMatches;
 use mon_app::{
     AppFault, Asking, InNumbers, NameTexts, Question, Repeats, SocketWire, ValueKind, answer_text,
-    value_of,
+    status_name, value_of,
 };
 use mon_ber::Value;
 use mon_oid::Oid;
 use mon_smi::Names;
-use std::alloc::Global;
+use std::alloc::{AllocError, Global};
 use std::net::{Net, SocketAddrV4};
 use std::rt::{Clock, Files};
 
@@ -261,5 +261,23 @@ fn walked<R: Clock + Net + AllocGlobal, S: NameTexts>(
 
 /// Why the agent gave no answer that is printed.
 fn unanswered(alloc: Global, query: &Query<'_>, fault: AppFault) -> Failure {
-    Failure::at(alloc, query.agent.word, Fault::App(fault))
+    match fault {
+        AppFault::AgentStatus { status, index } => Failure::said(
+            Fault::App(fault),
+            status_text(alloc, query.agent.word, status, index),
+        ),
+        AppFault::SocketFault { reason } => {
+            Failure::without_socket(alloc, query.agent.word, reason)
+        }
+        _ => Failure::at(alloc, query.agent.word, Fault::App(fault)),
+    }
+}
+
+/// The error-status of an agent's reply, and the variable binding that it names.
+fn status_text(alloc: Global, agent: &str, status: i32, index: i32) -> Result<String, AllocError> {
+    let name = status_name(status).unwrap_or("an unknown error-status");
+    if index == 0 {
+        return format!(in alloc; "{agent}: the agent answered {name} ({status})");
+    }
+    format!(in alloc; "{agent}: the agent answered {name} ({status}) for variable binding {index}")
 }

@@ -1,14 +1,15 @@
 //! Why a command failed, and where.
 
 use crate::fault::Fault;
-use mon_app::AppFault;
+use mon_app::{AppFault, SocketReason};
+use mon_mib::DeviceFault;
 use mon_rehearsal::RehearsalFault;
 use mon_rounds::TrialFault;
 use mon_smi::NamesFault;
 use mon_station::StationFault;
 use std::alloc::{AllocError, AllocFailed, Global};
+use std::fmt::Display;
 use std::io;
-use std::net::SocketAddrV4;
 
 /// A fault, and what else is known of it: the file, the address or the word in which it arose, and what is wanted there.
 #[derive(Debug, Drop)]
@@ -49,12 +50,20 @@ impl Failure {
     }
 
     /// A socket that could not be had or used at this address, with the system's reason.
-    pub fn socket(alloc: Global, address: SocketAddrV4, error: io::Error) -> Self {
-        let fault = match error.kind() {
-            io::ErrorKind::OutOfMemory => AppFault::OutOfMemory,
-            _ => AppFault::SocketFault,
-        };
-        Failure::said(Fault::App(fault), format!(in alloc; "{address}: {error}"))
+    pub fn socket<P: Display + Drop>(alloc: Global, address: P, error: io::Error) -> Self {
+        match error.kind() {
+            io::ErrorKind::OutOfMemory => Failure::from(AppFault::OutOfMemory),
+            kind => Failure::without_socket(alloc, address, SocketReason::of(kind)),
+        }
+    }
+
+    /// A socket that could not be had or used at this address for this reason.
+    pub fn without_socket<P: Display + Drop>(alloc: Global, address: P, reason: SocketReason) -> Self {
+        let why = reason.text();
+        Failure::said(
+            Fault::App(AppFault::SocketFault { reason }),
+            format!(in alloc; "{address}: no socket could be opened or used: {why}"),
+        )
     }
 
     /// Prints the fault's line, and a second one that says what was wrong and where. Out of memory says all in one line.
@@ -90,6 +99,12 @@ impl From<AppFault> for Failure {
 impl From<NamesFault> for Failure {
     fn from(fault: NamesFault) -> Failure {
         Failure::plain(Fault::Names(fault))
+    }
+}
+
+impl From<DeviceFault> for Failure {
+    fn from(fault: DeviceFault) -> Failure {
+        Failure::plain(Fault::Device(fault))
     }
 }
 

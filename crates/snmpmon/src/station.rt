@@ -337,16 +337,16 @@ fn print_report<R: Print + AllocGlobal>(
 }
 
 /// What a call of the station's file gave.
-fn in_file<T: Drop>(alloc: Global, path: &str, result: io::Result<T>) -> Result<T, Failure> {
-    match result {
+fn in_file<T: Drop>(alloc: Global, path: &str, given: io::Result<T>) -> Result<T, Failure> {
+    match given {
         Ok(value) => Ok(value),
         Err(error) => Err(Failure::stream(alloc, path, error)),
     }
 }
 
 /// What a call of the station's socket gave.
-fn used<T: Drop>(alloc: Global, listen: Addr, result: io::Result<T>) -> Result<T, Failure> {
-    match result {
+fn used<T: Drop>(alloc: Global, listen: Addr, given: io::Result<T>) -> Result<T, Failure> {
+    match given {
         Ok(value) => Ok(value),
         Err(error) => Err(Failure::socket(alloc, shown(listen), error)),
     }
