@@ -9,7 +9,7 @@ use Rattle.mon_station.specs.declared.fault.StationFault.TheVariants as station
 use Rattle.mon_station.specs.declared.station.Station.{Station}
 use Rattle.mon_station.specs.Step.{left_polls}
 use Rattle.mon_world.specs.declared.fault.WorldFault.{WorldFault}
-use Rattle.mon_world.specs.declared.fault.WorldFault.TheVariants.{OutOfMemory, Refused}
+use Rattle.mon_world.specs.declared.fault.WorldFault.TheVariants.{OutOfMemory}
 use Rattle.mon_world.specs.Fault.{station_refusal}
 use Rattle.mon_world.specs.Kept.{AreKept, IsKept}
 use Rattle.mon_world.specs.Places.{HasNumber}

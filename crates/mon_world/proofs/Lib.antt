@@ -1,6 +1,7 @@
 mod Addressed
 mod Agree
 mod Appended
+mod Begun
 mod Asked
 mod First
 mod Fused

@@ -1,3 +1,4 @@
+pub mod Begun
 pub mod Debts
 pub mod Fault
 pub mod Kept

@@ -13,6 +13,7 @@ ghost use Rattle.mon_station.specs.State.{State, known_of, owed_count, owed_to, 
 ghost use Rattle.mon_station.specs.Taken as lives;
 ghost use Rattle.mon_station.specs.Verdict.{Setting, slot_of};
 ghost use Rattle.mon_window.specs.Window.{In};
+ghost use Rattle.mon_world.specs.Begun.{AreBegun};
 ghost use Rattle.mon_world.specs.Debts.{offered_in, owed_by};
 ghost use Rattle.mon_world.specs.declared.fault.WorldFault.{WorldFault};
 ghost use Rattle.mon_world.specs.declared.sending.Sent.{Sent};
@@ -58,4 +59,15 @@ pub fn unforged()
         → AllByRecursion IsClaim (map (λ l. l.claim) (sent_in now)) → AreStepOutcomes settings steps results past now → AreUnforged past → AreUnforged now }
 {
     mon_exchange::laws::one_spelling();
+}
+
+/// Over all moves of a world, stops within a save among them: a station's first life begins with empty windows and incarnation 1. Each
+/// other has the windows of the last save that was answered without a fault, or of one after it that was stopped or met the disk's fault;
+/// an opening's own save is one of these. Its incarnation is the one after that of the life before, so greater than each earlier one.
+pub fn begun()
+    ensures { (core : Core) (count x : ℕ) (moves : List Move) → AreMoves (setting_at core count) moves → AreBegun (lives_of x moves) }
+{
+    mon_saved::laws::one_image();
+    mon_saved::laws::read_back();
+    mon_station::laws::taken();
 }
