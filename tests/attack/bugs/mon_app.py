@@ -330,5 +330,19 @@ BUGS = {
         "src/input.rt",
         "const READS: u32 = 1_048_576;",
         "const READS: u32 = 64;",
+    "calls_an_address_in_use_missing": (
+        "src/reason.rt",
+        "            io::ErrorKind::AddrInUse => SocketReason::AddressInUse,",
+        "            io::ErrorKind::AddrInUse => SocketReason::AddressNotAvailable,",
+    ),
+    "loses_the_reason": (
+        "src/socket.rt",
+        "        reason: SocketReason::of(error.kind()),",
+        "        reason: SocketReason::Other,",
+    ),
+    "loses_the_reason_on_its_way": (
+        "src/fault.rt",
+        "            reason: fault.reason,",
+        "            reason: SocketReason::Other,",
     ),
 }
