@@ -330,6 +330,7 @@ BUGS = {
         "src/input.rt",
         "const READS: u32 = 1_048_576;",
         "const READS: u32 = 64;",
+    ),
     "calls_an_address_in_use_missing": (
         "src/reason.rt",
         "            io::ErrorKind::AddrInUse => SocketReason::AddressInUse,",
