@@ -4,14 +4,14 @@ ghost use Rattle.std.specs.Prelude.{◌≡◌, ◌++◌, IfOk};
 ghost use Rattle.mon_rounds.specs.Trial.{name_of, number_of, trial_text};
 
 use crate::saved::{saved_report, written};
-use mon_agent::{Agent, Reply};
+use mon_agent::{Agent, AgentFault, Reply};
 use mon_board::Watch;
 use mon_disk::{Disk, MemoryDisk};
 use mon_mib::{Device, Moment, SimDevice};
 use mon_poller::Addr;
-use mon_settings::{StationSettings, read_agent, read_station};
+use mon_settings::{SettingsFault, StationSettings, read_agent, read_station};
 use mon_smi::Names;
-use mon_station::{Event, Station};
+use mon_station::{Event, Station, StationFault};
 use std::alloc::{AllocError, Global};
 use thiserror::Error;
 
@@ -110,6 +110,26 @@ impl From<AllocError> for TrialFault {
     }
 }
 
+/// No settings are to be refused here.
+impl From<SettingsFault> for TrialFault {
+    fn from(fault: SettingsFault) -> TrialFault {
+        match fault {
+            SettingsFault::OutOfMemory => TrialFault::OutOfMemory,
+            _ => TrialFault::Unexpected,
+        }
+    }
+}
+
+/// No step is to be refused here.
+impl From<StationFault> for TrialFault {
+    fn from(fault: StationFault) -> TrialFault {
+        match fault {
+            StationFault::OutOfMemory => TrialFault::OutOfMemory,
+            _ => TrialFault::Unexpected,
+        }
+    }
+}
+
 impl TrialFault {
     /// The number of the fault, 1 or 2.
     pub fn number(self) -> u8
@@ -142,14 +162,12 @@ fn agent_address() -> Addr {
 /// holds are what they have to be.
 ///
 /// # Errors
-/// `Unexpected` where anything else was answered, also for want of memory in a call; `OutOfMemory`.
+/// `OutOfMemory`; `Unexpected` where anything else was answered, also by a disk in memory that found no room.
 pub fn selftest(alloc: Global) -> Result<Vec<u8>, TrialFault>
     ensures { IfOk result (λ text. text.items ≡ trial_text) }
 {
-    match tried(alloc) {
-        Some(text) => judged(text, REPORT.as_bytes(), DONE.as_bytes()),
-        None => Err(TrialFault::Unexpected),
-    }
+    let text = tried(alloc)?;
+    judged(text, REPORT.as_bytes(), DONE.as_bytes())
 }
 
 /// A text, with a last line after it, where it is what it has to be.
@@ -165,19 +183,28 @@ fn judged(text: Vec<u8>, wanted: &[u8], last: &[u8]) -> Result<Vec<u8>, TrialFau
 }
 
 /// The report of a station that was tried, where that of what it saved is the same.
-fn tried(alloc: Global) -> Option<Vec<u8>> {
+fn tried(alloc: Global) -> Result<Vec<u8>, TrialFault> {
     let settings = station_settings(alloc, STATION)?;
-    let core = settings.core.try_clone(alloc).ok()?;
-    let disk = MemoryDisk::new(alloc, &[]).ok()?;
-    let mut station = Station::open(alloc, core, disk).ok()?;
+    let core = settings.core.try_clone(alloc)?;
+    let disk = MemoryDisk::new(alloc, &[])?;
+    let mut station = match Station::open(alloc, core, disk) {
+        Ok(station) => station,
+        Err((fault, _)) => return Err(TrialFault::from(fault)),
+    };
     poll_agent(alloc, &mut station, AGENT)?;
     reported(alloc, settings.core.watch(), station)
 }
 
 /// Polls an agent of these settings at each of the moments.
-fn poll_agent<D: Disk + Drop>(alloc: Global, station: &mut Station<D>, text: &str) -> Option<()> {
-    let told = read_agent(alloc, text).ok()?;
-    let device = SimDevice::new(told.interfaces, told.texts).ok()?;
+fn poll_agent<D: Disk + Drop>(
+    alloc: Global,
+    station: &mut Station<D>,
+    text: &str,
+) -> Result<(), TrialFault> {
+    let told = read_agent(alloc, text)?;
+    let Ok(device) = SimDevice::new(told.interfaces, told.texts) else {
+        return Err(TrialFault::Unexpected);
+    };
     let mut agent = Agent::new(told.policy, told.settings, device);
     polled_at(alloc, station, &mut agent, &MOMENTS)
 }
@@ -188,29 +215,43 @@ fn polled_at<D: Disk + Drop, E: Device + Drop>(
     station: &mut Station<D>,
     agent: &mut Agent<E>,
     moments: &[u64],
-) -> Option<()> {
+) -> Result<(), TrialFault> {
     for at in moments {
-        polled(alloc, station, agent, Moment::new(*at)?)?;
+        let Some(moment) = Moment::new(*at) else {
+            return Err(TrialFault::Unexpected);
+        };
+        polled(alloc, station, agent, moment)?;
     }
-    Some(())
+    Ok(())
 }
 
 /// Saves, and gives the station's report where that of what it saved is the same.
-fn reported<D: Disk + Drop>(alloc: Global, watch: &Watch, station: Station<D>) -> Option<Vec<u8>> {
+fn reported<D: Disk + Drop>(
+    alloc: Global,
+    watch: &Watch,
+    station: Station<D>,
+) -> Result<Vec<u8>, TrialFault> {
     let mut station = station;
-    station.step(alloc, Event::Save).ok()?;
-    let text = written(alloc, station.board()).ok()?;
-    let (saved, _) = saved_report(alloc, watch, station.into_disk()).ok()?;
-    if saved.as_slice() == text.as_slice() {
-        Some(text)
-    } else {
-        None
+    station.step(alloc, Event::Save)?;
+    let text = written(alloc, station.board())?;
+    match saved_report(alloc, watch, station.into_disk()) {
+        Ok((saved, _)) => same(saved, text),
+        Err((fault, _)) => Err(TrialFault::from(fault)),
     }
 }
 
-fn station_settings(alloc: Global, text: &str) -> Option<StationSettings> {
-    let names = Names::new(alloc).ok()?;
-    read_station(alloc, text, &names).ok()
+/// The second text, where the first is the same.
+fn same(saved: Vec<u8>, text: Vec<u8>) -> Result<Vec<u8>, TrialFault> {
+    if saved.as_slice() == text.as_slice() {
+        Ok(text)
+    } else {
+        Err(TrialFault::Unexpected)
+    }
+}
+
+fn station_settings(alloc: Global, text: &str) -> Result<StationSettings, TrialFault> {
+    let names = Names::new(alloc)?;
+    Ok(read_station(alloc, text, &names)?)
 }
 
 /// Polls the agent at a moment of its life, and hands the station its response.
@@ -219,17 +260,18 @@ fn polled<D: Disk + Drop, E: Device + Drop>(
     station: &mut Station<D>,
     agent: &mut Agent<E>,
     at: Moment,
-) -> Option<()> {
-    let told = station.step(alloc, Event::StartPoll(0)).ok()?;
+) -> Result<(), TrialFault> {
+    let told = station.step(alloc, Event::StartPoll(0))?;
     let [request] = told.sends.as_slice() else {
-        return None;
+        return Err(TrialFault::Unexpected);
     };
-    match agent.answer(alloc, request.octets.as_slice(), at).ok()? {
-        Reply::Send(octets) => {
+    match agent.answer(alloc, request.octets.as_slice(), at) {
+        Ok(Reply::Send(octets)) => {
             let response = Event::FromAgent(agent_address(), octets.as_slice());
-            station.step(alloc, response).ok()?;
-            Some(())
+            station.step(alloc, response)?;
+            Ok(())
         }
-        Reply::Silent(_) => None,
+        Ok(Reply::Silent(_)) => Err(TrialFault::Unexpected),
+        Err(AgentFault::OutOfMemory) => Err(TrialFault::OutOfMemory),
     }
 }
