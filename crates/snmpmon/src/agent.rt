@@ -45,9 +45,7 @@ pub fn agent<R: Clock + Files + Net + Eprint + AllocGlobal>(
 /// Why an agent does not listen at its address.
 fn unheard(alloc: Global, listen: SocketAddrV4, fault: AppFault) -> Failure {
     match fault {
-        AppFault::SocketFault { reason } => {
-            Failure::without_socket(alloc, listen, reason)
-        }
+        AppFault::SocketFault { reason } => { Failure::without_socket(alloc, listen, reason) }
         _ => Failure::from(fault),
     }
 }

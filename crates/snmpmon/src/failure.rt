@@ -58,7 +58,11 @@ impl Failure {
     }
 
     /// A socket that could not be had or used at this address for this reason.
-    pub fn without_socket<P: Display + Drop>(alloc: Global, address: P, reason: SocketReason) -> Self {
+    pub fn without_socket<P: Display + Drop>(
+        alloc: Global,
+        address: P,
+        reason: SocketReason,
+    ) -> Self {
         let why = reason.text();
         Failure::said(
             Fault::App(AppFault::SocketFault { reason }),

@@ -11,6 +11,7 @@ use std::rt::Files;
 
 /// What second lines call the standard streams.
 const INPUT: &str = "standard input";
+
 const OUTPUT: &str = "standard output";
 
 /// Prints octets.

@@ -60,7 +60,11 @@ pub fn station<R: Clock + Files<File = File> + Net + Print + Eprint + AllocGloba
     let (disk, socket) = opened(rt, &settings)?;
     let listen = settings.listen;
     let at = used(rt.alloc(), listen, socket.address())?;
-    let receiver = used(rt.alloc(), listen, SocketReceiver::new(rt, rt.alloc(), &socket))?;
+    let receiver = used(
+        rt.alloc(),
+        listen,
+        SocketReceiver::new(rt, rt.alloc(), &socket),
+    )?;
     let outbox = SocketOutbox::new(&socket, Addresses::of(rt.alloc(), &settings)?);
     let running = begun(rt, settings, at, disk, receiver, outbox)?;
     run_rounds(rt, running, timing_of(words))
@@ -118,7 +122,11 @@ pub fn report<R: Files<File = File> + Print + AllocGlobal>(
     words: &ArgMatches<'_>,
 ) -> Result<(), Failure> {
     let settings = settings_of(rt, words)?;
-    let disk = in_file(rt.alloc(), &settings.file, FileDisk::open(rt, &settings.file))?;
+    let disk = in_file(
+        rt.alloc(),
+        &settings.file,
+        FileDisk::open(rt, &settings.file),
+    )?;
     match saved_report(rt.alloc(), settings.core.watch(), disk) {
         Ok((text, _)) => print(rt, text.as_slice()),
         Err((fault, _)) => Err(unkept(rt.alloc(), &settings.file, fault)),
@@ -193,7 +201,11 @@ fn opened<R: Files<File = File> + Net + AllocGlobal>(
 ) -> Result<(FileDisk, Socket), Failure> {
     let alloc = rt.alloc();
     let socket = Socket::open(rt, settings.listen);
-    let disk = in_file(alloc, &settings.file, FileDisk::open_or_create(rt, &settings.file))?;
+    let disk = in_file(
+        alloc,
+        &settings.file,
+        FileDisk::open_or_create(rt, &settings.file),
+    )?;
     match socket {
         Ok(socket) => Ok((disk, socket)),
         Err(error) => match saved_report(alloc, settings.core.watch(), disk) {

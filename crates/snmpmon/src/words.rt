@@ -176,18 +176,18 @@ fn bulk<'a>(alloc: Global) -> Result<Command<'a>, AllocError> {
         client(alloc, "bulk", BULK, BULK_MORE)?,
         module(alloc),
     )?
-        .arg(count(
-            alloc,
-            "non-repeaters",
-            'n',
-            "How many of the names are asked for once",
-        ))?
-        .arg(count(
-            alloc,
-            "max-repetitions",
-            'm',
-            "How many rounds of the others are asked for",
-        ))
+    .arg(count(
+        alloc,
+        "non-repeaters",
+        'n',
+        "How many of the names are asked for once",
+    ))?
+    .arg(count(
+        alloc,
+        "max-repetitions",
+        'm',
+        "How many rounds of the others are asked for",
+    ))
 }
 
 const WALK: &str = "Asks an agent for all variables under a name (GetNextRequests)";
