@@ -4,12 +4,14 @@ use crate::answering::answers;
 use crate::failure::Failure;
 use crate::fault::Fault;
 use crate::files::{print, read_input_text, read_text};
+use crate::naming::names_of;
 use crate::settings::unset;
 use clap::ArgMatches;
 use mon_agent::Agent;
 use mon_app::{AppFault, SocketPort, room, serve_one};
 use mon_mib::{FuseDevice, Moment, SimDevice};
 use mon_settings::{AgentSettings, Kind, read_agent};
+use mon_smi::{Labels, Names};
 use std::alloc::Global;
 use std::net::{Ipv4Addr, Net, SocketAddrV4};
 use std::rt::{Clock, Files};
@@ -80,7 +82,22 @@ pub fn answer<R: Files + Input + Print + AllocGlobal>(
         return Err(Failure::text(rt.alloc(), "--at", MOMENTS));
     };
     let times = words.get_one::<u32>("times").unwrap_or(1);
+    let names = names_of(rt, words)?;
     let text = read_input_text(rt)?;
-    let lines = answers(rt.alloc(), &mut agent, &text, at, times)?;
+    let labels = labels_of(rt.alloc(), words, &names)?;
+    let lines = answers(rt.alloc(), &mut agent, &text, at, times, labels.as_ref())?;
     print(rt, lines.as_bytes())
+}
+
+/// The names by which replies are printed, where the words want that.
+fn labels_of<'n>(
+    alloc: Global,
+    words: &ArgMatches<'_>,
+    names: &'n Names,
+) -> Result<Option<Labels<'n>>, Failure> {
+    if words.get_flag("names") {
+        Ok(Some(names.labels(alloc)?))
+    } else {
+        Ok(None)
+    }
 }

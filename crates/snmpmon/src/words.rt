@@ -76,8 +76,8 @@ three times, two seconds apart; no reply ends the command with 2 Timeout, an err
 
 With --module the names of an SMIv2 module (RFC 2578) are known too, and with --names what is answered is printed by name.
 
-Examples: snmpmon get 127.0.0.1:161 public 1.3.6.1.2.1.1.5.0
-          snmpmon get --module examples/served.mib --names 127.0.0.1:161 public sysName.0";
+Examples: snmpmon get 127.0.0.1:16100 public 1.3.6.1.2.1.1.5.0
+          snmpmon get --module examples/served.mib --names 127.0.0.1:16100 public sysName.0";
 
 const NEXT: &str = "Asks an agent for the variables after names (GetNextRequest)";
 
@@ -85,7 +85,7 @@ const NEXT_MORE: &str =
     "Sends a GetNextRequest for the NAMEs to the agent at ADDRESS, and prints for each the first variable after it, as
 `get` does. After the agent's last variable that is endOfMibView.
 
-Example: snmpmon next 127.0.0.1:161 public 1.3";
+Example: snmpmon next 127.0.0.1:16100 public 1.3";
 
 const ADDRESS: &str = "The agent's address, a.b.c.d:port";
 
@@ -161,7 +161,7 @@ const BULK_MORE: &str =
     "Sends a GetBulkRequest for the NAMEs to the agent at ADDRESS, and prints what it answers as `get` does: one variable
 after each of the first N names, then M rounds of the variables after the others, as many as fit the agent's limit.
 
-Example: snmpmon bulk -n 0 -m 10 127.0.0.1:161 public mib-2.2.2.1.10";
+Example: snmpmon bulk -n 0 -m 10 127.0.0.1:16100 public mib-2.2.2.1.10";
 
 /// A count of a GetBulk, 0 to 2147483647.
 fn count<'a>(alloc: Global, id: &'a str, short: char, help: &'a str) -> Arg<'a> {
@@ -198,8 +198,8 @@ does. It ends at the first variable that is not under NAME, at the agent's last 
 
 An agent whose names do not increase ends it with 5 NotIncreasing, after what was printed so far.
 
-Examples: snmpmon walk 127.0.0.1:161 public mib-2.2
-          snmpmon walk -m examples/served.mib --names 127.0.0.1:161 public ifTable";
+Examples: snmpmon walk 127.0.0.1:16100 public mib-2.2
+          snmpmon walk -m examples/served.mib --names 127.0.0.1:16100 public ifTable";
 
 fn walk<'a>(alloc: Global) -> Result<Command<'a>, AllocError> {
     let walk = Command::new(alloc, "walk")
@@ -230,8 +230,8 @@ KIND says how VALUE is read:
 A decimal number is digits alone, leading zeros allowed, for an integer also with - before them. Any other text ends the command
 with 8 BadText before anything is sent. A VALUE that begins with - stands after --.
 
-Examples: snmpmon set 127.0.0.1:161 private mib-2.1.5.0 string r2
-          snmpmon set 127.0.0.1:161 private mib-2.2.2.1.7.1 integer -- -1";
+Examples: snmpmon set 127.0.0.1:16100 private mib-2.1.5.0 string r2
+          snmpmon set 127.0.0.1:16100 private mib-2.2.2.1.7.1 integer -- -1";
 
 const VALUE: &str = "The value, a text that KIND can read";
 
@@ -299,10 +299,14 @@ and a line is printed for each; lines that are empty or begin with # are passed 
   silent 5 TooBigTwice      neither the reply nor tooBig is within the limit
   refused BadHex            not pairs of hex digits; the agent gets nothing
 
+With --names a reply is printed in other lines, by the names that modules give (-m): `reply`, its error-status and index, and then
+its variable bindings as `get` prints them.
+
 The agent's clock stands. With --fuses its device fails some of the changes that Sets ask of it, so that one sees what the agent
 answers then and what it undoes.
 
-Example: snmpmon answer examples/agent.toml < examples/requests.hex";
+Examples: snmpmon answer examples/agent.toml < examples/requests.hex
+          snmpmon answer -m examples/served.mib --names examples/agent.toml < examples/requests.hex";
 
 /// A number that may be given, in decimal.
 fn given<'a>(alloc: Global, id: &'a str, help: &'a str) -> Arg<'a> {
@@ -328,14 +332,15 @@ fn answer<'a>(alloc: Global) -> Result<Command<'a>, AllocError> {
         "How many times each datagram comes, 1 to 4294967295; its last reply is printed; 1 if not given",
     )
     .value_parser(value_parser!(u32).range(1..));
-    Command::new(alloc, "answer")
+    let answer = Command::new(alloc, "answer")
         .about(ANSWER)
         .long_about(ANSWER_MORE)
         .arg(needed(alloc, "SETTINGS", SETTINGS))?
         .arg(boots(alloc))?
         .arg(at)?
         .arg(fuses)?
-        .arg(times)
+        .arg(times)?;
+    named(alloc, answer, module(alloc).short('m'))
 }
 
 const MIB: &str = "Prints the names that a module defines";
