@@ -101,11 +101,6 @@ BUGS = {
         "        match station.save(alloc) {\n            Ok(_) => Ok(station),\n            Err(fault) => Err((fault, station.keeper.into_disk())),\n        }",
         "        if station.life.incarnation > 0 {\n            return Ok(station);\n        }\n        match station.save(alloc) {\n            Ok(_) => Ok(station),\n            Err(fault) => Err((fault, station.keeper.into_disk())),\n        }",
     ),
-    "an_opening_begins_from_nothing": (
-        "src/opening.rt",
-        "            Ok((keeper, body)) => match begin(alloc, core, body) {",
-        "            Ok((keeper, _)) => match begin(alloc, core, None) {",
-    ),
     "the_last_but_one_incarnation_is_the_last": (
         "src/opening.rt",
         "            if found == u32::MAX {",
@@ -115,11 +110,6 @@ BUGS = {
         "src/opening.rt",
         "        None => Ok((Board::new(alloc, watch)?, 1)),",
         "        None => Ok((Board::new(alloc, watch)?, 0)),",
-    ),
-    "datagrams_are_not_handed": (
-        "src/running.rt",
-        "                hand(outbox, told.sends.as_slice(), send_faults);\n",
-        "",
     ),
     "a_refused_event_ends_the_run": (
         "src/running.rt",
@@ -165,5 +155,17 @@ BUGS = {
         "src/life.rt",
         "            ClaimKind::Offer => self.confirm_offer(alloc, claim),",
         "            ClaimKind::Offer => Ok(Vec::new(alloc)),",
+    ),
+    "shows_a_failed_disk_as_refused": (
+        "src/running.rt",
+        "        StationFault::Keeper(fault) => Answer::Keeper(fault.number()),",
+        "        StationFault::Keeper(_) => Answer::Refused(fault),",
+    ),
+    "counts_only_other_faults": (
+        "src/running.rt",
+        "        Answer::Handled => refused,",
+        "        Answer::Handled | Answer::Memory => refused,",
+        "        Answer::Memory | Answer::Refused(_) | Answer::Keeper(_) => refused + 1,",
+        "        Answer::Refused(_) | Answer::Keeper(_) => refused + 1,",
     ),
 }
