@@ -9,7 +9,7 @@ ghost use Rattle.mon_app.specs.Question.{asked_in};
 
 use crate::asking::send_request;
 use crate::fault::AppFault;
-use crate::names::NameTexts;
+use mon_names::NameTexts;
 use crate::printed::bindings_text;
 use crate::question::Question;
 use crate::wire::Wire;

@@ -7,7 +7,7 @@ ghost use Rattle.mon_app.specs.Walk.{IsNextAsked, IsWalkStep, IsTurn, IsWalk, qu
 
 use crate::client::answers;
 use crate::fault::AppFault;
-use crate::names::NameTexts;
+use mon_names::NameTexts;
 use crate::printed::put_binding;
 use crate::question::{Asking, Question};
 use crate::wire::Wire;

@@ -70,9 +70,13 @@ unfoldable pub alarm_text : List ℕ → Rule → List ℕ
 alarm_text items rule =
     codes " alarm " ++ signed_decimal rule.rising ++ codes "/" ++ signed_decimal rule.falling ++ codes "=" ++ state_text (state_by rule items)
 
+-- what follows the name in an instance's line: the window and the alarms
+unfoldable pub entry_rest : Entry → List ℕ
+entry_rest e = window_text e.items ++ flat_map (alarm_text e.items) e.rules ++ codes "\n"
+
 -- an instance's line: the engine id in hex digits, the name, the window and the alarms
 unfoldable pub entry_line : Entry → List ℕ
-entry_line e = encode_lower e.engine ++ codes " " ++ dotted e.name ++ window_text e.items ++ flat_map (alarm_text e.items) e.rules ++ codes "\n"
+entry_line e = encode_lower e.engine ++ codes " " ++ dotted e.name ++ entry_rest e
 
 -- the last line: how many instances and samples there are
 unfoldable pub end_line : ℕ → ℕ → List ℕ

@@ -11,4 +11,4 @@ mod writing;
 
 pub use fault::ReportFault;
 pub use line::write_end;
-pub use report::{Entry, write_entry, write_report};
+pub use report::{Entry, entries_of, write_entry, write_report, write_rest};

@@ -1,10 +1,10 @@
 //! A board's report.
 
-ghost use Rattle.std.specs.Prelude.{◌≡◌, ◌≤◌, ◌<◌, ◌*◌, ◌^◌, true, length};
+ghost use Rattle.std.specs.Prelude.{◌≡◌, ◌≤◌, ◌<◌, ◌*◌, ◌^◌, true, length, IfOk};
 ghost use Rattle.std.specs.List.{flat_map};
 ghost use Rattle.mon_board.specs.Board.{window_of};
 ghost use Rattle.mon_rates.specs.Totals as sums;
-ghost use Rattle.mon_report.specs.Report.{Entry as AnyEntry, entry_line, entry_of, entries_from, samples_in, report, rules_on};
+ghost use Rattle.mon_report.specs.Report.{Entry as AnyEntry, entry_line, entry_rest, entry_of, entries_from, samples_in, report, rules_on};
 ghost use Rattle.mon_report.specs.Written.{AppendsIf, AppendsResult};
 
 use crate::fault::ReportFault;
@@ -15,6 +15,7 @@ use mon_board::{Board, Watched};
 use mon_oid::Oid;
 use mon_rates::Totals;
 use mon_sample::Sample;
+use std::alloc::{AllocError, Global};
 use std::io::Write;
 use std::marker::Model;
 
@@ -66,6 +67,48 @@ impl<'a> Entry<'a> {
             instance,
         }
     }
+
+    /// The octets of the engine id.
+    pub fn engine(&self) -> &'a [u8]
+        ensures { result.now ≡ self.now.engine }
+    {
+        self.engine
+    }
+
+    /// The instance's name.
+    pub fn name(&self) -> &'a Oid
+        ensures { result.now ≡ self.now.name }
+    {
+        self.name
+    }
+
+    /// The samples, the oldest first.
+    pub fn samples(&self) -> &'a [Sample]
+        ensures { result.now ≡ self.now.items }
+    {
+        self.samples
+    }
+
+    /// The samples' totals.
+    pub fn totals(&self) -> Totals
+        ensures totals { result ≡ sums.totals self.now.items }
+        ensures rated { 1000 * result.delta < 2 ^ 128 }
+    {
+        self.totals
+    }
+
+    /// The alarm rules on the instance, in their order.
+    pub fn rules(&self, alloc: Global) -> Result<Vec<Rule>, AllocError>
+        ensures { IfOk result (λ rules. rules.items ≡ self.now.rules) }
+    {
+        let mut rules = Vec::new(alloc);
+        for rule in self.rules {
+            if rule.instance() == self.instance {
+                rules.push(*rule)?;
+            }
+        }
+        Ok(rules)
+    }
 }
 
 /// Writes an instance's line, unless the writer failed before, and tells whether all is written so far.
@@ -76,6 +119,14 @@ pub fn write_entry<W: Write>(writer: &mut W, ok: bool, entry: &Entry) -> bool
     let ok = put_hex(writer, ok, entry.engine);
     let ok = put(writer, ok, b" ");
     let ok = put_name(writer, ok, entry.name);
+    write_rest(writer, ok, entry)
+}
+
+/// Writes what follows the name in an instance's line, unless the writer failed before, and tells whether all is written so far.
+#[tactic(auto, unfolding(crate::specs::Report::entry_rest))]
+pub fn write_rest<W: Write>(writer: &mut W, ok: bool, entry: &Entry) -> bool
+    ensures { AppendsIf (W.contents writer.old) ok (W.contents writer.new) result (entry_rest entry.now) }
+{
     let ok = put_window(writer, ok, entry.samples, entry.totals);
     let ok = put_alarms(writer, ok, entry.samples, entry.rules, entry.instance);
     put(writer, ok, b"\n")
@@ -115,17 +166,35 @@ fn write_line<W: Write>(board: &Board, writer: &mut W, ok: bool, i: u16, watched
     ensures { AppendsIf (W.contents writer.old) ok (W.contents writer.new) result
         (entry_line (entry_of board.now.watch.rules (window_of board.now) i watched.now)) }
 {
-    let rules = board.watch().rules();
+    write_entry(writer, ok, &entry_of(board, i, watched))
+}
+
+/// What a report says of the instance of this number.
+fn entry_of<'a>(board: &'a Board, i: u16, watched: &'a Watched) -> Entry<'a>
+    requires { i < length board.now.watch.instances }
+    ensures { result ≡ entry_of board.now.watch.rules (window_of board.now) i watched.now }
+{
     let instance = &watched.instance;
-    let entry = Entry::new(
+    Entry::new(
         instance.engine.as_slice(),
         &instance.name,
         board.items(i),
         board.totals(i),
-        rules,
+        board.watch().rules(),
         i,
-    );
-    write_entry(writer, ok, &entry)
+    )
+}
+
+/// What a report says of each instance of a board, in their order.
+pub fn entries_of(alloc: Global, board: &Board) -> Result<Vec<Entry<'_>>, AllocError>
+    ensures { IfOk result (λ es. es.items ≡ entries_from board.now.watch.rules (window_of board.now) 0 board.now.watch.instances) }
+{
+    let instances = board.watch().instances();
+    let mut found = Vec::with_capacity(alloc, instances.len())?;
+    for (i, watched) in instances.iter().enumerate() {
+        found.push(entry_of(board, i as u16, watched))?;
+    }
+    Ok(found)
 }
 
 /// How many samples the windows of a board hold.

@@ -1,0 +1,89 @@
+-- A report as a table for people: columns that are as wide as their widest text, and the names last.
+use Rattle.std.specs.Prelude.{ℕ, ◌-◌, max, List, [], ◌∷◌, ◌++◌, Bool, true, false, Option, Some, None, codes, decimal, length, map, if◌then◌else◌}
+use Rattle.std.specs.Fmt.{signed_decimal}
+use Rattle.std.specs.List.{flat_map, fold, list_any, repeat}
+use Rattle.std.specs.Str.{bytes_eq}
+use Rattle.hex.specs.Hex.{encode_lower}
+use Rattle.mon_alarms.specs.Rule.{Rule}
+use Rattle.mon_alarms.specs.Observed.{state_by}
+use Rattle.mon_alarms.specs.declared.alarm.AlarmState.{AlarmState}
+use Rattle.mon_alarms.specs.declared.alarm.AlarmState.TheVariants.{Clear, Raised}
+use Rattle.mon_report.specs.Report.{Entry, rate_text, samples_in}
+use Rattle.mon_formats.specs.Cells.{newest_of, value_of, rate_of}
+
+-- so many spaces
+abbrev pub spaces : ℕ → List ℕ
+spaces n = repeat n (32 ∷ [])
+
+-- a text at the right end of a column, and at the left end
+abbrev pub to_right : ℕ → List ℕ → List ℕ
+to_right width text = spaces (width - length text) ++ text
+
+abbrev pub to_left : ℕ → List ℕ → List ℕ
+to_left width text = text ++ spaces (width - length text)
+
+-- the newest value
+abbrev pub value_cell : Option ℕ → List ℕ
+value_cell None = codes "-"
+value_cell (Some s) = signed_decimal (value_of s)
+
+-- the rate, a second
+abbrev pub rate_cell : Option ℕ → List ℕ
+rate_cell None = codes "-"
+rate_cell (Some q) = rate_text (Some q) ++ codes "/s"
+
+abbrev pub is_raised : AlarmState → Bool
+is_raised Clear = false
+is_raised (Raised boots time) = true
+
+-- whether an alarm is raised, of those that there are
+abbrev pub alarm_cell : List ℕ → List Rule → List ℕ
+alarm_cell items [] = codes "-"
+alarm_cell items (r ∷ rs) = if list_any (λ rule. is_raised (state_by rule items)) (r ∷ rs) then codes "RAISED" else codes "clear"
+
+-- how wide the columns of values and rates are
+pub record Widths : Type 0 where
+  pub value : ℕ
+  pub rate : ℕ
+
+-- a heading's width, or that of the widest of some texts
+abbrev pub widest : ℕ → List (List ℕ) → ℕ
+widest heading texts = fold (λ w text. max w (length text)) heading texts
+
+abbrev pub widths_of : List Entry → Widths
+widths_of entries = record {
+  value = widest 5 (map (λ e. value_cell (newest_of e.items)) entries);
+  rate = widest 4 (map (λ e. rate_cell (rate_of e.items)) entries);
+}
+
+-- a line: value, rate, alarm, how many samples, and the name
+unfoldable pub cells_line : Widths → List ℕ → List ℕ → List ℕ → List ℕ → List ℕ → List ℕ
+cells_line w value rate alarm samples name =
+    to_right w.value value ++ codes "  " ++ to_right w.rate rate ++ codes "  " ++ to_left 6 alarm ++ codes "  " ++ to_right 7 samples ++ codes "  " ++ name ++ codes "\n"
+
+abbrev pub title_line : Widths → List ℕ
+title_line w = cells_line w (codes "VALUE") (codes "RATE") (codes "ALARM") (codes "SAMPLES") (codes "NAME")
+
+abbrev pub row_line : Widths → (List ℕ → List ℕ) → Entry → List ℕ
+row_line w shown e = cells_line w (value_cell (newest_of e.items)) (rate_cell (rate_of e.items)) (alarm_cell e.items e.rules) (decimal (length e.items)) (shown e.name)
+
+-- an engine's line, where another engine stands before, or none
+unfoldable pub engine_line : List ℕ → List ℕ
+engine_line engine = codes "engine " ++ encode_lower engine ++ codes "\n"
+
+abbrev pub engine_if_new : Option (List ℕ) → List ℕ → List ℕ
+engine_if_new None engine = engine_line engine
+engine_if_new (Some before) engine = if bytes_eq before engine then [] else engine_line engine
+
+-- the lines of instances behind one of this engine
+abbrev pub rows_from : Widths → (List ℕ → List ℕ) → Option (List ℕ) → List Entry → List ℕ
+rows_from w shown before [] = []
+rows_from w shown before (e ∷ es) = engine_if_new before e.engine ++ row_line w shown e ++ rows_from w shown (Some e.engine) es
+
+-- how many instances and samples there are
+unfoldable pub count_line : ℕ → ℕ → List ℕ
+count_line instances samples = decimal instances ++ codes " instances, " ++ decimal samples ++ codes " samples\n"
+
+unfoldable pub columns_report : (List ℕ → List ℕ) → List Entry → List ℕ
+columns_report shown entries =
+    title_line (widths_of entries) ++ rows_from (widths_of entries) shown None entries ++ count_line (length entries) (samples_in entries)

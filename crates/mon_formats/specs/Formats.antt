@@ -1,0 +1,24 @@
+-- The formats of a report. Each is a function of the instances' windows and rules, of how names are shown, and for Prometheus of what the
+-- station says of itself.
+use Rattle.std.specs.Prelude.{ℕ, List, Option}
+use Rattle.mon_board.specs.Watch.{Watch}
+use Rattle.mon_window.specs.Window.{Samples}
+use Rattle.mon_report.specs.Report.{Entry, entries_from}
+use Rattle.mon_formats.specs.declared.format.Format.{Format}
+use Rattle.mon_formats.specs.declared.format.Format.TheVariants.{Text, Json, Prometheus, Columns}
+use Rattle.mon_formats.specs.Named.{named_report}
+use Rattle.mon_formats.specs.Json.{json_report}
+use Rattle.mon_formats.specs.declared.figures.Figures.{Figures}
+use Rattle.mon_formats.specs.Prometheus.{prometheus_report}
+use Rattle.mon_formats.specs.Columns.{columns_report}
+
+-- the report of some instances
+abbrev pub formatted : Format → (List ℕ → List ℕ) → List Entry → Option Figures → List ℕ
+formatted Text shown entries station = named_report shown entries
+formatted Json shown entries station = json_report shown entries
+formatted Prometheus shown entries station = prometheus_report shown entries station
+formatted Columns shown entries station = columns_report shown entries
+
+-- the report of a watch and a window for each of its instances
+abbrev pub report_in : Format → (List ℕ → List ℕ) → Watch → (ℕ → Samples) → Option Figures → List ℕ
+report_in format shown watch windows station = formatted format shown (entries_from watch.rules windows 0 watch.instances) station

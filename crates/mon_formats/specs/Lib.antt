@@ -1,0 +1,6 @@
+pub mod Cells
+pub mod Named
+pub mod Json
+pub mod Prometheus
+pub mod Columns
+pub mod Formats

@@ -1,0 +1,44 @@
+//! The formats of a report.
+
+ghost use Rattle.std.specs.Prelude.{◌≡◌, IfOk, option_map};
+ghost use Rattle.mon_formats.specs.Formats.{formatted};
+
+use crate::columns::columns_report;
+use crate::figures::Figures;
+use crate::json::json_report;
+use crate::named::named_report;
+use crate::prometheus::prometheus_report;
+use mon_names::NameTexts;
+use mon_report::Entry;
+use std::alloc::{AllocError, Global};
+
+/// A format of a report.
+#[derive(Clone, Copy, Debug, PartialEq, Eq)]
+pub enum Format {
+    /// Of each instance a line of text, and a last line that counts.
+    Text,
+    /// JSON (RFC 8259) on one line.
+    Json,
+    /// Prometheus' text exposition format, version 0.0.4.
+    Prometheus,
+    /// A table for people.
+    Columns,
+}
+
+/// The report of instances in a format, with their names as `names` has them. Prometheus is also told what the station says of itself.
+pub fn format_report<S: NameTexts>(
+    alloc: Global,
+    format: Format,
+    names: &S,
+    entries: &[Entry],
+    station: Option<&Figures>,
+) -> Result<Vec<u8>, AllocError>
+    ensures { IfOk result (λ text. text.items ≡ formatted format (S.shown names.now) entries.now (option_map (λ f. f.now) station.entry)) }
+{
+    match format {
+        Format::Text => named_report(alloc, names, entries),
+        Format::Json => json_report(alloc, names, entries),
+        Format::Prometheus => prometheus_report(alloc, names, entries, station),
+        Format::Columns => columns_report(alloc, names, entries),
+    }
+}

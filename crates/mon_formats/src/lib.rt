@@ -1,0 +1,13 @@
+//! The formats of a report: lines of text, JSON, Prometheus' text format, and a table for people.
+//! Contract: each is a function of the instances' windows and rules, and of how names are shown; so equal windows give equal octets.
+#![tactic(auto)]
+
+mod columns;
+mod figures;
+mod format;
+mod json;
+mod named;
+mod prometheus;
+
+pub use figures::Figures;
+pub use format::{Format, format_report};
