@@ -1,7 +1,8 @@
 //! A walk through an agent whose names do not increase. Walks through others are in tests/live.expected.
 
 use crate::small_agent::oid;
-use mon_app::{AppFault, Heard, InNumbers, SocketFault, Wire, walk};
+use mon_app::{AppFault, Heard, SocketFault, Wire, walk};
+use mon_names::InNumbers;
 use mon_oid::Oid;
 use std::alloc::Global;
 use std::test::Fail;

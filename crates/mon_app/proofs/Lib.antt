@@ -8,4 +8,3 @@ pub mod Search
 pub mod Windows
 pub mod Walks
 pub mod Meanings
-pub mod Reports

@@ -11,7 +11,7 @@ use Rattle.mon_app.specs.declared.refusal.Refusal.TheVariants.{OutOfMemory, BadH
 use Rattle.mon_app.specs.Line.{Says}
 use Rattle.mon_app.specs.Offer.{Offer}
 use Rattle.mon_app.specs.Outcome.{Outcome, IsOutcome, taken_by, refused_in, IsReplay}
-use Rattle.mon_app.specs.Reported.{reported_row, reported, IsReported}
+use Rattle.mon_app.specs.Reported.{IsKept, kept_of, reported_row}
 use Rattle.mon_report.specs.Report.{report_of}
 use Rattle.mon_app.specs.Reading.{hex_reading, line_reading}
 use Rattle.mon_app.specs.Replay.{admitted, verdict, judged, offered, refused, accepted, refusals, refused_text, lines_of, replayed}
@@ -144,24 +144,11 @@ module _ (says : (text : List ℕ) → Says text (hex_reading text))
   one_text n input text is =
       is.printed ∙ ap (printed_of n) (one_list [] (lines_of input) is.outcomes is.are.one_each is.are.each) ∙ sym (replayed_is n input)
 
-  -- ---- the report
-  abbrev report_in : ℕ → List Outcome → List ℕ
-  report_in n outcomes = refused_text (refused_in 0 outcomes) ++ report_of (map reported_row (rows_of n (taken_by outcomes)))
-
-  reported_is : (n : ℕ) (input : List ℕ) → reported n input ≡ report_in n (outcomes_of [] (lines_of input))
-  unfolding reported
-  reported_is n input =
-      let why = refusals_are 0 [] (lines_of input) in
-      let taken = accepted_is [] (lines_of input) in
-      λ j. refused_text (why j) ++ report_of (map reported_row (rows_of n (taken j)))
-
-  pub report_meets : (n : ℕ) (input : List ℕ) → IsReported n input (reported n input)
-  report_meets n input = record {
+  -- ---- what is kept
+  pub kept_meets : (n : ℕ) (input : List ℕ) → IsKept n input (kept_of n input)
+  kept_meets n input = record {
     outcomes = outcomes_of [] (lines_of input);
     are = record { one_each = length-outcomes [] (lines_of input); each = each_is [] (lines_of input) };
-    printed = reported_is n input;
+    refused = ap refused_text (refusals_are 0 [] (lines_of input));
+    entries = ap (λ taken. map reported_row (rows_of n taken)) (accepted_is [] (lines_of input));
   }
-
-  pub one_report : (n : ℕ) (input text : List ℕ) → IsReported n input text → text ≡ reported n input
-  one_report n input text is =
-      is.printed ∙ ap (report_in n) (one_list [] (lines_of input) is.outcomes is.are.one_each is.are.each) ∙ sym (reported_is n input)

@@ -1,7 +1,7 @@
--- The report of what a replay keeps.
-use Rattle.std.specs.Prelude.{◌≡◌, ℕ, List, [], ◌++◌, map}
+-- What a replay keeps, as a report says it.
+use Rattle.std.specs.Prelude.{◌≡◌, ℕ, List, [], map}
 use Rattle.mon_window.specs.Top.{rising}
-use Rattle.mon_report.specs.Report.{Entry, report_of}
+use Rattle.mon_report.specs.Report.{Entry}
 use Rattle.mon_app.specs.declared.table.Row.{Row}
 use Rattle.mon_app.specs.Outcome.{Outcome, AreOutcomes, taken_by, refused_in}
 use Rattle.mon_app.specs.Replay.{lines_of, accepted, refusals, refused_text}
@@ -11,15 +11,19 @@ use Rattle.mon_app.specs.Windows.{rows_of}
 abbrev pub reported_row : Row → Entry
 reported_row row = record { engine = row.instance.engine; name = row.instance.name; items = rising row.window.items; rules = [] }
 
--- the refusals, and the report of what windows of n samples keep
-unfoldable pub reported : ℕ → List ℕ → List ℕ
-reported n input =
-    let lines = lines_of input in
-    refused_text (refusals 0 [] lines) ++ report_of (map reported_row (rows_of n (accepted [] lines)))
+-- what a replay keeps: the lines that name what it refuses, and of each instance what a report says
+pub record Kept : Type 0 where
+  pub refused : List ℕ
+  pub entries : List Entry
 
--- The text is the report of what windows of n samples keep of the input: each line has its outcome, as in a replay; the refused
--- lines are named, and then comes the report of the instances, each with the n newest of all samples that were taken of it.
-pub record IsReported (n : ℕ) (input text : List ℕ) : Type 0 where
+-- what windows of n samples keep of the input
+abbrev pub kept_of : ℕ → List ℕ → Kept
+kept_of n input =
+    record { refused = refused_text (refusals 0 [] (lines_of input)); entries = map reported_row (rows_of n (accepted [] (lines_of input))) }
+
+-- It is kept of the input: each line has its outcome, as in a replay.
+pub record IsKept (n : ℕ) (input : List ℕ) (kept : Kept) : Type 0 where
   pub outcomes : List Outcome
   pub are : AreOutcomes (lines_of input) outcomes
-  pub printed : text ≡ refused_text (refused_in 0 outcomes) ++ report_of (map reported_row (rows_of n (taken_by outcomes)))
+  pub refused : kept.refused ≡ refused_text (refused_in 0 outcomes)
+  pub entries : kept.entries ≡ map reported_row (rows_of n (taken_by outcomes))

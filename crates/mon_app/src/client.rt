@@ -9,10 +9,10 @@ ghost use Rattle.mon_app.specs.Question.{asked_in};
 
 use crate::asking::send_request;
 use crate::fault::AppFault;
-use mon_names::NameTexts;
 use crate::printed::bindings_text;
 use crate::question::Question;
 use crate::wire::Wire;
+use mon_names::NameTexts;
 use mon_pdu::{Bindings, Body, Message, Pdu};
 use std::alloc::Global;
 

@@ -10,7 +10,7 @@ ghost use Rattle.mon_app.specs.Offer.{Offer};
 ghost use Rattle.mon_app.specs.Outcome.{IsReplay};
 ghost use Rattle.mon_app.specs.Reading.{hex_reading};
 ghost use Rattle.mon_app.specs.Replay.{replayed};
-ghost use Rattle.mon_app.specs.Reported.{IsReported, reported};
+ghost use Rattle.mon_app.specs.Reported.{IsKept, kept_of};
 
 /// A line says what reading it from left to right gives, and nothing else.
 pub fn readings()
@@ -21,12 +21,11 @@ pub fn readings()
     mon_pdu::laws::again();
 }
 
-/// What is printed follows from what the lines say, and from nothing else; so does the report.
+/// What is printed follows from what the lines say, and from nothing else; so does what is kept.
 pub fn one_text()
     ensures meets { (n : ℕ) (input : List ℕ) → IsReplay n input (replayed n input) }
     ensures only { (n : ℕ) (input text : List ℕ) → IsReplay n input text → text ≡ replayed n input }
-    ensures report_meets { (n : ℕ) (input : List ℕ) → IsReported n input (reported n input) }
-    ensures only_report { (n : ℕ) (input text : List ℕ) → IsReported n input text → text ≡ reported n input }
+    ensures kept { (n : ℕ) (input : List ℕ) → IsKept n input (kept_of n input) }
 {
     readings();
 }

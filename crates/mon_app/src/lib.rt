@@ -40,7 +40,7 @@ pub use question::{Asking, Question, Repeats, is_reply, request};
 pub use reason::SocketReason;
 pub use refusal::Refusal;
 pub use replaying::replay;
-pub use reporting::replay_report;
+pub use reporting::Recorded;
 pub use serving::serve_one;
 pub use socket::SocketWire;
 pub use socket_port::SocketPort;

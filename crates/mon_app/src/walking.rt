@@ -7,11 +7,11 @@ ghost use Rattle.mon_app.specs.Walk.{IsNextAsked, IsWalkStep, IsTurn, IsWalk, qu
 
 use crate::client::answers;
 use crate::fault::AppFault;
-use mon_names::NameTexts;
 use crate::printed::put_binding;
 use crate::question::{Asking, Question};
 use crate::wire::Wire;
 use mon_ber::Value;
+use mon_names::NameTexts;
 use mon_oid::Oid;
 use mon_pdu::Binding;
 use std::alloc::Global;

@@ -12,3 +12,4 @@ mod writing;
 pub use fault::ReportFault;
 pub use line::write_end;
 pub use report::{Entry, entries_of, write_entry, write_report, write_rest};
+pub use writing::write_octets;

@@ -1,4 +1,4 @@
--- The report of what a disk holds, and why there is none.
+-- The windows that a disk holds, and why there are none.
 use Rattle.std.proofs.Common.{◌≡◌, ℕ, List, Option, Some, None, Result, Ok, Err, Vec, Global, refl, sym, ap, subst, ◌∙◌}
 use Rattle.std.specs.Prelude.{IfOk}
 use Rattle.std.specs.FinSet as set
@@ -6,8 +6,7 @@ use Rattle.mon_board.specs.Board.{Board, window_of}
 use Rattle.mon_board.specs.Instance.{instances_of}
 use Rattle.mon_board.specs.Watch.{Watch}
 use Rattle.mon_disk.specs.Keeper.{FindsBody}
-use Rattle.mon_report.specs.Report.{report}
-use Rattle.mon_rounds.specs.Found.{IsFaultOfFound, IsFaultOfImage, IsReportOf}
+use Rattle.mon_rounds.specs.Found.{IsBoardOf, IsFaultOfFound, IsFaultOfImage}
 use Rattle.mon_saved.specs.declared.fault.ImageFault.{ImageFault}
 use Rattle.mon_saved.specs.declared.fault.ImageFault.TheVariants as image
 use Rattle.mon_saved.specs.declared.image.Image.{Image}
@@ -19,25 +18,13 @@ use Rattle.mon_station.specs.declared.fault.StationFault.{StationFault}
 use Rattle.mon_station.specs.declared.fault.StationFault.TheVariants as station
 use Rattle.mon_station.specs.Fault.{image_refusal}
 
--- the report of an image's windows
-pub of_image : (watch : Watch) (octets : List ℕ) (board : Board) (incarnation : ℕ) (result : Result (Vec ℕ Global) StationFault) → IsRestored watch octets board incarnation
-    → IfOk result (λ text. text.items ≡ report board.watch (window_of board)) → IfOk result (λ text. IsReportOf watch (Some octets) text.items)
-of_image watch octets board incarnation (Ok text) restored written = record {
-  windows = window_of board;
-  found = (restored.image, restored.spelled, restored.windows);
-  written = written ∙ ap (λ w. report w (window_of board)) restored.watch_is;
-}
-of_image watch octets board incarnation (Err f) restored written = tt
+-- the windows of an image
+pub of_image : (watch : Watch) (octets : List ℕ) (board : Board) (incarnation : ℕ) → IsRestored watch octets board incarnation → IsBoardOf watch (Some octets) board
+of_image watch octets board incarnation restored = record { watched = restored.watch_is; found = (restored.image, restored.spelled, restored.windows) }
 
--- the report of empty windows
-pub of_none : (watch : Watch) (board : Board) (body : Option (List ℕ)) (result : Result (Vec ℕ Global) StationFault) → body ≡ None → board.watch ≡ watch → ((i : ℕ) → window_of board i ≡ set.empty)
-    → IfOk result (λ text. text.items ≡ report board.watch (window_of board)) → IfOk result (λ text. IsReportOf watch body text.items)
-of_none watch board body (Ok text) none is empty written = subst (λ b. IsReportOf watch b text.items) (sym none) (record {
-  windows = window_of board;
-  found = empty;
-  written = written ∙ ap (λ w. report w (window_of board)) is;
-})
-of_none watch board body (Err f) none is empty written = tt
+-- empty windows
+pub of_none : (watch : Watch) (board : Board) (body : Option (List ℕ)) → body ≡ None → board.watch ≡ watch → ((i : ℕ) → window_of board i ≡ set.empty) → IsBoardOf watch body board
+of_none watch board body none is empty = subst (λ b. IsBoardOf watch b board) (sym none) (record { watched = is; found = empty })
 
 -- octets that are no image of the watch's instances
 pub no_image : (watch : Watch) (octets : List ℕ) (f : ImageFault) (g : StationFault) → g ≡ image_refusal f → saved.Fails f (image_at (instances_of watch.instances) octets)

@@ -1,13 +1,13 @@
--- The report of what a disk holds.
+-- The windows that a disk holds.
 use Rattle.std.specs.Prelude.{ℕ, ◌≡◌, false, List, Option, Some, None}
 use Rattle.std.specs.FinSet as set
+use Rattle.mon_board.specs.Board.{Board, window_of}
 use Rattle.mon_board.specs.Instance.{instances_of}
 use Rattle.mon_board.specs.Rules.{rule_of}
 use Rattle.mon_board.specs.Watch.{Watch}
 use Rattle.mon_board.specs.Windows.{window}
 use Rattle.mon_disk.specs.declared.fault.KeeperFault.TheVariants as keeper
 use Rattle.mon_disk.specs.Keeper.{found_body, is_undamaged}
-use Rattle.mon_report.specs.Report.{report}
 use Rattle.mon_saved.specs.declared.image.Image.{Image}
 use Rattle.mon_saved.specs.Image.{SpellsImage}
 use Rattle.mon_saved.specs.Restored.{saved_pairs}
@@ -22,18 +22,17 @@ FindsWindows watch None windows = (i : ℕ) → windows i ≡ set.empty
 FindsWindows watch (Some octets) windows =
     (image : Image) × SpellsImage octets (instances_of watch.instances) image × ((i : ℕ) → windows i ≡ window (rule_of watch) (saved_pairs image) i)
 
--- a text is the report of the windows of a body
-pub record IsReportOf (watch : Watch) (body : Option (List ℕ)) (text : List ℕ) : Type 0 where
-  pub windows : ℕ → Samples
-  pub found : FindsWindows watch body windows
-  pub written : text ≡ report watch windows
+-- a board has the watch and the windows of a body
+pub record IsBoardOf (watch : Watch) (body : Option (List ℕ)) (board : Board) : Type 0 where
+  pub watched : board.watch ≡ watch
+  pub found : FindsWindows watch body (window_of board)
 
 -- why a body has no windows: it is no image of the watch's instances
 abbrev pub IsFaultOfImage : Watch → Option (List ℕ) → StationFault → Type 0
 IsFaultOfImage watch body fault.NoMoreIncarnations = ⊥
 IsFaultOfImage watch body other = IsFaultOfBody watch body other
 
--- why a file has no report: the keeper, which answers Damaged only where the file is, or its body
+-- why a file has no windows: the keeper, which answers Damaged only where the file is, or its body
 abbrev pub IsFaultOfFound : Watch → List ℕ → StationFault → Type 0
 IsFaultOfFound watch file (fault.Keeper f) = f ≡ keeper.Damaged → is_undamaged file ≡ false
 IsFaultOfFound watch file other = IsFaultOfImage watch (found_body file) other

@@ -1,5 +1,5 @@
 -- What an operator is told of a round.
-use Rattle.std.specs.Prelude.{Bool, false, not, List, Option, Some, None}
+use Rattle.std.specs.Prelude.{ℕ, ◌-◌, ◌^◌, min, Bool, true, false, not, List, Option, Some, None, filter, length, sum_by}
 use Rattle.mon_poller.specs.declared.addr.Addr.{Addr}
 use Rattle.mon_rounds.specs.declared.reporting.Notice.{Notice}
 use Rattle.mon_rounds.specs.declared.reporting.Notice.TheVariants as notice
@@ -7,6 +7,8 @@ use Rattle.mon_rounds.specs.declared.round.RoundEvent.{RoundEvent}
 use Rattle.mon_rounds.specs.declared.round.RoundEvent.TheVariants.{StartPoll, Timeout, FromAgent, FromPeer, Share, Save}
 use Rattle.mon_rounds.specs.Next.{stands_in}
 use Rattle.mon_station.specs.declared.fault.StationFault.{StationFault}
+use Rattle.mon_station.specs.declared.running.Answer.{Answer}
+use Rattle.mon_station.specs.declared.running.Answer.TheVariants as answer
 
 -- whether an event is a stranger's datagram: from an address that is no peer's and none of these targets'
 abbrev pub is_stranger : List Addr → RoundEvent → Bool
@@ -25,3 +27,28 @@ notice_of (FromPeer from) fault = Some (notice.BadClaim from fault)
 notice_of (Share peer) fault = Some (notice.NotShared peer fault)
 notice_of (Timeout id) fault = None
 notice_of Save fault = None
+
+-- how many samples were offered in an event that was answered so
+abbrev pub samples_in : Answer → ℕ
+samples_in (answer.Handled n) = n
+samples_in answer.Memory = 0
+samples_in (answer.Refused fault) = 0
+samples_in (answer.Keeper number) = 0
+
+-- how many were offered in all, as far as 64 bits go
+abbrev pub samples_taken : List Answer → ℕ
+samples_taken answers = min (sum_by samples_in answers) (2 ^ 64 - 1)
+
+-- whether a poll was given up
+abbrev pub is_given_up : Notice → Bool
+is_given_up (notice.GaveUp target) = true
+is_given_up (notice.NotPolled target fault) = false
+is_given_up (notice.BadResponse from fault) = false
+is_given_up (notice.BadClaim from fault) = false
+is_given_up (notice.NotShared peer fault) = false
+is_given_up (notice.NotSaved number) = false
+is_given_up (notice.NoMemory event) = false
+
+-- how many polls were given up
+abbrev pub gave_up : List Notice → ℕ
+gave_up notices = length (filter is_given_up notices)

@@ -1,8 +1,8 @@
 //! A station's rounds over sockets. It follows no standard.
 //!
 //! To run a station: `Addresses::of` its settings, a `SocketReceiver` and a `SocketOutbox` on one `Socket`, and `Rounds` over the receiver. `run_round` runs
-//! one round on a `Station`, `rest` hears between two rounds, and `RoundReport::of` says what an operator is to be told. `saved_report` is the report of
-//! what a disk holds; `selftest` tries a station without a socket.
+//! one round on a `Station`, `rest` hears between two rounds, and `RoundReport::of` says what an operator is to be told. `saved_board` gives the windows
+//! that a disk holds; `selftest` tries a station without a socket.
 //! Contract: a round polls each target, hears, offers each peer what it is owed, hears again and saves, in this order; what it gives
 //! a station is fixed by what its receiver got, and only a datagram from a target or a peer begins a wait anew.
 #![tactic(auto)]
@@ -24,7 +24,7 @@ pub use receiver::{Arrival, Receiver, ReceiverFault, Wait};
 pub use reporting::{Notice, PollLog, RoundReport};
 pub use round::{Phase, Round, RoundEvent};
 pub use running::{rest, run_round};
-pub use saved::saved_report;
+pub use saved::saved_board;
 pub use socket::{Socket, SocketOutbox, SocketReceiver};
 pub use source::Rounds;
 pub use trial::{TrialFault, selftest};

@@ -1,7 +1,7 @@
 //! What an operator is told of a round.
 
 ghost use Rattle.std.specs.Prelude.{◌≡◌, IfOk};
-ghost use Rattle.mon_rounds.specs.Noted.{is_stranger, notice_of};
+ghost use Rattle.mon_rounds.specs.Noted.{gave_up, is_given_up, is_stranger, notice_of, samples_in, samples_taken};
 ghost use Rattle.mon_rounds.specs.Order.{datagrams_in};
 
 use crate::round::{Round, RoundEvent};
@@ -41,6 +41,10 @@ pub struct RoundReport {
     pub source_faults: u64,
     /// How often a datagram could not be sent.
     pub send_faults: u64,
+    /// How many samples agents and peers offered, in what was handled; at most 2^64 - 1.
+    pub taken: u64,
+    /// How many polls were given up.
+    pub given_up: u64,
 }
 
 /// A poll that may be open.
@@ -76,7 +80,7 @@ impl PollLog {
     /// Notes what was answered to an event, and gives what is to be told of it.
     fn note(&mut self, event: RoundEvent, answer: Answer) -> Result<Option<Notice>, AllocError> {
         match answer {
-            Answer::Handled => self.handled(event),
+            Answer::Handled(_) => self.handled(event),
             Answer::Memory => Ok(Some(Notice::NoMemory(event))),
             Answer::Refused(fault) => Ok(refused(event, fault)),
             Answer::Keeper(number) => Ok(Some(Notice::NotSaved(number))),
@@ -175,9 +179,13 @@ impl RoundReport {
         ensures datagrams { IfOk result (λ r. r.datagrams ≡ datagrams_in round.now.events) }
         ensures source { IfOk result (λ r. r.source_faults ≡ run.now.source_faults) }
         ensures sends { IfOk result (λ r. r.send_faults ≡ run.now.send_faults) }
+        ensures taken { IfOk result (λ r. r.taken ≡ samples_taken run.now.answers.items) }
+        ensures given_up { IfOk result (λ r. r.given_up ≡ gave_up r.notices.items) }
     {
         let events = round.events();
-        let notices = notices_of(alloc, round, run.answers.as_slice(), log)?;
+        let answers = run.answers.as_slice();
+        let notices = notices_of(alloc, round, answers, log)?;
+        let given_up = count_given_up(notices.as_slice());
         log.close(oldest);
         Ok(RoundReport {
             notices,
@@ -185,8 +193,31 @@ impl RoundReport {
             strangers: count_strangers(round, events),
             source_faults: run.source_faults,
             send_faults: run.send_faults,
+            taken: count_taken(answers),
+            given_up,
         })
     }
+}
+
+/// How many samples were offered in what was answered so.
+fn count_taken(answers: &[Answer]) -> u64
+    ensures { result ≡ samples_taken answers.now }
+{
+    let mut taken: u64 = 0;
+    for answer in answers {
+        if let Answer::Handled(samples) = answer {
+            taken = taken.saturating_add(*samples);
+        }
+    }
+    taken
+}
+
+/// How many of these say that a poll was given up.
+fn count_given_up(notices: &[Notice]) -> u64
+    ensures { result ≡ gave_up notices.now }
+{
+    let is_given_up = |notice: &&Notice| matches!(notice, Notice::GaveUp(_));
+    notices.iter().filter(is_given_up).count() as u64
 }
 
 /// What is to be told of the events of a round that were answered so.

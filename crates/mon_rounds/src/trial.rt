@@ -1,14 +1,17 @@
 //! A station's trial of itself: it polls an agent in memory three times, saves and finds again what it took.
 
 ghost use Rattle.std.specs.Prelude.{◌≡◌, ◌++◌, IfOk};
+ghost use Rattle.mon_board.specs.Board.{window_of};
+ghost use Rattle.mon_report.specs.Report.{report};
 ghost use Rattle.mon_rounds.specs.Trial.{name_of, number_of, trial_text};
 
-use crate::saved::{saved_report, written};
+use crate::saved::saved_board;
 use mon_agent::{Agent, AgentFault, Reply};
-use mon_board::Watch;
+use mon_board::{Board, Watch};
 use mon_disk::{Disk, MemoryDisk};
 use mon_mib::{Device, Moment, SimDevice};
 use mon_poller::Addr;
+use mon_report::write_report;
 use mon_settings::{SettingsFault, StationSettings, read_agent, read_station};
 use mon_smi::Names;
 use mon_station::{Event, Station, StationFault};
@@ -234,9 +237,21 @@ fn reported<D: Disk + Drop>(
     let mut station = station;
     station.step(alloc, Event::Save)?;
     let text = written(alloc, station.board())?;
-    match saved_report(alloc, watch, station.into_disk()) {
-        Ok((saved, _)) => same(saved, text),
+    match saved_board(alloc, watch, station.into_disk()) {
+        Ok((board, _)) => same(written(alloc, &board)?, text),
         Err((fault, _)) => Err(TrialFault::from(fault)),
+    }
+}
+
+/// The report of a board, as a text.
+fn written(alloc: Global, board: &Board) -> Result<Vec<u8>, StationFault>
+    ensures text { IfOk result (λ text. text.items ≡ report board.now.watch (window_of board.now)) }
+    ensures fault { IfErr result (λ f. f ≡ StationFault.OutOfMemory) }
+{
+    let mut text = Vec::new(alloc);
+    match write_report(board, &mut text) {
+        Ok(()) => Ok(text),
+        Err(_) => Err(StationFault::OutOfMemory),
     }
 }
 

@@ -97,7 +97,7 @@ pub ran_more : (before s after : State) (given0 given1 given2 : Option (List Own
     → Ran before s given0 given1 handed0 handed1 honest0 honest1 left0 left1 answers → Turned s after event handed1 handed2 honest1 honest2 left1 left2 answer
     → given2 ≡ extended given1 (event ∷ []) → more ≡ answers ++ answer ∷ [] → Ran before after given0 given2 handed0 handed2 honest0 honest2 left0 left2 more
 ran_more before s after given0 given1 given2 handed0 handed1 handed2 honest0 honest1 honest2 left0 left1 left2 answers more event answer r t given_is more_is =
-    let turn : Turn = record { event = event; answer = t.is; sent = t.sent; after = after } in
+    let turn : Turn = record { event = event; answer = t.is; taken = t.taken; sent = t.sent; after = after } in
     record {
       turns = turn ∷ r.turns;
       are = (subst (λ (u : State). (e : ReadEvent) → ReadsAs u.board.watch event e → IsTurn u e turn) r.after_is t.each, r.are);
@@ -119,12 +119,13 @@ ran_on before s given0 given1 given2 handed0 handed1 honest0 honest1 left0 left1
 -- ---- one event
 module _ (before after : State) (event : OwnedEvent) (honest0 honest1 : Type 0) (left0 left1 : List ℕ → Type 0) (still : honest0 → honest1) where
   pub turned_told : (told : Told) (handed0 handed1 : Option (List Outgoing)) (answer : Answer) → ((e : ReadEvent) → ReadsAs before.board.watch event e → IsAnswered before after e (Ok told))
-      → handed1 ≡ extended handed0 told.sends.items → answer ≡ Handled → (honest0 → Leaves left1 (λ c. FindsAfter before event None (FindsAs left0 c) c))
+      → handed1 ≡ extended handed0 told.sends.items → answer ≡ Handled (length told.taken) → (honest0 → Leaves left1 (λ c. FindsAfter before event None (FindsAs left0 c) c))
       → Turned before after event handed0 handed1 honest0 honest1 left0 left1 answer
   turned_told told handed0 handed1 answer h handed is file = record {
+    taken = told.taken;
     sent = told.sends.items;
     is = None;
-    each = λ e reads. let r = h e reads in record { handled = r.0; sent = r.1.sent };
+    each = λ e reads. let r = h e reads in record { handled = r.0; taken = r.1.taken; sent = r.1.sent };
     handed = handed;
     shown_is = is;
     honest = still;
@@ -132,12 +133,13 @@ module _ (before after : State) (event : OwnedEvent) (honest0 honest1 : Type 0) 
   }
 
   pub turned_fault : (fault : StationFault) (handed : Option (List Outgoing)) (answer : Answer) → ((e : ReadEvent) → ReadsAs before.board.watch event e → IsAnswered before after e (Err fault))
-      → answer ≡ shown (Some fault) → (honest0 → Leaves left1 (λ c. FindsAfter before event (Some fault) (FindsAs left0 c) c))
+      → answer ≡ shown (Some fault) [] → (honest0 → Leaves left1 (λ c. FindsAfter before event (Some fault) (FindsAs left0 c) c))
       → Turned before after event handed handed honest0 honest1 left0 left1 answer
   turned_fault fault handed answer h is file = record {
+    taken = [];
     sent = [];
     is = Some fault;
-    each = λ e reads. record { handled = h e reads; sent = refl };
+    each = λ e reads. record { handled = h e reads; taken = refl; sent = refl };
     handed = extended_none handed;
     shown_is = is;
     honest = still;
@@ -195,14 +197,14 @@ is_save lent.Save is = refl
 -- ---- counts
 pub faults_more : (answers : List Answer) (answer : Answer) → faults_in (answers ++ answer ∷ []) ≡ faults_in answers + faults_in (answer ∷ [])
 faults_more [] answer = sym (zero-add (faults_in (answer ∷ [])))
-faults_more (Handled ∷ answers) answer = faults_more answers answer
+faults_more (Handled n ∷ answers) answer = faults_more answers answer
 faults_more (Memory ∷ answers) answer = omega (arith, faults_more answers answer)
 faults_more (Refused f ∷ answers) answer = omega (arith, faults_more answers answer)
 faults_more (Keeper n ∷ answers) answer = omega (arith, faults_more answers answer)
 
 pub faults_few : (answers : List Answer) → faults_in answers ≤ length answers
 faults_few [] = omega arith
-faults_few (Handled ∷ answers) = omega (arith, faults_few answers)
+faults_few (Handled n ∷ answers) = omega (arith, faults_few answers)
 faults_few (Memory ∷ answers) = omega (arith, faults_few answers)
 faults_few (Refused f ∷ answers) = omega (arith, faults_few answers)
 faults_few (Keeper n ∷ answers) = omega (arith, faults_few answers)

@@ -16,8 +16,9 @@ use Rattle.mon_station.specs.declared.running.Answer.TheVariants.{Handled, Memor
 use Rattle.mon_station.specs.declared.running.Run.{Run}
 use Rattle.mon_station.specs.ReadEvent.{ReadEvent, ReadsAs}
 use Rattle.mon_station.specs.Saved.{FindsState}
-use Rattle.mon_station.specs.State.{State, IsHandled}
+use Rattle.mon_station.specs.State.{State, IsHandled, setting_of}
 use Rattle.mon_station.specs.Told.{sends}
+use Rattle.mon_station.specs.Verdict.{added}
 
 -- the event that a call for the next one gave
 abbrev pub event_in : {F : Type 0} → Result (Option OwnedEvent) F → List OwnedEvent
@@ -26,30 +27,31 @@ event_in (Ok None) = []
 event_in (Err f) = []
 
 -- ---- answers
--- an answer as a run shows it
-abbrev pub shown : Option StationFault → Answer
-shown None = Handled
-shown (Some fault.OutOfMemory) = Memory
-shown (Some (fault.Keeper f)) = Keeper (keeping.number_of f)
-shown (Some (fault.Poll f)) = Refused (fault.Poll f)
-shown (Some (fault.Response f)) = Refused (fault.Response f)
-shown (Some (fault.Exchange f)) = Refused (fault.Exchange f)
-shown (Some (fault.Image f)) = Refused (fault.Image f)
-shown (Some fault.NoMoreIncarnations) = Refused fault.NoMoreIncarnations
+-- an answer as a run shows it, where these samples were offered
+abbrev pub shown : Option StationFault → List (ℕ × ℕ) → Answer
+shown None taken = Handled (length taken)
+shown (Some fault.OutOfMemory) taken = Memory
+shown (Some (fault.Keeper f)) taken = Keeper (keeping.number_of f)
+shown (Some (fault.Poll f)) taken = Refused (fault.Poll f)
+shown (Some (fault.Response f)) taken = Refused (fault.Response f)
+shown (Some (fault.Exchange f)) taken = Refused (fault.Exchange f)
+shown (Some (fault.Image f)) taken = Refused (fault.Image f)
+shown (Some fault.NoMoreIncarnations) taken = Refused fault.NoMoreIncarnations
 
 -- how many answers are faults
 abbrev pub faults_in : List Answer → ℕ
 faults_in [] = 0
-faults_in (Handled ∷ answers) = faults_in answers
+faults_in (Handled n ∷ answers) = faults_in answers
 faults_in (Memory ∷ answers) = faults_in answers + 1
 faults_in (Refused f ∷ answers) = faults_in answers + 1
 faults_in (Keeper number ∷ answers) = faults_in answers + 1
 
 -- ---- turns, of which the newest stands first
--- one event: its answer, what the outbox was handed, and the state that was left
+-- one event: its answer, the samples that it offered by the numbers of their instances, what the outbox was handed, and the state that was left
 pub record Turn : Type 0 where
   pub event : OwnedEvent
   pub answer : Option StationFault
+  pub taken : List (ℕ × ℕ)
   pub sent : List Outgoing
   pub after : State
 
@@ -66,7 +68,7 @@ events_of (t ∷ turns) = events_of turns ++ t.event ∷ []
 -- what they answered, in order
 abbrev pub answers_of : List Turn → List Answer
 answers_of [] = []
-answers_of (t ∷ turns) = answers_of turns ++ shown t.answer ∷ []
+answers_of (t ∷ turns) = answers_of turns ++ shown t.answer t.taken ∷ []
 
 -- what they handed to the outbox, in order
 abbrev pub sent_of : List Turn → List Outgoing
@@ -78,9 +80,14 @@ abbrev pub sent_by : State → ReadEvent → Option StationFault → List Outgoi
 sent_by s e None = sends s e
 sent_by s e (Some f) = []
 
--- an event was answered lawfully, and what it sends was handed to the outbox
+-- the samples that are taken of an event with this answer
+abbrev pub taken_of : State → ReadEvent → Option StationFault → List (ℕ × ℕ)
+taken_of s e answer = added (setting_of s) s.poller.polls e answer
+
+-- an event was answered lawfully, its samples were taken, and what it sends was handed to the outbox
 pub record IsTurn (before : State) (e : ReadEvent) (t : Turn) : Type 0 where
   pub handled : IsHandled e t.answer before t.after
+  pub taken : t.taken ≡ taken_of before e t.answer
   pub sent : t.sent ≡ sent_by before e t.answer
 
 -- each turn is one, however its datagram reads

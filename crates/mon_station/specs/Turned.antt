@@ -12,14 +12,15 @@ use Rattle.mon_station.specs.ReadEvent.{ReadEvent, ReadsAs}
 use Rattle.mon_station.specs.Ran.{FindsAfter, IsTurn, faults_in, shown}
 use Rattle.mon_station.specs.State.{State}
 
--- one event: its answer as it is shown, what the outbox was handed, and of what can be said of files that are as each other, what can be said after it
+-- one event: its answer as it is shown with how many samples it offered, what the outbox was handed, and of what can be said of files that are as each other, what can be said after it
 pub record Turned (before after : State) (event : OwnedEvent) (handed_before handed_now : Option (List Outgoing))
     (honest_before honest_now : Type 0) (left_before left_now : List ℕ → Type 0) (answer : Answer) : Type 0 where
+  pub taken : List (ℕ × ℕ)
   pub sent : List Outgoing
   pub is : Option StationFault
-  pub each : (e : ReadEvent) → ReadsAs before.board.watch event e → IsTurn before e (record { event = event; answer = is; sent = sent; after = after })
+  pub each : (e : ReadEvent) → ReadsAs before.board.watch event e → IsTurn before e (record { event = event; answer = is; taken = taken; sent = sent; after = after })
   pub handed : handed_now ≡ extended handed_before sent
-  pub shown_is : answer ≡ shown is
+  pub shown_is : answer ≡ shown is taken
   pub honest : honest_before → honest_now
   pub file : honest_before → Leaves left_now (λ c. FindsAfter before event is (FindsAs left_before c) c)
 

@@ -73,8 +73,8 @@ pub trait Outbox {
 /// What became of an event.
 #[derive(Clone, Copy, Debug, PartialEq, Eq)]
 pub enum Answer {
-    /// It was handled.
-    Handled,
+    /// It was handled, and offered so many samples.
+    Handled(u64),
     /// Memory was refused.
     Memory,
     /// It was refused, and why.
@@ -194,7 +194,7 @@ impl<D: Disk + Drop> Station<D> {
         match self.step(alloc, event.lend()) {
             Ok(told) => {
                 hand(outbox, told.sends.as_slice(), send_faults);
-                Answer::Handled
+                Answer::Handled(told.taken.as_slice().len() as u64)
             }
             Err(fault) => shown(fault),
         }
@@ -207,7 +207,7 @@ fn counted(refused: u64, answer: Answer) -> u64
     ensures { result ≡ refused + faults_in (answer ∷ []) }
 {
     match answer {
-        Answer::Handled => refused,
+        Answer::Handled(_) => refused,
         Answer::Memory | Answer::Refused(_) | Answer::Keeper(_) => refused + 1,
     }
 }
@@ -224,7 +224,7 @@ fn hand<O: Outbox>(outbox: &mut O, sends: &[Outgoing], send_faults: &mut u64)
 
 /// A fault as a run shows it.
 fn shown(fault: StationFault) -> Answer
-    ensures { result ≡ ran.shown (Some fault) }
+    ensures { result ≡ ran.shown (Some fault) [] }
 {
     match fault {
         StationFault::OutOfMemory => Answer::Memory,

@@ -168,7 +168,7 @@ fn shown(alloc: Global, run: &Run, handed: &str) -> Option<String> {
 
 fn put_answer(alloc: Global, text: &mut String, answer: Answer) -> Option<()> {
     match answer {
-        Answer::Handled => write!(text, " ok;").ok(),
+        Answer::Handled(_) => write!(text, " ok;").ok(),
         Answer::Memory => write!(text, " memory;").ok(),
         Answer::Refused(why) => {
             let why = fault(alloc, why)?;

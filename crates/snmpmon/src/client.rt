@@ -6,10 +6,10 @@ use crate::files::print;
 use crate::naming::{identifier, names_of};
 use clap::ArgMatches;
 use mon_app::{
-    AppFault, Asking, InNumbers, NameTexts, Question, Repeats, SocketWire, ValueKind, answer_text,
-    status_name, value_of,
+    AppFault, Asking, Question, Repeats, SocketWire, ValueKind, answer_text, status_name, value_of,
 };
 use mon_ber::Value;
+use mon_names::{InNumbers, NameTexts};
 use mon_oid::Oid;
 use mon_smi::Names;
 use std::alloc::{AllocError, Global};

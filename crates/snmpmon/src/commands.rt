@@ -8,11 +8,14 @@ use crate::client::{bulk, get, next, set, walk};
 use crate::failure::Failure;
 use crate::files::{print, read_input, read_text};
 use crate::listing::list;
+use crate::printing::Printing;
 use crate::station::{rehearsal, report, self_test, station};
 use crate::words::{VERSION, command};
 use clap::ArgMatches;
 use clap::error::ErrorKind;
-use std::alloc::{AllocError, Global};
+use mon_app::Recorded;
+use mon_smi::Names;
+use std::alloc::AllocError;
 use std::fs::File;
 use std::net::Net;
 use std::rt::{Clock, Env, Files};
@@ -79,7 +82,7 @@ fn run<R: Clock + Files<File = File> + Net + Input + Print + Eprint + AllocGloba
         return print(rt, VERSION.as_bytes());
     }
     let Some((name, words)) = matches.subcommand() else {
-        return replay(rt, USUAL_SIZE, false);
+        return replay(rt, USUAL_SIZE);
     };
     match Choice::named(name) {
         Choice::Get => get(rt, words),
@@ -94,7 +97,7 @@ fn run<R: Clock + Files<File = File> + Net + Input + Print + Eprint + AllocGloba
         Choice::Report => report(rt, words),
         Choice::SelfTest => self_test(rt),
         Choice::Rehearse => rehearsal(rt, words),
-        Choice::Replay => replay(rt, size_of(words), words.get_flag("report")),
+        Choice::Replay => replaying(rt, words),
     }
 }
 
@@ -105,24 +108,53 @@ fn size_of(words: &ArgMatches<'_>) -> u8
     words.get_one::<u8>("N").unwrap_or(USUAL_SIZE).clamp(1, 64)
 }
 
-/// Prints the windows of the responses on standard input, or their report.
-fn replay<R: Input + Print + AllocGlobal>(rt: &R, size: u8, report: bool) -> Result<(), Failure>
+/// Prints the windows of the responses on standard input, or their report where the words ask for one.
+fn replaying<R: Files + Input + Print + Eprint + AllocGlobal>(
+    rt: &R,
+    words: &ArgMatches<'_>,
+) -> Result<(), Failure> {
+    let size = size_of(words);
+    if !asks_for_report(words) {
+        return replay(rt, size);
+    }
+    let printing = Printing::of(rt, words, Names::new(rt.alloc())?, &[])?;
+    let input = read_input(rt)?;
+    replay_report(rt, size, &input, &printing)
+}
+
+/// Whether the words ask for the report of a replay.
+fn asks_for_report(words: &ArgMatches<'_>) -> bool {
+    words.get_flag("report") || words.get_flag("columns") || words.get_str("format").is_some()
+}
+
+/// Prints the windows of the responses on standard input.
+fn replay<R: Input + Print + AllocGlobal>(rt: &R, size: u8) -> Result<(), Failure>
     requires { (1 ≤ size) × (size ≤ 64) }
 {
     let input = read_input(rt)?;
-    let text = replayed(rt.alloc(), usize::from(size), &input, report)?;
+    let text = mon_app::replay(rt.alloc(), usize::from(size), &input)?;
     print(rt, &text)
 }
 
-/// What a replay prints.
-fn replayed(alloc: Global, size: usize, input: &[u8], report: bool) -> Result<Vec<u8>, AllocError>
+/// Prints the report of the responses. Refused lines come first, with lines of text; with another format on standard error.
+fn replay_report<R: Print + Eprint + AllocGlobal>(
+    rt: &R,
+    size: u8,
+    input: &[u8],
+    printing: &Printing,
+) -> Result<(), Failure>
     requires { (1 ≤ size) × (size ≤ 64) }
 {
-    if report {
-        mon_app::replay_report(alloc, size, input)
+    let alloc = rt.alloc();
+    let recorded = Recorded::read(alloc, usize::from(size), input)?;
+    let entries = recorded.entries(alloc)?;
+    let text = printing.text(alloc, entries.as_slice(), None)?;
+    if printing.is_text() {
+        print(rt, recorded.refused().as_bytes())?;
     } else {
-        mon_app::replay(alloc, size, input)
+        let _ = rt.eprint(recorded.refused());
     }
+    print(rt, text.as_slice())
 }
 
 /// Prints the names of the module in a file.

@@ -4,6 +4,7 @@ use crate::failure::Failure;
 use crate::fault::Fault;
 use mon_app::{AppFault, Counted, read_all};
 use std::alloc::Global;
+use std::fs;
 use std::fs::File;
 use std::io;
 use std::io::Write;
@@ -20,6 +21,30 @@ pub fn print<R: Print + AllocGlobal>(rt: &R, octets: &[u8]) -> Result<(), Failur
         Ok(()) => Ok(()),
         Err(error) => Err(Failure::stream(rt.alloc(), OUTPUT, error)),
     }
+}
+
+/// Replaces a file whole: a new one is written beside it and given its name, so that a reader finds the old text or the new one.
+pub fn replace_file<R: Files<File = File> + AllocGlobal>(
+    rt: &R,
+    path: &str,
+    octets: &[u8],
+) -> Result<(), Failure> {
+    let alloc = rt.alloc();
+    let fresh = format!(in alloc; "{path}.new")?;
+    match write_file(rt, fresh.as_str(), octets) {
+        Ok(()) => {}
+        Err(error) => return Err(Failure::stream(alloc, fresh.as_str(), error)),
+    }
+    match fs::rename(rt, fresh.as_str(), path) {
+        Ok(()) => Ok(()),
+        Err(error) => Err(Failure::stream(alloc, path, error)),
+    }
+}
+
+/// Writes a new file.
+fn write_file<R: Files<File = File>>(rt: &R, path: &str, octets: &[u8]) -> io::Result<()> {
+    let mut file = File::create(rt, path)?;
+    file.write_all(octets)
 }
 
 /// All octets of standard input.

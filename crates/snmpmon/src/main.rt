@@ -14,6 +14,7 @@ mod fault;
 mod files;
 mod listing;
 mod naming;
+mod printing;
 mod settings;
 mod station;
 mod telling;

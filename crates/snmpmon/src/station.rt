@@ -6,23 +6,23 @@ use crate::failure::Failure;
 use crate::fault::Fault;
 use crate::files::{print, read_input, read_text};
 use crate::naming::add_module;
+use crate::printing::Printing;
 use crate::settings::unset;
 use crate::telling::{shown, tell_alarms, tell_notices};
 use clap::ArgMatches;
 use mon_alarms::AlarmState;
-use mon_app::AppFault;
 use mon_disk::FileDisk;
+use mon_formats::Figures;
 use mon_poller::Addr;
 use mon_rehearsal::rehearse;
-use mon_report::write_report;
 use mon_rounds::{
     Addresses, PollLog, Receiver, RoundReport, Rounds, Socket, SocketOutbox, SocketReceiver,
-    alarm_states, rest, run_round, saved_report, selftest,
+    alarm_states, rest, run_round, saved_board, selftest,
 };
 use mon_settings::{Kind, StationSettings, module_files, read_station};
 use mon_smi::Names;
 use mon_station::{Outbox, Run, Station, StationFault};
-use std::alloc::Global;
+use std::alloc::{AllocError, Global};
 use std::fs::File;
 use std::io;
 use std::net::{Net, SocketAddr};
@@ -38,6 +38,11 @@ struct Running<S: Receiver + Drop, O: Outbox + Drop> {
     addresses: Addresses,
     log: PollLog,
     alarms: Vec<AlarmState>,
+    peers: Vec<u32>,
+    printing: Printing,
+    out: Option<String>,
+    taken: u64,
+    given_up: u64,
 }
 
 /// How often and when rounds are run, by the words.
@@ -56,7 +61,7 @@ pub fn station<R: Clock + Files<File = File> + Net + Print + Eprint + AllocGloba
     rt: &R,
     words: &ArgMatches<'_>,
 ) -> Result<(), Failure> {
-    let settings = settings_of(rt, words)?;
+    let (settings, printing) = settings_of(rt, words)?;
     let (disk, socket) = opened(rt, &settings)?;
     let listen = settings.listen;
     let at = used(rt.alloc(), listen, socket.address())?;
@@ -66,12 +71,15 @@ pub fn station<R: Clock + Files<File = File> + Net + Print + Eprint + AllocGloba
         SocketReceiver::new(rt, rt.alloc(), &socket),
     )?;
     let outbox = SocketOutbox::new(&socket, Addresses::of(rt.alloc(), &settings)?);
-    let running = begun(rt, settings, at, disk, receiver, outbox)?;
+    let mut running = begun(rt, settings, at, disk, receiver, outbox, printing)?;
+    running.out = out_of(rt.alloc(), words)?;
     run_rounds(rt, running, timing_of(words))
 }
 
 /// Runs a station through its rounds, and prints its report.
-fn run_rounds<R: Clock + Print + Eprint + AllocGlobal, S: Receiver + Drop, O: Outbox + Drop>(
+fn run_rounds<
+    R: Clock + Files<File = File> + Print + Eprint + AllocGlobal,
+    S: Receiver + Drop, O: Outbox + Drop>(
     rt: &R,
     running: Running<S, O>,
     timing: Timing,
@@ -80,11 +88,12 @@ fn run_rounds<R: Clock + Print + Eprint + AllocGlobal, S: Receiver + Drop, O: Ou
     for number in 1..=timing.rounds {
         let began = now(rt)?;
         one_round(rt, &mut running, number);
+        write_out(rt, &running);
         if number != timing.rounds {
             between(rt, &mut running, number, began, timing)?;
         }
     }
-    print_report(rt, &running.station)
+    print_report(rt, &running)
 }
 
 /// Runs one round, and tells what there is to tell of it.
@@ -111,7 +120,7 @@ fn between<R: Clock + Print + Eprint + AllocGlobal, S: Receiver + Drop, O: Outbo
     timing: Timing,
 ) -> Result<(), Failure> {
     if timing.report_every != 0 && number % timing.report_every == 0 {
-        print_report(rt, &running.station)?;
+        print_report(rt, running)?;
     }
     pause(rt, running, number, began, timing.interval)
 }
@@ -121,15 +130,15 @@ pub fn report<R: Files<File = File> + Print + AllocGlobal>(
     rt: &R,
     words: &ArgMatches<'_>,
 ) -> Result<(), Failure> {
-    let settings = settings_of(rt, words)?;
-    let disk = in_file(
-        rt.alloc(),
-        &settings.file,
-        FileDisk::open(rt, &settings.file),
-    )?;
-    match saved_report(rt.alloc(), settings.core.watch(), disk) {
-        Ok((text, _)) => print(rt, text.as_slice()),
-        Err((fault, _)) => Err(unkept(rt.alloc(), &settings.file, fault)),
+    let (settings, printing) = settings_of(rt, words)?;
+    let alloc = rt.alloc();
+    let disk = in_file(alloc, &settings.file, FileDisk::open(rt, &settings.file))?;
+    match saved_board(alloc, settings.core.watch(), disk) {
+        Ok((board, _)) => {
+            let text = printing.report(alloc, &board, None)?;
+            print(rt, text.as_slice())
+        }
+        Err((fault, _)) => Err(unkept(alloc, &settings.file, fault)),
     }
 }
 
@@ -138,7 +147,7 @@ pub fn rehearsal<R: Files + Input + Print + AllocGlobal>(
     rt: &R,
     words: &ArgMatches<'_>,
 ) -> Result<(), Failure> {
-    let settings = settings_of(rt, words)?;
+    let (settings, _) = settings_of(rt, words)?;
     let script = read_input(rt)?;
     let text = rehearse(
         rt.alloc(),
@@ -162,11 +171,11 @@ pub fn self_test<R: Print + AllocGlobal>(rt: &R) -> Result<(), Failure> {
     print(rt, text.as_slice())
 }
 
-/// What the file of a station's settings says, by the names of the modules that it lists.
+/// What the file of a station's settings says, by the names of the modules that it lists, and how its reports are printed.
 fn settings_of<R: Files + AllocGlobal>(
     rt: &R,
     words: &ArgMatches<'_>,
-) -> Result<StationSettings, Failure> {
+) -> Result<(StationSettings, Printing), Failure> {
     let alloc = rt.alloc();
     let path = words.get_str("SETTINGS").unwrap_or("");
     let text = read_text(rt, path)?;
@@ -179,8 +188,19 @@ fn settings_of<R: Files + AllocGlobal>(
         add_module(rt, &mut names, file)?;
     }
     match read_station(alloc, &text, &names) {
-        Ok(settings) => Ok(settings),
+        Ok(settings) => {
+            let printing = Printing::of(rt, words, names, files.as_slice())?;
+            Ok((settings, printing))
+        }
         Err(fault) => Err(unset(alloc, Kind::Station, path, &text, fault)),
+    }
+}
+
+/// The file that the words name for each round's report.
+fn out_of(alloc: Global, words: &ArgMatches<'_>) -> Result<Option<String>, Failure> {
+    match words.get_str("out") {
+        Some(path) => Ok(Some(String::from_str(alloc, path)?)),
+        None => Ok(None),
     }
 }
 
@@ -208,7 +228,7 @@ fn opened<R: Files<File = File> + Net + AllocGlobal>(
     )?;
     match socket {
         Ok(socket) => Ok((disk, socket)),
-        Err(error) => match saved_report(alloc, settings.core.watch(), disk) {
+        Err(error) => match saved_board(alloc, settings.core.watch(), disk) {
             Ok(_) => Err(Failure::socket(alloc, shown(settings.listen), error)),
             Err((fault, _)) => Err(unkept(alloc, &settings.file, fault)),
         },
@@ -223,6 +243,7 @@ fn begun<R: Eprint + AllocGlobal, S: Receiver + Drop, O: Outbox + Drop>(
     disk: FileDisk,
     receiver: S,
     outbox: O,
+    printing: Printing,
 ) -> Result<Running<S, O>, Failure> {
     let alloc = rt.alloc();
     let addresses = Addresses::of(alloc, &settings)?;
@@ -233,6 +254,7 @@ fn begun<R: Eprint + AllocGlobal, S: Receiver + Drop, O: Outbox + Drop>(
         receiver,
     )?;
     let log = PollLog::new(alloc, settings.core.targets())?;
+    let peer_numbers = Vec::from_slice(alloc, settings.core.peers())?;
     let (number, file) = (settings.core.station(), settings.file);
     let (targets, peers) = (settings.core.targets().len(), settings.core.peers().len());
     let station = match Station::open(alloc, settings.core, disk) {
@@ -251,6 +273,11 @@ fn begun<R: Eprint + AllocGlobal, S: Receiver + Drop, O: Outbox + Drop>(
         addresses,
         log,
         alarms,
+        peers: peer_numbers,
+        printing,
+        out: None,
+        taken: 0,
+        given_up: 0,
     })
 }
 
@@ -279,6 +306,8 @@ fn told_of<R: Eprint + AllocGlobal, S: Receiver + Drop, O: Outbox + Drop>(
     let alloc = rt.alloc();
     let oldest = running.station.oldest();
     let report = RoundReport::of(alloc, running.rounds.round(), run, oldest, &mut running.log)?;
+    running.taken = running.taken.saturating_add(report.taken);
+    running.given_up = running.given_up.saturating_add(report.given_up);
     tell_notices(rt, number, &running.addresses, &report);
     let alarms = alarm_states(alloc, running.station.board())?;
     let watch = running.station.board().watch();
@@ -334,18 +363,59 @@ fn now<R: Clock + AllocGlobal>(rt: &R) -> Result<Instant, Failure> {
 }
 
 /// Prints the report of a station's windows.
-fn print_report<R: Print + AllocGlobal>(
+fn print_report<R: Print + AllocGlobal, S: Receiver + Drop, O: Outbox + Drop>(
     rt: &R,
-    station: &Station<FileDisk>,
+    running: &Running<S, O>,
 ) -> Result<(), Failure> {
-    match write_report(station.board(), &mut io::writer(rt)) {
-        Ok(()) => Ok(()),
-        Err(_) => Err(Failure::at(
-            rt.alloc(),
-            "standard output",
-            Fault::App(AppFault::FileFault),
-        )),
+    let figures = figures_of(rt.alloc(), running)?;
+    let board = running.station.board();
+    let text = running.printing.report(rt.alloc(), board, Some(&figures))?;
+    print(rt, text.as_slice())
+}
+
+/// Writes the report to the file that the words name, if they name one. What goes wrong is told, and the station goes on.
+fn write_out<
+    R: Files<File = File> + Eprint + AllocGlobal,
+    S: Receiver + Drop,
+    O: Outbox + Drop,
+>(
+    rt: &R,
+    running: &Running<S, O>,
+) {
+    let Some(path) = &running.out else {
+        return;
+    };
+    if let Err(failure) = written_out(rt, running, path) {
+        failure.tell(rt);
     }
+}
+
+fn written_out<R: Files<File = File> + AllocGlobal, S: Receiver + Drop, O: Outbox + Drop>(
+    rt: &R,
+    running: &Running<S, O>,
+    path: &str,
+) -> Result<(), Failure> {
+    let figures = figures_of(rt.alloc(), running)?;
+    let board = running.station.board();
+    running.printing.write(rt, path, board, Some(&figures))
+}
+
+/// What a station says of itself.
+fn figures_of<S: Receiver + Drop, O: Outbox + Drop>(
+    alloc: Global,
+    running: &Running<S, O>,
+) -> Result<Figures, AllocError> {
+    let station = &running.station;
+    let mut debts = Vec::new(alloc);
+    for peer in running.peers.as_slice() {
+        debts.push((*peer, station.owed(*peer)))?;
+    }
+    Ok(Figures {
+        incarnation: station.incarnation(),
+        taken: running.taken,
+        given_up: running.given_up,
+        debts,
+    })
 }
 
 /// What a call of the station's file gave.

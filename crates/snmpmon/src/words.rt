@@ -59,11 +59,28 @@ fn replay<'a>(alloc: Global) -> Result<Command<'a>, AllocError> {
         .long("report")
         .action(ArgAction::SetTrue)
         .help(REPORT);
-    Command::new(alloc, "replay")
+    let replay = Command::new(alloc, "replay")
         .about(REPLAY)
         .long_about(REPLAY_MORE)
         .arg(size)?
-        .arg(report)
+        .arg(report)?;
+    printed(alloc, replay)
+}
+
+const FORMATS: [&str; 4] = ["text", "json", "prometheus", "columns"];
+
+/// A command that prints a report in a format, and by the names of modules.
+fn printed<'a>(alloc: Global, command: Command<'a>) -> Result<Command<'a>, AllocError> {
+    let format = Arg::new(alloc, "format")
+        .long("format")
+        .value_name("FORMAT")
+        .value_parser(FORMATS.as_slice())
+        .help("The format of the report; text if not given");
+    let columns = Arg::new(alloc, "columns")
+        .long("columns")
+        .action(ArgAction::SetTrue)
+        .help("Prints the report as a table for people, as --format columns does");
+    named(alloc, command.arg(format)?.arg(columns)?, module(alloc).short('m'))
 }
 
 const GET: &str = "Asks an agent for variables by their names (GetRequest)";
@@ -394,13 +411,21 @@ fn station<'a>(alloc: Global) -> Result<Command<'a>, AllocError> {
         "The report is printed after every so many rounds too, 1 to 1000000",
     )
     .value_parser(value_parser!(u32).range(1..=1_000_000));
-    Command::new(alloc, "station")
+    let out = given(
+        alloc,
+        "out",
+        "Each round's report is written to FILE too, which is replaced whole",
+    )
+    .value_name("FILE");
+    let station = Command::new(alloc, "station")
         .about(STATION)
         .long_about(STATION_MORE)
         .arg(needed(alloc, "SETTINGS", STATION_SETTINGS))?
         .arg(rounds)?
         .arg(interval)?
-        .arg(report_every)
+        .arg(report_every)?
+        .arg(out)?;
+    printed(alloc, station)
 }
 
 const REPORT_FILE: &str = "Prints the report of what a station has saved";
@@ -412,10 +437,11 @@ const REPORT_FILE_MORE: &str =
 Example: snmpmon report examples/station.toml";
 
 fn report<'a>(alloc: Global) -> Result<Command<'a>, AllocError> {
-    Command::new(alloc, "report")
+    let report = Command::new(alloc, "report")
         .about(REPORT_FILE)
         .long_about(REPORT_FILE_MORE)
-        .arg(needed(alloc, "SETTINGS", STATION_SETTINGS))
+        .arg(needed(alloc, "SETTINGS", STATION_SETTINGS))?;
+    printed(alloc, report)
 }
 
 const SELFTEST: &str = "Tries a station in memory on an agent in memory";

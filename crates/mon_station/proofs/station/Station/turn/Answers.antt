@@ -1,9 +1,10 @@
-use Rattle.std.proofs.Common.{List, refl, ap, sym, subst, ◌∙◌}
+use Rattle.std.proofs.Common.{ℕ, List, length, ap, sym, subst, ◌∙◌}
 use Rattle.mon_disk.specs.Kept.{device_of}
 use Rattle.mon_disk.proofs.Promised.{at_end}
 use Rattle.mon_edge.specs.Told.{extended}
 use Rattle.mon_station.specs.declared.event.Outgoing.{Outgoing}
 use Rattle.mon_station.specs.declared.event.OwnedEvent.{OwnedEvent}
+use Rattle.mon_station.specs.declared.running.Answer.TheVariants.{Handled}
 use Rattle.mon_station.specs.ReadEvent.{ReadsAs}
 use Rattle.mon_station.specs.Saved.{FindsRunning}
 use Rattle.mon_station.specs.State.{state_of}
@@ -20,7 +21,7 @@ returns-in-Ok-clause-turned g c =
     let new = device_of c.step.new.self.keeper in
     turned_told s (state_of c.step.new.self.life) c.args.event (D.is_honest old) (D.is_honest new) (D.may_leave old) (D.may_leave new) c.in-Ok.ensures.honest c.in-Ok.told _ _ _
     (λ e reads. c.in-Ok.ensures.answered e (subst (λ (a : OwnedEvent). ReadsAs s.board.watch a e) (sym is) reads))
-    (c.hand.ensures.handed ∙ ap (λ (l : List Outgoing). extended (g.O.Outbox.handed c.args.outbox.now) l) c.as_slice.ensures.value) refl
+    (c.hand.ensures.handed ∙ ap (λ (l : List Outgoing). extended (g.O.Outbox.handed c.args.outbox.now) l) c.as_slice.ensures.value) (ap (λ (l : List (ℕ × ℕ)). Handled (length l)) c.as_slice-in-Ok.ensures)
     (λ honest. file_told D.may_leave s old new c.args.event (λ other. ap device_of (c.in-Ok.ensures.disk (not_save event (λ e. other (sym is ∙ e))))) (λ e. c.in-Ok.ensures.saved honest (is_save event (is ∙ e))))
 
 pub returns-clause-turned : goal.returns-clause-turned

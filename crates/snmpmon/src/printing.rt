@@ -1,0 +1,105 @@
+//! How reports are printed: in which format, and names by which modules.
+
+use crate::failure::Failure;
+use crate::files::replace_file;
+use crate::naming::add_module;
+use clap::ArgMatches;
+use mon_board::Board;
+use mon_formats::{Figures, Format, format_report};
+use mon_names::InNumbers;
+use mon_report::{Entry, entries_of};
+use mon_smi::Names;
+use std::alloc::{AllocError, Global};
+use std::fs::File;
+use std::rt::Files;
+
+/// How reports are printed.
+#[derive(Drop)]
+pub struct Printing {
+    format: Format,
+    names: Option<Names>,
+}
+
+impl Printing {
+    /// What the words ask for. These names are known, of the modules in these files, and those of the modules that the words give.
+    pub fn of<R: Files + AllocGlobal>(
+        rt: &R,
+        words: &ArgMatches<'_>,
+        names: Names,
+        files: &[String],
+    ) -> Result<Self, Failure> {
+        let mut names = names;
+        for path in words.get_raw("module").unwrap_or(&[]) {
+            if !is_among(files, path) {
+                add_module(rt, &mut names, path)?;
+            }
+        }
+        let shown = words.get_flag("names");
+        Ok(Printing {
+            format: format_of(words),
+            names: shown.then_some(names),
+        })
+    }
+
+    /// Whether the format is lines of text.
+    pub fn is_text(&self) -> bool {
+        self.format == Format::Text
+    }
+
+    /// The report of these instances, and for Prometheus of what the station says of itself.
+    pub fn text(
+        &self,
+        alloc: Global,
+        entries: &[Entry],
+        station: Option<&Figures>,
+    ) -> Result<Vec<u8>, AllocError> {
+        match &self.names {
+            None => format_report(alloc, self.format, &InNumbers, entries, station),
+            Some(names) => {
+                let labels = names.labels(alloc)?;
+                format_report(alloc, self.format, &labels, entries, station)
+            }
+        }
+    }
+
+    /// The report of a board.
+    pub fn report(
+        &self,
+        alloc: Global,
+        board: &Board,
+        station: Option<&Figures>,
+    ) -> Result<Vec<u8>, AllocError> {
+        let entries = entries_of(alloc, board)?;
+        self.text(alloc, entries.as_slice(), station)
+    }
+
+    /// Writes the report of a board to a file, which is replaced whole.
+    pub fn write<R: Files<File = File> + AllocGlobal>(
+        &self,
+        rt: &R,
+        path: &str,
+        board: &Board,
+        station: Option<&Figures>,
+    ) -> Result<(), Failure> {
+        let text = self.report(rt.alloc(), board, station)?;
+        replace_file(rt, path, text.as_slice())
+    }
+}
+
+/// Whether one of the files is this one.
+fn is_among(files: &[String], path: &str) -> bool {
+    files.iter().any(|file| file.as_str() == path)
+}
+
+/// The format that the words name; lines of text where they name none.
+fn format_of(words: &ArgMatches<'_>) -> Format {
+    if words.get_flag("columns") {
+        return Format::Columns;
+    }
+    match words.get_str("format").unwrap_or("") {
+        "json" => Format::Json,
+        "prometheus" => Format::Prometheus,
+        "columns" => Format::Columns,
+        _ => Format::Text,
+    }
+}
