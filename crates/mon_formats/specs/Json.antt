@@ -1,8 +1,9 @@
--- A report as JSON (RFC 8259), on one line. Whole numbers of more than 53 bits, which many readers round, are texts.
-use Rattle.std.specs.Prelude.{ℕ, ℤ, pos, negsuc, ◌^◌, List, [], ◌∷◌, ◌++◌, Option, Some, None, codes, decimal, map, nat_le, nat_lt, if◌then◌else◌}
+-- A report as JSON (RFC 8259), on one line. Whole numbers beyond 2^53, which many readers round, are texts.
+use Rattle.std.specs.Prelude.{ℕ, ℤ, pos, negsuc, ◌^◌, List, ◌++◌, Option, Some, None, codes, decimal, map, nat_le, nat_lt, if◌then◌else◌}
 use Rattle.std.specs.Fmt.{signed_decimal}
 use Rattle.hex.specs.Hex.{encode_lower}
-use Rattle.serde_json.specs.Data.{Data, null, number, unsigned, negative, string, array, object, Items, no_items, item, Members, no_members, member}
+use Rattle.serde_json.specs.Data.{Data, null, number, unsigned, negative, string, array, object, no_members, member}
+use Rattle.serde_json.specs.View.{items_of}
 use Rattle.serde_json.specs.Written.{compact_text}
 use Rattle.mon_sample.specs.Kind.{kind_name}
 use Rattle.mon_sample.specs.Key.{boots_of, time_of, kind_of}
@@ -23,12 +24,7 @@ abbrev pub exact_signed : ℤ → Data
 exact_signed (pos n) = exact n
 exact_signed (negsuc n) = if nat_lt n (2 ^ 53) then number (negative (negsuc n)) else string (signed_decimal (negsuc n))
 
--- an array of these
-abbrev pub items_of : List Data → Items
-items_of [] = no_items
-items_of (d ∷ ds) = item d (items_of ds)
-
--- boots and time of the agent's engine: an object's first members
+-- boots and time of the agent's engine
 abbrev pub stamp : ℕ → ℕ → Data
 stamp boots time = object (member (codes "boots") (number (unsigned boots)) (member (codes "time") (number (unsigned time)) no_members))
 
@@ -78,7 +74,7 @@ entry_data shown e = object
 abbrev pub report_data : (List ℕ → List ℕ) → List Entry → Data
 report_data shown entries = object
     (member (codes "instances") (array (items_of (map (entry_data shown) entries)))
-    (member (codes "samples") (number (unsigned (samples_in entries)))
+    (member (codes "samples") (exact (samples_in entries))
     no_members))
 
 -- the text, with a line feed behind it

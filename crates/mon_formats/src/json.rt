@@ -1,13 +1,23 @@
 //! A report as JSON.
 
-ghost use Rattle.std.specs.Prelude.{◌≡◌, IfOk};
-ghost use Rattle.mon_formats.specs.Json.{json_report};
+ghost use Rattle.std.specs.Prelude.{◌≡◌, IfOk, map};
+ghost use Rattle.serde_json.specs.Data.{array};
+ghost use Rattle.serde_json.specs.View.{view, items_of};
+ghost use Rattle.mon_report.specs.Report.{samples_in};
+ghost use Rattle.mon_formats.specs.Cells.{rate_of};
+ghost use Rattle.mon_formats.specs.Json.{exact, exact_signed, sample_data, raised_data, alarm_data, rate_data, totals_data, entry_data, report_data, json_report};
 
+use mon_alarms::{AlarmState, Rule, state};
 use mon_names::NameTexts;
 use mon_report::Entry;
+use mon_sample::Sample;
+use serde_json::{Value, json};
 use std::alloc::{AllocError, Global};
 
-/// The report as JSON, on one line.
+/// The largest whole number that is written as a number: readers that keep numbers as floats of 64 bits have it exactly.
+const LARGEST_NUMBER: u64 = 1 << 53;
+
+/// The report as JSON (RFC 8259), on one line.
 pub(crate) fn json_report<S: NameTexts>(
     alloc: Global,
     names: &S,
@@ -15,5 +25,174 @@ pub(crate) fn json_report<S: NameTexts>(
 ) -> Result<Vec<u8>, AllocError>
     ensures { IfOk result (λ text. text.items ≡ json_report (S.shown names.now) entries.now) }
 {
-    Err(AllocError)
+    let report = report_value(alloc, names, entries)?;
+    let mut text = report.to_string(alloc)?;
+    text.push_str("\n")?;
+    Ok(text.into_bytes())
+}
+
+/// The report: its instances, and how many samples they have.
+fn report_value<S: NameTexts>(
+    alloc: Global,
+    names: &S,
+    entries: &[Entry],
+) -> Result<Value, AllocError>
+    ensures { IfOk result (λ v. view v ≡ report_data (S.shown names.now) entries.now) }
+{
+    let instances = instances_value(alloc, names, entries)?;
+    let samples = exact_value(alloc, count_samples(entries))?;
+    json!(in alloc; {"instances": instances, "samples": samples})
+}
+
+/// The array of the instances.
+fn instances_value<S: NameTexts>(
+    alloc: Global,
+    names: &S,
+    entries: &[Entry],
+) -> Result<Value, AllocError>
+    ensures { IfOk result (λ v. view v ≡ array (items_of (map (entry_data (S.shown names.now)) entries.now))) }
+{
+    let mut values = Vec::new(alloc);
+    for entry in entries {
+        values.push(entry_value(alloc, names, entry)?)?;
+    }
+    Ok(Value::Array(values))
+}
+
+/// How many samples the instances have.
+fn count_samples(entries: &[Entry]) -> u128
+    ensures { result ≡ samples_in entries.now }
+{
+    let mut count = 0;
+    for entry in entries {
+        count += entry.samples().len() as u128;
+    }
+    count
+}
+
+/// An instance, its name as it is shown.
+fn entry_value<S: NameTexts>(alloc: Global, names: &S, entry: &Entry) -> Result<Value, AllocError>
+    ensures { IfOk result (λ v. view v ≡ entry_data (S.shown names.now) entry.now) }
+{
+    let engine = hex::encode(alloc, entry.engine())?;
+    let mut name = String::new(alloc);
+    names.put(alloc, &mut name, entry.name())?;
+    let alarms = alarms_value(alloc, entry)?;
+    let rate = rate_value(alloc, entry)?;
+    let samples = samples_value(alloc, entry.samples())?;
+    let totals = totals_value(alloc, entry)?;
+    json!(in alloc; {
+        "alarms": alarms,
+        "engine": engine,
+        "name": name,
+        "rate_thousandths": rate,
+        "samples": samples,
+        "totals": totals
+    })
+}
+
+/// The array of the alarms of an instance.
+fn alarms_value(alloc: Global, entry: &Entry) -> Result<Value, AllocError>
+    ensures { IfOk result (λ v. view v ≡ array (items_of (map (alarm_data entry.now.items) entry.now.rules))) }
+{
+    let rules = entry.rules(alloc)?;
+    rules_value(alloc, entry.samples(), rules.as_slice())
+}
+
+/// The array of the alarms of these rules over these samples.
+fn rules_value(alloc: Global, samples: &[Sample], rules: &[Rule]) -> Result<Value, AllocError>
+    ensures { IfOk result (λ v. view v ≡ array (items_of (map (alarm_data samples.now) rules.now))) }
+{
+    let mut values = Vec::new(alloc);
+    for rule in rules {
+        values.push(alarm_value(alloc, samples, rule)?)?;
+    }
+    Ok(Value::Array(values))
+}
+
+/// A rule with its thresholds in thousandths, and when its alarm was raised over these samples.
+fn alarm_value(alloc: Global, samples: &[Sample], rule: &Rule) -> Result<Value, AllocError>
+    ensures { IfOk result (λ v. view v ≡ alarm_data samples.now rule.now) }
+{
+    let falling = exact_signed_value(alloc, i128::from(rule.falling()))?;
+    let raised = raised_value(alloc, state(rule, samples))?;
+    let rising = exact_signed_value(alloc, i128::from(rule.rising()))?;
+    json!(in alloc; {"falling": falling, "raised": raised, "rising": rising})
+}
+
+/// When an alarm was raised; null where it is clear.
+fn raised_value(alloc: Global, state: AlarmState) -> Result<Value, AllocError>
+    ensures { IfOk result (λ v. view v ≡ raised_data state) }
+{
+    match state {
+        AlarmState::Clear => Ok(Value::Null),
+        AlarmState::Raised { boots, time } => { json!(in alloc; {"boots": boots, "time": time}) }
+    }
+}
+
+/// The array of these samples.
+fn samples_value(alloc: Global, samples: &[Sample]) -> Result<Value, AllocError>
+    ensures { IfOk result (λ v. view v ≡ array (items_of (map sample_data samples.now))) }
+{
+    let mut values = Vec::new(alloc);
+    for sample in samples {
+        values.push(sample_value(alloc, sample)?)?;
+    }
+    Ok(Value::Array(values))
+}
+
+/// A sample: its stamp, its kind and the number that its value means.
+fn sample_value(alloc: Global, sample: &Sample) -> Result<Value, AllocError>
+    ensures { IfOk result (λ v. view v ≡ sample_data sample.now) }
+{
+    let value = exact_signed_value(alloc, sample.number())?;
+    json!(in alloc; {
+        "boots": sample.boots(),
+        "kind": sample.kind().name(),
+        "time": sample.time(),
+        "value": value
+    })
+}
+
+/// The rate of an instance in thousandths; null where there is none.
+fn rate_value(alloc: Global, entry: &Entry) -> Result<Value, AllocError>
+    ensures { IfOk result (λ v. view v ≡ rate_data (rate_of entry.now.items)) }
+{
+    match entry.totals().thousandths() {
+        None => Ok(Value::Null),
+        Some(rate) => exact_value(alloc, rate),
+    }
+}
+
+/// How much the counter of an instance counted, and in how many seconds.
+fn totals_value(alloc: Global, entry: &Entry) -> Result<Value, AllocError>
+    ensures { IfOk result (λ v. view v ≡ totals_data entry.now.items) }
+{
+    let totals = entry.totals();
+    let delta = exact_value(alloc, totals.delta)?;
+    let span = exact_value(alloc, u128::from(totals.span))?;
+    json!(in alloc; {"delta": delta, "span": span})
+}
+
+/// A whole number with its sign: as a number up to 2^53 on either side of 0, else as a text.
+fn exact_signed_value(alloc: Global, number: i128) -> Result<Value, AllocError>
+    ensures { IfOk result (λ v. view v ≡ exact_signed number) }
+{
+    if number >= 0 {
+        return exact_value(alloc, number.unsigned_abs());
+    }
+    if number >= -i128::from(LARGEST_NUMBER) {
+        return Ok(Value::from(number as i64));
+    }
+    Ok(Value::String(number.to_string(alloc)?))
+}
+
+/// A whole number: as a number up to 2^53, else as a text.
+fn exact_value(alloc: Global, number: u128) -> Result<Value, AllocError>
+    ensures { IfOk result (λ v. view v ≡ exact number) }
+{
+    if number <= u128::from(LARGEST_NUMBER) {
+        return Ok(Value::from(number as u64));
+    }
+    Ok(Value::String(number.to_string(alloc)?))
 }

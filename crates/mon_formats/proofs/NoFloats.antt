@@ -1,0 +1,58 @@
+-- A report as JSON has no floating point numbers.
+use Rattle.std.proofs.Common.{◌≡◌, ℕ, ℤ, pos, negsuc, ◌^◌, List, [], ◌∷◌, Bool, true, false, ◌||◌, cond, Option, Some, None, decimal, map, nat_le, nat_lt, refl}
+use Rattle.std.specs.Fmt.{signed_decimal}
+use Rattle.serde_json.specs.Data.{Data, number, unsigned, negative, string}
+use Rattle.serde_json.specs.View.{items_of}
+use Rattle.serde_json.specs.Written.{has_float, items_have_float}
+use Rattle.mon_alarms.specs.Rule.{Rule}
+use Rattle.mon_alarms.specs.Observed.{state_by}
+use Rattle.mon_alarms.specs.declared.alarm.AlarmState.{AlarmState}
+use Rattle.mon_alarms.specs.declared.alarm.AlarmState.TheVariants.{Clear, Raised}
+use Rattle.mon_rates.specs.Totals.{totals}
+use Rattle.mon_report.specs.Report.{Entry, samples_in}
+use Rattle.mon_formats.specs.Cells.{value_of, rate_of}
+use Rattle.mon_formats.specs.Json.{exact, exact_signed, sample_data, raised_data, alarm_data, rate_data, totals_data, entry_data, report_data}
+
+neither : (a b : Bool) → a ≡ false → b ≡ false → (a || b) ≡ false
+neither true b p q = p
+neither false b p q = q
+
+either_way : (b : Bool) (d e : Data) → has_float d ≡ false → has_float e ≡ false → has_float (cond b d e) ≡ false
+either_way true d e p q = p
+either_way false d e p q = q
+
+of_items : {A : Type 0} (f : A → Data) → ((x : A) → has_float (f x) ≡ false) → (xs : List A) → items_have_float (items_of (map f xs)) ≡ false
+of_items f each [] = refl
+of_items f each (x ∷ xs) = neither _ _ (each x) (of_items f each xs)
+
+of_exact : (n : ℕ) → has_float (exact n) ≡ false
+of_exact n = either_way (nat_le n (2 ^ 53)) (number (unsigned n)) (string (decimal n)) refl refl
+
+of_exact_signed : (z : ℤ) → has_float (exact_signed z) ≡ false
+of_exact_signed (pos n) = of_exact n
+of_exact_signed (negsuc n) = either_way (nat_lt n (2 ^ 53)) (number (negative (negsuc n))) (string (signed_decimal (negsuc n))) refl refl
+
+of_raised : (s : AlarmState) → has_float (raised_data s) ≡ false
+of_raised Clear = refl
+of_raised (Raised boots time) = refl
+
+of_rate : (rate : Option ℕ) → has_float (rate_data rate) ≡ false
+of_rate None = refl
+of_rate (Some q) = of_exact q
+
+of_sample : (s : ℕ) → has_float (sample_data s) ≡ false
+of_sample s = neither _ _ (of_exact_signed (value_of s)) refl
+
+of_alarm : (items : List ℕ) (rule : Rule) → has_float (alarm_data items rule) ≡ false
+of_alarm items rule = neither _ _ (of_exact_signed rule.falling) (neither _ _ (of_raised (state_by rule items)) (neither _ _ (of_exact_signed rule.rising) refl))
+
+of_totals : (items : List ℕ) → has_float (totals_data items) ≡ false
+of_totals items = neither _ _ (of_exact (totals items).delta) (neither _ _ (of_exact (totals items).span) refl)
+
+of_entry : (shown : List ℕ → List ℕ) (e : Entry) → has_float (entry_data shown e) ≡ false
+of_entry shown e =
+    neither _ _ (of_items (alarm_data e.items) (of_alarm e.items) e.rules)
+    (neither _ _ (of_rate (rate_of e.items)) (neither _ _ (of_items sample_data of_sample e.items) (neither _ _ (of_totals e.items) refl)))
+
+pub of_report : (shown : List ℕ → List ℕ) (entries : List Entry) → has_float (report_data shown entries) ≡ false
+of_report shown entries = neither _ _ (of_items (entry_data shown) (of_entry shown) entries) (neither _ _ (of_exact (samples_in entries)) refl)
