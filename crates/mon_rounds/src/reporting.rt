@@ -216,8 +216,13 @@ fn count_taken(answers: &[Answer]) -> u64
 fn count_given_up(notices: &[Notice]) -> u64
     ensures { result ≡ gave_up notices.now }
 {
-    let is_given_up = |notice: &&Notice| matches!(notice, Notice::GaveUp(_));
-    notices.iter().filter(is_given_up).count() as u64
+    let mut count = 0;
+    for notice in notices {
+        if let Notice::GaveUp(_) = notice {
+            count += 1;
+        }
+    }
+    count
 }
 
 /// What is to be told of the events of a round that were answered so.

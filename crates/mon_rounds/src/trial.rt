@@ -1,6 +1,6 @@
 //! A station's trial of itself: it polls an agent in memory three times, saves and finds again what it took.
 
-ghost use Rattle.std.specs.Prelude.{◌≡◌, ◌++◌, IfOk};
+ghost use Rattle.std.specs.Prelude.{◌≡◌, ◌++◌, IfErr, IfOk};
 ghost use Rattle.mon_board.specs.Board.{window_of};
 ghost use Rattle.mon_report.specs.Report.{report};
 ghost use Rattle.mon_rounds.specs.Trial.{name_of, number_of, trial_text};

@@ -1,0 +1,164 @@
+"""The formats of a report, written apart from the proved code: by the words of docs/OPERATE.md, RFC 8259 through Python's json, and
+Prometheus' text exposition format 0.0.4.
+"""
+import json
+from dataclasses import dataclass, field
+
+COUNTERS = {"Counter32": 2**32, "Counter64": 2**64}
+# Names as Prometheus' page on the format wants them escaped in a label's value.
+ESCAPES = str.maketrans({"\\": r"\\", '"': r"\"", "\n": r"\n"})
+
+
+@dataclass(frozen=True, order=True)
+class Sample:
+    boots: int
+    time: int
+    mark: int
+    kind: str
+    value: int
+
+
+@dataclass
+class Alarm:
+    rising: int
+    falling: int
+    raised: tuple | None
+
+
+@dataclass
+class Instance:
+    engine: str
+    name: str
+    samples: list = field(default_factory=list)
+    alarms: list = field(default_factory=list)
+
+    def totals(self):
+        """What the counter counted from each sample to the next, and in how many seconds (RFC 2578 sections 7.1.6 and 7.1.10)."""
+        delta = span = 0
+        for a, b in zip(self.samples, self.samples[1:]):
+            if a.kind in COUNTERS and (a.kind, a.boots, a.mark) == (b.kind, b.boots, b.mark) and a.time < b.time:
+                delta += (b.value - a.value) % COUNTERS[a.kind]
+                span += b.time - a.time
+        return delta, span
+
+    def rate(self):
+        """What was counted a second, in thousandths, rounded down, or None."""
+        delta, span = self.totals()
+        return 1000 * delta // span if span else None
+
+
+def points(thousandths):
+    return f"{thousandths // 1000}.{thousandths % 1000:03}"
+
+
+def text(instances):
+    lines = []
+    for it in instances:
+        line = f"{it.engine} {it.name} n={len(it.samples)}"
+        if it.samples:
+            old, new = it.samples[0], it.samples[-1]
+            delta, span = it.totals()
+            rate = it.rate()
+            line += f" {old.boots}:{old.time}..{new.boots}:{new.time} {new.kind}={new.value} delta={delta} span={span}"
+            line += f" rate={'none' if rate is None else points(rate)}"
+        for alarm in it.alarms:
+            state = "raised@{}:{}".format(*alarm.raised) if alarm.raised else "clear"
+            line += f" alarm {alarm.rising}/{alarm.falling}={state}"
+        lines.append(line)
+    lines.append(f"end {len(instances)} instances {sum(len(it.samples) for it in instances)} samples")
+    return "".join(f"{line}\n" for line in lines)
+
+
+def exact(number):
+    """A whole number; as a text where its size is beyond 2^53."""
+    return number if -(2**53) <= number <= 2**53 else str(number)
+
+
+def json_text(instances):
+    def stamp(raised):
+        return None if raised is None else {"boots": raised[0], "time": raised[1]}
+
+    listed = []
+    for it in instances:
+        delta, span = it.totals()
+        rate = it.rate()
+        listed.append({
+            "engine": it.engine,
+            "name": it.name,
+            "samples": [{"boots": s.boots, "time": s.time, "kind": s.kind, "value": exact(s.value)} for s in it.samples],
+            "totals": {"delta": exact(delta), "span": exact(span)},
+            "rate_thousandths": None if rate is None else exact(rate),
+            "alarms": [{"rising": exact(a.rising), "falling": exact(a.falling), "raised": stamp(a.raised)} for a in it.alarms],
+        })
+    said = {"instances": listed, "samples": sum(len(it.samples) for it in instances)}
+    return json.dumps(said, sort_keys=True, separators=(",", ":"), ensure_ascii=False) + "\n"
+
+
+METRICS = {
+    "snmpmon_counted_total": ("counter", "Newest value of a counter."),
+    "snmpmon_number": ("gauge", "Newest value of what may fall: an integer, a gauge or a time."),
+    "snmpmon_samples": ("gauge", "Samples that the window of an instance holds."),
+    "snmpmon_rate": ("gauge", "What a counter counted a second over its window."),
+    "snmpmon_alarm": ("gauge", "1 where the alarm of a rule is raised. Thresholds are in thousandths."),
+    "snmpmon_incarnation": ("gauge", "How often the station was started over its file."),
+    "snmpmon_samples_taken_total": ("counter", "Samples that the station took since it began."),
+    "snmpmon_polls_given_up_total": ("counter", "Polls that the station gave up since it began."),
+    "snmpmon_debt": ("gauge", "Samples that the station owes a peer."),
+}
+
+
+def metric(name, labels, value):
+    shown = ",".join(f'{label}="{str(said).translate(ESCAPES)}"' for label, said in labels)
+    return f"{name}{{{shown}}} {value}\n" if labels else f"{name} {value}\n"
+
+
+def prometheus(instances, station=None):
+    """The report; `station` is the incarnation, the samples taken, the polls given up, and pairs of a peer and its debt."""
+    lines = {name: [] for name in METRICS}
+    for it in instances:
+        labels = [("engine", it.engine), ("name", it.name)]
+        if it.samples:
+            newest = it.samples[-1]
+            name = "snmpmon_counted_total" if newest.kind in COUNTERS else "snmpmon_number"
+            lines[name].append(metric(name, labels, newest.value))
+        lines["snmpmon_samples"].append(metric("snmpmon_samples", labels, len(it.samples)))
+        if it.rate() is not None:
+            lines["snmpmon_rate"].append(metric("snmpmon_rate", labels, points(it.rate())))
+        for alarm in it.alarms:
+            more = [("rising", alarm.rising), ("falling", alarm.falling)]
+            lines["snmpmon_alarm"].append(metric("snmpmon_alarm", labels + more, 1 if alarm.raised else 0))
+    shown = list(METRICS)[:5]
+    if station:
+        incarnation, taken, given_up, debts = station
+        lines["snmpmon_incarnation"].append(metric("snmpmon_incarnation", [], incarnation))
+        lines["snmpmon_samples_taken_total"].append(metric("snmpmon_samples_taken_total", [], taken))
+        lines["snmpmon_polls_given_up_total"].append(metric("snmpmon_polls_given_up_total", [], given_up))
+        lines["snmpmon_debt"] += [metric("snmpmon_debt", [("peer", peer)], owed) for peer, owed in debts]
+        shown = list(METRICS)
+    heads = {name: f"# HELP {name} {words}\n# TYPE {name} {kind}\n" for name, (kind, words) in METRICS.items()}
+    return "".join(heads[name] + "".join(lines[name]) for name in shown)
+
+
+def columns(instances):
+    rows = []
+    for it in instances:
+        value = str(it.samples[-1].value) if it.samples else "-"
+        rate = "-" if it.rate() is None else points(it.rate()) + "/s"
+        raised = any(alarm.raised for alarm in it.alarms)
+        alarm = "RAISED" if raised else "clear" if it.alarms else "-"
+        rows.append((it.engine, value, rate, alarm, str(len(it.samples)), it.name))
+    wide = max([len("VALUE")] + [len(row[1]) for row in rows])
+    rates = max([len("RATE")] + [len(row[2]) for row in rows])
+
+    def line(value, rate, alarm, samples, name):
+        return f"{value:>{wide}}  {rate:>{rates}}  {alarm:<6}  {samples:>7}  {name}\n"
+
+    table, before = line("VALUE", "RATE", "ALARM", "SAMPLES", "NAME"), None
+    for engine, *row in rows:
+        if engine != before:
+            table += f"engine {engine}\n"
+        table, before = table + line(*row), engine
+    return table + f"{len(rows)} instances, {sum(len(it.samples) for it in instances)} samples\n"
+
+
+FORMATS = {"text": text, "json": json_text, "prometheus": prometheus, "columns": columns}
