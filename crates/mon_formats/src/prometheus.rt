@@ -1,14 +1,29 @@
 //! A report as Prometheus reads it.
 
-ghost use Rattle.std.specs.Prelude.{◌≡◌, IfOk, option_map};
-ghost use Rattle.mon_formats.specs.Prometheus.{prometheus_report};
+ghost use Rattle.std.specs.Prelude.{◌≡◌, ◌++◌, IfOk, OnOk, option_map};
+ghost use Rattle.std.specs.Fmt.{signed_decimal};
+ghost use Rattle.std.specs.List.{flat_map};
+ghost use Rattle.mon_formats.specs.Cells.{newest_of, value_of, rate_of};
+ghost use Rattle.mon_formats.specs.Prometheus.{prometheus_report, instances_text, metric_text, entry_lines, lines_of, counted_line, number_line, samples_line, rate_line, alarm_line, alarm_labels, instance_labels, state_digit, name_of, metric_line, threshold_text};
+
+mod metric;
+mod station;
+mod text;
 
 use crate::figures::Figures;
+use itoa::Buffer;
+use metric::Metric;
+use mon_alarms::{AlarmState, Rule, state};
 use mon_names::NameTexts;
+use mon_rates::is_counter;
 use mon_report::Entry;
+use mon_sample::Sample;
+use station::put_station;
 use std::alloc::{AllocError, Global};
+use text::{put_head, put_label, put_line, put_thousandths};
 
 /// The report in Prometheus' text exposition format.
+#[tactic(auto, unfolding(crate::specs::Prometheus::prometheus_report))]
 pub(crate) fn prometheus_report<S: NameTexts>(
     alloc: Global,
     names: &S,
@@ -17,5 +32,226 @@ pub(crate) fn prometheus_report<S: NameTexts>(
 ) -> Result<Vec<u8>, AllocError>
     ensures { IfOk result (λ text. text.items ≡ prometheus_report (S.shown names.now) entries.now (option_map (λ f. f.now) station.entry)) }
 {
-    Err(AllocError)
+    let mut text = Vec::new(alloc);
+    put_instances(alloc, &mut text, names, entries)?;
+    if let Some(figures) = station {
+        put_station(alloc, &mut text, figures)?;
+    }
+    Ok(text)
+}
+
+/// Adds what the report says of the instances, metric by metric.
+#[tactic(auto, unfolding(crate::specs::Prometheus::instances_text))]
+fn put_instances<S: NameTexts>(
+    alloc: Global,
+    text: &mut Vec<u8>,
+    names: &S,
+    entries: &[Entry],
+) -> Result<(), AllocError>
+    ensures { OnOk result (text.new.items ≡ text.old.items ++ instances_text (S.shown names.now) entries.now) }
+{
+    put_metric(alloc, text, names, entries, Metric::Counted)?;
+    put_metric(alloc, text, names, entries, Metric::Number)?;
+    put_metric(alloc, text, names, entries, Metric::Samples)?;
+    put_metric(alloc, text, names, entries, Metric::Rate)?;
+    put_metric(alloc, text, names, entries, Metric::Alarm)
+}
+
+/// Adds a metric: what it is, and its lines.
+#[tactic(auto, unfolding(crate::specs::Prometheus::metric_text))]
+fn put_metric<S: NameTexts>(
+    alloc: Global,
+    text: &mut Vec<u8>,
+    names: &S,
+    entries: &[Entry],
+    metric: Metric,
+) -> Result<(), AllocError>
+    ensures { OnOk result (text.new.items ≡ text.old.items ++ metric_text metric (S.shown names.now) entries.now) }
+{
+    put_head(text, metric.name(), metric.help(), metric.kind())?;
+    for entry in entries {
+        put_entry(alloc, text, names, entry, metric)?;
+    }
+    Ok(())
+}
+
+/// Adds the lines of a metric for one instance.
+fn put_entry<S: NameTexts>(
+    alloc: Global,
+    text: &mut Vec<u8>,
+    names: &S,
+    entry: &Entry,
+    metric: Metric,
+) -> Result<(), AllocError>
+    ensures { OnOk result (text.new.items ≡ text.old.items ++ entry_lines metric (S.shown names.now) entry.now) }
+{
+    let labels = labels_of(alloc, names, entry)?;
+    put_lines(alloc, text, labels.as_slice(), entry, metric)
+}
+
+/// The labels of an instance: its engine id in hex digits, and its name.
+#[tactic(auto, unfolding(crate::specs::Prometheus::instance_labels))]
+fn labels_of<S: NameTexts>(alloc: Global, names: &S, entry: &Entry) -> Result<Vec<u8>, AllocError>
+    ensures { IfOk result (λ labels. labels.items ≡ instance_labels (S.shown names.now) entry.now) }
+{
+    let engine = hex::encode(alloc, entry.engine())?;
+    let mut name = String::new(alloc);
+    names.put(alloc, &mut name, entry.name())?;
+    let mut labels = Vec::new(alloc);
+    put_label(&mut labels, "engine", engine.as_bytes())?;
+    labels.extend_from_slice(b",")?;
+    put_label(&mut labels, "name", name.as_bytes())?;
+    Ok(labels)
+}
+
+/// Adds the lines of a metric for an instance with these labels.
+fn put_lines(
+    alloc: Global,
+    text: &mut Vec<u8>,
+    labels: &[u8],
+    entry: &Entry,
+    metric: Metric,
+) -> Result<(), AllocError>
+    ensures { OnOk result (text.new.items ≡ text.old.items ++ lines_of metric labels.now entry.now) }
+{
+    match metric {
+        Metric::Counted => put_counted(text, labels, entry.samples()),
+        Metric::Number => put_number(text, labels, entry.samples()),
+        Metric::Samples => put_samples(text, labels, entry.samples()),
+        Metric::Rate => put_rate(alloc, text, labels, entry),
+        Metric::Alarm => put_alarms(alloc, text, labels, entry),
+    }
+}
+
+/// Adds the line of the newest value, if it is a counter's.
+fn put_counted(text: &mut Vec<u8>, labels: &[u8], samples: &[Sample]) -> Result<(), AllocError>
+    ensures { OnOk result (text.new.items ≡ text.old.items ++ counted_line labels.now (newest_of samples.now)) }
+{
+    let Some(newest) = samples.last() else {
+        return Ok(());
+    };
+    if !is_counter(newest.kind()) {
+        return Ok(());
+    }
+    put_value(text, Metric::Counted, labels, newest)
+}
+
+/// Adds the line of the newest value, if it is no counter's.
+fn put_number(text: &mut Vec<u8>, labels: &[u8], samples: &[Sample]) -> Result<(), AllocError>
+    ensures { OnOk result (text.new.items ≡ text.old.items ++ number_line labels.now (newest_of samples.now)) }
+{
+    let Some(newest) = samples.last() else {
+        return Ok(());
+    };
+    if is_counter(newest.kind()) {
+        return Ok(());
+    }
+    put_value(text, Metric::Number, labels, newest)
+}
+
+/// Adds a line with the number that a sample's value means.
+fn put_value(
+    text: &mut Vec<u8>,
+    metric: Metric,
+    labels: &[u8],
+    sample: &Sample,
+) -> Result<(), AllocError>
+    ensures { OnOk result (text.new.items ≡ text.old.items ++ metric_line (name_of metric) labels.now (signed_decimal (value_of sample.now))) }
+{
+    let mut buffer = Buffer::new();
+    let number = buffer.format(sample.number());
+    put_line(text, metric.name(), labels, number.as_bytes())
+}
+
+/// Adds the line that says how many samples there are.
+fn put_samples(text: &mut Vec<u8>, labels: &[u8], samples: &[Sample]) -> Result<(), AllocError>
+    ensures { OnOk result (text.new.items ≡ text.old.items ++ samples_line labels.now samples.now) }
+{
+    let mut buffer = Buffer::new();
+    let count = buffer.format(samples.len());
+    put_line(text, Metric::Samples.name(), labels, count.as_bytes())
+}
+
+/// Adds the line of an instance's rate, if it has one.
+fn put_rate(
+    alloc: Global,
+    text: &mut Vec<u8>,
+    labels: &[u8],
+    entry: &Entry,
+) -> Result<(), AllocError>
+    ensures { OnOk result (text.new.items ≡ text.old.items ++ rate_line labels.now (rate_of entry.now.items)) }
+{
+    let Some(thousandths) = entry.totals().thousandths() else {
+        return Ok(());
+    };
+    let mut rate = Vec::new(alloc);
+    put_thousandths(&mut rate, thousandths)?;
+    put_line(text, Metric::Rate.name(), labels, rate.as_slice())
+}
+
+/// Adds a line for each rule on an instance.
+fn put_alarms(
+    alloc: Global,
+    text: &mut Vec<u8>,
+    labels: &[u8],
+    entry: &Entry,
+) -> Result<(), AllocError>
+    ensures { OnOk result (text.new.items ≡ text.old.items ++ flat_map (alarm_line labels.now entry.now.items) entry.now.rules) }
+{
+    let rules = entry.rules(alloc)?;
+    for rule in &rules {
+        put_alarm(alloc, text, labels, entry.samples(), rule)?;
+    }
+    Ok(())
+}
+
+/// Adds the line of a rule: its thresholds are labels, and its value says whether its alarm is raised.
+fn put_alarm(
+    alloc: Global,
+    text: &mut Vec<u8>,
+    labels: &[u8],
+    samples: &[Sample],
+    rule: &Rule,
+) -> Result<(), AllocError>
+    ensures { OnOk result (text.new.items ≡ text.old.items ++ alarm_line labels.now samples.now rule.now) }
+{
+    let labels = alarm_labels(alloc, labels, rule)?;
+    let digit = state_digit(state(rule, samples));
+    put_line(
+        text,
+        Metric::Alarm.name(),
+        labels.as_slice(),
+        digit.as_bytes(),
+    )
+}
+
+/// The labels of a rule's alarm: those of its instance, and its thresholds.
+#[tactic(auto, unfolding(crate::specs::Prometheus::alarm_labels))]
+fn alarm_labels(alloc: Global, labels: &[u8], rule: &Rule) -> Result<Vec<u8>, AllocError>
+    ensures { IfOk result (λ all. all.items ≡ alarm_labels labels.now rule.now) }
+{
+    let mut all = Vec::from_slice(alloc, labels)?;
+    put_threshold(&mut all, "rising", rule.rising())?;
+    put_threshold(&mut all, "falling", rule.falling())?;
+    Ok(all)
+}
+
+/// Adds a threshold in thousandths as one more label.
+#[tactic(auto, unfolding(crate::specs::Prometheus::threshold_text))]
+fn put_threshold(labels: &mut Vec<u8>, label: &str, threshold: i64) -> Result<(), AllocError>
+    ensures { OnOk result (labels.new.items ≡ labels.old.items ++ threshold_text label.now threshold) }
+{
+    let mut buffer = Buffer::new();
+    labels.extend_from_slice(b",")?;
+    put_label(labels, label, buffer.format(threshold).as_bytes())
+}
+
+/// 1 where an alarm is raised, 0 where it is clear.
+fn state_digit(alarm: AlarmState) -> &'static str
+    ensures { result.now ≡ state_digit alarm }
+{
+    match alarm {
+        AlarmState::Clear => "0",
+        AlarmState::Raised { .. } => "1",
+    }
 }

@@ -1,0 +1,8 @@
+use Rattle.std.proofs.Common.{◌≡◌, ◌++◌, take}
+use Rattle.std.specs.List.{flat_map}
+use Rattle.mon_formats.specs.Prometheus.{alarm_line}
+use Rattle.mon_formats.proofs.prometheus.put_alarms.Given as goal
+
+-- those so far are written
+abbrev pub invariant-loop-rule : goal.invariant-loop-rule
+invariant-loop-rule l = l.text.items ≡ l.fn.text.items ++ flat_map (alarm_line l.labels l.entry.items) (take l.rule-index l.rule-items)

@@ -1,0 +1,58 @@
+//! The metrics of the instances.
+
+ghost use Rattle.std.specs.Prelude.{◌≡◌};
+ghost use Rattle.mon_formats.specs.Prometheus.{name_of, help_of, type_of};
+
+/// A metric that has lines for each instance.
+#[derive(Clone, Copy, Debug, PartialEq, Eq)]
+pub(crate) enum Metric {
+    /// The newest value of a counter.
+    Counted,
+    /// The newest value of what is no counter.
+    Number,
+    /// How many samples the window holds.
+    Samples,
+    /// What a counter counted a second.
+    Rate,
+    /// Whether a rule's alarm is raised.
+    Alarm,
+}
+
+impl Metric {
+    /// The name, as Prometheus has it.
+    pub(crate) fn name(self) -> &'static str
+        ensures { result.now ≡ name_of self }
+    {
+        match self {
+            Metric::Counted => "snmpmon_counted_total",
+            Metric::Number => "snmpmon_number",
+            Metric::Samples => "snmpmon_samples",
+            Metric::Rate => "snmpmon_rate",
+            Metric::Alarm => "snmpmon_alarm",
+        }
+    }
+
+    /// What it is, in a sentence.
+    pub(crate) fn help(self) -> &'static str
+        ensures { result.now ≡ help_of self }
+    {
+        match self {
+            Metric::Counted => "Newest value of a counter.",
+            Metric::Number => "Newest value of what may fall: an integer, a gauge or a time.",
+            Metric::Samples => "Samples that the window of an instance holds.",
+            Metric::Rate => "What a counter counted a second over its window.",
+            Metric::Alarm =>
+                "1 where the alarm of a rule is raised. Thresholds are in thousandths.",
+        }
+    }
+
+    /// Its type, as Prometheus has it.
+    pub(crate) fn kind(self) -> &'static str
+        ensures { result.now ≡ type_of self }
+    {
+        match self {
+            Metric::Counted => "counter",
+            Metric::Number | Metric::Samples | Metric::Rate | Metric::Alarm => "gauge",
+        }
+    }
+}

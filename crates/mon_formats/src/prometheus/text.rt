@@ -1,0 +1,105 @@
+//! The parts of Prometheus' text format.
+
+ghost use Rattle.std.specs.Prelude.{◌≡◌, ◌++◌, OnOk, Some};
+ghost use Rattle.std.specs.List.{flat_map};
+ghost use Rattle.mon_report.specs.Report.{rate_text};
+ghost use Rattle.mon_formats.specs.Prometheus.{escaped, label_text, metric_line, head_text, comment_line};
+
+use itoa::Buffer;
+use std::alloc::AllocError;
+
+/// Adds what a metric is, and of which type.
+#[tactic(auto, unfolding(crate::specs::Prometheus::head_text))]
+pub(crate) fn put_head(
+    text: &mut Vec<u8>,
+    metric: &str,
+    help: &str,
+    kind: &str,
+) -> Result<(), AllocError>
+    ensures { OnOk result (text.new.items ≡ text.old.items ++ head_text metric.now help.now kind.now) }
+{
+    put_comment(text, "HELP", metric, help)?;
+    put_comment(text, "TYPE", metric, kind)
+}
+
+/// Adds a line that tells Prometheus something of a metric.
+#[tactic(auto, unfolding(crate::specs::Prometheus::comment_line))]
+fn put_comment(
+    text: &mut Vec<u8>,
+    keyword: &str,
+    metric: &str,
+    content: &str,
+) -> Result<(), AllocError>
+    ensures { OnOk result (text.new.items ≡ text.old.items ++ comment_line keyword.now metric.now content.now) }
+{
+    text.extend_from_slice(b"# ")?;
+    text.extend_from_slice(keyword.as_bytes())?;
+    text.extend_from_slice(b" ")?;
+    text.extend_from_slice(metric.as_bytes())?;
+    text.extend_from_slice(b" ")?;
+    text.extend_from_slice(content.as_bytes())?;
+    text.extend_from_slice(b"\n")
+}
+
+/// Adds a line of a metric with its labels.
+#[tactic(auto, unfolding(crate::specs::Prometheus::metric_line))]
+pub(crate) fn put_line(
+    text: &mut Vec<u8>,
+    metric: &str,
+    labels: &[u8],
+    value: &[u8],
+) -> Result<(), AllocError>
+    ensures { OnOk result (text.new.items ≡ text.old.items ++ metric_line metric.now labels.now value.now) }
+{
+    text.extend_from_slice(metric.as_bytes())?;
+    text.extend_from_slice(b"{")?;
+    text.extend_from_slice(labels)?;
+    text.extend_from_slice(b"} ")?;
+    text.extend_from_slice(value)?;
+    text.extend_from_slice(b"\n")
+}
+
+/// Adds a label with its value.
+#[tactic(auto, unfolding(crate::specs::Prometheus::label_text))]
+pub(crate) fn put_label(text: &mut Vec<u8>, label: &str, value: &[u8]) -> Result<(), AllocError>
+    ensures { OnOk result (text.new.items ≡ text.old.items ++ label_text label.now value.now) }
+{
+    text.extend_from_slice(label.as_bytes())?;
+    text.extend_from_slice(b"=\"")?;
+    put_escaped(text, value)?;
+    text.extend_from_slice(b"\"")
+}
+
+/// Adds octets, of which a backslash, a quote and a line feed get a backslash before them.
+fn put_escaped(text: &mut Vec<u8>, octets: &[u8]) -> Result<(), AllocError>
+    ensures { OnOk result (text.new.items ≡ text.old.items ++ flat_map escaped octets.now) }
+{
+    for octet in octets {
+        put_octet(text, *octet)?;
+    }
+    Ok(())
+}
+
+/// Adds an octet of a label's value.
+fn put_octet(text: &mut Vec<u8>, octet: u8) -> Result<(), AllocError>
+    ensures { OnOk result (text.new.items ≡ text.old.items ++ escaped octet) }
+{
+    match octet {
+        b'\\' => text.extend_from_slice(b"\\\\"),
+        b'"' => text.extend_from_slice(b"\\\""),
+        b'\n' => text.extend_from_slice(b"\\n"),
+        _ => text.extend_from_slice(&[octet]),
+    }
+}
+
+/// Adds a rate in thousandths with three digits after the point.
+pub(crate) fn put_thousandths(text: &mut Vec<u8>, rate: u128) -> Result<(), AllocError>
+    ensures { OnOk result (text.new.items ≡ text.old.items ++ rate_text (Some rate)) }
+{
+    let hundreds = 48 + (rate / 100 % 10) as u8;
+    let tens = 48 + (rate / 10 % 10) as u8;
+    let ones = 48 + (rate % 10) as u8;
+    let mut buffer = Buffer::new();
+    text.extend_from_slice(buffer.format(rate / 1000).as_bytes())?;
+    text.extend_from_slice(&[b'.', hundreds, tens, ones])
+}
