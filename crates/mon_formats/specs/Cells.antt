@@ -1,6 +1,5 @@
 -- What every format says of an instance.
 use Rattle.std.specs.Prelude.{ℕ, ℤ, List, [], ◌∷◌, Option, Some, None}
-use Rattle.mon_sample.specs.declared.kind.Kind.{Kind}
 use Rattle.mon_sample.specs.Kind.{number_of}
 use Rattle.mon_sample.specs.Key.{kind_of, sample_value}
 use Rattle.mon_rates.specs.Totals.{totals, thousandths}

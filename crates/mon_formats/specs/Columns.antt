@@ -1,7 +1,7 @@
 -- A report as a table for people: columns that are as wide as their widest text, and the names last.
 use Rattle.std.specs.Prelude.{ℕ, ◌-◌, max, List, [], ◌∷◌, ◌++◌, Bool, true, false, Option, Some, None, codes, decimal, length, map, if◌then◌else◌}
 use Rattle.std.specs.Fmt.{signed_decimal}
-use Rattle.std.specs.List.{flat_map, fold, list_any, repeat}
+use Rattle.std.specs.List.{fold, list_any, repeat}
 use Rattle.std.specs.Str.{bytes_eq}
 use Rattle.hex.specs.Hex.{encode_lower}
 use Rattle.mon_alarms.specs.Rule.{Rule}
@@ -9,18 +9,19 @@ use Rattle.mon_alarms.specs.Observed.{state_by}
 use Rattle.mon_alarms.specs.declared.alarm.AlarmState.{AlarmState}
 use Rattle.mon_alarms.specs.declared.alarm.AlarmState.TheVariants.{Clear, Raised}
 use Rattle.mon_report.specs.Report.{Entry, rate_text, samples_in}
+use Rattle.mon_formats.specs.declared.columns.Widths.{Widths}
 use Rattle.mon_formats.specs.Cells.{newest_of, value_of, rate_of}
 
 -- so many spaces
 abbrev pub spaces : ℕ → List ℕ
 spaces n = repeat n (32 ∷ [])
 
--- a text at the right end of a column, and at the left end
+-- a text at the right end of a column, and at the left end; two spaces stand before the next column
 abbrev pub to_right : ℕ → List ℕ → List ℕ
-to_right width text = spaces (width - length text) ++ text
+to_right width text = spaces (width - length text) ++ text ++ codes "  "
 
 abbrev pub to_left : ℕ → List ℕ → List ℕ
-to_left width text = text ++ spaces (width - length text)
+to_left width text = text ++ spaces (width - length text) ++ codes "  "
 
 -- the newest value
 abbrev pub value_cell : Option ℕ → List ℕ
@@ -41,11 +42,6 @@ abbrev pub alarm_cell : List ℕ → List Rule → List ℕ
 alarm_cell items [] = codes "-"
 alarm_cell items (r ∷ rs) = if list_any (λ rule. is_raised (state_by rule items)) (r ∷ rs) then codes "RAISED" else codes "clear"
 
--- how wide the columns of values and rates are
-pub record Widths : Type 0 where
-  pub value : ℕ
-  pub rate : ℕ
-
 -- a heading's width, or that of the widest of some texts
 abbrev pub widest : ℕ → List (List ℕ) → ℕ
 widest heading texts = fold (λ w text. max w (length text)) heading texts
@@ -56,16 +52,18 @@ widths_of entries = record {
   rate = widest 4 (map (λ e. rate_cell (rate_of e.items)) entries);
 }
 
--- a line: value, rate, alarm, how many samples, and the name
-unfoldable pub cells_line : Widths → List ℕ → List ℕ → List ℕ → List ℕ → List ℕ → List ℕ
-cells_line w value rate alarm samples name =
-    to_right w.value value ++ codes "  " ++ to_right w.rate rate ++ codes "  " ++ to_left 6 alarm ++ codes "  " ++ to_right 7 samples ++ codes "  " ++ name ++ codes "\n"
+-- the cells of a line before its name: value, rate, alarm, and how many samples
+unfoldable pub cells_text : Widths → List ℕ → List ℕ → List ℕ → List ℕ → List ℕ
+cells_text w value rate alarm samples = to_right w.value value ++ to_right w.rate rate ++ to_left 6 alarm ++ to_right 7 samples
 
 abbrev pub title_line : Widths → List ℕ
-title_line w = cells_line w (codes "VALUE") (codes "RATE") (codes "ALARM") (codes "SAMPLES") (codes "NAME")
+title_line w = cells_text w (codes "VALUE") (codes "RATE") (codes "ALARM") (codes "SAMPLES") ++ codes "NAME\n"
+
+abbrev pub row_cells : Widths → Entry → List ℕ
+row_cells w e = cells_text w (value_cell (newest_of e.items)) (rate_cell (rate_of e.items)) (alarm_cell e.items e.rules) (decimal (length e.items))
 
 abbrev pub row_line : Widths → (List ℕ → List ℕ) → Entry → List ℕ
-row_line w shown e = cells_line w (value_cell (newest_of e.items)) (rate_cell (rate_of e.items)) (alarm_cell e.items e.rules) (decimal (length e.items)) (shown e.name)
+row_line w shown e = row_cells w e ++ shown e.name ++ codes "\n"
 
 -- an engine's line, where another engine stands before, or none
 unfoldable pub engine_line : List ℕ → List ℕ

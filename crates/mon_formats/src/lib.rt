@@ -2,10 +2,12 @@
 //! Contract: each is a function of the instances' windows and rules, and of how names are shown; so equal windows give equal octets.
 #![tactic(auto)]
 
+mod cells;
 mod columns;
 mod figures;
 mod format;
 mod json;
+pub mod laws;
 mod named;
 mod prometheus;
 

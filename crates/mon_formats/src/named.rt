@@ -1,13 +1,16 @@
 //! A report as lines of text.
 
-ghost use Rattle.std.specs.Prelude.{◌≡◌, IfOk};
-ghost use Rattle.mon_formats.specs.Named.{named_report};
+ghost use Rattle.std.specs.Prelude.{◌≡◌, ◌++◌, IfOk, OnOk, string_bytes};
+ghost use Rattle.mon_report.specs.Report.{end_line};
+ghost use Rattle.mon_formats.specs.Named.{named_line, named_report};
 
+use crate::cells::count_samples;
 use mon_names::NameTexts;
-use mon_report::Entry;
+use mon_report::{Entry, write_rest};
 use std::alloc::{AllocError, Global};
 
 /// The report as lines of text.
+#[tactic(auto, unfolding(crate::specs::Named::named_report))]
 pub(crate) fn named_report<S: NameTexts>(
     alloc: Global,
     names: &S,
@@ -15,5 +18,41 @@ pub(crate) fn named_report<S: NameTexts>(
 ) -> Result<Vec<u8>, AllocError>
     ensures { IfOk result (λ text. text.items ≡ named_report (S.shown names.now) entries.now) }
 {
-    Err(AllocError)
+    let mut text = Vec::new(alloc);
+    for entry in entries {
+        put_line(alloc, &mut text, names, entry)?;
+    }
+    let end = end_line(alloc, entries.len(), count_samples(entries))?;
+    text.extend_from_slice(end.as_bytes())?;
+    Ok(text)
+}
+
+/// Adds the line of an instance.
+#[tactic(auto, unfolding(crate::specs::Named::named_line))]
+fn put_line<S: NameTexts>(
+    alloc: Global,
+    text: &mut Vec<u8>,
+    names: &S,
+    entry: &Entry,
+) -> Result<(), AllocError>
+    ensures { OnOk result (text.new.items ≡ text.old.items ++ named_line (S.shown names.now) entry.now) }
+{
+    let mut head = hex::encode(alloc, entry.engine())?;
+    head.push(' ')?;
+    names.put(alloc, &mut head, entry.name())?;
+    text.extend_from_slice(head.as_bytes())?;
+    if !write_rest(text, true, entry) {
+        return Err(AllocError);
+    }
+    Ok(())
+}
+
+/// The last line: how many instances and samples there are.
+#[tactic(auto, unfolding(mon_report::specs::Report::end_line))]
+fn end_line(alloc: Global, instances: usize, samples: u128) -> Result<String, AllocError>
+    ensures { IfOk result (λ text. string_bytes text ≡ end_line instances samples) }
+{
+    let mut text = String::new(alloc);
+    writeln!(text, "end {instances} instances {samples} samples")?;
+    Ok(text)
 }

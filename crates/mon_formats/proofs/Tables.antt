@@ -1,0 +1,64 @@
+-- Texts of a table.
+use Rattle.std.proofs.Common.{◌≡◌, ℕ, ◌+◌, ◌-◌, ◌<◌, Bool, true, false, List, [], ◌∷◌, ◌++◌, length, map, take, get_or, sym, ap, refl, ◌∙◌, append_assoc, arith, codes, ◌==◌, Result, Ok, Err}
+use Rattle.std.specs.Prelude.{max, OnOk, if◌then◌else◌, slice_get}
+use Rattle.std.specs.declared.alloc.AllocError.{AllocError}
+use Rattle.std.specs.List.{list_any}
+use Rattle.std.specs.Result.{is_ok}
+use Rattle.std.proofs.lemmas.List.{map_more}
+use Rattle.std.proofs.lemmas.List.Sums.{fold_push}
+use Rattle.std.proofs.lemmas.Option.{slice_get-get_or}
+use Rattle.std.proofs.lemmas.Bool.{true≢false}
+use Rattle.std.proofs.lemmas.Bool.Decides.{nat_tests}
+use Rattle.mon_alarms.specs.Rule.{Rule}
+use Rattle.mon_alarms.specs.Observed.{state_by}
+use Rattle.mon_report.specs.Report.{Entry}
+use Rattle.mon_formats.specs.Cells.{newest_of}
+use Rattle.mon_formats.specs.declared.columns.Widths.{Widths}
+use Rattle.mon_formats.specs.Columns.{alarm_cell, cells_text, is_raised, to_left, to_right, widest}
+
+-- a text, and one more behind it
+pub text-then : (a b c x y : List ℕ) → b ≡ a ++ x → c ≡ b ++ y → c ≡ a ++ (x ++ y)
+text-then a b c x y h g = g ∙ ap (λ t. t ++ y) h ∙ append_assoc a x y
+
+-- one more at the end
+pub text-last : (r : Result (Unit {0}) AllocError) (a b c x y : List ℕ) → b ≡ a ++ x → c ≡ (if is_ok r then b ++ y else b) → OnOk r (c ≡ a ++ (x ++ y))
+text-last (Ok u) a b c x y h g = text-then a b c x y h g
+text-last (Err e) a b c x y h g = tt
+
+-- four cells
+pub cells-then : (w : Widths) (value rate alarm samples t0 t1 t2 t3 t4 : List ℕ) → t1 ≡ t0 ++ to_right w.value value → t2 ≡ t1 ++ to_right w.rate rate
+    → t3 ≡ t2 ++ to_left 6 alarm → t4 ≡ t3 ++ to_right 7 samples → t4 ≡ t0 ++ cells_text w value rate alarm samples
+unfolding cells_text
+cells-then w value rate alarm samples t0 t1 t2 t3 t4 a b c d =
+    let two = text-then t0 t1 t2 (to_right w.value value) (to_right w.rate rate) a b in
+    let three = text-then t0 t2 t3 (to_right w.value value ++ to_right w.rate rate) (to_left 6 alarm) two c in
+    text-then t0 t3 t4 (to_right w.value value ++ to_right w.rate rate ++ to_left 6 alarm) (to_right 7 samples) three d
+
+-- the last of them written, or not
+pub cells-last : (r : Result (Unit {0}) AllocError) (w : Widths) (value rate alarm samples t0 t1 t2 t3 t4 : List ℕ) → t1 ≡ t0 ++ to_right w.value value → t2 ≡ t1 ++ to_right w.rate rate
+    → t3 ≡ t2 ++ to_left 6 alarm → OnOk r (t4 ≡ t3 ++ to_right 7 samples) → OnOk r (t4 ≡ t0 ++ cells_text w value rate alarm samples)
+cells-last (Ok u) w value rate alarm samples t0 t1 t2 t3 t4 a b c d = cells-then w value rate alarm samples t0 t1 t2 t3 t4 a b c d
+cells-last (Err e) w value rate alarm samples t0 t1 t2 t3 t4 a b c d = tt
+
+-- the newest of some samples
+pub newest-is : (items : List ℕ) → slice_get items (length items - 1) ≡ newest_of items
+newest-is [] = refl
+newest-is (x ∷ xs) = ap (slice_get (x ∷ xs)) (let same : length (x ∷ xs) - 1 ≡ length xs = omega arith in same) ∙ slice_get-get_or (x ∷ xs) (length xs) x (omega arith)
+
+-- the widest text with one more
+pub widest-more : (heading : ℕ) (f : Entry → List ℕ) (es : List Entry) (i : ℕ) (e : Entry) → i < length es
+    → widest heading (map f (take (i + 1) es)) ≡ max (widest heading (map f (take i es))) (length (f (get_or es i e)))
+widest-more heading f es i e lt =
+    ap (widest heading) (map_more f es i e lt) ∙ fold_push (λ w text. max w (length text)) heading (map f (take i es)) (f (get_or es i e))
+
+pub some-rules : (n : ℕ) (b : Bool) → b ≡ (n == 0) → b ≡ false → 0 < n
+some-rules n b e f = grind (arith, nat_tests)
+
+-- an alarm that is raised, and none that is
+pub raised : (items : List ℕ) (rules : List Rule) → list_any (λ rule. is_raised (state_by rule items)) rules ≡ true → codes "RAISED" ≡ alarm_cell items rules
+raised items [] e = absurd (true≢false (sym e))
+raised items (r ∷ rs) e = sym (ap (λ b. if b then codes "RAISED" else codes "clear") e)
+
+pub clear : (items : List ℕ) (rules : List Rule) → 0 < length rules → list_any (λ rule. is_raised (state_by rule items)) rules ≡ false → codes "clear" ≡ alarm_cell items rules
+clear items [] some e = absurd (omega arith)
+clear items (r ∷ rs) some e = sym (ap (λ b. if b then codes "RAISED" else codes "clear") e)

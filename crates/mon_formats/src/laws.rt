@@ -1,0 +1,32 @@
+//! Laws of the formats. Each is a function that does nothing.
+
+ghost use Rattle.std.specs.Prelude.{◌≡◌, List, ℕ, Option};
+ghost use Rattle.mon_oid.specs.Oid.{dotted};
+ghost use Rattle.mon_board.specs.Rules.{rule_of};
+ghost use Rattle.mon_board.specs.Watch.{Watch};
+ghost use Rattle.mon_board.specs.Windows.{IsPartOf, window};
+ghost use Rattle.mon_window.specs.Window.{Samples};
+ghost use Rattle.mon_report.specs.Report.{Entry, report_of};
+ghost use Rattle.mon_formats.specs.declared.figures.Figures.{Figures};
+ghost use Rattle.mon_formats.specs.declared.format.Format.{Format};
+ghost use Rattle.mon_formats.specs.Formats.{report_in};
+ghost use Rattle.mon_formats.specs.Named.{named_report};
+
+/// The lines of text in which names stand in numbers are those of `mon_report`.
+pub fn names_in_numbers()
+    ensures { (entries : List Entry) → named_report dotted entries ≡ report_of entries }
+{}
+
+/// Equal watches with equal windows have equal reports in each format, where names are shown alike and the station says the same.
+pub fn equal_windows()
+    ensures { (format : Format) (shown : List ℕ → List ℕ) (watch : Watch) (some others : ℕ → Samples) (station : Option Figures) → ((i : ℕ) → some i ≡ others i)
+        → report_in format shown watch some station ≡ report_in format shown watch others station }
+{}
+
+/// Equal watches that took the same samples, in whatever order and however often, have equal reports in each format.
+pub fn equal_samples()
+    ensures { (format : Format) (shown : List ℕ → List ℕ) (watch : Watch) (some others : List (ℕ × ℕ)) (station : Option Figures) → IsPartOf some others → IsPartOf others some
+        → report_in format shown watch (window (rule_of watch) some) station ≡ report_in format shown watch (window (rule_of watch) others) station }
+{
+    mon_board::laws::windows_meet();
+}
