@@ -85,7 +85,7 @@ def json_text(instances):
         listed.append({
             "engine": it.engine,
             "name": it.name,
-            "samples": [{"boots": s.boots, "time": s.time, "kind": s.kind, "value": exact(s.value)} for s in it.samples],
+            "samples": [{"boots": s.boots, "time": s.time, "mark": s.mark, "kind": s.kind, "value": exact(s.value)} for s in it.samples],
             "totals": {"delta": exact(delta), "span": exact(span)},
             "rate_thousandths": None if rate is None else exact(rate),
             "alarms": [{"rising": exact(a.rising), "falling": exact(a.falling), "raised": stamp(a.raised)} for a in it.alarms],

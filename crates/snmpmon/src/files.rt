@@ -3,11 +3,11 @@
 use crate::failure::Failure;
 use crate::fault::Fault;
 use mon_app::{AppFault, Counted, read_all};
+use mon_report::write_octets;
 use std::alloc::Global;
 use std::fs;
 use std::fs::File;
 use std::io;
-use std::io::Write;
 use std::rt::Files;
 
 /// What second lines call the standard streams.
@@ -17,7 +17,7 @@ const OUTPUT: &str = "standard output";
 
 /// Prints octets.
 pub fn print<R: Print + AllocGlobal>(rt: &R, octets: &[u8]) -> Result<(), Failure> {
-    match io::writer(rt).write_all(octets) {
+    match write_octets(&mut io::writer(rt), octets) {
         Ok(()) => Ok(()),
         Err(error) => Err(Failure::stream(rt.alloc(), OUTPUT, error)),
     }
@@ -44,7 +44,7 @@ pub fn replace_file<R: Files<File = File> + AllocGlobal>(
 /// Writes a new file.
 fn write_file<R: Files<File = File>>(rt: &R, path: &str, octets: &[u8]) -> io::Result<()> {
     let mut file = File::create(rt, path)?;
-    file.write_all(octets)
+    write_octets(&mut file, octets)
 }
 
 /// All octets of standard input.
