@@ -1,2 +1,3 @@
-pub mod Tables
+pub mod Aligned
 pub mod Entries
+pub mod Tables

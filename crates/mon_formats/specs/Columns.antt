@@ -56,9 +56,13 @@ widths_of entries = record {
 unfoldable pub cells_text : Widths → List ℕ → List ℕ → List ℕ → List ℕ → List ℕ
 cells_text w value rate alarm samples = to_right w.value value ++ to_right w.rate rate ++ to_left 6 alarm ++ to_right 7 samples
 
-abbrev pub title_line : Widths → List ℕ
-title_line w = cells_text w (codes "VALUE") (codes "RATE") (codes "ALARM") (codes "SAMPLES") ++ codes "NAME\n"
+abbrev pub title_cells : Widths → List ℕ
+title_cells w = cells_text w (codes "VALUE") (codes "RATE") (codes "ALARM") (codes "SAMPLES")
 
+abbrev pub title_line : Widths → List ℕ
+title_line w = title_cells w ++ codes "NAME\n"
+
+-- those of an instance
 abbrev pub row_cells : Widths → Entry → List ℕ
 row_cells w e = cells_text w (value_cell (newest_of e.items)) (rate_cell (rate_of e.items)) (alarm_cell e.items e.rules) (decimal (length e.items))
 
