@@ -23,12 +23,12 @@ to_right width text = spaces (width - length text) ++ text ++ codes "  "
 abbrev pub to_left : ℕ → List ℕ → List ℕ
 to_left width text = text ++ spaces (width - length text) ++ codes "  "
 
--- the newest value
+-- the newest value; a dash where there is no sample
 abbrev pub value_cell : Option ℕ → List ℕ
 value_cell None = codes "-"
 value_cell (Some s) = signed_decimal (value_of s)
 
--- the rate, a second
+-- the rate a second; a dash where there is none
 abbrev pub rate_cell : Option ℕ → List ℕ
 rate_cell None = codes "-"
 rate_cell (Some q) = rate_text (Some q) ++ codes "/s"
@@ -37,12 +37,12 @@ abbrev pub is_raised : AlarmState → Bool
 is_raised Clear = false
 is_raised (Raised boots time) = true
 
--- whether an alarm is raised, of those that there are
+-- whether an alarm is raised, of those that there are; a dash where there are none
 abbrev pub alarm_cell : List ℕ → List Rule → List ℕ
 alarm_cell items [] = codes "-"
 alarm_cell items (r ∷ rs) = if list_any (λ rule. is_raised (state_by rule items)) (r ∷ rs) then codes "RAISED" else codes "clear"
 
--- a heading's width, or that of the widest of some texts
+-- a heading's width, or that of the widest of some texts, if it is wider
 abbrev pub widest : ℕ → List (List ℕ) → ℕ
 widest heading texts = fold (λ w text. max w (length text)) heading texts
 
