@@ -1,3 +1,4 @@
 pub mod NoFloats
-pub mod Tables
+pub mod Aligned
 pub mod Entries
+pub mod Tables

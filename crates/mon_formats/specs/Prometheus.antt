@@ -114,6 +114,7 @@ lines_of Samples labels e = samples_line labels e.items
 lines_of Rate labels e = rate_line labels (rate_of e.items)
 lines_of Alarm labels e = flat_map (alarm_line labels e.items) e.rules
 
+-- the lines of a metric for an instance whose name is shown so
 abbrev pub entry_lines : Metric → (List ℕ → List ℕ) → Entry → List ℕ
 entry_lines metric shown e = lines_of metric (instance_labels shown e) e
 
@@ -175,5 +176,6 @@ abbrev pub station_text_if : Option Figures → List ℕ
 station_text_if None = []
 station_text_if (Some f) = station_text f
 
+-- the instances, metric by metric, and then the station, where there is one
 unfoldable pub prometheus_report : (List ℕ → List ℕ) → List Entry → Option Figures → List ℕ
 prometheus_report shown entries station = instances_text shown entries ++ station_text_if station

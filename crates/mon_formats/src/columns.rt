@@ -14,7 +14,7 @@ use std::alloc::{AllocError, Global};
 
 /// How wide the columns of values and rates are, in octets.
 #[derive(Clone, Copy)]
-pub(crate) struct Widths {
+struct Widths {
     /// That of the values.
     value: usize,
     /// That of the rates.
@@ -139,7 +139,7 @@ fn put_cells(
     put_right(alloc, text, 7, samples.as_str())
 }
 
-/// Adds a cell at the right end of its column.
+/// Adds a cell at the right end of its column, and the two spaces before the next.
 fn put_right(alloc: Global, text: &mut String, width: usize, cell: &str) -> Result<(), AllocError>
     ensures { OnOk result (string_bytes text.new ≡ string_bytes text.old ++ to_right width cell.now) }
 {
@@ -147,7 +147,7 @@ fn put_right(alloc: Global, text: &mut String, width: usize, cell: &str) -> Resu
     write!(text, "{spaces}{cell}  ")
 }
 
-/// Adds a cell at the left end of its column.
+/// Adds a cell at the left end of its column, and the two spaces before the next.
 fn put_left(alloc: Global, text: &mut String, width: usize, cell: &str) -> Result<(), AllocError>
     ensures { OnOk result (string_bytes text.new ≡ string_bytes text.old ++ to_left width cell.now) }
 {
@@ -213,10 +213,7 @@ fn is_any_raised(samples: &[Sample], rules: &[Rule]) -> bool
 fn is_raised(alarm: AlarmState) -> bool
     ensures { result ≡ is_raised alarm }
 {
-    match alarm {
-        AlarmState::Clear => false,
-        AlarmState::Raised { .. } => true,
-    }
+    matches!(alarm, AlarmState::Raised { .. })
 }
 
 /// Adds the last line: how many instances and samples there are.

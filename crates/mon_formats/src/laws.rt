@@ -1,6 +1,6 @@
 //! Laws of the formats. Each is a function that does nothing.
 
-ghost use Rattle.std.specs.Prelude.{◌≡◌, List, ℕ, Option};
+ghost use Rattle.std.specs.Prelude.{◌≡◌, ◌<◌, ◌^◌, List, ℕ, All, Option, length};
 ghost use Rattle.mon_oid.specs.Oid.{dotted};
 ghost use Rattle.mon_board.specs.Rules.{rule_of};
 ghost use Rattle.mon_board.specs.Watch.{Watch};
@@ -9,6 +9,7 @@ ghost use Rattle.mon_window.specs.Window.{Samples};
 ghost use Rattle.mon_report.specs.Report.{Entry, report_of};
 ghost use Rattle.mon_formats.specs.declared.figures.Figures.{Figures};
 ghost use Rattle.mon_formats.specs.declared.format.Format.{Format};
+ghost use Rattle.mon_formats.specs.Columns.{row_cells, title_cells, widths_of};
 ghost use Rattle.mon_formats.specs.Formats.{report_in};
 ghost use Rattle.mon_formats.specs.Named.{named_report};
 
@@ -30,3 +31,9 @@ pub fn equal_samples()
 {
     mon_board::laws::windows_meet();
 }
+
+/// In a table the names begin in one column, that of their title, where no instance has ten million samples.
+pub fn names_in_one_column()
+    ensures { (entries : List Entry) → All (λ e. length e.items < 10 ^ 7) entries
+        → All (λ e. length (row_cells (widths_of entries) e) ≡ length (title_cells (widths_of entries))) entries }
+{}

@@ -1,0 +1,80 @@
+-- The columns of a table, one below the other.
+use Rattle.std.proofs.Common.{◌≡◌, ℕ, zero, suc, ◌+◌, ◌-◌, ◌<◌, ◌≤◌, ◌^◌, Bool, true, false, List, [], ◌∷◌, ◌++◌, length, get_or, map, sym, ap, refl, ◌∙◌, arith, codes, decimal, length-append}
+use Rattle.std.specs.Prelude.{All, max, if◌then◌else◌}
+use Rattle.std.specs.List.{list_any}
+use Rattle.std.proofs.lemmas.Fmt.{length-decimal-le}
+use Rattle.std.proofs.lemmas.List.Elements.{All-cons, All-nil}
+use Rattle.mon_alarms.specs.Rule.{Rule}
+use Rattle.mon_alarms.specs.Observed.{state_by}
+use Rattle.mon_report.specs.Report.{Entry}
+use Rattle.mon_formats.specs.Cells.{newest_of, rate_of}
+use Rattle.mon_formats.specs.declared.columns.Widths.{Widths}
+use Rattle.mon_formats.specs.Columns.{alarm_cell, cells_text, is_raised, rate_cell, row_cells, spaces, title_cells, to_left, to_right, value_cell, widest, widths_of}
+
+length-spaces : (n : ℕ) → length (spaces n) ≡ n
+length-spaces zero = refl
+length-spaces (suc n) = ap suc (length-spaces n)
+
+-- a cell is as wide as its column, and two spaces
+length-right : (width : ℕ) (text : List ℕ) → length text ≤ width → length (to_right width text) ≡ width + 2
+length-right width text fits =
+    omega (arith, length-append (spaces (width - length text) ++ text) (codes "  "), length-append (spaces (width - length text)) text, length-spaces (width - length text))
+
+length-left : (width : ℕ) (text : List ℕ) → length text ≤ width → length (to_left width text) ≡ width + 2
+length-left width text fits =
+    omega (arith, length-append (text ++ spaces (width - length text)) (codes "  "), length-append text (spaces (width - length text)), length-spaces (width - length text))
+
+-- all cells that fit are as wide as the widths say
+length-cells : (w : Widths) (value rate alarm samples : List ℕ) → length value ≤ w.value → length rate ≤ w.rate → length alarm ≤ 6 → length samples ≤ 7
+    → length (cells_text w value rate alarm samples) ≡ w.value + w.rate + 21
+unfolding cells_text
+length-cells w value rate alarm samples a b c d =
+    let first = to_right w.value value in
+    let second = to_right w.rate rate in
+    let third = to_left 6 alarm in
+    let fourth = to_right 7 samples in
+    omega (
+      arith,
+      length-append (first ++ second ++ third) fourth,
+      length-append (first ++ second) third,
+      length-append first second,
+      length-right w.value value a,
+      length-right w.rate rate b,
+      length-left 6 alarm c,
+      length-right 7 samples d,
+    )
+
+-- the heading is no wider than the widest
+heading-fits : (f : Entry → List ℕ) (heading : ℕ) (es : List Entry) → heading ≤ widest heading (map f es)
+heading-fits f heading [] = omega arith
+heading-fits f heading (e ∷ es) = let more = heading-fits f (max heading (length (f e))) es in omega arith
+
+-- nor is any of the texts
+each-fits : (f : Entry → List ℕ) (heading : ℕ) (es : List Entry) → All (λ e. length (f e) ≤ widest heading (map f es)) es
+each-fits f heading [] = All-nil _
+each-fits f heading (e ∷ es) =
+    let more = heading-fits f (max heading (length (f e))) es in
+    All-cons (λ x. length (f x) ≤ widest heading (map f (e ∷ es))) e es (omega arith) (each-fits f (max heading (length (f e))) es)
+
+word-fits : (b : Bool) → length (if b then codes "RAISED" else codes "clear") ≤ 6
+word-fits true = omega arith
+word-fits false = omega arith
+
+alarm-fits : (items : List ℕ) (rules : List Rule) → length (alarm_cell items rules) ≤ 6
+alarm-fits items [] = omega arith
+alarm-fits items (r ∷ rs) = word-fits (list_any (λ rule. is_raised (state_by rule items)) (r ∷ rs))
+
+-- how long the titles are
+title-long : (es : List Entry) → length (title_cells (widths_of es)) ≡ (widths_of es).value + (widths_of es).rate + 21
+title-long es =
+    length-cells (widths_of es) (codes "VALUE") (codes "RATE") (codes "ALARM") (codes "SAMPLES") (heading-fits (λ e. value_cell (newest_of e.items)) 5 es)
+    (heading-fits (λ e. rate_cell (rate_of e.items)) 4 es) (omega arith) (omega arith)
+
+pub aligned : (es : List Entry) → All (λ e. length e.items < 10 ^ 7) es → All (λ e. length (row_cells (widths_of es) e) ≡ length (title_cells (widths_of es))) es
+aligned es few = λ k d inside.
+    let e = get_or es k d in
+    let value = each-fits (λ x. value_cell (newest_of x.items)) 5 es k d inside in
+    let rate = each-fits (λ x. rate_cell (rate_of x.items)) 4 es k d inside in
+    let samples = length-decimal-le 7 (length e.items) (omega arith) (few k d inside) (omega (arith, few k d inside)) in
+    length-cells (widths_of es) (value_cell (newest_of e.items)) (rate_cell (rate_of e.items)) (alarm_cell e.items e.rules) (decimal (length e.items)) value rate
+    (alarm-fits e.items e.rules) samples ∙ sym (title-long es)

@@ -1,0 +1,11 @@
+"""Bugs for planted_bugs to plant in mon_formats: a file, what stands in it once, and what stands there then."""
+
+BUGS = {
+    "columns_engine_of_the_first": ("src/columns.rt", "        before = Some(entry.engine());", "        if before.is_none() { before = Some(entry.engine()); }"),
+    "columns_engines_of_one_length": ("src/columns.rt", "Some(before) if before == engine =>", "Some(before) if before.len() == engine.len() =>"),
+    "columns_left_for_right": ("src/columns.rt", '"{spaces}{cell}  "', '"{cell}{spaces}  "'),
+    "json_delta_and_span_swapped": ("src/json.rt", '{"delta": delta, "span": span}', '{"delta": span, "span": delta}'),
+    "json_samples_reversed": ("src/json.rt", "values.push(sample_value(alloc, sample)?)?;", "values.insert(0, sample_value(alloc, sample)?)?;"),
+    "named_upper_digits": ("src/named.rt", "hex::encode(alloc, entry.engine())?", "hex::encode_upper(alloc, entry.engine())?"),
+    "prometheus_raised_alarm_told_as_0": ("src/prometheus.rt", '        AlarmState::Raised { .. } => "1",', '        AlarmState::Raised { .. } => "0",'),
+}
