@@ -7,8 +7,7 @@ ghost use Rattle.mon_agent_tests.specs.Log.{at_wire};
 use crate::event::Event;
 use crate::small_agent::question;
 use mon_app::{
-    AppFault, Asking, Heard, Repeats, SocketFault, SocketReason, Wire, answer_text,
-    request,
+    AppFault, Asking, Heard, Repeats, SocketFault, SocketReason, Wire, answer_text, request,
 };
 use mon_ber::{Octets, Value};
 use mon_edge::failed_after;

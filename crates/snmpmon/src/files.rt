@@ -5,10 +5,9 @@ use crate::fault::Fault;
 use mon_app::{AppFault, Counted, read_all};
 use mon_report::write_octets;
 use std::alloc::Global;
-use std::fs;
 use std::fs::File;
-use std::io;
 use std::rt::Files;
+use std::{fs, io};
 
 /// What second lines call the standard streams.
 const INPUT: &str = "standard input";

@@ -79,11 +79,9 @@ pub fn station<R: Clock + Files<File = File> + Net + Print + Eprint + AllocGloba
 /// Runs a station through its rounds, and prints its report.
 fn run_rounds<
     R: Clock + Files<File = File> + Print + Eprint + AllocGlobal,
-    S: Receiver + Drop, O: Outbox + Drop>(
-    rt: &R,
-    running: Running<S, O>,
-    timing: Timing,
-) -> Result<(), Failure> {
+    S: Receiver + Drop,
+    O: Outbox + Drop,
+>(rt: &R, running: Running<S, O>, timing: Timing) -> Result<(), Failure> {
     let mut running = running;
     for number in 1..=timing.rounds {
         let began = now(rt)?;
@@ -374,11 +372,7 @@ fn print_report<R: Print + AllocGlobal, S: Receiver + Drop, O: Outbox + Drop>(
 }
 
 /// Writes the report to the file that the words name, if they name one. What goes wrong is told, and the station goes on.
-fn write_out<
-    R: Files<File = File> + Eprint + AllocGlobal,
-    S: Receiver + Drop,
-    O: Outbox + Drop,
->(
+fn write_out<R: Files<File = File> + Eprint + AllocGlobal, S: Receiver + Drop, O: Outbox + Drop>(
     rt: &R,
     running: &Running<S, O>,
 ) {

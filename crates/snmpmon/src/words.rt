@@ -42,13 +42,17 @@ sample, the newest value, and for a counter what it counted from each sample to 
 
   8000000001 1.3.6.1.2.1.2.2.1.10.1 n=3 3:100..3:110 Counter32=9 delta=2 span=10 rate=0.200
 
+--format prints such a report in another format: json, prometheus or columns, a table for people; then refused lines are named on
+standard error. With --names names stand as ifInOctets.1, by the modules that -m gives.
+
 Examples: snmpmon replay 8 < examples/three-responses.hex
-          snmpmon replay 8 --report < examples/three-responses.hex";
+          snmpmon replay 8 --report < examples/three-responses.hex
+          snmpmon replay 8 --columns --names -m examples/served.mib < examples/three-responses.hex";
 
 const SIZE: &str = "How many samples a window keeps, 1 to 64";
 
 const REPORT: &str =
-    "Prints a line for each instance, with deltas, seconds and rates, in place of its samples";
+    "Prints a line for each instance, with deltas, seconds and rates, in place of its samples, as --format text does";
 
 fn replay<'a>(alloc: Global) -> Result<Command<'a>, AllocError> {
     let size = Arg::new(alloc, "N")
@@ -80,7 +84,11 @@ fn printed<'a>(alloc: Global, command: Command<'a>) -> Result<Command<'a>, Alloc
         .long("columns")
         .action(ArgAction::SetTrue)
         .help("Prints the report as a table for people, as --format columns does");
-    named(alloc, command.arg(format)?.arg(columns)?, module(alloc).short('m'))
+    named(
+        alloc,
+        command.arg(format)?.arg(columns)?,
+        module(alloc).short('m'),
+    )
 }
 
 const GET: &str = "Asks an agent for variables by their names (GetRequest)";
@@ -384,14 +392,15 @@ const STATION: &str =
 const STATION_MORE: &str =
     "Reads SETTINGS, a TOML file (examples/station.toml explains each key), reads the file in it or makes it, listens at its address and runs
 rounds. In a round the station polls each target, offers each peer the samples that it is owed, answers its peers and saves. At the
-end it prints the report of its windows, as `report` does.
+end it prints the report of its windows, as `report` does; --out writes it to a file after each round, where Prometheus finds it (docs/OPERATE.md).
 
 Standard error tells where it listens and by which incarnation, for each round which targets gave up or were refused and why,
 and each alarm that changed. What is refused ends no round; docs/OPERATE.md tells what each line means.
 
 A damaged file ends it with mon_disk 5 Damaged, one of other instances with mon_saved 4 OtherWatch, and neither is touched.
 
-Example: snmpmon station examples/station.toml --rounds 6 --interval 10";
+Examples: snmpmon station examples/station.toml --rounds 6 --interval 10
+          snmpmon station examples/station.toml --rounds 6 --interval 10 --format prometheus --out snmpmon.prom";
 
 const STATION_SETTINGS: &str = "The settings of the station, a TOML file";
 
@@ -434,7 +443,11 @@ const REPORT_FILE_MORE: &str =
     "Reads SETTINGS as `station` does, and prints for each instance a line of what stands in the station's file, as
 `replay --report` does, with the alarms at its end. The station is not started: its incarnation stays.
 
-Example: snmpmon report examples/station.toml";
+--format json prints an object, --format prometheus the text that Prometheus reads, --columns a table for people. With --names names
+stand as ifInOctets.1, by the modules of the settings and those that -m gives.
+
+Examples: snmpmon report examples/station.toml
+          snmpmon report examples/station.toml --columns --names -m examples/served.mib";
 
 fn report<'a>(alloc: Global) -> Result<Command<'a>, AllocError> {
     let report = Command::new(alloc, "report")
