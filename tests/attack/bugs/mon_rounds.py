@@ -51,10 +51,20 @@ BUGS = {
         "        match self.receiver.receive(wait) {",
         "        match self.receiver.receive(Wait::Anew(0)) {",
     ),
+    "counts_answers_for_samples": (
+        "src/reporting.rt",
+        "            taken = taken.saturating_add(*samples);",
+        "            taken = taken.saturating_add(1);",
+    ),
+    "counts_all_notices_as_given_up": (
+        "src/reporting.rt",
+        "        if let Notice::GaveUp(_) = notice {",
+        "        if let Notice::GaveUp(_) | Notice::NotPolled(..) = notice {",
+    ),
     "a_report_of_empty_windows": (
         "src/saved.rt",
-        "        Some(octets) => image_text(alloc, watch, octets.as_slice()),",
-        "        Some(_) => written(alloc, &Board::new(alloc, watch.try_clone(alloc)?)?),",
+        "        Some(octets) => image_board(alloc, watch, octets.as_slice()),",
+        "        Some(_) => Ok(Board::new(alloc, watch.try_clone(alloc)?)?),",
     ),
     "all_alarms_are_clear": (
         "src/alarms.rt",

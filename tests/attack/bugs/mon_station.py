@@ -121,9 +121,14 @@ BUGS = {
         "                run.source_faults += 1;\n                true",
         "                run.source_faults += 1;\n                false",
     ),
+    "no_samples_are_told": (
+        "src/running.rt",
+        "                Answer::Handled(told.taken.as_slice().len() as u64)",
+        "                Answer::Handled(0)",
+    ),
     "an_answer_is_refused_for_fine": (
         "src/running.rt",
-        "                Answer::Handled\n            }\n            Err(fault) => shown(fault),",
+        "                Answer::Handled(told.taken.as_slice().len() as u64)\n            }\n            Err(fault) => shown(fault),",
         "                Answer::Refused(StationFault::NoMoreIncarnations)\n            }\n            Err(fault) => shown(fault),",
     ),
     "failed_sends_are_not_counted": (
@@ -163,8 +168,8 @@ BUGS = {
     ),
     "counts_only_other_faults": (
         "src/running.rt",
-        "        Answer::Handled => refused,",
-        "        Answer::Handled | Answer::Memory => refused,",
+        "        Answer::Handled(_) => refused,",
+        "        Answer::Handled(_) | Answer::Memory => refused,",
         "        Answer::Memory | Answer::Refused(_) | Answer::Keeper(_) => refused + 1,",
         "        Answer::Refused(_) | Answer::Keeper(_) => refused + 1,",
     ),
