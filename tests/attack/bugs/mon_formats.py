@@ -8,4 +8,7 @@ BUGS = {
     "json_samples_reversed": ("src/json.rt", "values.push(sample_value(alloc, sample)?)?;", "values.insert(0, sample_value(alloc, sample)?)?;"),
     "named_upper_digits": ("src/named.rt", "hex::encode(alloc, entry.engine())?", "hex::encode_upper(alloc, entry.engine())?"),
     "prometheus_raised_alarm_told_as_0": ("src/prometheus.rt", '        AlarmState::Raised { .. } => "1",', '        AlarmState::Raised { .. } => "0",'),
+    "columns_width_of_the_last": ("src/columns.rt", 'value = value.max(value_cell', 'value = value.min(5).max(value_cell'),
+    "json_alarms_of_the_first_rule": ("src/json.rt", 'values.push(alarm_value(alloc, samples, rule)?)?;', 'values.push(alarm_value(alloc, samples, &rules[0])?)?;'),
+    "prometheus_polls_given_up_as_taken": ("src/prometheus/station.rt", '    put_plain(text, StationMetric::Taken, figures.taken)?;', '    put_plain(text, StationMetric::Taken, figures.given_up)?;'),
 }
