@@ -70,6 +70,11 @@ impl Failure {
         )
     }
 
+    /// Whether memory was refused.
+    pub fn is_of_memory(&self) -> bool {
+        self.fault.number() == OUT_OF_MEMORY
+    }
+
     /// Prints the fault's line, and a second one that says what was wrong and where. Out of memory says all in one line.
     pub fn tell(&self, rt: &impl Eprint) {
         let fault = self.fault;

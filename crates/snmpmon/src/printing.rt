@@ -46,6 +46,11 @@ impl Printing {
         self.format == Format::Text
     }
 
+    /// Whether the format is lines of text with names in numbers.
+    pub fn is_plain(&self) -> bool {
+        self.is_text() && self.names.is_none()
+    }
+
     /// The report of these instances, and for Prometheus of what the station says of itself.
     pub fn text(
         &self,

@@ -11,10 +11,13 @@ use crate::settings::unset;
 use crate::telling::{shown, tell_alarms, tell_notices};
 use clap::ArgMatches;
 use mon_alarms::AlarmState;
+use mon_app::AppFault;
+use mon_board::Board;
 use mon_disk::FileDisk;
 use mon_formats::Figures;
 use mon_poller::Addr;
 use mon_rehearsal::rehearse;
+use mon_report::write_report;
 use mon_rounds::{
     Addresses, PollLog, Receiver, RoundReport, Rounds, Socket, SocketOutbox, SocketReceiver,
     alarm_states, rest, run_round, saved_board, selftest,
@@ -118,7 +121,7 @@ fn between<R: Clock + Print + Eprint + AllocGlobal, S: Receiver + Drop, O: Outbo
     timing: Timing,
 ) -> Result<(), Failure> {
     if timing.report_every != 0 && number % timing.report_every == 0 {
-        print_report(rt, running)?;
+        print_between(rt, running)?;
     }
     pause(rt, running, number, began, timing.interval)
 }
@@ -360,15 +363,45 @@ fn now<R: Clock + AllocGlobal>(rt: &R) -> Result<Instant, Failure> {
     }
 }
 
-/// Prints the report of a station's windows.
+/// Prints the report between two rounds. Where memory runs out that is told, and the station goes on.
+fn print_between<R: Print + Eprint + AllocGlobal, S: Receiver + Drop, O: Outbox + Drop>(
+    rt: &R,
+    running: &Running<S, O>,
+) -> Result<(), Failure> {
+    let Err(failure) = print_report(rt, running) else {
+        return Ok(());
+    };
+    if !failure.is_of_memory() {
+        return Err(failure);
+    }
+    failure.tell(rt);
+    Ok(())
+}
+
+/// Prints the report of a station's windows. Lines of text with names in numbers take no memory.
 fn print_report<R: Print + AllocGlobal, S: Receiver + Drop, O: Outbox + Drop>(
     rt: &R,
     running: &Running<S, O>,
 ) -> Result<(), Failure> {
-    let figures = figures_of(rt.alloc(), running)?;
     let board = running.station.board();
+    if running.printing.is_plain() {
+        return print_lines(rt, board);
+    }
+    let figures = figures_of(rt.alloc(), running)?;
     let text = running.printing.report(rt.alloc(), board, Some(&figures))?;
     print(rt, text.as_slice())
+}
+
+/// Prints the report of a board as lines of text.
+fn print_lines<R: Print + AllocGlobal>(rt: &R, board: &Board) -> Result<(), Failure> {
+    match write_report(board, &mut io::writer(rt)) {
+        Ok(()) => Ok(()),
+        Err(_) => Err(Failure::at(
+            rt.alloc(),
+            "standard output",
+            Fault::App(AppFault::FileFault),
+        )),
+    }
 }
 
 /// Writes the report to the file that the words name, if they name one. What goes wrong is told, and the station goes on.
