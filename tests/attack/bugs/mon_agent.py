@@ -46,6 +46,11 @@ BUGS = {
         "        Body::Pdu(pdu) => matches!(pdu.kind, PduKind::Get | PduKind::GetNext | PduKind::Set),",
         "        Body::Pdu(pdu) => matches!(pdu.kind, PduKind::Get | PduKind::GetNext),",
     ),
+    "set_needs_to_read": (
+        "src/agent.rt",
+        "        Body::Pdu(pdu) if pdu.kind == PduKind::Set => Need::Write,",
+        "        Body::Pdu(pdu) if pdu.kind == PduKind::Trap => Need::Write,",
+    ),
     "silence_by_another_name": (
         "src/reply.rt",
         '            Silence::BadVersion => "BadVersion",',
@@ -65,6 +70,11 @@ BUGS = {
         "src/sending.rt",
         "const TOO_BIG: i32 = 1;",
         "const TOO_BIG: i32 = 0;",
+    ),
+    "undo_failed_names_one": (
+        "src/assigning.rt",
+        "        Commit::UndoFailed { .. } => (UNDO_FAILED, 0),",
+        "        Commit::UndoFailed { failed, .. } => (UNDO_FAILED, *failed),",
     ),
     "version_is_a_bad_message": (
         "src/agent.rt",

@@ -31,6 +31,11 @@ BUGS = {
         "    text.iter().position(|octet| *octet == b'\\n')",
         "    text.iter().position(|octet| *octet == b'\\r')",
     ),
+    "gives_the_status_as_index": (
+        "src/client.rt",
+        "            index: pdu.error_index,",
+        "            index: pdu.error_status,",
+    ),
     "names_bad_stamp_bad_hex": (
         "src/refusal.rt",
         '            Refusal::BadStamp => "BadStamp",',

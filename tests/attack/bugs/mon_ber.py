@@ -61,6 +61,11 @@ BUGS = {
         "Value::IpAddress(address) => put_slice(out, address),",
         "Value::IpAddress(address) => put_slice(out, &address[..3]),",
     ),
+    "last_octet_left_out": (
+        "src/element.rt",
+        "if rest.len() < len {",
+        "if rest.len() <= len {",
+    ),
     "length_85_accepted": (
         "src/element.rt",
         "if *first == 0x80 || *first > 0x84 {",
@@ -165,6 +170,11 @@ BUGS = {
         "src/reading.rt",
         "    Ok((value, rest))",
         "    Ok((value, bytes))",
+    ),
+    "wide_integer_bad_length": (
+        "src/number.rt",
+        "i32::try_from(number_of(contents)?).map_err(|_| BerFault::OutOfRange)",
+        "i32::try_from(number_of(contents)?).map_err(|_| BerFault::BadLength)",
     ),
     "writes_null_always": (
         "src/writing.rt",

@@ -1,6 +1,11 @@
 """Bugs of mon_board for planted_bugs: by a name the file, what stands there once, and the bug in its place."""
 
 BUGS = {
+    "takes_a_rule_twice": (
+        "src/watch.rt",
+        "        if !compare(&rules[i - 1], &rules[i]).is_lt() {",
+        "        if !compare(&rules[i - 1], &rules[i]).is_le() {",
+    ),
     "windows_of_65": (
         "src/watch.rt",
         "const MOST_SAMPLES: usize = 64;",

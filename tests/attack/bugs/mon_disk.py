@@ -26,6 +26,11 @@ BUGS = {
         "disk.write_at(0, &[0; HEAD_SIZE])?;",
         "disk.write_at(0, &[0xA5; HEAD_SIZE])?;",
     ),
+    "takes_a_longer_file": (
+        "src/opening.rt",
+        "    if size > 2 * SLOT_SIZE {",
+        "    if size > 2 * SLOT_SIZE + 1 {",
+    ),
     "takes_another_octet_for_open": (
         "src/reading.rt",
         "const OPEN: u8 = 0xA5;",

@@ -46,6 +46,11 @@ BUGS = {
         "    standing.push(index).unwrap();",
         "    standing.push(index / 2).unwrap();",
     ),
+    "commit_tells_another_index": (
+        "src/commit.rt",
+        "        return Err(index);",
+        "        return Err(index / 2);",
+    ),
     "counter_stays_at_its_most": (
         "src/counters.rt",
         "            Counter::InPackets => self.in_packets = self.in_packets.wrapping_add(1),",
@@ -125,6 +130,11 @@ BUGS = {
         "src/fuse_device.rt",
         "    number < 64 && fuses & (1 << number) != 0",
         "    number < 64 && fuses & (1 << (63 - number)) != 0",
+    ),
+    "get_takes_a_longer_name": (
+        "src/mib.rt",
+        "        if rest.len() != 1 {",
+        "        if rest.len() == 0 {",
     ),
     "if_name_can_be_set": (
         "src/object.rt",

@@ -21,6 +21,16 @@ BUGS = {
         "Some((Kind::Gauge32, u64::from(*number)))",
         "Some((Kind::Counter32, u64::from(*number)))",
     ),
+    "opens_65_polls": (
+        "src/poller.rt",
+        "const MOST_OPEN: usize = 64;",
+        "const MOST_OPEN: usize = 65;",
+    ),
+    "tries_once_more": (
+        "src/poller.rt",
+        "        if poll.sends >= target.tries {",
+        "        if poll.sends > target.tries {",
+    ),
     "wrong_names_leave_the_poll_open": (
         "src/awaiting.rt",
         "        Err(fault) => fault.number() > 5,",

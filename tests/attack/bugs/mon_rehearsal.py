@@ -6,10 +6,20 @@ BUGS = {
         "            None => return Err(ScriptFault::BadScript(line)),",
         "            None => return Err(ScriptFault::BadScript(line - 1)),",
     ),
+    "numbers_steps_from_0": (
+        "src/printed.rt",
+        'write!(line, "step {number}: ")?;',
+        'let number = number.saturating_sub(1); write!(line, "step {number}: ")?;',
+    ),
     "passes_over_what_is_no_step": (
         "src/script.rt",
         "        Some((verb, fields)) => read_step(alloc, verb, fields),\n        None => Ok(None),",
         "        Some((verb, fields)) => read_step(alloc, verb, fields),\n        None => Ok(Some(ScriptStep::Save(1))),",
+    ),
+    "reads_a_leading_zero": (
+        "src/field.rt",
+        "Ok(text) => decimal(text),",
+        'Ok(text) => decimal(match text.strip_prefix("0") { Some(rest) => rest, None => text }),',
     ),
     "saves_where_it_restarts": (
         "src/script.rt",

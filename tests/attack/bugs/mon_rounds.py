@@ -26,6 +26,13 @@ BUGS = {
         "        self.failures -= 1;\n        self.wait = Wait::Rest;",
         "        self.failures -= 1;\n        self.wait = Wait::Anew(self.wait_ms);",
     ),
+    "forgets_the_second_hearing": (
+        "src/round.rt",
+        "Phase::Hearing | Phase::Listening | Phase::Resting => true,",
+        "Phase::Hearing | Phase::Resting => true,",
+        "Phase::Polling(_) | Phase::Sharing(_) | Phase::Over | Phase::Rested => false,",
+        "Phase::Polling(_) | Phase::Sharing(_) | Phase::Listening | Phase::Over | Phase::Rested => false,",
+    ),
     "peers_do_not_prolong_a_wait": (
         "src/round.rt",
         "self.addresses.is_target(from) || self.addresses.is_peer(from)",

@@ -31,6 +31,11 @@ BUGS = {
         "Key::Boots, 1, 1, 2147483647)?;",
         "Key::Boots, 2, 1, 2147483647)?;",
     ),
+    "takes_257_entries": (
+        "src/list.rt",
+        "    if values.len() <= 256 {",
+        "    if values.len() <= 257 {",
+    ),
     "takes_a_community_of_513_octets": (
         "src/tables.rt",
         "Key::Community, 512)?;",
@@ -40,6 +45,11 @@ BUGS = {
         "src/tables.rt",
         "Key::Mask, 16)?;",
         "Key::Mask, 17)?;",
+    ),
+    "takes_a_window_of_0": (
+        "src/leaf.rt",
+        "    let size = number_at(table, key, 1, most as u64)?;",
+        "    let size = number_at(table, key, 0, most as u64)?;",
     ),
     "takes_an_alias_of_65_octets": (
         "src/interfaces.rt",

@@ -41,6 +41,11 @@ BUGS = {
         "        let first = tokens[tokens.len() - starts[i]];",
         "        let first = tokens[tokens.len() - starts[0]];",
     ),
+    "greatest_of_equals": (
+        "src/labels.rt",
+        "        Some(known) => known.cmp(name).is_le(),",
+        "        Some(known) => known.cmp(name).is_ge(),",
+    ),
     "keeps_no_definitions": (
         "src/definition.rt",
         "        Definitions { items }",
@@ -275,5 +280,10 @@ BUGS = {
         "src/scan.rt",
         "        if *byte == b'\\n' || (*byte == b'-' && byte_at(after, 0) == b'-') {",
         "        if *byte == b'\\r' || (*byte == b'-' && byte_at(after, 0) == b'-') {",
+    ),
+    "wrong_built_in": (
+        "src/built_in.rt",
+        '    ("enterprises", &[1, 3, 6, 1, 4, 1]),',
+        '    ("enterprises", &[1, 3, 6, 1, 4, 2]),',
     ),
 }

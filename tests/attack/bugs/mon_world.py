@@ -6,10 +6,25 @@ BUGS = {
         "Step::Forge(s, octets) => self.handle(s, Event::FromPeer(octets)),",
         "Step::Forge(s, octets) => self.handle(s, Event::FromPeer(&octets[..0])),",
     ),
+    "misses_the_last_datagram": (
+        "src/world.rt",
+        "if number == 0 || number > self.sent.len() as u64 {",
+        "if number == 0 || number >= self.sent.len() as u64 {",
+    ),
     "misses_the_last_station": (
         "src/world.rt",
         "if number == 0 || number as usize > self.stations.len() {",
         "if number == 0 || number as usize >= self.stations.len() {",
+    ),
+    "numbers_datagrams_from_0": (
+        "src/sending.rt",
+        "first: before as u64 + 1,",
+        "first: before as u64,",
+    ),
+    "refuses_16_stations": (
+        "src/world.rt",
+        "if count == 0 || count > MOST {",
+        "if count == 0 || count >= MOST {",
     ),
     "saves_at_a_timeout": (
         "src/world.rt",
