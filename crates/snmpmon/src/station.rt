@@ -28,6 +28,7 @@ use mon_station::{Outbox, Run, Station, StationFault};
 use std::alloc::{AllocError, Global};
 use std::fs::File;
 use std::io;
+use std::io::{BufWriter, Write};
 use std::net::{Net, SocketAddr};
 use std::rt::{Clock, Files};
 use std::time::{Duration, Instant};
@@ -392,16 +393,20 @@ fn print_report<R: Print + AllocGlobal, S: Receiver + Drop, O: Outbox + Drop>(
     print(rt, text.as_slice())
 }
 
-/// Prints the report of a board as lines of text.
+/// Prints the report of a board as lines of text: many at once, or piece by piece where there is no memory for them.
 fn print_lines<R: Print + AllocGlobal>(rt: &R, board: &Board) -> Result<(), Failure> {
-    match write_report(board, &mut io::writer(rt)) {
-        Ok(()) => Ok(()),
-        Err(_) => Err(Failure::at(
-            rt.alloc(),
-            "standard output",
-            Fault::App(AppFault::FileFault),
-        )),
+    let is_printed = match BufWriter::new(rt.alloc(), io::writer(rt)) {
+        Ok(mut lines) => write_report(board, &mut lines).is_ok() && lines.flush().is_ok(),
+        Err(_) => write_report(board, &mut io::writer(rt)).is_ok(),
+    };
+    if is_printed {
+        return Ok(());
     }
+    Err(Failure::at(
+        rt.alloc(),
+        "standard output",
+        Fault::App(AppFault::FileFault),
+    ))
 }
 
 /// Writes the report to the file that the words name, if they name one. What goes wrong is told, and the station goes on.

@@ -196,4 +196,24 @@ BUGS = {
         "        let response = returned(message, NO_ERROR, count);",
         "        let response = returned(message, NO_ERROR, count.min(0));",
     ),
+    "commit_failed_names_none": (
+        "src/assigning.rt",
+        "        Commit::CommitFailed(failed) => (COMMIT_FAILED, *failed),",
+        "        Commit::CommitFailed(_) => (COMMIT_FAILED, 0),",
+    ),
+    "sends_above_the_limit": (
+        "src/growing.rt",
+        "    size <= limit.max(0) as usize",
+        "    size <= limit.max(0) as usize + 1",
+    ),
+    "shows_a_hidden_name": (
+        "src/agent.rt",
+        "        if !self.policy.sees(access, name) {",
+        "        if self.policy.sees(access, name) {",
+    ),
+    "silent_drop_is_not_counted": (
+        "src/agent.rt",
+        "        Reply::Silent(Silence::TooBigTwice) => mib.count(Counter::SilentDrops),",
+        "        Reply::Silent(Silence::TooBigTwice) => mib.count(Counter::ParseErrors),",
+    ),
 }

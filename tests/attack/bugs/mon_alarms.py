@@ -31,4 +31,24 @@ BUGS = {
         "        return Some(state);\n    };\n    if level",
         "        return None;\n    };\n    if level",
     ),
+    "stamps_time_as_boots": (
+        "src/alarm.rt",
+        "boots: sample.boots(),",
+        "boots: sample.time(),",
+    ),
+    "takes_counters_by_value": (
+        "src/alarm.rt",
+        "if !is_counter(sample.kind()) {",
+        "if is_counter(sample.kind()) {",
+    ),
+    "takes_equal_thresholds": (
+        "src/rule.rt",
+        "if falling >= rising {",
+        "if falling > rising {",
+    ),
+    "takes_gauges_in_units": (
+        "src/alarm.rt",
+        "Some(1000 * sample.number())",
+        "Some(sample.number())",
+    ),
 }

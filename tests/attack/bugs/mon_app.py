@@ -351,4 +351,29 @@ BUGS = {
         "            reason: fault.reason,",
         "            reason: SocketReason::Other,",
     ),
+    "asks_once": (
+        "src/asking.rt",
+        "const SENDS: u8 = 3;",
+        "const SENDS: u8 = 1;",
+    ),
+    "reads_what_was_left_in_the_room": (
+        "src/serving.rt",
+        "    match agent.answer(alloc, &room[..received.len], received.moment)? {",
+        "    match agent.answer(alloc, &room[..], received.moment)? {",
+    ),
+    "replies_twice": (
+        "src/serving.rt",
+        "        Reply::Send(octets) => Ok(port.reply(&octets)?),",
+        "        Reply::Send(octets) => { port.reply(&octets)?; Ok(port.reply(&octets)?) }",
+    ),
+    "takes_what_is_no_reply": (
+        "src/asking.rt",
+        "    if is_reply(question, &message) {",
+        "    if !is_reply(question, &message) {",
+    ),
+    "walks_and_prints_nothing": (
+        "src/walking.rt",
+        "            put_binding(alloc, text, &found, names)?;",
+        "            put_binding(alloc, &mut String::new(alloc), &found, names)?;",
+    ),
 }

@@ -251,4 +251,19 @@ BUGS = {
         "    Ok(element_len(len))",
         "    Ok(len)",
     ),
+    "longer_number_written": (
+        "src/writing.rt",
+        "        0x80..=0x7fff => 2,",
+        "        0x80..=0x7ffe => 2,",
+    ),
+    "parts_129_read": (
+        "src/name.rt",
+        "const MAX_PARTS: usize = 128;",
+        "const MAX_PARTS: usize = 129;",
+    ),
+    "sign_dropped": (
+        "src/number.rt",
+        "Ok(-1 - (limit - 1 - number) as i128)",
+        "Ok(number as i128)",
+    ),
 }

@@ -161,4 +161,24 @@ BUGS = {
         "        windows[i].join(&others[i]);",
         "        windows[i].join(&others[0]);",
     ),
+    "keeps_one_epoch_for_all_of_a_window": (
+        "src/board.rt",
+        "        windows.push(Track::new(alloc, watched.window, watched.epoch)?)?;",
+        "        windows.push(Track::new(alloc, watched.window, watched.window)?)?;",
+    ),
+    "marks_for_the_next_slot_too": (
+        "src/marks.rt",
+        "            Ok(at) => self.items[at].1 |= 1 << slot,",
+        "            Ok(at) => self.items[at].1 |= 3 << slot,",
+    ),
+    "takes_for_another_instance": (
+        "src/board.rt",
+        "        let window = &mut self.windows[place];",
+        "        let window = &mut self.windows[place / 2];",
+    ),
+    "tests_the_instances_first": (
+        "src/watch.rt",
+        "        if !are_sized(&instances) {",
+        "        if !are_sized(&instances) && are_instances(&instances) {",
+    ),
 }

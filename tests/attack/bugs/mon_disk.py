@@ -196,4 +196,14 @@ BUGS = {
         "        let octets = spell(alloc, generation + 1, body)?;",
         "        let octets = spell(alloc, generation, body)?;",
     ),
+    "finds_the_older": (
+        "src/reading.rt",
+        "            if first.generation < second.generation {",
+        "            if first.generation > second.generation {",
+    ),
+    "keeps_what_is_lost": (
+        "src/memory.rt",
+        "        if keep {",
+        "        if !keep {",
+    ),
 }

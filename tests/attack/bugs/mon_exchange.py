@@ -176,4 +176,24 @@ BUGS = {
         "    octet_is(1, ExchangeFault::BadVersion, rest)",
         "    octet_is(2, ExchangeFault::BadVersion, rest)",
     ),
+    "offers_41_samples": (
+        "src/sharing.rt",
+        "const MOST_SAMPLES: usize = 40;",
+        "const MOST_SAMPLES: usize = 41;",
+    ),
+    "offers_nothing_where_nothing_is_owed": (
+        "src/sharing.rt",
+        "    if !portions.is_empty() {",
+        "    if portions.len() < 2 {",
+    ),
+    "reads_41_samples": (
+        "src/reading.rt",
+        "    let (count, rest) = within_at(0, 40, ExchangeFault::NotAClaim, octets)?;",
+        "    let (count, rest) = within_at(0, 41, ExchangeFault::NotAClaim, octets)?;",
+    ),
+    "writes_a_confirmation_as_an_offer": (
+        "src/claim.rt",
+        "        self as u8",
+        "        1",
+    ),
 }

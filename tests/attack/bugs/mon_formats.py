@@ -11,4 +11,29 @@ BUGS = {
     "columns_width_of_the_last": ("src/columns.rt", 'value = value.max(value_cell', 'value = value.min(5).max(value_cell'),
     "json_alarms_of_the_first_rule": ("src/json.rt", 'values.push(alarm_value(alloc, samples, rule)?)?;', 'values.push(alarm_value(alloc, samples, &rules[0])?)?;'),
     "prometheus_polls_given_up_as_taken": ("src/prometheus/station.rt", '    put_plain(text, StationMetric::Taken, figures.taken)?;', '    put_plain(text, StationMetric::Taken, figures.given_up)?;'),
+    "columns_clear_hides_raised": (
+        "src/columns.rt",
+        ".any(|rule|",
+        ".all(|rule|",
+    ),
+    "json_beyond_exact": (
+        "src/json.rt",
+        "if number <= u128::from(LARGEST_NUMBER) {",
+        "if number <= u128::from(LARGEST_NUMBER) + 1 {",
+    ),
+    "named_cut_line_is_whole": (
+        "src/named.rt",
+        "        return Err(AllocError);",
+        "        return Ok(());",
+    ),
+    "prometheus_gauge_among_the_counters": (
+        "src/prometheus.rt",
+        "    if !is_counter(newest.kind()) {",
+        "    if !is_counter(newest.kind()) && newest.number() < 0 {",
+    ),
+    "prometheus_quote_not_escaped": (
+        "src/prometheus/text.rt",
+        "        b'\"' => text.extend_from_slice(b\"\\\\\\\"\"),",
+        "        b'\"' => text.extend_from_slice(b\"\\\"\"),",
+    ),
 }

@@ -66,4 +66,19 @@ BUGS = {
         "    out.push(octet).unwrap();",
         "    out.push(octet ^ 1).unwrap();",
     ),
+    "calls_a_bad_sample_cut_short": (
+        "src/reading.rt",
+        "Err(_) => Err(LayoutFault::BadSample)",
+        "Err(_) => Err(LayoutFault::Truncated)",
+    ),
+    "measures_20_octets_a_sample": (
+        "src/writing.rt",
+        "    21 * samples.len()",
+        "    20 * samples.len()",
+    ),
+    "writes_the_engines_length_twice": (
+        "src/writing.rt",
+        "    put_octet(out, parts.len() as u8);",
+        "    put_octet(out, engine.len() as u8);",
+    ),
 }

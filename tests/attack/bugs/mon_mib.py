@@ -376,4 +376,19 @@ BUGS = {
         "    let reached = all_objects().partition_point(|object| object.prefix().cmp(&name).is_le());",
         "    let reached = all_objects().partition_point(|object| object.prefix().cmp(&name).is_lt());",
     ),
+    "commit_forgets_an_undo": (
+        "src/commit.rt",
+        "    undos.push(undo).unwrap();",
+        "    if index != 1 { undos.push(undo).unwrap(); }",
+    ),
+    "first_of_a_name_is_assigned": (
+        "src/setting.rt",
+        "            if !is_named(&bindings[index..], &binding.name) {",
+        "            if !is_named(&bindings[..i], &binding.name) {",
+    ),
+    "type_before_view": (
+        "src/setting.rt",
+        "        if !policy.sees(access, &binding.name) {",
+        "        if mon_ber::Tag::of(&binding.value) == mon_ber::Tag::Null { return Err(BindingFault::Refused(SetStatus::WrongType)); } if !policy.sees(access, &binding.name) {",
+    ),
 }

@@ -41,4 +41,24 @@ BUGS = {
         "numbers.push(number)?;",
         "numbers.push(number & 0)?;",
     ),
+    "commas_for_dots": (
+        "src/oid.rt",
+        "text.push('.')?;",
+        "text.push(',')?;",
+    ),
+    "lets_spare_zeros": (
+        "src/oid.rt",
+        "if Buffer::new().format(number) == text {",
+        "if Buffer::new().format(number) == text || text.len() > 1 {",
+    ),
+    "reads_every_text_as_1_3": (
+        "src/oid.rt",
+        "Oid::from_parts(alloc, numbers.as_slice())",
+        "let _ = numbers; Oid::from_parts(alloc, &[1, 3])",
+    ),
+    "refuses_128_parts": (
+        "src/oid.rt",
+        "if parts.len() > Self::MAX_LEN {",
+        "if parts.len() >= Self::MAX_LEN {",
+    ),
 }

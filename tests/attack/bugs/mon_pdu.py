@@ -161,4 +161,29 @@ BUGS = {
         "    if !rest.is_empty() {",
         "    if rest.len() > 1 {",
     ),
+    "clears_what_was_held": (
+        "src/writing.rt",
+        "    put_message(out, message, lengths_of(message));",
+        "    out.clear(); put_message(out, message, lengths_of(message));",
+    ),
+    "reads_bindings_in_reverse": (
+        "src/reading.rt",
+        "    Ok(bindings)",
+        "    bindings.reverse(); Ok(bindings)",
+    ),
+    "refuses_the_longest": (
+        "src/writing.rt",
+        "    if lengths.message >= LIMIT {",
+        "    if lengths.message >= LIMIT - 1 {",
+    ),
+    "size_off_by_one": (
+        "src/writing.rt",
+        "    Ok(element_len(len))",
+        "    Ok(element_len(len) + 1)",
+    ),
+    "writes_half_the_bindings": (
+        "src/writing.rt",
+        "    put_bindings(out, bindings)",
+        "    put_bindings(out, &bindings[bindings.len() / 2..])",
+    ),
 }

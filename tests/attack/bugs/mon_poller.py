@@ -211,4 +211,9 @@ BUGS = {
         "            [_, second, ..] => mark_in(&second.value),",
         "            [_, second, ..] => stamp_number(&second.value),",
     ),
+    "sends_another_datagram_again": (
+        "src/poller.rt",
+        "        let octets = poll_octets(alloc, target, id)?;",
+        "        let octets = poll_octets(alloc, target, 1)?;",
+    ),
 }

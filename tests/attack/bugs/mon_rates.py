@@ -66,4 +66,19 @@ BUGS = {
         "matches!(kind, Kind::Counter32 | Kind::Counter64)",
         "matches!(kind, Kind::Counter32 | Kind::Counter64 | Kind::Gauge32)",
     ),
+    "counts_no_pairs": (
+        "src/totals.rt",
+        "pairs: 1,",
+        "pairs: 0,",
+    ),
+    "rate_of_hundredths": (
+        "src/totals.rt",
+        "Some(1000 * self.delta / u128::from(self.span))",
+        "Some(100 * self.delta / u128::from(self.span))",
+    ),
+    "wraps_all_at_64_bits": (
+        "src/totals.rt",
+        "_ => apart % (1 << 32),",
+        "_ => apart,",
+    ),
 }

@@ -71,4 +71,19 @@ BUGS = {
         "match cut(line, b' ') {",
         "match cut(line, b'\\t') {",
     ),
+    "names_the_station_for_its_disk": (
+        "src/printed.rt",
+        'StationFault::Keeper(part) => put_fault(line, "mon_disk", part.number(), part.name()),',
+        'StationFault::Keeper(part) => put_fault(line, "mon_station", part.number(), part.name()),',
+    ),
+    "says_of_all_what_it_owes_the_first": (
+        "src/printed.rt",
+        "let owed = station.owed(peer);",
+        "let owed = station.owed(1);",
+    ),
+    "says_ok_whatever_came": (
+        "src/printed.rt",
+        "Err(fault) => put_refused(line, fault),",
+        'Err(_) => line.push_str("ok"),',
+    ),
 }

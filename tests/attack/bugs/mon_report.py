@@ -42,4 +42,24 @@ BUGS = {
         "put_stamps(writer, ok, oldest, newest)",
         "put_stamps(writer, ok, newest, oldest)",
     ),
+    "alarms_of_the_first_instance": (
+        "src/report.rt",
+        "put_alarms(writer, ok, entry.samples, entry.rules, entry.instance)",
+        "put_alarms(writer, ok, entry.samples, entry.rules, 0)",
+    ),
+    "pairs_for_the_span": (
+        "src/line.rt",
+        "put_number(writer, ok, totals.span)",
+        "put_number(writer, ok, u64::from(totals.pairs))",
+    ),
+    "rounds_the_rate_up": (
+        "src/line.rt",
+        "put_wide(writer, ok, rate / 1000)",
+        "put_wide(writer, ok, rate / 999)",
+    ),
+    "well_after_a_failure": (
+        "src/report.rt",
+        "if write_end(writer, ok, instances, count_samples(board)) {",
+        "if write_end(writer, ok, instances, count_samples(board)) || !ok {",
+    ),
 }

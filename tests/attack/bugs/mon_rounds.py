@@ -98,4 +98,39 @@ BUGS = {
         "                self.timeouts -= 1;",
         "                self.timeouts = 0;",
     ),
+    "a_stranger_prolongs_a_wait": (
+        "src/round.rt",
+        "            _ => Wait::Rest,",
+        "            _ => Wait::Anew(self.wait_ms),",
+    ),
+    "ends_where_it_is_quiet": (
+        "src/source.rt",
+        "            Ok(Arrival::Quiet) => Ok(self.round.proceed(oldest)),",
+        "            Ok(Arrival::Quiet) => Ok(None),",
+    ),
+    "misses_an_alarm_raised_anew": (
+        "src/alarms.rt",
+        "boots == other_boots && time == other_time",
+        "boots == other_boots && time <= other_time",
+    ),
+    "saves_nothing": (
+        "src/round.rt",
+        "            Phase::Listening => Some(self.save()),",
+        "            Phase::Listening => None,",
+    ),
+    "says_ok_whatever_came": (
+        "src/trial.rt",
+        "    if text.as_slice() != wanted {",
+        "    if text.is_empty() {",
+    ),
+    "shares_before_it_polls": (
+        "src/round.rt",
+        "            Phase::Polling(0)",
+        "            Phase::Sharing(0)",
+    ),
+    "takes_a_peers_datagram_for_an_agents": (
+        "src/round.rt",
+        "        if self.addresses.is_peer(from) {",
+        "        if self.addresses.is_target(from) {",
+    ),
 }

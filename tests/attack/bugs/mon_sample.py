@@ -63,4 +63,26 @@ BUGS = {
         "Kind::Integer => value < 1 << 31 ||",
         "Kind::Integer => value <= 1 << 31 ||",
     ),
+    "lets_large_times": (
+        "src/sample.rt",
+        "parts.time >= STAMP_LIMIT {",
+        "parts.time > STAMP_LIMIT {",
+    ),
+    "one_tag": (
+        "src/sample.rt",
+        "let tag = self.kind.tag();",
+        "let tag = Kind::Counter32.tag();",
+    ),
+    "time_before_boots": (
+        "src/sample.rt",
+        "let own = stamp(self.boots, self.time);",
+        "let own = stamp(self.time, self.boots);",
+        "own.cmp(&stamp(other.boots, other.time))",
+        "own.cmp(&stamp(other.time, other.boots))",
+    ),
+    "unsigned_integers": (
+        "src/kind.rt",
+        "Kind::Integer => i128::from(value.cast_signed()),",
+        "Kind::Integer => i128::from(value),",
+    ),
 }

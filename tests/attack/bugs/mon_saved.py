@@ -146,4 +146,24 @@ BUGS = {
         "    if version == 1 {",
         "    if version == 2 {",
     ),
+    "measures_an_octet_more": (
+        "src/writing.rt",
+        "    3 + instance_size(",
+        "    4 + instance_size(",
+    ),
+    "reads_incarnation_0": (
+        "src/reading.rt",
+        "    if number == 0 {",
+        "    if number == 1 {",
+    ),
+    "reads_version_3": (
+        "src/reading.rt",
+        "octet_within(1, 2, ImageFault::BadVersion, rest)?;",
+        "octet_within(1, 3, ImageFault::BadVersion, rest)?;",
+    ),
+    "takes_more_than_the_epoch_allows": (
+        "src/reading.rt",
+        "    if is_shared(samples.as_slice(), usize::from(sizes.epoch)) {",
+        "    if is_shared(samples.as_slice(), usize::from(sizes.window)) {",
+    ),
 }

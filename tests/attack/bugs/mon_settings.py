@@ -328,8 +328,8 @@ BUGS = {
     ),
     "leaves_out_the_alarm": (
         "src/placing.rt",
-        "        .map_err(|fault| fault.within(Step::Entry(Key::Alarm, number)))",
-        "        .map_err(|fault| fault.within(Step::Value(Key::Alarm)))",
+        "Step::Entry(\n        Key::Alarm,\n        number,\n    )))",
+        "Step::Value(Key::Alarm)))",
     ),
     "leaves_out_the_target_around_an_object": (
         "src/place.rt",
@@ -380,5 +380,30 @@ BUGS = {
         "src/interfaces.rt",
         "        if interface.index <= last {",
         "        if interface.index < last {",
+    ),
+    "allows_unknown_keys": (
+        "src/keys.rt",
+        "        Err(SettingsFault::UnknownKey(Place::Whole))",
+        "        Ok(())",
+    ),
+    "reads_the_first_entry_alone": (
+        "src/list.rt",
+        "            Some(values) => read_rows(alloc, key, values),",
+        "            Some(values) => read_rows(alloc, key, if values.len() > 1 { &values[..1] } else { values }),",
+    ),
+    "takes_an_alarm_on_what_is_not_watched": (
+        "src/placing.rt",
+        "        None => Err(SettingsFault::BadValue(Place::Whole)),",
+        "        None => rule_from(alarm, 0),",
+    ),
+    "takes_an_epoch_above_its_window": (
+        "src/station_tables.rt",
+        "sizes.epoch.min(window), window)?;",
+        "sizes.epoch.min(window), 64)?;",
+    ),
+    "takes_itself_as_a_peer": (
+        "src/peers.rt",
+        "    numbers.iter().all(|number| *number != own)",
+        "    numbers.iter().all(|number| *number != own || *number == 1)",
     ),
 }

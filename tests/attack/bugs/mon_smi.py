@@ -286,4 +286,24 @@ BUGS = {
         '    ("enterprises", &[1, 3, 6, 1, 4, 1]),',
         '    ("enterprises", &[1, 3, 6, 1, 4, 2]),',
     ),
+    "adds_known_again": (
+        "src/names.rt",
+        "        let mut copies = copies(alloc, &self.places, known, added.defs.as_slice())?;",
+        "        let mut copies = copies(alloc, &self.places, &[], added.defs.as_slice())?;",
+    ),
+    "forgets_marks": (
+        "src/chain.rt",
+        "        if !passed.insert(place)? {",
+        "        if !passed.insert(place)? && place > 0 {",
+    ),
+    "misses_a_name_twice": (
+        "src/places.rt",
+        "            return Ok(Some(i));",
+        "            return Ok(None);",
+    ),
+    "one_component_is_enough": (
+        "src/values.rt",
+        "        None => 2 <= numbers.len(),",
+        "        None => 1 <= numbers.len(),",
+    ),
 }

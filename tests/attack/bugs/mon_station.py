@@ -56,13 +56,6 @@ BUGS = {
         "        let portions = portions(alloc, &self.board, slot)?;",
         "        let portions = portions(alloc, &self.board, 0)?;",
     ),
-    "forgets_what_is_too_old": (
-        "src/life.rt",
-        "ClaimKind::Offer => self.confirm_offer(alloc, claim),",
-        "ClaimKind::Offer => if self.is_too_old(claim) { Ok(Vec::new(alloc)) } else { self.confirm_offer(alloc, claim) },",
-        "/// The confirmation of an offer.",
-        "fn is_too_old(&self, claim: &Claim) -> bool { let Some(number) = self.board.find(claim.engine.as_slice(), &claim.name) else { return false; }; let items = self.board.items(number); if items.len() < self.board.watch().instances()[usize::from(number)].window { return false; } let Some(oldest) = items.first() else { return false; }; match claim.samples.as_slice().last() { Some(newest) => newest.compare(oldest).is_lt(), None => false } } /// The confirmation of an offer.",
-    ),
     "offers_under_incarnation_1": (
         "src/sharing.rt",
         "            incarnation: self.incarnation,",
@@ -184,5 +177,20 @@ BUGS = {
         "        Answer::Handled(_) | Answer::Memory => refused,",
         "        Answer::Memory | Answer::Refused(_) | Answer::Keeper(_) => refused + 1,",
         "        Answer::Refused(_) | Answer::Keeper(_) => refused + 1,",
+    ),
+    "confirms_under_its_own_serial": (
+        "src/life.rt",
+        "            serial: offer.serial,",
+        "            serial: self.serial,",
+    ),
+    "offers_to_itself": (
+        "src/sharing.rt",
+        "            to: To::Peer(peer),",
+        "            to: To::Peer(self.peers.own()),",
+    ),
+    "saves_under_incarnation_1": (
+        "src/life.rt",
+        "        write_image(alloc, &self.board, self.incarnation)",
+        "        write_image(alloc, &self.board, 1)",
     ),
 }

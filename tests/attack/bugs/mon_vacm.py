@@ -110,4 +110,24 @@ BUGS = {
         "if parts[i] != *part && must_agree",
         "if i < parts.len() && parts[i] != *part && must_agree",
     ),
+    "excluded_counts": (
+        "src/policy.rt",
+        "Some(family) => family.included,",
+        "Some(family) => family.included == family.included,",
+    ),
+    "lets_a_family_twice": (
+        "src/policy.rt",
+        "return Err(PolicyFault::DuplicateFamily);",
+        "return Ok(Policy { tables });",
+    ),
+    "one_denial": (
+        "src/policy.rt",
+        "Err(why) => Decision::Denied(why),",
+        "Err(_) => Decision::Denied(Denied::NoGroupName),",
+    ),
+    "write_reads": (
+        "src/access_entry.rt",
+        "Need::Write => &self.write_view,",
+        "Need::Write => &self.read_view,",
+    ),
 }

@@ -96,4 +96,21 @@ BUGS = {
         "Ok(_) => return Plan::Known,",
         "Ok(_) => return Plan::TooOld,",
     ),
+    "applies_the_size_before_the_share": (
+        "src/plan.rt",
+        "if at >= share && items[at - share].boots() == boots {",
+        "if items.len() < size && at >= share && items[at - share].boots() == boots {",
+        "if has_share(items, share, first, boots) {",
+        "if items.len() < size && has_share(items, share, first, boots) {",
+    ),
+    "drops_the_newest": (
+        "src/window.rt",
+        "self.items.remove(out)",
+        "self.items.remove(self.items.len() - 1)",
+    ),
+    "forgets_what_was_dropped": (
+        "src/window.rt",
+        "dropped: Some(dropped),",
+        "dropped: None,",
+    ),
 }

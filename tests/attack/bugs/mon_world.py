@@ -36,4 +36,19 @@ BUGS = {
         "if !is_target(targets, address) {",
         "if is_target(targets, address) {",
     ),
+    "polls_the_next_target": (
+        "src/world.rt",
+        "(number - 1) as u16",
+        "number as u16",
+    ),
+    "shares_at_the_peer": (
+        "src/world.rt",
+        "Step::Share(s, peer) => self.handle(s, Event::Share(peer)),",
+        "Step::Share(s, peer) => self.handle(peer, Event::Share(s)),",
+    ),
+    "speaks_for_the_last_target": (
+        "src/speaker.rt",
+        "targets[number as usize - 1].address",
+        "targets[targets.len() - 1].address",
+    ),
 }
