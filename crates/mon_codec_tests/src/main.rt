@@ -11,13 +11,16 @@
 //!     image WATCH HEX   what this image is read as under the watch, and the image that is written of that; or the fault
 //!     report WATCH HEX  the report of what this image is read as under the watch
 //!
-//! usage: mon_codec_tests                   as above
-//!        mon_codec_tests image-times N     reads the image of the first line, WATCH HEX, and writes it, this many times, for bench/image
+//! usage: mon_codec_tests                                   as above
+//!        mon_codec_tests image-times N                     reads the image of the first line, WATCH HEX, and writes it, so often, for bench/image
+//!        mon_codec_tests message-times N                   the same of a message, HEX, for bench/codec
+//!        mon_codec_tests track-times ORDER SHARE N         inserts so many samples into a track, for bench/track
 #![tactic(auto)]
 
 mod claims;
 mod images;
 mod station;
+mod track;
 mod values;
 
 use station::Station;
@@ -36,14 +39,21 @@ fn main(rt: HostRuntime) -> ExitCode {
 
 fn run<R: Env + Input + Print + AllocGlobal>(rt: &R) -> Option<()> {
     let words: Vec<String> = env::args(rt).ok()?.collect(rt.alloc()).ok()?;
-    let Some(word) = words.get(1) else {
-        return rows(rt, rt.alloc());
-    };
-    if word.as_str() != "image-times" {
-        return None;
+    match words.get(1) {
+        Some(word) => timed(rt, word, words.get(2..)?),
+        None => rows(rt, rt.alloc()),
     }
-    let times = words.get(2)?.as_str().parse().ok()?;
-    images::times(rt, rt.alloc(), times)
+}
+
+/// Does again and again what the first word says.
+fn timed<R: Input + Print + AllocGlobal>(rt: &R, word: &str, words: &[String]) -> Option<()> {
+    let alloc = rt.alloc();
+    match word {
+        "image-times" => images::times(rt, alloc, words.first()?.parse().ok()?),
+        "message-times" => values::times(rt, alloc, words.first()?.parse().ok()?),
+        "track-times" => track::times(rt, alloc, words),
+        _ => None,
+    }
 }
 
 /// Prints what is told of each line.

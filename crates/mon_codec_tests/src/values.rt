@@ -3,6 +3,7 @@
 use mon_ber::{Value, read_value, size_of, write_value};
 use mon_pdu::{Body, Message, message_size, read_message, write_message};
 use std::alloc::Global;
+use std::io::{BufRead, BufReader};
 
 /// The value that these octets begin with, how many spell it, its size and its octets as they are written; or the fault.
 pub fn value_row(alloc: Global, digits: &str) -> Option<String> {
@@ -61,4 +62,19 @@ fn numbers(body: &Body) -> (i32, i32, i32) {
         Body::Pdu(pdu) => (pdu.request_id, pdu.error_status, pdu.error_index),
         Body::Bulk(bulk) => (bulk.request_id, bulk.non_repeaters, bulk.max_repetitions),
     }
+}
+
+/// Reads the message of the first line, in hex digits, and writes it, this many times, and prints how many octets were written in all.
+pub fn times<R: Input + Print>(rt: &R, alloc: Global, times: u32) -> Option<()> {
+    let mut reader = BufReader::new(alloc, rt.reader()).ok()?;
+    let mut line = String::new(alloc);
+    reader.read_line(&mut line).ok()?;
+    let octets = hex::decode(alloc, line.as_str().trim_end()).ok()?;
+    let mut sum: u64 = 0;
+    for _ in 0..times {
+        let message = read_message(alloc, octets.as_slice()).ok()?;
+        let written = write_message(alloc, &message).ok()?;
+        sum = sum.saturating_add(written.len() as u64);
+    }
+    println!(rt; "{sum}").ok()
 }

@@ -36,29 +36,27 @@ impl Slot {
 /// A row for each kind of file, and for bodies about the greatest length.
 pub fn rows(rt: &HostRuntime) -> Option<()> {
     let whole = 2 * SLOT_SIZE;
-    row(rt, "one open slot", open(1, 2), SHUT, whole)?;
-    row(rt, "the second is newer", open(1, 2), open(2, 3), whole)?;
-    row(rt, "the first is newer", open(2, 3), open(1, 2), whole)?;
-    row(rt, "no open slot", SHUT, SHUT, whole)?;
-    row(
-        rt,
-        "a body that fills its slot",
-        open(1, 1048559),
-        SHUT,
-        whole,
-    )?;
-    row(rt, "an octet less", open(1, 2), SHUT, whole - 1)?;
-    row(rt, "an octet more", open(1, 2), SHUT, whole + 1)?;
-    row(rt, "generation 0", open(0, 2), SHUT, whole)?;
-    row(rt, "too long a body", SHUT, open(1, 1048560), whole)?;
-    row(rt, "equal generations", open(1, 2), open(1, 2), whole)?;
-    row(
-        rt,
-        "the last generation",
-        open(1, 2),
-        open(u64::MAX, 0),
-        whole,
-    )?;
+    let files = [
+        ("one open slot", open(1, 2), SHUT, whole),
+        ("the second is newer", open(1, 2), open(2, 3), whole),
+        ("the first is newer", open(2, 3), open(1, 2), whole),
+        ("no open slot", SHUT, SHUT, whole),
+        ("a body that fills its slot", open(1, 1048559), SHUT, whole),
+        ("an octet less", open(1, 2), SHUT, whole - 1),
+        ("an octet more", open(1, 2), SHUT, whole + 1),
+        ("generation 0", open(0, 2), SHUT, whole),
+        ("too long a body", SHUT, open(1, 1048560), whole),
+        ("equal generations", open(1, 2), open(1, 2), whole),
+        ("the last generation", open(1, 2), open(u64::MAX, 0), whole),
+    ];
+    for (name, first, second, size) in files {
+        row(rt, name, first, second, size)?;
+    }
+    sizes(rt)
+}
+
+/// A row for a save of no octet, of the most octets, and of one more.
+fn sizes(rt: &HostRuntime) -> Option<()> {
     for size in [0, 1048559, 1048560] {
         let answer = sized(rt.alloc(), size)?;
         println!(rt; "save of {size}: {answer}").ok()?;

@@ -14,17 +14,22 @@ pub fn rows(rt: &HostRuntime) -> Option<()> {
     let mut polls = poller(alloc)?;
     for line in BufReader::new(alloc, rt.reader()).ok()?.lines(alloc) {
         let line = line.ok()?;
-        if line.is_empty() || line.starts_with('#') {
-            continue;
+        if !line.is_empty() && !line.starts_with('#') {
+            row(rt, &mut polls, line.as_str())?;
         }
-        if line.as_str() == "new" {
-            polls = poller(alloc)?;
-            continue;
-        }
-        let answer = answer(alloc, &mut polls, line.as_str())?;
-        println!(rt; "{answer}").ok()?;
     }
     Some(())
+}
+
+/// Does what a line says. What is answered to it is printed.
+fn row(rt: &HostRuntime, polls: &mut Poller, line: &str) -> Option<()> {
+    let alloc = rt.alloc();
+    if line == "new" {
+        *polls = poller(alloc)?;
+        return Some(());
+    }
+    let answer = answer(alloc, polls, line)?;
+    println!(rt; "{answer}").ok()
 }
 
 fn answer(alloc: Global, polls: &mut Poller, line: &str) -> Option<String> {

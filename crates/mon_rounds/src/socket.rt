@@ -20,6 +20,9 @@ const ROOM: usize = 65_535;
 /// How often a wait that a signal ended goes on.
 const TRIES: u8 = 255;
 
+/// How much longer than what is left of a wait the socket may wait, in milliseconds: below that its timeout is not set anew.
+const SLACK: u64 = 1;
+
 /// A station's socket.
 #[derive(Drop)]
 pub struct Socket {
@@ -66,6 +69,7 @@ pub struct SocketReceiver<'a, R: Clock> {
     room: Vec<u8>,
     began: Instant,
     length: Duration,
+    timeout: Duration,
     failures: u64,
 }
 
@@ -82,6 +86,7 @@ impl<'a, R: Clock> SocketReceiver<'a, R> {
             room: zeros(alloc, ROOM)?,
             began: Instant::now(rt)?,
             length: Duration::from_millis(0),
+            timeout: Duration::from_millis(0),
             failures: 0,
         })
     }
@@ -108,6 +113,21 @@ impl<R: Clock> SocketReceiver<'_, R> {
         )
     }
 
+    /// Has the socket wait this long, or up to `SLACK` longer where its timeout says so already.
+    fn wait_for(&mut self, left: Duration) -> Result<(), ReceiverFault> {
+        match self.timeout.checked_sub(left) {
+            Some(more) if more <= Duration::from_millis(SLACK) => Ok(()),
+            _ => {
+                self.socket
+                    .udp
+                    .set_read_timeout(Some(left))
+                    .map_err(failed)?;
+                self.timeout = left;
+                Ok(())
+            }
+        }
+    }
+
     /// Hears something in the rest of the wait.
     fn hear(&mut self) -> Result<Arrival, ReceiverFault> {
         for _ in 0..TRIES {
@@ -115,10 +135,7 @@ impl<R: Clock> SocketReceiver<'_, R> {
             if left.is_zero() {
                 return Ok(Arrival::Quiet);
             }
-            self.socket
-                .udp
-                .set_read_timeout(Some(left))
-                .map_err(failed)?;
+            self.wait_for(left)?;
             match self.socket.udp.recv_from(self.room.as_mut_slice()) {
                 Ok((len, from)) => return self.arrival(len, from),
                 Err(error) => match error.kind() {

@@ -1,8 +1,9 @@
 //! What each line asks of the station.
 
+use crate::events::event;
 use crate::printing::{fault, report, told};
 use crate::running::run;
-use crate::setting::{core, target};
+use crate::setting::core;
 use mon_disk::{FuseDisk, MemoryDisk};
 use mon_station::{Event, Station};
 use std::alloc::Global;
@@ -87,21 +88,12 @@ fn stepped(
     rest: &str,
 ) -> Option<String> {
     match word {
-        "poll" => step(alloc, station, Event::StartPoll(rest.parse().ok()?)),
-        "timeout" => step(alloc, station, Event::Timeout(rest.parse().ok()?)),
-        "share" => step(alloc, station, Event::Share(rest.parse().ok()?)),
-        "save" => step(alloc, station, Event::Save),
-        "agent" => {
-            let octets = hex::decode(alloc, rest).ok()?;
-            step(alloc, station, Event::FromAgent(target(), &octets))
-        }
-        "peer" => {
-            let octets = hex::decode(alloc, rest).ok()?;
-            step(alloc, station, Event::FromPeer(&octets))
-        }
         "owed" => owed(alloc, station, rest.parse().ok()?),
         "report" => report(alloc, station.board()),
-        _ => None,
+        _ => {
+            let event = event(alloc, word, rest)?;
+            step(alloc, station, event.lend())
+        }
     }
 }
 

@@ -17,6 +17,7 @@
 #![tactic(auto)]
 
 mod asking;
+mod events;
 mod printing;
 mod running;
 mod setting;
@@ -33,21 +34,24 @@ fn main(rt: HostRuntime) -> ExitCode {
     }
 }
 
-/// Does what each line says.
+/// Does what each line says. Lines that are empty or begin with # are passed over.
 fn rows(rt: &HostRuntime, alloc: Global) -> Option<()> {
     let mut stage = Stage::new(alloc)?;
     for line in BufReader::new(alloc, rt.reader()).ok()?.lines(alloc) {
         let line = line.ok()?;
-        if line.is_empty() || line.starts_with('#') {
-            continue;
+        if !line.is_empty() && !line.starts_with('#') {
+            stage = after(rt, alloc, stage, line.as_str())?;
         }
-        if line.as_str() == "new" {
-            stage = Stage::new(alloc)?;
-            continue;
-        }
-        let (next, text) = stage.answered(alloc, line.as_str())?;
-        stage = next;
-        println!(rt; "{text}").ok()?;
     }
     Some(())
+}
+
+/// What is after a line. What is answered to it is printed.
+fn after(rt: &HostRuntime, alloc: Global, stage: Stage, line: &str) -> Option<Stage> {
+    if line == "new" {
+        return Stage::new(alloc);
+    }
+    let (next, text) = stage.answered(alloc, line)?;
+    println!(rt; "{text}").ok()?;
+    Some(next)
 }

@@ -34,50 +34,21 @@ pub fn sent(alloc: Global, text: &mut String, out: &Outgoing) -> Option<()> {
 /// The fault's number and name, and its cause's.
 pub fn fault(alloc: Global, fault: StationFault) -> Option<String> {
     let (number, name) = (fault.number(), fault.name());
+    match cause_of(fault) {
+        Some((cause, why)) => format!(in alloc; "refused {number} {name} {cause} {why}").ok(),
+        None => format!(in alloc; "refused {number} {name}").ok(),
+    }
+}
+
+/// The number and the name of the fault's cause, if it has one.
+fn cause_of(fault: StationFault) -> Option<(u8, &'static str)> {
     match fault {
-        StationFault::Poll(cause) => {
-            format!(in alloc;
-                "refused {number} {name} {} {}",
-                cause.number(),
-                cause.name()
-            )
-            .ok()
-        }
-        StationFault::Response(cause) => {
-            format!(in alloc;
-                "refused {number} {name} {} {}",
-                cause.number(),
-                cause.name()
-            )
-            .ok()
-        }
-        StationFault::Exchange(cause) => {
-            format!(in alloc;
-                "refused {number} {name} {} {}",
-                cause.number(),
-                cause.name()
-            )
-            .ok()
-        }
-        StationFault::Keeper(cause) => {
-            format!(in alloc;
-                "refused {number} {name} {} {}",
-                cause.number(),
-                cause.name()
-            )
-            .ok()
-        }
-        StationFault::Image(cause) => {
-            format!(in alloc;
-                "refused {number} {name} {} {}",
-                cause.number(),
-                cause.name()
-            )
-            .ok()
-        }
-        StationFault::OutOfMemory | StationFault::NoMoreIncarnations => {
-            format!(in alloc; "refused {number} {name}").ok()
-        }
+        StationFault::Poll(cause) => Some((cause.number(), cause.name())),
+        StationFault::Response(cause) => Some((cause.number(), cause.name())),
+        StationFault::Exchange(cause) => Some((cause.number(), cause.name())),
+        StationFault::Keeper(cause) => Some((cause.number(), cause.name())),
+        StationFault::Image(cause) => Some((cause.number(), cause.name())),
+        StationFault::OutOfMemory | StationFault::NoMoreIncarnations => None,
     }
 }
 

@@ -2,13 +2,12 @@
 
 ghost use Rattle.std.specs.Prelude.{◌≡◌, None, Ok, true};
 
+use crate::events::events_of;
 use crate::printing::{fault, sent};
-use crate::setting::target;
-use mon_ber::Octets;
 use mon_disk::{FuseDisk, MemoryDisk};
 use mon_edge::failed_after;
 use mon_station::{
-    Answer, Event, Outbox, OutboxFault, Outgoing, OwnedEvent, Run, Source, SourceFault, Station,
+    Answer, Outbox, OutboxFault, Outgoing, OwnedEvent, Run, Source, SourceFault, Station,
 };
 use std::alloc::Global;
 use std::collections::VecDeque;
@@ -94,58 +93,55 @@ impl Outbox for Noting {
     }
 }
 
-/// What the line asks: how many turns at most, which call of the source and which of the outbox fails (0: none), and the events.
+/// How many turns are taken at most, and which call of the source and which of the outbox fails; 0: none.
+#[derive(Clone, Copy)]
+struct Asked {
+    turns: u64,
+    source_call: u32,
+    outbox_call: u32,
+}
+
+/// The three numbers of a line.
+fn asked_of(numbers: &str) -> Option<Asked> {
+    let (turns, calls) = numbers.split_once(' ')?;
+    let (source_call, outbox_call) = calls.split_once(' ')?;
+    Some(Asked {
+        turns: turns.parse().ok()?,
+        source_call: source_call.parse().ok()?,
+        outbox_call: outbox_call.parse().ok()?,
+    })
+}
+
+/// What the line asks: its numbers, and the events.
 pub fn run(
     alloc: Global,
     station: &mut Station<FuseDisk<MemoryDisk>>,
     line: &str,
 ) -> Option<String> {
     let (numbers, events) = line.split_once(": ")?;
-    let mut numbers = numbers.split(' ');
-    let turns: u64 = numbers.next()?.parse().ok()?;
-    let source_call: u32 = numbers.next()?.parse().ok()?;
-    let outbox_call: u32 = numbers.next()?.parse().ok()?;
+    run_over(alloc, station, asked_of(numbers)?, events_of(alloc, events)?)
+}
+
+fn run_over(
+    alloc: Global,
+    station: &mut Station<FuseDisk<MemoryDisk>>,
+    asked: Asked,
+    events: VecDeque<OwnedEvent>,
+) -> Option<String> {
     let mut source = Listed {
-        events: events_of(alloc, events)?,
-        calls_to_the_failing_one: source_call,
+        events,
+        calls_to_the_failing_one: asked.source_call,
         failures: 0,
         ended: false,
     };
     let mut outbox = Noting {
         alloc,
         text: String::new(alloc),
-        calls_to_the_failing_one: outbox_call,
+        calls_to_the_failing_one: asked.outbox_call,
         failures: 0,
     };
-    let run = station.run(alloc, &mut source, &mut outbox, turns).ok()?;
+    let run = station.run(alloc, &mut source, &mut outbox, asked.turns).ok()?;
     shown(alloc, &run, &outbox.text)
-}
-
-/// The events between semicolons.
-fn events_of(alloc: Global, events: &str) -> Option<VecDeque<OwnedEvent>> {
-    let mut list = VecDeque::new(alloc);
-    for event in events.split("; ") {
-        list.push_back(owned(alloc, event)?).ok()?;
-    }
-    Some(list)
-}
-
-fn owned(alloc: Global, line: &str) -> Option<OwnedEvent> {
-    let (word, rest) = line.split_once(' ').unwrap_or((line, ""));
-    Some(match word {
-        "poll" => OwnedEvent::StartPoll(rest.parse().ok()?),
-        "timeout" => OwnedEvent::Timeout(rest.parse().ok()?),
-        "share" => OwnedEvent::Share(rest.parse().ok()?),
-        "save" => OwnedEvent::Save,
-        "agent" => OwnedEvent::FromAgent(target(), octets(alloc, rest)?),
-        "peer" => OwnedEvent::FromPeer(octets(alloc, rest)?),
-        _ => return None,
-    })
-}
-
-fn octets(alloc: Global, text: &str) -> Option<Octets> {
-    let octets = hex::decode(alloc, text).ok()?;
-    Octets::from_slice(alloc, &octets).ok()
 }
 
 /// The counts, the answers and what was sent.

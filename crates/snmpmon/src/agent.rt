@@ -9,7 +9,7 @@ use crate::settings::unset;
 use clap::ArgMatches;
 use mon_agent::Agent;
 use mon_app::{AppFault, SocketPort, room, serve_one};
-use mon_mib::{FuseDevice, Moment, SimDevice};
+use mon_mib::{Device, FuseDevice, Moment, SimDevice};
 use mon_settings::{AgentSettings, Kind, read_agent};
 use mon_smi::{Labels, Names};
 use std::alloc::Global;
@@ -19,7 +19,7 @@ use std::rt::{Clock, Files};
 /// The greatest moment of a device's life, in hundredths of a second.
 const MOMENTS: &str = "a moment up to 214748364799";
 
-/// Serves the agent of the settings, as many datagrams as `count` says. Where memory runs out for one of them that is told, and the agent stays as it was.
+/// Serves the agent of the settings, as many datagrams as `count` says.
 pub fn agent<R: Clock + Files + Net + Eprint + AllocGlobal>(
     rt: &R,
     words: &ArgMatches<'_>,
@@ -27,21 +27,40 @@ pub fn agent<R: Clock + Files + Net + Eprint + AllocGlobal>(
     let told = told_of(rt, words)?;
     let listen = SocketAddrV4::new(Ipv4Addr::from(told.listen.octets), told.listen.port);
     let device = SimDevice::new(told.interfaces, told.texts)?;
-    let mut agent = Agent::new(told.policy, told.settings, device);
+    let agent = Agent::new(told.policy, told.settings, device);
+    serve(rt, listen, agent, words.get_one::<u32>("count").unwrap_or(0))
+}
+
+/// Listens at an address, says so, and serves so many datagrams. Where memory runs out for one of them that is told, and the agent stays as it was.
+fn serve<R: Clock + Net + Eprint + AllocGlobal>(
+    rt: &R,
+    listen: SocketAddrV4,
+    agent: Agent<SimDevice>,
+    count: u32,
+) -> Result<(), Failure> {
+    let mut agent = agent;
     let mut room = room(rt.alloc())?;
-    let mut port = match SocketPort::open(rt, listen) {
-        Ok(port) => port,
-        Err(fault) => return Err(unheard(rt.alloc(), listen, fault)),
-    };
+    let mut port = opened(rt, listen)?;
     let at = port.address()?;
     let _ = eprintln!(rt; "snmpmon: agent at {at}");
-    for _ in 0..words.get_one::<u32>("count").unwrap_or(0) {
+    for _ in 0..count {
         match serve_one(rt.alloc(), &mut port, &mut agent, room.as_mut_slice()) {
             Err(AppFault::OutOfMemory) => Failure::from(AppFault::OutOfMemory).tell(rt),
             served => served?,
         }
     }
     Ok(())
+}
+
+/// The port at an address.
+fn opened<R: Clock + Net + AllocGlobal>(
+    rt: &R,
+    listen: SocketAddrV4,
+) -> Result<SocketPort<'_, R>, Failure> {
+    match SocketPort::open(rt, listen) {
+        Ok(port) => Ok(port),
+        Err(fault) => Err(unheard(rt.alloc(), listen, fault)),
+    }
 }
 
 /// Why an agent does not listen at its address.
@@ -74,19 +93,45 @@ pub fn answer<R: Files + Input + Print + AllocGlobal>(
     rt: &R,
     words: &ArgMatches<'_>,
 ) -> Result<(), Failure> {
+    let mut agent = fused_agent(rt, words)?;
+    let at = at_of(rt.alloc(), words)?;
+    let names = names_of(rt, words)?;
+    let text = read_input_text(rt)?;
+    let lines = told_answers(rt.alloc(), words, &mut agent, at, &names, &text)?;
+    print(rt, lines.as_bytes())
+}
+
+/// The agent of the settings over a device that fails the changes of the words' fuses.
+fn fused_agent<R: Files + AllocGlobal>(
+    rt: &R,
+    words: &ArgMatches<'_>,
+) -> Result<Agent<FuseDevice<SimDevice>>, Failure> {
     let told = told_of(rt, words)?;
     let simulated = SimDevice::new(told.interfaces, told.texts)?;
     let device = FuseDevice::new(simulated, words.get_one::<u64>("fuses").unwrap_or(0));
-    let mut agent = Agent::new(told.policy, told.settings, device);
-    let Some(at) = Moment::new(words.get_one::<u64>("at").unwrap_or(0)) else {
-        return Err(Failure::text(rt.alloc(), "--at", MOMENTS));
-    };
+    Ok(Agent::new(told.policy, told.settings, device))
+}
+
+/// Where the words have the clock stand.
+fn at_of(alloc: Global, words: &ArgMatches<'_>) -> Result<Moment, Failure> {
+    match Moment::new(words.get_one::<u64>("at").unwrap_or(0)) {
+        Some(at) => Ok(at),
+        None => Err(Failure::text(alloc, "--at", MOMENTS)),
+    }
+}
+
+/// What an agent answers to the datagrams of a text, as the words want it told.
+fn told_answers<D: Device + Drop>(
+    alloc: Global,
+    words: &ArgMatches<'_>,
+    agent: &mut Agent<D>,
+    at: Moment,
+    names: &Names,
+    text: &str,
+) -> Result<String, Failure> {
     let times = words.get_one::<u32>("times").unwrap_or(1);
-    let names = names_of(rt, words)?;
-    let text = read_input_text(rt)?;
-    let labels = labels_of(rt.alloc(), words, &names)?;
-    let lines = answers(rt.alloc(), &mut agent, &text, at, times, labels.as_ref())?;
-    print(rt, lines.as_bytes())
+    let labels = labels_of(alloc, words, names)?;
+    answers(alloc, agent, text, at, times, labels.as_ref())
 }
 
 /// The names by which replies are printed, where the words want that.

@@ -37,16 +37,28 @@ use std::time::{Duration, Instant};
 #[derive(Drop)]
 struct Running<S: Receiver + Drop, O: Outbox + Drop> {
     station: Station<FileDisk>,
+    lines: Lines<S, O>,
+    alarms: Vec<AlarmState>,
+    reports: Reports,
+    taken: u64,
+    given_up: u64,
+}
+
+/// What a station hears and sends by, and what it tells of its targets and peers by.
+#[derive(Drop)]
+struct Lines<S: Receiver + Drop, O: Outbox + Drop> {
     rounds: Rounds<S>,
     outbox: O,
     addresses: Addresses,
     log: PollLog,
-    alarms: Vec<AlarmState>,
     peers: Vec<u32>,
+}
+
+/// How a station's reports are printed, and the file that each round's report is written to.
+#[derive(Drop)]
+struct Reports {
     printing: Printing,
     out: Option<String>,
-    taken: u64,
-    given_up: u64,
 }
 
 /// How often and when rounds are run, by the words.
@@ -66,18 +78,50 @@ pub fn station<R: Clock + Files<File = File> + Net + Print + Eprint + AllocGloba
     words: &ArgMatches<'_>,
 ) -> Result<(), Failure> {
     let (settings, printing) = settings_of(rt, words)?;
+    let out = out_of(rt.alloc(), words)?;
     let (disk, socket) = opened(rt, &settings)?;
     let listen = settings.listen;
     let at = used(rt.alloc(), listen, socket.address())?;
-    let receiver = used(
-        rt.alloc(),
-        listen,
-        SocketReceiver::new(rt, rt.alloc(), &socket),
-    )?;
-    let outbox = SocketOutbox::new(&socket, Addresses::of(rt.alloc(), &settings)?);
-    let mut running = begun(rt, settings, at, disk, receiver, outbox, printing)?;
-    running.out = out_of(rt.alloc(), words)?;
+    let lines = lines_of(rt, &settings, &socket)?;
+    let running = begun(rt, settings, at, disk, lines, Reports { printing, out })?;
     run_rounds(rt, running, timing_of(words))
+}
+
+/// What the station of the settings hears and sends by, over this socket.
+fn lines_of<'a, R: Clock + AllocGlobal>(
+    rt: &'a R,
+    settings: &StationSettings,
+    socket: &'a Socket,
+) -> Result<Lines<SocketReceiver<'a, R>, SocketOutbox<'a>>, Failure> {
+    let alloc = rt.alloc();
+    let receiver = used(alloc, settings.listen, SocketReceiver::new(rt, alloc, socket))?;
+    let outbox = SocketOutbox::new(socket, Addresses::of(alloc, settings)?);
+    Ok(lines_by(alloc, settings, receiver, outbox)?)
+}
+
+/// What the station of the settings hears and sends by.
+fn lines_by<S: Receiver + Drop, O: Outbox + Drop>(
+    alloc: Global,
+    settings: &StationSettings,
+    receiver: S,
+    outbox: O,
+) -> Result<Lines<S, O>, AllocError> {
+    let addresses = Addresses::of(alloc, settings)?;
+    let rounds = Rounds::new(
+        alloc,
+        Addresses::of(alloc, settings)?,
+        settings.wait_ms,
+        receiver,
+    )?;
+    let log = PollLog::new(alloc, settings.core.targets())?;
+    let peers = Vec::from_slice(alloc, settings.core.peers())?;
+    Ok(Lines {
+        rounds,
+        outbox,
+        addresses,
+        log,
+        peers,
+    })
 }
 
 /// Runs a station through its rounds, and prints its report.
@@ -107,8 +151,8 @@ fn one_round<R: Eprint + AllocGlobal, S: Receiver + Drop, O: Outbox + Drop>(
     let ran = run_round(
         rt.alloc(),
         &mut running.station,
-        &mut running.rounds,
-        &mut running.outbox,
+        &mut running.lines.rounds,
+        &mut running.lines.outbox,
     );
     after(rt, running, number, ran);
 }
@@ -243,23 +287,13 @@ fn begun<R: Eprint + AllocGlobal, S: Receiver + Drop, O: Outbox + Drop>(
     settings: StationSettings,
     at: SocketAddr,
     disk: FileDisk,
-    receiver: S,
-    outbox: O,
-    printing: Printing,
+    lines: Lines<S, O>,
+    reports: Reports,
 ) -> Result<Running<S, O>, Failure> {
     let alloc = rt.alloc();
-    let addresses = Addresses::of(alloc, &settings)?;
-    let rounds = Rounds::new(
-        alloc,
-        Addresses::of(alloc, &settings)?,
-        settings.wait_ms,
-        receiver,
-    )?;
-    let log = PollLog::new(alloc, settings.core.targets())?;
-    let peer_numbers = Vec::from_slice(alloc, settings.core.peers())?;
-    let (number, file) = (settings.core.station(), settings.file);
-    let (targets, peers) = (settings.core.targets().len(), settings.core.peers().len());
-    let station = match Station::open(alloc, settings.core, disk) {
+    let StationSettings { core, file, .. } = settings;
+    let (number, targets, peers) = (core.station(), core.targets().len(), core.peers().len());
+    let station = match Station::open(alloc, core, disk) {
         Ok(station) => station,
         Err((fault, _)) => return Err(unkept(alloc, &file, fault)),
     };
@@ -270,14 +304,9 @@ fn begun<R: Eprint + AllocGlobal, S: Receiver + Drop, O: Outbox + Drop>(
     );
     Ok(Running {
         station,
-        rounds,
-        outbox,
-        addresses,
-        log,
+        lines,
         alarms,
-        peers: peer_numbers,
-        printing,
-        out: None,
+        reports,
         taken: 0,
         given_up: 0,
     })
@@ -307,10 +336,10 @@ fn told_of<R: Eprint + AllocGlobal, S: Receiver + Drop, O: Outbox + Drop>(
 ) -> Result<(), Failure> {
     let alloc = rt.alloc();
     let oldest = running.station.oldest();
-    let report = RoundReport::of(alloc, running.rounds.round(), run, oldest, &mut running.log)?;
+    let report = RoundReport::of(alloc, running.lines.rounds.round(), run, oldest, &mut running.lines.log)?;
     running.taken = running.taken.saturating_add(report.taken);
     running.given_up = running.given_up.saturating_add(report.given_up);
-    tell_notices(rt, number, &running.addresses, &report);
+    tell_notices(rt, number, &running.lines.addresses, &report);
     let alarms = alarm_states(alloc, running.station.board())?;
     let watch = running.station.board().watch();
     tell_alarms(rt, watch, running.alarms.as_slice(), alarms.as_slice())?;
@@ -334,8 +363,8 @@ fn pause<R: Clock + Eprint + AllocGlobal, S: Receiver + Drop, O: Outbox + Drop>(
         let ran = rest(
             rt.alloc(),
             &mut running.station,
-            &mut running.rounds,
-            &mut running.outbox,
+            &mut running.lines.rounds,
+            &mut running.lines.outbox,
             left,
         );
         after(rt, running, number, ran);
@@ -385,11 +414,11 @@ fn print_report<R: Print + AllocGlobal, S: Receiver + Drop, O: Outbox + Drop>(
     running: &Running<S, O>,
 ) -> Result<(), Failure> {
     let board = running.station.board();
-    if running.printing.is_plain() {
+    if running.reports.printing.is_plain() {
         return print_lines(rt, board);
     }
     let figures = figures_of(rt.alloc(), running)?;
-    let text = running.printing.report(rt.alloc(), board, Some(&figures))?;
+    let text = running.reports.printing.report(rt.alloc(), board, Some(&figures))?;
     print(rt, text.as_slice())
 }
 
@@ -414,7 +443,7 @@ fn write_out<R: Files<File = File> + Eprint + AllocGlobal, S: Receiver + Drop, O
     rt: &R,
     running: &Running<S, O>,
 ) {
-    let Some(path) = &running.out else {
+    let Some(path) = &running.reports.out else {
         return;
     };
     if let Err(failure) = written_out(rt, running, path) {
@@ -429,7 +458,7 @@ fn written_out<R: Files<File = File> + AllocGlobal, S: Receiver + Drop, O: Outbo
 ) -> Result<(), Failure> {
     let figures = figures_of(rt.alloc(), running)?;
     let board = running.station.board();
-    running.printing.write(rt, path, board, Some(&figures))
+    running.reports.printing.write(rt, path, board, Some(&figures))
 }
 
 /// What a station says of itself.
@@ -439,7 +468,7 @@ fn figures_of<S: Receiver + Drop, O: Outbox + Drop>(
 ) -> Result<Figures, AllocError> {
     let station = &running.station;
     let mut debts = Vec::new(alloc);
-    for peer in running.peers.as_slice() {
+    for peer in running.lines.peers.as_slice() {
         debts.push((*peer, station.owed(*peer)))?;
     }
     Ok(Figures {

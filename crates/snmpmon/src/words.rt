@@ -150,6 +150,20 @@ fn needed<'a>(alloc: Global, id: &'a str, help: &'a str) -> Arg<'a> {
     Arg::new(alloc, id).required(true).help(help)
 }
 
+/// A command to an agent at an address, under a community.
+fn addressed<'a>(
+    alloc: Global,
+    name: &'a str,
+    about: &'a str,
+    more: &'a str,
+) -> Result<Command<'a>, AllocError> {
+    Command::new(alloc, name)
+        .about(about)
+        .long_about(more)
+        .arg(needed(alloc, "ADDRESS", ADDRESS))?
+        .arg(needed(alloc, "COMMUNITY", COMMUNITY))
+}
+
 /// A command that asks an agent about names.
 fn client<'a>(
     alloc: Global,
@@ -158,12 +172,7 @@ fn client<'a>(
     more: &'a str,
 ) -> Result<Command<'a>, AllocError> {
     let names = needed(alloc, "NAME", NAME).num_args(ValueRange::new(1..));
-    Command::new(alloc, name)
-        .about(about)
-        .long_about(more)
-        .arg(needed(alloc, "ADDRESS", ADDRESS))?
-        .arg(needed(alloc, "COMMUNITY", COMMUNITY))?
-        .arg(names)
+    addressed(alloc, name, about, more)?.arg(names)
 }
 
 /// A command that asks an agent about names, which `-m` gives modules for.
@@ -227,12 +236,7 @@ Examples: snmpmon walk 127.0.0.1:16100 public mib-2.2
           snmpmon walk -m examples/served.mib --names 127.0.0.1:16100 public ifTable";
 
 fn walk<'a>(alloc: Global) -> Result<Command<'a>, AllocError> {
-    let walk = Command::new(alloc, "walk")
-        .about(WALK)
-        .long_about(WALK_MORE)
-        .arg(needed(alloc, "ADDRESS", ADDRESS))?
-        .arg(needed(alloc, "COMMUNITY", COMMUNITY))?
-        .arg(needed(alloc, "NAME", NAME))?;
+    let walk = addressed(alloc, "walk", WALK, WALK_MORE)?.arg(needed(alloc, "NAME", NAME))?;
     named(alloc, walk, module(alloc).short('m'))
 }
 
@@ -262,11 +266,7 @@ const VALUE: &str = "The value, a text that KIND can read";
 
 fn set<'a>(alloc: Global) -> Result<Command<'a>, AllocError> {
     let kind = needed(alloc, "KIND", "How VALUE is read").value_parser(KINDS.as_slice());
-    let set = Command::new(alloc, "set")
-        .about(SET)
-        .long_about(SET_MORE)
-        .arg(needed(alloc, "ADDRESS", ADDRESS))?
-        .arg(needed(alloc, "COMMUNITY", COMMUNITY))?
+    let set = addressed(alloc, "set", SET, SET_MORE)?
         .arg(needed(alloc, "NAME", NAME))?
         .arg(kind)?
         .arg(needed(alloc, "VALUE", VALUE))?;
@@ -338,33 +338,45 @@ fn given<'a>(alloc: Global, id: &'a str, help: &'a str) -> Arg<'a> {
     Arg::new(alloc, id).long(id).help(help)
 }
 
-fn answer<'a>(alloc: Global) -> Result<Command<'a>, AllocError> {
-    let at = given(
+/// Where the clock of `answer` stands.
+fn at<'a>(alloc: Global) -> Arg<'a> {
+    given(
         alloc,
         "at",
         "Where the clock stands, in hundredths of a second after the start, 0 to 214748364799; 0 if not given",
     )
-    .value_parser(value_parser!(u64).range(0..=214_748_364_799));
-    let fuses = given(
+    .value_parser(value_parser!(u64).range(0..=214_748_364_799))
+}
+
+/// Which changes the device of `answer` fails.
+fn fuses<'a>(alloc: Global) -> Arg<'a> {
+    given(
         alloc,
         "fuses",
         "The device fails its change number k, from 0, where bit k of this number is 1; 0 if not given",
     )
-    .value_parser(value_parser!(u64));
-    let times = given(
+    .value_parser(value_parser!(u64))
+}
+
+/// How often each datagram of `answer` comes.
+fn times<'a>(alloc: Global) -> Arg<'a> {
+    given(
         alloc,
         "times",
         "How many times each datagram comes, 1 to 4294967295; its last reply is printed; 1 if not given",
     )
-    .value_parser(value_parser!(u32).range(1..));
+    .value_parser(value_parser!(u32).range(1..))
+}
+
+fn answer<'a>(alloc: Global) -> Result<Command<'a>, AllocError> {
     let answer = Command::new(alloc, "answer")
         .about(ANSWER)
         .long_about(ANSWER_MORE)
         .arg(needed(alloc, "SETTINGS", SETTINGS))?
         .arg(boots(alloc))?
-        .arg(at)?
-        .arg(fuses)?
-        .arg(times)?;
+        .arg(at(alloc))?
+        .arg(fuses(alloc))?
+        .arg(times(alloc))?;
     named(alloc, answer, module(alloc).short('m'))
 }
 
@@ -404,36 +416,52 @@ Examples: snmpmon station examples/station.toml --rounds 6 --interval 10
 
 const STATION_SETTINGS: &str = "The settings of the station, a TOML file";
 
-fn station<'a>(alloc: Global) -> Result<Command<'a>, AllocError> {
-    let rounds = needed(alloc, "rounds", "How many rounds are run, 1 to 1000000")
+/// How many rounds a station runs.
+fn rounds<'a>(alloc: Global) -> Arg<'a> {
+    needed(alloc, "rounds", "How many rounds are run, 1 to 1000000")
         .long("rounds")
-        .value_parser(value_parser!(u32).range(1..=1_000_000));
-    let interval = given(
+        .value_parser(value_parser!(u32).range(1..=1_000_000))
+}
+
+/// How often a station's rounds begin.
+fn interval<'a>(alloc: Global) -> Arg<'a> {
+    given(
         alloc,
         "interval",
         "A round begins every so many seconds, 1 to 86400; at once after the last one if not given",
     )
-    .value_parser(value_parser!(u32).range(1..=86_400));
-    let report_every = given(
+    .value_parser(value_parser!(u32).range(1..=86_400))
+}
+
+/// How often a station prints its report between its rounds.
+fn report_every<'a>(alloc: Global) -> Arg<'a> {
+    given(
         alloc,
         "report-every",
         "The report is printed after every so many rounds too, 1 to 1000000",
     )
-    .value_parser(value_parser!(u32).range(1..=1_000_000));
-    let out = given(
+    .value_parser(value_parser!(u32).range(1..=1_000_000))
+}
+
+/// The file that a station writes each round's report to.
+fn out<'a>(alloc: Global) -> Arg<'a> {
+    given(
         alloc,
         "out",
         "Each round's report is written to FILE too, which is replaced whole",
     )
-    .value_name("FILE");
+    .value_name("FILE")
+}
+
+fn station<'a>(alloc: Global) -> Result<Command<'a>, AllocError> {
     let station = Command::new(alloc, "station")
         .about(STATION)
         .long_about(STATION_MORE)
         .arg(needed(alloc, "SETTINGS", STATION_SETTINGS))?
-        .arg(rounds)?
-        .arg(interval)?
-        .arg(report_every)?
-        .arg(out)?;
+        .arg(rounds(alloc))?
+        .arg(interval(alloc))?
+        .arg(report_every(alloc))?
+        .arg(out(alloc))?;
     printed(alloc, station)
 }
 
@@ -505,27 +533,45 @@ fn rehearse<'a>(alloc: Global) -> Result<Command<'a>, AllocError> {
         .arg(count)
 }
 
+/// Adds the commands that ask agents.
+fn with_clients<'a>(alloc: Global, command: Command<'a>) -> Result<Command<'a>, AllocError> {
+    command
+        .subcommand(asking(alloc, "get", GET, GET_MORE)?)?
+        .subcommand(asking(alloc, "next", NEXT, NEXT_MORE)?)?
+        .subcommand(bulk(alloc)?)?
+        .subcommand(walk(alloc)?)?
+        .subcommand(set(alloc)?)
+}
+
+/// Adds the commands of an agent and of modules.
+fn with_agents<'a>(alloc: Global, command: Command<'a>) -> Result<Command<'a>, AllocError> {
+    command
+        .subcommand(agent(alloc)?)?
+        .subcommand(answer(alloc)?)?
+        .subcommand(mib(alloc)?)
+}
+
+/// Adds the commands of stations.
+fn with_stations<'a>(alloc: Global, command: Command<'a>) -> Result<Command<'a>, AllocError> {
+    command
+        .subcommand(station(alloc)?)?
+        .subcommand(report(alloc)?)?
+        .subcommand(selftest(alloc))?
+        .subcommand(rehearse(alloc)?)
+}
+
 /// The whole command line. With no words it names no command, which the caller takes for `replay 8`.
 pub fn command<'a>(alloc: Global) -> Result<Command<'a>, AllocError> {
     let version = Arg::new(alloc, "version")
         .long("version")
         .action(ArgAction::SetTrue)
         .help("Prints the version");
-    Command::new(alloc, "snmpmon")
+    let command = Command::new(alloc, "snmpmon")
         .about(ABOUT)
         .after_help(MORE)
         .arg(version)?
-        .subcommand(replay(alloc)?)?
-        .subcommand(asking(alloc, "get", GET, GET_MORE)?)?
-        .subcommand(asking(alloc, "next", NEXT, NEXT_MORE)?)?
-        .subcommand(bulk(alloc)?)?
-        .subcommand(walk(alloc)?)?
-        .subcommand(set(alloc)?)?
-        .subcommand(agent(alloc)?)?
-        .subcommand(answer(alloc)?)?
-        .subcommand(mib(alloc)?)?
-        .subcommand(station(alloc)?)?
-        .subcommand(report(alloc)?)?
-        .subcommand(selftest(alloc))?
-        .subcommand(rehearse(alloc)?)
+        .subcommand(replay(alloc)?)?;
+    let command = with_clients(alloc, command)?;
+    let command = with_agents(alloc, command)?;
+    with_stations(alloc, command)
 }

@@ -86,4 +86,9 @@ BUGS = {
         "Err(fault) => put_refused(line, fault),",
         'Err(_) => line.push_str("ok"),',
     ),
+    "makes_no_step": (
+        "src/rehearsing.rt",
+        "make_steps(alloc, &mut world, steps.as_slice(), &mut text)?;",
+        "make_steps(alloc, &mut world, &steps.as_slice()[..0], &mut text)?;",
+    ),
 }

@@ -8,10 +8,8 @@ BUGS = {
     ),
     "kind_by_the_mark": (
         "src/sample.rt",
-        "        self.kind.number(self.value)",
-        "        (self.kind).number(self.value)",
-        "        self.kind",
-        "        if self.mark == 7 { Kind::Gauge32 } else { self.kind }",
+        "        self.kind\n",
+        "        if self.mark == 7 { Kind::Gauge32 } else { self.kind }\n",
     ),
     "mark_is_the_time": (
         "src/sample.rt",

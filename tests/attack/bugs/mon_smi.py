@@ -306,4 +306,9 @@ BUGS = {
         "        None => 2 <= numbers.len(),",
         "        None => 1 <= numbers.len(),",
     ),
+    "stops_at_first_parent": (
+        "src/chain.rt",
+        "            Some(parent) => name = parent.as_str(),",
+        "            Some(_) => return Ok(chain),",
+    ),
 }

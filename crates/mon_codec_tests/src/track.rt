@@ -1,15 +1,9 @@
-//! Inserts samples into one track of 64, in rising, falling or mixed order, so that bench/track can time it.
-//!
-//! usage: mon_track_bench ORDER SHARE TIMES: ORDER is `rising`, `falling` or `mixed`, SHARE is 1 to 64. Prints how many
-//! samples were added, known and too old, the sum of the places of those added, and the totals.
-#![tactic(auto)]
+//! Samples inserted into one track of 64, in rising, falling or mixed order, for bench/track.
 
 use mon_rates::Track;
 use mon_sample::{Kind, Sample};
 use mon_window::Inserted;
-use std::env;
-use std::process::ExitCode;
-use std::rt::Env;
+use std::alloc::Global;
 
 /// How many samples the track holds.
 const SIZE: usize = 64;
@@ -42,19 +36,14 @@ struct Tally {
     places: u64,
 }
 
-fn main(rt: HostRuntime) -> ExitCode {
-    match run(&rt) {
-        Some(()) => ExitCode::SUCCESS,
-        None => ExitCode::FAILURE,
-    }
-}
-
-fn run<R: Env + Print + AllocGlobal>(rt: &R) -> Option<()> {
-    let asked = words_of(rt)?;
+/// Inserts samples as the words ORDER SHARE TIMES say: ORDER is `rising`, `falling` or `mixed`, SHARE is 1 to 64. Prints how many
+/// samples were added, known and too old, the sum of the places of those added, and the totals.
+pub fn times<R: Print>(rt: &R, alloc: Global, words: &[String]) -> Option<()> {
+    let asked = words_of(words)?;
     if asked.share < 1 || asked.share > SIZE {
         return None;
     }
-    let mut track = Track::new(rt.alloc(), SIZE, asked.share).ok()?;
+    let mut track = Track::new(alloc, SIZE, asked.share).ok()?;
     let tally = inserted(&mut track, asked);
     let totals = track.totals();
     println!(rt;
@@ -70,11 +59,10 @@ fn run<R: Env + Print + AllocGlobal>(rt: &R) -> Option<()> {
 }
 
 /// The three words.
-fn words_of<R: Env + AllocGlobal>(rt: &R) -> Option<Asked> {
-    let words: Vec<String> = env::args(rt).ok()?.collect(rt.alloc()).ok()?;
-    let order = order_of(words.get(1)?.as_str())?;
-    let share = words.get(2)?.as_str().parse().ok()?;
-    let times = words.get(3)?.as_str().parse().ok()?;
+fn words_of(words: &[String]) -> Option<Asked> {
+    let order = order_of(words.first()?.as_str())?;
+    let share = words.get(1)?.as_str().parse().ok()?;
+    let times = words.get(2)?.as_str().parse().ok()?;
     Some(Asked {
         order,
         share,

@@ -1,0 +1,39 @@
+//! The events that lines name.
+
+use crate::setting::target;
+use mon_ber::Octets;
+use mon_station::OwnedEvent;
+use std::alloc::Global;
+use std::collections::VecDeque;
+
+/// The events between semicolons.
+pub fn events_of(alloc: Global, events: &str) -> Option<VecDeque<OwnedEvent>> {
+    let mut list = VecDeque::new(alloc);
+    for event in events.split("; ") {
+        list.push_back(owned(alloc, event)?).ok()?;
+    }
+    Some(list)
+}
+
+fn owned(alloc: Global, line: &str) -> Option<OwnedEvent> {
+    let (word, rest) = line.split_once(' ').unwrap_or((line, ""));
+    event(alloc, word, rest)
+}
+
+/// The event that a word and the rest of its line mean.
+pub fn event(alloc: Global, word: &str, rest: &str) -> Option<OwnedEvent> {
+    Some(match word {
+        "poll" => OwnedEvent::StartPoll(rest.parse().ok()?),
+        "timeout" => OwnedEvent::Timeout(rest.parse().ok()?),
+        "share" => OwnedEvent::Share(rest.parse().ok()?),
+        "save" => OwnedEvent::Save,
+        "agent" => OwnedEvent::FromAgent(target(), octets(alloc, rest)?),
+        "peer" => OwnedEvent::FromPeer(octets(alloc, rest)?),
+        _ => return None,
+    })
+}
+
+fn octets(alloc: Global, text: &str) -> Option<Octets> {
+    let octets = hex::decode(alloc, text).ok()?;
+    Octets::from_slice(alloc, &octets).ok()
+}
