@@ -13,11 +13,7 @@ pub mod event;
 #[cfg(test)]
 mod mib;
 #[cfg(test)]
-mod settings;
-#[cfg(test)]
 mod small_agent;
-#[cfg(test)]
-mod vacm;
 #[cfg(test)]
 mod values;
 #[cfg(test)]

@@ -74,11 +74,6 @@ pub(crate) fn octets(alloc: Global, bytes: &[u8]) -> Result<Octets, AllocError> 
     Octets::from_slice(alloc, bytes)
 }
 
-/// The settings with another text in the place of the first that is spelled so.
-pub(crate) fn changed(alloc: Global, old: &str, new: &str) -> Result<String, AllocError> {
-    TEXT.replacen(alloc, old, new, 1)
-}
-
 /// The question under request-id 7.
 pub(crate) fn question<'a>(
     asking: Asking<'a>,
