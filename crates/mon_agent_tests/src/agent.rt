@@ -39,16 +39,27 @@ fn answer_again(
     Ok((answer(alloc, agent, datagram, moment(0)?)?, same))
 }
 
-/// Whether an agent had counted nothing where memory was wanting; what it sent, in hex digits, how many messages it has counted, and the
-/// name that it has then.
+/// Whether an agent had counted nothing where memory was wanting, and what it sent, in hex digits.
+fn replied(alloc: Global, agent: &mut Agent<SimDevice>, set: &str) -> Result<String, Fail> {
+    let set = hex::decode(alloc, set)?;
+    let (reply, same) = answer_again(alloc, agent, set.as_slice())?;
+    let octets = hex::encode(alloc, sent(&reply))?;
+    Ok(format!(in alloc; "{same} {octets}")?)
+}
+
+/// How many messages an agent has counted, and the name that it has, in hex digits.
+fn counted(alloc: Global, agent: &Agent<SimDevice>) -> Result<String, Fail> {
+    let messages = agent.counters().value(Counter::InPackets);
+    let name = hex::encode(alloc, agent.device().sys_text(SysText::SystemName))?;
+    Ok(format!(in alloc; "{messages} {name}")?)
+}
+
+/// What the agent of the settings replies to a Set, and what it has counted and is named then.
 fn assigned(alloc: Global, set: &str) -> Result<String, Fail> {
     let mut agent = agent(alloc, TEXT)?;
-    let set = hex::decode(alloc, set)?;
-    let (answered, same) = answer_again(alloc, &mut agent, set.as_slice())?;
-    let reply = hex::encode(alloc, sent(&answered))?;
-    let counted = agent.counters().value(Counter::InPackets);
-    let name = hex::encode(alloc, agent.device().sys_text(SysText::SystemName))?;
-    Ok(format!(in alloc; "{same} {reply} {counted} {name}")?)
+    let replied = replied(alloc, &mut agent, set)?;
+    let counted = counted(alloc, &agent)?;
+    Ok(format!(in alloc; "{replied} {counted}")?)
 }
 
 /// sysName.0 as `x`.

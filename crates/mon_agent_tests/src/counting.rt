@@ -5,6 +5,7 @@ use mon_mib::{
     Change, Device, DeviceFault, Facts, Growth, IfText, Interface, Mib, Moment, Settings,
     SimDevice, Status, SysText, SysTexts,
 };
+use mon_oid::Oid;
 use mon_settings::AgentSettings;
 use mon_vacm::{Need, Policy};
 use std::alloc::{AllocError, Global};
@@ -90,35 +91,49 @@ fn device(alloc: Global, texts: SysTexts, many: u32) -> Result<CountingDevice<Si
     })
 }
 
-/// The name after another one that `public` may read, and how often the device was asked for it.
-fn next_and_calls(
-    alloc: Global,
-    policy: &Policy,
-    mib: &Mib<CountingDevice<SimDevice>>,
-    name: &str,
-) -> Result<(String, u64), Fail> {
-    let access = policy
-        .access(b"public", Need::Read)
-        .ok()
-        .ok_or("no access")?;
-    let name = oid(alloc, name)?;
-    let before = mib.device().calls.get();
-    let found = mib.next(alloc, policy, access, &name, moment(0)?)?;
-    let text = found.ok_or("nothing after it")?.name.text(alloc)?;
-    Ok((text, mib.device().calls.get().saturating_sub(before)))
-}
-
-#[test]
-fn asks_the_device_a_hundred_times_at_most(rt: HostRuntime) -> Result<(), Fail> {
-    let alloc = rt.alloc();
+/// The settings of the small agent over a device of this many interfaces, and who may read what of it.
+fn large(alloc: Global, many: u32) -> Result<(Policy, Mib<CountingDevice<SimDevice>>), Fail> {
     let AgentSettings {
         settings,
         texts,
         policy,
         ..
     } = settings(alloc, TEXT)?;
-    let mib = Mib::new(settings, device(alloc, texts, 10_000)?);
-    let (next, calls) = next_and_calls(alloc, &policy, &mib, "1.3.6.1.2.1.2.2.1.2.5000")?;
+    let device = device(alloc, texts, many)?;
+    Ok((policy, Mib::new(settings, device)))
+}
+
+/// The name after another one that `public` may read.
+fn next(
+    alloc: Global,
+    policy: &Policy,
+    mib: &Mib<CountingDevice<SimDevice>>,
+    name: &Oid,
+) -> Result<String, Fail> {
+    let access = policy
+        .access(b"public", Need::Read)
+        .ok()
+        .ok_or("no access")?;
+    let found = mib.next(alloc, policy, access, name, moment(0)?)?;
+    Ok(found.ok_or("nothing after it")?.name.text(alloc)?)
+}
+
+/// The name after another one, and how often the device was asked for it.
+fn next_and_calls(
+    alloc: Global,
+    policy: &Policy,
+    mib: &Mib<CountingDevice<SimDevice>>,
+    name: &str,
+) -> Result<(String, u64), Fail> {
+    let before = mib.device().calls.get();
+    let next = next(alloc, policy, mib, &oid(alloc, name)?)?;
+    Ok((next, mib.device().calls.get().saturating_sub(before)))
+}
+
+#[test]
+fn asks_the_device_a_hundred_times_at_most(rt: HostRuntime) -> Result<(), Fail> {
+    let (policy, mib) = large(rt.alloc(), 10_000)?;
+    let (next, calls) = next_and_calls(rt.alloc(), &policy, &mib, "1.3.6.1.2.1.2.2.1.2.5000")?;
     assert_eq!(rt; next.as_str(), "1.3.6.1.2.1.2.2.1.2.5001");
     assert!(rt; 1 <= calls && calls <= 100, "{calls} calls");
     Ok(())

@@ -25,26 +25,30 @@ fn simulated(alloc: Global) -> Result<SimDevice, Fail> {
     Ok(device(interfaces, texts)?)
 }
 
-/// What the change of an interface that the device lacks comes to, and a change with the one that undoes it.
-fn applied(alloc: Global) -> Result<String, Fail> {
-    let mut device = simulated(alloc)?;
-    let alias = Change::Alias(9, octets(alloc, b"x")?);
-    let refused = device.apply(alias).err();
+/// What the change of an interface that the device lacks comes to, and how often it has failed then.
+fn refused(alloc: Global, device: &mut SimDevice) -> Result<String, Fail> {
+    let refused = device.apply(Change::Alias(9, octets(alloc, b"x")?)).err();
     let failures = device.failures();
-    let down = Change::Admin {
+    Ok(format!(in alloc; "{refused:?} {failures}")?)
+}
+
+/// The change that undoes another one.
+fn undone(alloc: Global, device: &mut SimDevice) -> Result<String, Fail> {
+    let undo = device.apply(Change::Admin {
         index: 1,
         status: AdminStatus::Down,
         since: 7,
-    };
-    let undo = device.apply(down)?;
-    Ok(format!(in alloc; "{refused:?} {failures} {undo:?}")?)
+    })?;
+    Ok(format!(in alloc; "{undo:?}")?)
 }
 
 #[test]
 fn applies(rt: HostRuntime) -> Result<(), Fail> {
+    let mut device = simulated(rt.alloc())?;
+    assert_eq!(rt; refused(rt.alloc(), &mut device)?.as_str(), "Some(BadIndex) 1");
     assert_eq!(rt;
-        applied(rt.alloc())?.as_str(),
-        "Some(BadIndex) 1 Admin { index: 1, status: Up, since: 0 }"
+        undone(rt.alloc(), &mut device)?.as_str(),
+        "Admin { index: 1, status: Up, since: 0 }"
     );
     Ok(())
 }

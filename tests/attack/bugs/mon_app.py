@@ -376,4 +376,9 @@ BUGS = {
         "            put_binding(alloc, text, &found, names)?;",
         "            put_binding(alloc, &mut String::new(alloc), &found, names)?;",
     ),
+    "writes_back_its_input": (
+        "src/replaying.rt",
+        "    Ok(text.into_bytes())",
+        "    let _ = text.into_bytes(); Vec::from_slice(alloc, input)",
+    ),
 }

@@ -206,4 +206,14 @@ BUGS = {
         "        if keep {",
         "        if !keep {",
     ),
+    "writes_the_found_slot": (
+        "src/keeper.rt",
+        "        Some((Slot::First, _)) => Slot::Second,",
+        "        Some((Slot::First, _)) => Slot::First,",
+    ),
+    "not_spoiled": (
+        "src/keeper.rt",
+        "        self.spoiled = true;",
+        "        self.spoiled = generation > 1;",
+    ),
 }

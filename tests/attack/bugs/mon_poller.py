@@ -216,4 +216,14 @@ BUGS = {
         "        let octets = poll_octets(alloc, target, id)?;",
         "        let octets = poll_octets(alloc, target, 1)?;",
     ),
+    "uses_an_id_again": (
+        "src/poller.rt",
+        "        self.started = id;",
+        "        self.started = id - 1;",
+    ),
+    "takes_another_engine": (
+        "src/offers.rt",
+        "    if stamp.engine.as_slice() != target.engine.as_slice() {",
+        "    if stamp.engine.as_slice().len() != target.engine.as_slice().len() {",
+    ),
 }

@@ -193,4 +193,14 @@ BUGS = {
         "        write_image(alloc, &self.board, self.incarnation)",
         "        write_image(alloc, &self.board, 1)",
     ),
+    "forgets_a_fault_of_the_source": (
+        "src/running.rt",
+        "                run.source_faults += 1;",
+        "                run.source_faults += 0;",
+    ),
+    "tells_nothing_of_a_claim": (
+        "src/life.rt",
+        "            Some(number) => pairs_of(alloc, number, claim.samples.as_slice()),",
+        "            Some(_) => Ok(Pairs::new(alloc)),",
+    ),
 }

@@ -51,4 +51,9 @@ BUGS = {
         "targets[number as usize - 1].address",
         "targets[targets.len() - 1].address",
     ),
+    "is_its_own_peer": (
+        "src/opening.rt",
+        "if peer != number {",
+        "if peer == number {",
+    ),
 }
