@@ -45,7 +45,10 @@ fn undone(alloc: Global, device: &mut SimDevice) -> Result<String, Fail> {
 #[test]
 fn applies(rt: HostRuntime) -> Result<(), Fail> {
     let mut device = simulated(rt.alloc())?;
-    assert_eq!(rt; refused(rt.alloc(), &mut device)?.as_str(), "Some(BadIndex) 1");
+    assert_eq!(rt;
+        refused(rt.alloc(), &mut device)?.as_str(),
+        "Some(BadIndex) 1"
+    );
     assert_eq!(rt;
         undone(rt.alloc(), &mut device)?.as_str(),
         "Admin { index: 1, status: Up, since: 0 }"

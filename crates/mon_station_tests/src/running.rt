@@ -119,7 +119,12 @@ pub fn run(
     line: &str,
 ) -> Option<String> {
     let (numbers, events) = line.split_once(": ")?;
-    run_over(alloc, station, asked_of(numbers)?, events_of(alloc, events)?)
+    run_over(
+        alloc,
+        station,
+        asked_of(numbers)?,
+        events_of(alloc, events)?,
+    )
 }
 
 fn run_over(
@@ -140,7 +145,9 @@ fn run_over(
         calls_to_the_failing_one: asked.outbox_call,
         failures: 0,
     };
-    let run = station.run(alloc, &mut source, &mut outbox, asked.turns).ok()?;
+    let run = station
+        .run(alloc, &mut source, &mut outbox, asked.turns)
+        .ok()?;
     shown(alloc, &run, &outbox.text)
 }
 

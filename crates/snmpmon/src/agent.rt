@@ -28,7 +28,12 @@ pub fn agent<R: Clock + Files + Net + Eprint + AllocGlobal>(
     let listen = SocketAddrV4::new(Ipv4Addr::from(told.listen.octets), told.listen.port);
     let device = SimDevice::new(told.interfaces, told.texts)?;
     let agent = Agent::new(told.policy, told.settings, device);
-    serve(rt, listen, agent, words.get_one::<u32>("count").unwrap_or(0))
+    serve(
+        rt,
+        listen,
+        agent,
+        words.get_one::<u32>("count").unwrap_or(0),
+    )
 }
 
 /// Listens at an address, says so, and serves so many datagrams. Where memory runs out for one of them that is told, and the agent stays as it was.

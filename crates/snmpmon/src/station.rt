@@ -94,7 +94,11 @@ fn lines_of<'a, R: Clock + AllocGlobal>(
     socket: &'a Socket,
 ) -> Result<Lines<SocketReceiver<'a, R>, SocketOutbox<'a>>, Failure> {
     let alloc = rt.alloc();
-    let receiver = used(alloc, settings.listen, SocketReceiver::new(rt, alloc, socket))?;
+    let receiver = used(
+        alloc,
+        settings.listen,
+        SocketReceiver::new(rt, alloc, socket),
+    )?;
     let outbox = SocketOutbox::new(socket, Addresses::of(alloc, settings)?);
     Ok(lines_by(alloc, settings, receiver, outbox)?)
 }
@@ -336,7 +340,13 @@ fn told_of<R: Eprint + AllocGlobal, S: Receiver + Drop, O: Outbox + Drop>(
 ) -> Result<(), Failure> {
     let alloc = rt.alloc();
     let oldest = running.station.oldest();
-    let report = RoundReport::of(alloc, running.lines.rounds.round(), run, oldest, &mut running.lines.log)?;
+    let report = RoundReport::of(
+        alloc,
+        running.lines.rounds.round(),
+        run,
+        oldest,
+        &mut running.lines.log,
+    )?;
     running.taken = running.taken.saturating_add(report.taken);
     running.given_up = running.given_up.saturating_add(report.given_up);
     tell_notices(rt, number, &running.lines.addresses, &report);
@@ -418,7 +428,10 @@ fn print_report<R: Print + AllocGlobal, S: Receiver + Drop, O: Outbox + Drop>(
         return print_lines(rt, board);
     }
     let figures = figures_of(rt.alloc(), running)?;
-    let text = running.reports.printing.report(rt.alloc(), board, Some(&figures))?;
+    let text = running
+        .reports
+        .printing
+        .report(rt.alloc(), board, Some(&figures))?;
     print(rt, text.as_slice())
 }
 
@@ -458,7 +471,10 @@ fn written_out<R: Files<File = File> + AllocGlobal, S: Receiver + Drop, O: Outbo
 ) -> Result<(), Failure> {
     let figures = figures_of(rt.alloc(), running)?;
     let board = running.station.board();
-    running.reports.printing.write(rt, path, board, Some(&figures))
+    running
+        .reports
+        .printing
+        .write(rt, path, board, Some(&figures))
 }
 
 /// What a station says of itself.
