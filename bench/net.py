@@ -96,19 +96,21 @@ class Net:
         self.stop()
 
 
-def target(agent, interfaces):
-    """The settings of a target: four objects of each of some interfaces of an agent, three of them with their mark."""
+def target(agent, interfaces, marks=True):
+    """The settings of a target: four objects of each of some interfaces of an agent, three of them with their mark, or none."""
     address, engine, _ = agent
+    marked = 3 if marks else 0
     objects = []
     for i in interfaces:
-        objects += [f'{{ name = "{column}.{i}", mark = "{MARK}.{i}" }}' for column in COLUMNS[:3]] + [f'{{ name = "{COLUMNS[3]}.{i}" }}']
+        objects += [f'{{ name = "{column}.{i}", mark = "{MARK}.{i}" }}' for column in COLUMNS[:marked]]
+        objects += [f'{{ name = "{column}.{i}" }}' for column in COLUMNS[marked:]]
     return f'[[target]]\naddress = "{address}"\ncommunity = "public"\nengine = "{engine}"\ntries = 2\nobjects = [{", ".join(objects)}]\n'
 
 
-def targets(agents, at_once=4):
+def targets(agents, at_once=4, marks=True):
     """The settings of targets for all interfaces of some agents, so many interfaces in each poll."""
     cut = [(agent, agent[2][first : first + at_once]) for agent in agents for first in range(0, len(agent[2]), at_once)]
-    return "".join(target(agent, interfaces) for agent, interfaces in cut)
+    return "".join(target(agent, interfaces, marks) for agent, interfaces in cut)
 
 
 def used_by(process):
