@@ -1,3 +1,4 @@
+pub mod Around
 pub mod Messages
 pub mod Whole
 pub mod Lengths

@@ -12,4 +12,6 @@ mod writing;
 pub use fault::PduFault;
 pub use message::{Binding, Bindings, Body, Bulk, Message, Pdu, PduKind};
 pub use reading::read_message;
-pub use writing::{binding_size, message_size, size_with, write_message, write_within};
+pub use writing::{
+    binding_size, message_size, size_with, write_bindings, write_message, write_with, write_within,
+};

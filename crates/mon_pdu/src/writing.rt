@@ -8,6 +8,7 @@ ghost use Rattle.mon_ber.specs.Writing.{written, element, size_counted, IsValid 
 ghost use Rattle.mon_pdu.specs.declared.fault.PduFault.TheVariants.{OutOfMemory, BadLength};
 ghost use Rattle.mon_pdu.specs.declared.message.Binding.{Binding as AnyBinding};
 ghost use Rattle.mon_pdu.specs.Grammar.{tag_of, first_of, second_of, third_of, bindings_of, IsMessage};
+ghost use Rattle.mon_pdu.specs.Around.{body_around, contents_of_body, contents_of_message, message_around};
 ghost use Rattle.mon_pdu.specs.Sizes.{with_bindings};
 ghost use Rattle.mon_pdu.specs.Writing.{HasLength, binding_contents, written_binding, list_contents, written_list, leading_integers, body_contents, written_body, message_contents, written_message, IsValidBinding, IsValid};
 
@@ -307,5 +308,100 @@ pub fn write_message(alloc: Global, message: &Message) -> Result<Vec<u8>, PduFau
     }
     let mut out = Vec::with_capacity(alloc, element_len(lengths.message))?;
     put_message(&mut out, message, lengths);
+    Ok(out)
+}
+
+/// How many octets of contents a message and its PDU have, counted up to the limit, around the octets of their variable bindings.
+#[derive(Clone, Copy)]
+struct LengthsAround {
+    body: usize,
+    message: usize,
+}
+
+/// Measures the message around the octets of its variable bindings from the inside out.
+#[tactic(auto, using(crate::proofs::Around::body_total, crate::proofs::Around::message_total, crate::proofs::Lengths::counted_twice))]
+fn lengths_around(message: &Message, list: &[u8]) -> LengthsAround
+    ensures body { result.body ≡ size_counted (length (contents_of_body message.now.body list.now)) }
+    ensures message { result.message ≡ size_counted (length (contents_of_message message.now list.now)) }
+{
+    let body = (numbers_len(&message.body) + element_size(list.len())).min(LIMIT);
+    let community = element_size(message.community.as_slice().len());
+    let contents = (integer_size(1) + community + element_size(body)).min(LIMIT);
+    LengthsAround {
+        body,
+        message: contents,
+    }
+}
+
+/// Writes octets that were written before, where there is room for them.
+fn put_written(out: &mut Vec<u8>, octets: &[u8])
+    requires room { vec_len out.old + length octets.now ≤ vec_capacity out.old }
+    ensures items { out.new.items ≡ out.old.items ++ octets.now }
+    ensures len { vec_len out.new ≡ vec_len out.old + length octets.now }
+    ensures capacity { vec_capacity out.old ≤ vec_capacity out.new }
+{
+    out.extend_from_slice(octets).unwrap();
+}
+
+#[tactic(auto, using(crate::proofs::Around::body_total), unfolding(crate::specs::Around::body_around, mon_ber::specs::Writing::element))]
+fn put_body_around(out: &mut Vec<u8>, body: &Body, len: usize, list: &[u8])
+    requires fits { length (contents_of_body body.now list.now) < 2 ^ 32 }
+    requires list { length list.now < 2 ^ 32 }
+    requires len { len ≡ length (contents_of_body body.now list.now) }
+    requires room { vec_len out.old + length (body_around body.now list.now) ≤ vec_capacity out.old }
+    ensures items { out.new.items ≡ out.old.items ++ body_around body.now list.now }
+    ensures len { vec_len out.new ≡ vec_len out.old + length (body_around body.now list.now) }
+    ensures capacity { vec_capacity out.old ≤ vec_capacity out.new }
+{
+    put_header(out, body.octet(), len);
+    put_numbers(out, body);
+    put_header(out, SEQUENCE, list.len());
+    put_written(out, list);
+}
+
+#[tactic(auto, using(crate::proofs::Around::inside_fits), unfolding(crate::specs::Around::message_around, mon_ber::specs::Writing::element))]
+fn put_around(out: &mut Vec<u8>, message: &Message, lengths: LengthsAround, list: &[u8])
+    requires fits { length (contents_of_message message.now list.now) < 2 ^ 32 }
+    requires message { lengths.message ≡ size_counted (length (contents_of_message message.now list.now)) }
+    requires body { lengths.body ≡ size_counted (length (contents_of_body message.now.body list.now)) }
+    requires room { vec_len out.old + length (message_around message.now list.now) ≤ vec_capacity out.old }
+    ensures items { out.new.items ≡ out.old.items ++ message_around message.now list.now }
+{
+    put_header(out, SEQUENCE, lengths.message);
+    put_integer(out, 1);
+    put_octets(out, message.community.as_slice());
+    put_body_around(out, &message.body, lengths.body, list);
+}
+
+/// Variable bindings as they stand in a message, one after the other, in one allocation. A request that is sent again and again under other request-ids has
+/// its names written once so, for `write_with`. Besides `OutOfMemory` the one fault is `BadLength`: they take 2^32 octets or more.
+pub fn write_bindings(alloc: Global, bindings: &[Binding]) -> Result<Vec<u8>, PduFault>
+    ensures ok { IfOk result (λ v. v.items ≡ list_contents bindings.now) }
+    ensures err { IfErr result (λ e. (e ≡ OutOfMemory) ⊎ ((e ≡ BadLength) × (2 ^ 32 ≤ length (list_contents bindings.now)))) }
+{
+    let len = list_len(bindings);
+    if len >= LIMIT {
+        return Err(PduFault::BadLength);
+    }
+    let mut out = Vec::with_capacity(alloc, len)?;
+    put_bindings(&mut out, bindings);
+    Ok(out)
+}
+
+/// What `write_message` writes for this message with other variable bindings, those that `list` is written of (`write_bindings`), in one allocation. They
+/// are copied and not measured again. Besides `OutOfMemory` the one fault is `BadLength`, as of `message_size`.
+#[tactic(auto, using(crate::proofs::Around::message_length))]
+pub fn write_with(alloc: Global, message: &Message, list: &[u8]) -> Result<Vec<u8>, PduFault>
+    ensures ok { (bindings : List AnyBinding) → list.now ≡ list_contents bindings
+        → IfOk result (λ v. HasLength (with_bindings message.now bindings) × (v.items ≡ written_message (with_bindings message.now bindings))) }
+    ensures err { (bindings : List AnyBinding) → list.now ≡ list_contents bindings
+        → IfErr result (λ e. (e ≡ OutOfMemory) ⊎ ((e ≡ BadLength) × (2 ^ 32 ≤ length (message_contents (with_bindings message.now bindings))))) }
+{
+    let lengths = lengths_around(message, list);
+    if lengths.message >= LIMIT {
+        return Err(PduFault::BadLength);
+    }
+    let mut out = Vec::with_capacity(alloc, element_len(lengths.message))?;
+    put_around(&mut out, message, lengths, list);
     Ok(out)
 }

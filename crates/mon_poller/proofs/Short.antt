@@ -11,6 +11,8 @@ use Rattle.mon_pdu.specs.declared.message.Binding.{Binding}
 use Rattle.mon_pdu.specs.declared.message.Message.{Message}
 use Rattle.mon_pdu.specs.Grammar.{bindings_of, first_of, second_of, third_of, tag_of}
 use Rattle.mon_pdu.specs.Writing.{binding_contents, body_contents, list_contents, message_contents, leading_integers, written_binding, written_body, written_list}
+use Rattle.mon_poller.specs.declared.target.Target.{Target}
+use Rattle.mon_poller.specs.Target.{IsAsked, IsTarget, poll_message}
 
 either : (c : Bool) (a b k : ℕ) → a ≤ k → b ≤ k → (if c then a else b) ≤ k
 either true a b k p q = p
@@ -95,3 +97,8 @@ module _ (m : Message) (community : length m.community ≤ 512) (list : length (
       let version = written (Integer (pos 1)) in
       let octets = written (Octets m.community) in
       omega (arith, length-append version (octets ++ written_body m.body), length-append octets (written_body m.body), integer_few (pos 1), written_size (Octets m.community), size_few (length m.community), community, body_few)
+
+-- a poll of a target within its limits
+pub poll_few : (t : Target) (id : ℕ) → IsTarget t → {list : List ℕ} → IsAsked t list → length (message_contents (poll_message t id)) < 2 ^ 32
+poll_few t id within asked =
+    message_few (poll_message t id) within.community.1 (omega (arith, ap length asked.asked, asked.few))

@@ -1,12 +1,12 @@
 -- Targets, and how they are asked.
-use Rattle.std.specs.Prelude.{ℕ, ◌≤◌, pos, List, [], ◌∷◌, length, map, All, Option, Some, None, slice_index_or}
+use Rattle.std.specs.Prelude.{◌≡◌, ℕ, ◌≤◌, ◌<◌, pos, List, [], ◌∷◌, length, map, All, Option, Some, None, slice_index_or}
 use Rattle.std.specs.List.{flat_map}
 use Rattle.mon_ber.specs.declared.value.Value.TheVariants as values
 use Rattle.mon_pdu.specs.declared.message.Binding.{Binding}
 use Rattle.mon_pdu.specs.declared.message.Body.TheVariants.{Pdu}
 use Rattle.mon_pdu.specs.declared.message.Message.{Message}
 use Rattle.mon_pdu.specs.declared.message.PduKind.TheVariants as pdu
-use Rattle.mon_pdu.specs.Writing.{written_message}
+use Rattle.mon_pdu.specs.Writing.{list_contents, written_message}
 use Rattle.mon_board.specs.Instance.{IsEngine}
 use Rattle.mon_poller.specs.declared.target.Object.{Object}
 use Rattle.mon_poller.specs.declared.target.Target.{Target}
@@ -60,3 +60,17 @@ poll_message t id = record {
 -- its datagram
 abbrev pub poll_octets : Target → ℕ → List ℕ
 poll_octets t id = written_message (poll_message t id)
+
+-- the variable bindings of a target's polls, as they stand in its datagrams
+abbrev pub asked_octets : Target → List ℕ
+asked_octets t = list_contents (map unspecified (poll_names t))
+
+-- octets are these bindings; they are few enough for any datagram
+pub record IsAsked (t : Target) (list : List ℕ) : Type 0 where
+  pub asked : list ≡ asked_octets t
+  pub few : length list ≤ 23205
+
+-- octets for each target, in the targets' order
+pub record AreAsked (targets : List Target) (lists : List (List ℕ)) : Type 0 where
+  pub many : length lists ≡ length targets
+  pub each : (k : ℕ) → k < length lists → IsAsked (target_at targets k) (slice_index_or lists k [])

@@ -1,41 +1,62 @@
-//! The datagram that asks for a target's objects.
+//! The datagram that asks for a target's objects. The names in it are written once, since only the request-id changes from poll to poll.
 
 ghost use Rattle.std.specs.Prelude.{◌≡◌, ◌∷◌, ◌++◌, [], ◌<◌, ◌≤◌, ◌^◌, ◌+◌, ◌*◌, IfOk, OnOk, length, map};
 ghost use Rattle.std.specs.List.{flat_map};
 ghost use Rattle.mon_poller.specs.Stamp.{engine_id_name, engine_boots_name, engine_time_name};
-ghost use Rattle.mon_poller.specs.Target.{IsTarget, poll_names, unspecified, object_names, poll_message, poll_octets};
+ghost use Rattle.mon_poller.specs.Target.{IsAsked, IsTarget, poll_names, unspecified, object_names, poll_message, poll_octets};
+ghost use Rattle.mon_pdu.specs.Sizes.{with_bindings};
 ghost use Rattle.mon_ber.specs.declared.value.Value.TheVariants.{Name};
 ghost use Rattle.mon_ber.specs.Writing.{written};
-ghost use Rattle.mon_pdu.specs.Writing.{list_contents, message_contents, written_binding};
+ghost use Rattle.mon_pdu.specs.Writing.{list_contents, written_binding};
 
 use crate::stamp::{ENGINE_BOOTS, ENGINE_ID, ENGINE_TIME};
 use crate::target::{Object, Target};
 use mon_ber::writing::name_size;
 use mon_ber::{Octets, Value};
 use mon_oid::Oid;
-use mon_pdu::{Binding, Bindings, Body, Message, Pdu, PduFault, PduKind, write_message};
+use mon_pdu::{
+    Binding, Bindings, Body, Message, Pdu, PduFault, PduKind, write_bindings, write_with,
+};
 use std::alloc::{AllocError, Global};
 
-/// The datagram of a poll: a Get of the stamp's names and then of each object, directly followed by its mark where it has one
+/// The variable bindings of a target's polls: the stamp's names and then each object's, directly followed by its mark's where it has one, each without a value
 /// (RFC 3416 section 4.2.1). It fails for memory alone, since a target within its limits is asked for no more than can be written.
-pub(crate) fn poll_octets(alloc: Global, target: &Target, id: u32) -> Result<Octets, AllocError>
-    requires target { IsTarget target.now }
-    requires id { id < 2 ^ 31 }
-    ensures { IfOk result (λ o. o ≡ poll_octets target.now id) }
+pub(crate) fn asked_octets(alloc: Global, target: &Target) -> Result<Octets, AllocError>
+    requires { IsTarget target.now }
+    ensures { IfOk result (IsAsked target.now) }
 {
-    let message = poll_message(alloc, target, id)?;
-    match write_message(alloc, &message) {
+    let bindings = asked_bindings(alloc, target)?;
+    match write_bindings(alloc, bindings.as_slice()) {
         Ok(octets) => Ok(Octets::new(octets)),
         Err(PduFault::OutOfMemory) => Err(AllocError),
         Err(_) => unreachable!(),
     }
 }
 
-fn poll_message(alloc: Global, target: &Target, id: u32) -> Result<Message, AllocError>
+/// The datagram of a poll: a Get of the target's names, which `list` holds as they are written. It fails for memory alone.
+pub(crate) fn poll_octets(
+    alloc: Global,
+    target: &Target,
+    list: &[u8],
+    id: u32,
+) -> Result<Octets, AllocError>
     requires target { IsTarget target.now }
+    requires list { IsAsked target.now list.now }
     requires id { id < 2 ^ 31 }
-    ensures message { IfOk result (λ m. m ≡ poll_message target.now id) }
-    ensures short { IfOk result (λ m. length (message_contents m) < 2 ^ 32) }
+    ensures { IfOk result (λ o. o ≡ poll_octets target.now id) }
+{
+    let message = nothing_asked(alloc, target, id)?;
+    match write_with(alloc, &message, list) {
+        Ok(octets) => Ok(Octets::new(octets)),
+        Err(PduFault::OutOfMemory) => Err(AllocError),
+        Err(_) => unreachable!(),
+    }
+}
+
+/// A poll that asks for nothing.
+fn nothing_asked(alloc: Global, target: &Target, id: u32) -> Result<Message, AllocError>
+    requires { id < 2 ^ 31 }
+    ensures { IfOk result (λ m. m ≡ with_bindings (poll_message target.now id) []) }
 {
     Ok(Message {
         community: target.community.try_clone(alloc)?,
@@ -44,7 +65,7 @@ fn poll_message(alloc: Global, target: &Target, id: u32) -> Result<Message, Allo
             request_id: id as i32,
             error_status: 0,
             error_index: 0,
-            bindings: Bindings::new(asked_bindings(alloc, target)?),
+            bindings: Bindings::new(Vec::new(alloc)),
         }),
     })
 }

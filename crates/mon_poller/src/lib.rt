@@ -5,6 +5,7 @@
 #![tactic(auto)]
 
 mod addr;
+mod asked;
 mod asking;
 mod awaiting;
 mod fault;

@@ -8,7 +8,7 @@ ghost use Rattle.mon_poller.specs.Target.{AreTargets, poll_octets, target_at};
 ghost use Rattle.mon_poller.specs.Verdict.{to_offered};
 
 use crate::addr::Addr;
-use crate::asking::poll_octets;
+use crate::asked::Asked;
 use crate::awaiting::{awaited, ends_poll, read};
 use crate::fault::{PollFault, ResponseFault};
 use crate::finding::{find, least_id};
@@ -73,7 +73,7 @@ pub(crate) struct OpenPoll {
 /// Contracts see the targets, a map from request-ids to open polls, and how many polls were started.
 #[derive(Drop)]
 pub struct Poller {
-    targets: Vec<Target>,
+    targets: Asked,
     polls: Slab<OpenPoll>,
     started: u32,
 }
@@ -85,9 +85,9 @@ impl Model for Poller {
 
     ghost coded = { poller_code };
 
-    ghost view = { λ p. record { targets = p.targets.items; polls = record { open_polls = open_of p.polls.slots; started = p.started } } };
+    ghost view = { λ p. record { targets = p.targets; polls = record { open_polls = open_of p.polls.slots; started = p.started } } };
 
-    ghost invariant = { λ p. ArePolls p.targets.items p.started p.polls };
+    ghost invariant = { λ p. ArePolls p.targets p.started p.polls };
 }
 
 impl Poller {
@@ -95,7 +95,7 @@ impl Poller {
     ghost use Rattle.mon_poller.specs.Verdict.{ReadsAs, IsSentAgain, start_verdict, timeout_verdict, response_verdict, ends, after_response, tries_of};
 
     /// A poller of these targets, 1 to 64 of them and each within its limits (`are_targets` tests that), with no poll open. It takes
-    /// room for 64 open polls, so no other call takes memory for one.
+    /// room for 64 open polls, so no other call takes memory for one, and writes once what each target is asked for.
     pub fn new(alloc: Global, targets: Vec<Target>) -> Result<Self, AllocError>
         requires { AreTargets targets.items }
         ensures targets { IfOk result (λ p. p.targets ≡ targets.items) }
@@ -103,7 +103,7 @@ impl Poller {
     {
         let polls = Slab::with_capacity(alloc, MOST_OPEN)?;
         Ok(Poller {
-            targets,
+            targets: Asked::new(alloc, targets)?,
             polls,
             started: 0,
         })
@@ -127,7 +127,7 @@ impl Poller {
         ensures refused { OnErr result (self.new ≡ self.old) }
     {
         let place = usize::from(target);
-        if place >= self.targets.len() {
+        if place >= self.targets.as_slice().len() {
             return Err(PollFault::UnknownTarget);
         }
         if self.polls.len() >= MOST_OPEN {
@@ -137,7 +137,7 @@ impl Poller {
             return Err(PollFault::NoMoreIds);
         }
         let id = self.started + 1;
-        let octets = poll_octets(alloc, &self.targets[place], id)?;
+        let octets = self.targets.poll(alloc, place, id)?;
         self.polls.insert_reserved(OpenPoll {
             id,
             target,
@@ -152,7 +152,7 @@ impl Poller {
         ensures { IsTrue result ↔ IsSentAgain (timeout_verdict self.now.targets self.now.polls id) }
     {
         match find(&self.polls, id) {
-            Some((_key, poll)) => poll.sends < self.targets[usize::from(poll.target)].tries,
+            Some((_key, poll)) => poll.sends < self.targets.at(usize::from(poll.target)).tries,
             None => false,
         }
     }
@@ -169,12 +169,12 @@ impl Poller {
         let Some((key, poll)) = find(&self.polls, id) else {
             return Ok(TimedOut::NotOpen);
         };
-        let target = &self.targets[usize::from(poll.target)];
-        if poll.sends >= target.tries {
+        let number = usize::from(poll.target);
+        if poll.sends >= self.targets.at(number).tries {
             self.polls.remove(key);
             return Ok(TimedOut::GivenUp);
         }
-        let octets = poll_octets(alloc, target, id)?;
+        let octets = self.targets.poll(alloc, number, id)?;
         self.polls[key].sends += 1;
         Ok(TimedOut::Again {
             target: poll.target,
@@ -220,8 +220,8 @@ impl Poller {
         ensures told { Gives (λ o. o) result (response_verdict self.old.targets self.old.polls.open_polls from (Some message.now)) }
         ensures polls { self.new ≡ record self.old { polls = after_response (ends result) (Some message.now) self.old.polls } }
     {
-        let (key, poll, pdu) = awaited(&self.targets, &self.polls, from, message)?;
-        let target = &self.targets[usize::from(poll.target)];
+        let (key, poll, pdu) = awaited(self.targets.as_slice(), &self.polls, from, message)?;
+        let target = self.targets.at(usize::from(poll.target));
         let answered = poll_answer(alloc, target, pdu);
         if ends_poll(&answered) {
             self.polls.remove(key);

@@ -20,28 +20,27 @@ returns-in_err-key-clause-told c =
     let slots = c.self.inside.polls.slots in
     let read = Some c.args.message.now in
     let p = err_from_is_err_and c.from_residual.result c.from_residual.ensures.1 in
-    let told : Fails e (awaited c.self.inside.targets.items (open_of slots) c.args.from read) =
-    subst (λ (ts : List Target). Fails e (awaited ts (open_of slots) c.args.from read)) c.deref.ensures.value c.in_err-key.ensures.told in
+    let told : Fails e (awaited c.self.inside.targets (open_of slots) c.args.from read) =
+    subst (λ (ts : List Target). Fails e (awaited ts (open_of slots) c.args.from read)) c.as_slice.ensures c.in_err-key.ensures.told in
     let early : Fails e (response_verdict c.args.self.now.targets c.args.self.now.polls.open_polls c.args.from read) =
-    subst (λ (b : Poller). Fails e (response_verdict b.targets b.polls.open_polls c.args.from read)) c.self.view_is (fails_early c.self.inside.targets.items (open_of slots) c.args.from read e told) in
+    subst (λ (b : Poller). Fails e (response_verdict b.targets b.polls.open_polls c.args.from read)) c.self.view_is (fails_early c.self.inside.targets (open_of slots) c.args.from read e told) in
     rw (p.1, p.2) early
 
 pub invariant_of-self : goal.invariant_of-self
 invariant_of-self c =
-    are_ended c.self.inside.targets.items c.self.inside.started c.self.inside.polls c.remove.new.self c.self.invariant c.in_ok-key.key c.in_ok-key.poll
+    are_ended c.self.inside.targets c.self.inside.started c.self.inside.polls c.remove.new.self c.self.invariant c.in_ok-key.key c.in_ok-key.poll
     c.in_ok-key.ensures.slot c.remove.ensures.updates c.remove.ensures.len c.remove.ensures.capacity
 
 pub returns-clause-told : goal.returns-clause-told
 returns-clause-told c =
-    let targets = c.self.inside.targets.items in
+    let targets = c.self.inside.targets in
     let slots = c.self.inside.polls.slots in
     let poll = c.in_ok-key.poll in
     let read = Some c.args.message.now in
     let found : awaited targets (open_of slots) c.args.from read ≡ Ok (poll_in poll, c.in_ok-key.pdu.now) =
-    ap (λ (ts : List Target). awaited ts (open_of slots) c.args.from read) (sym c.deref.ensures.value) ∙ c.in_ok-key.ensures.told in
-    let target : c.index-target.result.now ≡ target_at targets poll.target =
-    c.index-target.ensures ∙ ap (λ n. get_or targets n c.index-target.result.now) c.from.ensures
-    ∙ get_or_default targets poll.target c.index-target.result.now no_target (c.self.invariant.slots.there c.in_ok-key.key poll c.in_ok-key.ensures.slot) in
+    ap (λ (ts : List Target). awaited ts (open_of slots) c.args.from read) (sym c.as_slice.ensures) ∙ c.in_ok-key.ensures.told in
+    let target : c.at-target.result.now ≡ target_at targets poll.target =
+    c.at-target.ensures ∙ ap (target_at targets) c.from.ensures in
     let given : Gives (λ o. o) (to_offered poll.target c.poll_answer-answered.result) (to_offered poll.target (poll_answer (target_at targets poll.target) c.in_ok-key.pdu.now)) =
     gives_offered poll.target c.poll_answer-answered.result _ (subst (λ (t : Target). Gives (λ p. p) c.poll_answer-answered.result (poll_answer t c.in_ok-key.pdu.now)) target c.poll_answer-answered.ensures) in
     let judged : Gives (λ o. o) (to_offered poll.target c.poll_answer-answered.result) (response_verdict targets (open_of slots) c.args.from read) =
@@ -55,7 +54,7 @@ returns-clause-polls c =
     let same : ends c.to_offered.result ≡ c.ends_poll.result = ap (λ (r : Result Offered ResponseFault). ends r) c.to_offered.ensures ∙ ends_offered c.in_ok-key.poll.target c.poll_answer-answered.result ∙ sym c.ends_poll.ensures in
     elim c.if-ends_poll.branch [
       | then-ends_poll w ↦
-          let targets = c.self.inside.targets.items in
+          let targets = c.self.inside.targets in
           let n = c.self.inside.started in
           let old : Polls = record { open_polls = open_of c.self.inside.polls.slots; started = n } in
           let is = ended_open targets n c.self.inside.polls w.remove.new.self c.self.invariant c.in_ok-key.key c.in_ok-key.poll c.in_ok-key.ensures.slot w.remove.ensures.updates in

@@ -18,43 +18,43 @@ pub returns-in_default-clause-told : goal.returns-in_default-clause-told
 returns-in_default-clause-told c =
     let slots = c.self.inside.polls.slots in
     let p : Polls = record { open_polls = open_of slots; started = c.self.inside.started } in
-    subst (λ (b : Poller). NotOpen ≡ timeout_verdict b.targets b.polls c.args.id) c.self.view_is (sym (not_open c.self.inside.targets.items p c.args.id (in_none slots c.args.id c.in_default.ensures.absent)).0)
+    subst (λ (b : Poller). NotOpen ≡ timeout_verdict b.targets b.polls c.args.id) c.self.view_is (sym (not_open c.self.inside.targets p c.args.id (in_none slots c.args.id c.in_default.ensures.absent)).0)
 
 pub returns-in_default-clause-polls : goal.returns-in_default-clause-polls
 returns-in_default-clause-polls c =
     let slots = c.self.inside.polls.slots in
     let p : Polls = record { open_polls = open_of slots; started = c.self.inside.started } in
     subst (λ (b : Poller). b ≡ record { targets = b.targets; polls = timed (tries_of b.targets) c.args.id b.polls }) c.self.view_is
-    (ap (λ (q : Polls). record { targets = c.self.inside.targets.items; polls = q }) (sym (not_open c.self.inside.targets.items p c.args.id (in_none slots c.args.id c.in_default.ensures.absent)).1))
+    (ap (λ (q : Polls). record { targets = c.self.inside.targets; polls = q }) (sym (not_open c.self.inside.targets p c.args.id (in_none slots c.args.id c.in_default.ensures.absent)).1))
 
 pub invariant_of-self : goal.invariant_of-self
 invariant_of-self c =
-    are_ended c.self.inside.targets.items c.self.inside.started c.self.inside.polls c.remove.new.self c.self.invariant c.in-Some.key c.in-Some.poll
+    are_ended c.self.inside.targets c.self.inside.started c.self.inside.polls c.remove.new.self c.self.invariant c.in-Some.key c.in-Some.poll
     c.in-Some.ensures.found c.remove.ensures.updates c.remove.ensures.len c.remove.ensures.capacity
 
-pub returns-then-poll-target-clause-told : goal.returns-then-poll-target-clause-told
-returns-then-poll-target-clause-told c =
-    let targets = c.self.inside.targets.items in
+pub returns-then-poll-at-clause-told : goal.returns-then-poll-at-clause-told
+returns-then-poll-at-clause-told c =
+    let targets = c.self.inside.targets in
     let slots = c.self.inside.polls.slots in
     let poll = c.in-Some.poll in
     let p : Polls = record { open_polls = open_of slots; started = c.self.inside.started } in
-    let target : c.index-target.result.now ≡ target_at targets poll.target =
-    c.index-target.ensures ∙ ap (λ n. get_or targets n c.index-target.result.now) c.from.ensures ∙ get_or_default targets poll.target c.index-target.result.now no_target (c.self.invariant.slots.there c.in-Some.key poll c.in-Some.ensures.found) in
+    let target : c.at.result.now ≡ target_at targets poll.target =
+    c.at.ensures ∙ ap (target_at targets) c.from-number.ensures in
     let has : map.get (open_of slots) c.args.id ≡ Some (poll_in poll) = ap (map.get (open_of slots)) (sym c.in-Some.ensures.same) ∙ in_slot slots c.in-Some.key poll c.self.invariant.slots.distinct c.in-Some.ensures.found in
-    let last : (target_at targets poll.target).tries ≤ poll.sends = subst (λ (t : Target). t.tries ≤ poll.sends) target c.if-poll-target.true in
+    let last : (target_at targets poll.target).tries ≤ poll.sends = subst (λ (t : Target). t.tries ≤ poll.sends) target c.if-poll-at.true in
     subst (λ (b : Poller). GivenUp ≡ timeout_verdict b.targets b.polls c.args.id) c.self.view_is (sym (given_up targets p c.args.id (poll_in poll) has last).0)
 
-pub returns-then-poll-target-clause-polls : goal.returns-then-poll-target-clause-polls
-returns-then-poll-target-clause-polls c =
-    let targets = c.self.inside.targets.items in
+pub returns-then-poll-at-clause-polls : goal.returns-then-poll-at-clause-polls
+returns-then-poll-at-clause-polls c =
+    let targets = c.self.inside.targets in
     let slots = c.self.inside.polls.slots in
     let poll = c.in-Some.poll in
     let n = c.self.inside.started in
     let p : Polls = record { open_polls = open_of slots; started = n } in
-    let target : c.index-target.result.now ≡ target_at targets poll.target =
-    c.index-target.ensures ∙ ap (λ n. get_or targets n c.index-target.result.now) c.from.ensures ∙ get_or_default targets poll.target c.index-target.result.now no_target (c.self.invariant.slots.there c.in-Some.key poll c.in-Some.ensures.found) in
+    let target : c.at.result.now ≡ target_at targets poll.target =
+    c.at.ensures ∙ ap (target_at targets) c.from-number.ensures in
     let has : map.get (open_of slots) c.args.id ≡ Some (poll_in poll) = ap (map.get (open_of slots)) (sym c.in-Some.ensures.same) ∙ in_slot slots c.in-Some.key poll c.self.invariant.slots.distinct c.in-Some.ensures.found in
-    let last : (target_at targets poll.target).tries ≤ poll.sends = subst (λ (t : Target). t.tries ≤ poll.sends) target c.if-poll-target.true in
+    let last : (target_at targets poll.target).tries ≤ poll.sends = subst (λ (t : Target). t.tries ≤ poll.sends) target c.if-poll-at.true in
     let is : open_of c.remove.new.self.slots ≡ map.remove (open_of slots) c.args.id =
     ended_open targets n c.self.inside.polls c.remove.new.self c.self.invariant c.in-Some.key poll c.in-Some.ensures.found c.remove.ensures.updates ∙ ap (map.remove (open_of slots)) c.in-Some.ensures.same in
     subst (λ (b : Poller). record { targets = targets; polls = record { open_polls = open_of c.remove.new.self.slots; started = n } } ≡ record { targets = b.targets; polls = timed (tries_of b.targets) c.args.id b.polls }) c.self.view_is
@@ -62,14 +62,14 @@ returns-then-poll-target-clause-polls c =
 
 pub returns-in_err-octets-clause-memory : goal.returns-in_err-octets-clause-memory
 returns-in_err-octets-clause-memory c =
-    let targets = c.self.inside.targets.items in
+    let targets = c.self.inside.targets in
     let slots = c.self.inside.polls.slots in
     let poll = c.in-Some.poll in
     let p : Polls = record { open_polls = open_of slots; started = c.self.inside.started } in
-    let target : c.index-target.result.now ≡ target_at targets poll.target =
-    c.index-target.ensures ∙ ap (λ n. get_or targets n c.index-target.result.now) c.from.ensures ∙ get_or_default targets poll.target c.index-target.result.now no_target (c.self.invariant.slots.there c.in-Some.key poll c.in-Some.ensures.found) in
+    let target : c.at.result.now ≡ target_at targets poll.target =
+    c.at.ensures ∙ ap (target_at targets) c.from-number.ensures in
     let has : map.get (open_of slots) c.args.id ≡ Some (poll_in poll) = ap (map.get (open_of slots)) (sym c.in-Some.ensures.same) ∙ in_slot slots c.in-Some.key poll c.self.invariant.slots.distinct c.in-Some.ensures.found in
-    let more : poll.sends < (target_at targets poll.target).tries = subst (λ (t : Target). poll.sends < t.tries) target c.if-poll-target.false in
+    let more : poll.sends < (target_at targets poll.target).tries = subst (λ (t : Target). poll.sends < t.tries) target c.if-poll-at.false in
     let wanted : IsSentAgain (timeout_verdict c.args.self.now.targets c.args.self.now.polls c.args.id) =
     subst (λ (b : Poller). IsSentAgain (timeout_verdict b.targets b.polls c.args.id)) c.self.view_is (subst IsSentAgain (sym (again targets p c.args.id (poll_in poll) has more).0) tt) in
     let q = err_from_is_err_and c.from_residual.result c.from_residual.ensures.1 in
@@ -77,12 +77,12 @@ returns-in_err-octets-clause-memory c =
 
 pub invariant_of-self-2 : goal.invariant_of-self-2
 invariant_of-self-2 c =
-    let targets = c.self.inside.targets.items in
+    let targets = c.self.inside.targets in
     let poll = c.in-Some.poll in
     let n = c.self.inside.started in
-    let target : c.index-target.result.now ≡ target_at targets poll.target =
-    c.index-target.ensures ∙ ap (λ n. get_or targets n c.index-target.result.now) c.from.ensures ∙ get_or_default targets poll.target c.index-target.result.now no_target (c.self.invariant.slots.there c.in-Some.key poll c.in-Some.ensures.found) in
-    let more : poll.sends < (target_at targets poll.target).tries = subst (λ (t : Target). poll.sends < t.tries) target c.if-poll-target.false in
+    let target : c.at.result.now ≡ target_at targets poll.target =
+    c.at.ensures ∙ ap (target_at targets) c.from-number.ensures in
+    let more : poll.sends < (target_at targets poll.target).tries = subst (λ (t : Target). poll.sends < t.tries) target c.if-poll-at.false in
     let old = c.index_mut.result.now in
     let same : old ≡ poll = same_poll old poll (sym c.index_mut.ensures.value ∙ c.in-Some.ensures.found) in
     let q : OpenPoll = record { id = old.id; target = old.target; sends = old.sends + 1 } in
@@ -91,29 +91,29 @@ invariant_of-self-2 c =
 
 pub returns-clause-told : goal.returns-clause-told
 returns-clause-told c =
-    let targets = c.self.inside.targets.items in
+    let targets = c.self.inside.targets in
     let slots = c.self.inside.polls.slots in
     let poll = c.in-Some.poll in
     let n = c.self.inside.started in
     let p : Polls = record { open_polls = open_of slots; started = n } in
-    let target : c.index-target.result.now ≡ target_at targets poll.target =
-    c.index-target.ensures ∙ ap (λ n. get_or targets n c.index-target.result.now) c.from.ensures ∙ get_or_default targets poll.target c.index-target.result.now no_target (c.self.invariant.slots.there c.in-Some.key poll c.in-Some.ensures.found) in
+    let target : c.at.result.now ≡ target_at targets poll.target =
+    c.at.ensures ∙ ap (target_at targets) c.from-number.ensures in
     let has : map.get (open_of slots) c.args.id ≡ Some (poll_in poll) = ap (map.get (open_of slots)) (sym c.in-Some.ensures.same) ∙ in_slot slots c.in-Some.key poll c.self.invariant.slots.distinct c.in-Some.ensures.found in
-    let more : poll.sends < (target_at targets poll.target).tries = subst (λ (t : Target). poll.sends < t.tries) target c.if-poll-target.false in
+    let more : poll.sends < (target_at targets poll.target).tries = subst (λ (t : Target). poll.sends < t.tries) target c.if-poll-at.false in
     subst (λ (b : Poller). Again poll.target c.in_ok-octets.octets ≡ timeout_verdict b.targets b.polls c.args.id) c.self.view_is
-    (ap (λ o. Again poll.target o) (c.in_ok-octets.ensures ∙ ap (λ (t : Target). poll_octets t c.args.id) target) ∙ sym (again targets p c.args.id (poll_in poll) has more).0)
+    (ap (λ o. Again poll.target o) (c.in_ok-octets.ensures ∙ ap (λ n. poll_octets (target_at targets n) c.args.id) c.from-number.ensures) ∙ sym (again targets p c.args.id (poll_in poll) has more).0)
 
 pub returns-clause-polls : goal.returns-clause-polls
 returns-clause-polls c =
-    let targets = c.self.inside.targets.items in
+    let targets = c.self.inside.targets in
     let slots = c.self.inside.polls.slots in
     let poll = c.in-Some.poll in
     let n = c.self.inside.started in
     let p : Polls = record { open_polls = open_of slots; started = n } in
-    let target : c.index-target.result.now ≡ target_at targets poll.target =
-    c.index-target.ensures ∙ ap (λ n. get_or targets n c.index-target.result.now) c.from.ensures ∙ get_or_default targets poll.target c.index-target.result.now no_target (c.self.invariant.slots.there c.in-Some.key poll c.in-Some.ensures.found) in
+    let target : c.at.result.now ≡ target_at targets poll.target =
+    c.at.ensures ∙ ap (target_at targets) c.from-number.ensures in
     let has : map.get (open_of slots) c.args.id ≡ Some (poll_in poll) = ap (map.get (open_of slots)) (sym c.in-Some.ensures.same) ∙ in_slot slots c.in-Some.key poll c.self.invariant.slots.distinct c.in-Some.ensures.found in
-    let more : poll.sends < (target_at targets poll.target).tries = subst (λ (t : Target). poll.sends < t.tries) target c.if-poll-target.false in
+    let more : poll.sends < (target_at targets poll.target).tries = subst (λ (t : Target). poll.sends < t.tries) target c.if-poll-at.false in
     let old = c.index_mut.result.now in
     let same : old ≡ poll = same_poll old poll (sym c.index_mut.ensures.value ∙ c.in-Some.ensures.found) in
     let q : OpenPoll = record { id = old.id; target = old.target; sends = old.sends + 1 } in
