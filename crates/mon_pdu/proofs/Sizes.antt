@@ -1,10 +1,10 @@
 -- The size of a message by the size of its variable bindings.
-use Rattle.std.proofs.Common.{◌≡◌, ℕ, ◌+◌, ◌<◌, ◌≤◌, pos, List, [], ◌∷◌, ◌++◌, length, sym, ap, ◌∙◌, arith}
+use Rattle.std.proofs.Common.{◌≡◌, ℕ, ◌+◌, ◌<◌, ◌≤◌, pos, List, [], ◌∷◌, ◌++◌, length, ap, ◌∙◌, arith}
 use Rattle.std.proofs.lemmas.List.{length-append}
 use Rattle.std.proofs.lemmas.Grind.{flat_map-append}
 use Rattle.std.proofs.lemmas.Bool.Decides.{nat_tests}
 use Rattle.mon_ber.specs.declared.value.Value.TheVariants.{Integer}
-use Rattle.mon_ber.specs.Writing.{written, size_for, size_counted, length_octets, number_octets, octets_for}
+use Rattle.mon_ber.specs.Writing.{written, size_for, length_octets, number_octets, octets_for}
 use Rattle.mon_ber.proofs.Promised.{length-high_first, written_size, size_longer}
 use Rattle.mon_pdu.specs.declared.message.Binding.{Binding}
 use Rattle.mon_pdu.specs.declared.message.Body.{Body}
@@ -14,7 +14,7 @@ use Rattle.mon_pdu.specs.declared.message.Pdu.{Pdu as AnyPdu}
 use Rattle.mon_pdu.specs.Grammar.{bindings_of}
 use Rattle.mon_pdu.specs.Sizes.{body_with, with_bindings, with_error}
 use Rattle.mon_pdu.specs.Writing.{binding_contents, written_binding, list_contents, leading_integers, body_contents, message_contents, written_message}
-use Rattle.mon_pdu.proofs.Lengths.{counted_twice, body_total, message_total, message_length, binding_length, flat_length, numbers_total}
+use Rattle.mon_pdu.proofs.Lengths.{body_total, message_total, message_length, binding_length, flat_length, numbers_total}
 
 -- the variable bindings stand behind the numbers, which stay
 pub body_size : (body : Body) (bindings : List Binding)
@@ -29,25 +29,6 @@ whole_size m bindings =
     message_length (with_bindings m bindings)
     ∙ ap size_for (message_total (with_bindings m bindings)
     ∙ ap (λ n. length (written (Integer (pos 1))) + size_for (length m.community) + size_for n) (body_size m.body bindings))
-
--- a size is counted the same, whether its parts are counted before or after
-within : (n k total : ℕ) → total ≡ size_counted (n + size_counted (size_for (size_counted k))) → total ≡ size_counted (n + size_for k)
-within n k total is = omega (arith, is, counted_twice k)
-
-pub counted_size : (m : Message) (bindings : List Binding) (list inner body community outer contents result : ℕ)
-    → list ≡ size_counted (length (list_contents bindings)) → inner ≡ size_counted (size_for list) → body ≡ size_counted (length (leading_integers m.body) + inner)
-    → community ≡ size_counted (size_for (length m.community)) → outer ≡ size_counted (size_for body)
-    → contents ≡ size_counted (length (written (Integer (pos 1))) + community + outer) → result ≡ size_counted (size_for contents)
-    → result ≡ size_counted (length (written_message (with_bindings m bindings)))
-counted_size m bindings list inner body community outer contents result is_list is_inner is_body is_community is_outer is_contents is_result =
-    let total : ℕ = length (leading_integers m.body) + size_for (length (list_contents bindings)) in
-    let all : ℕ = length (written (Integer (pos 1))) + size_for (length m.community) + size_for total in
-    let first : inner ≡ size_counted (size_for (length (list_contents bindings))) =
-    is_inner ∙ ap (λ n. size_counted (size_for n)) is_list ∙ counted_twice (length (list_contents bindings)) in
-    let second : body ≡ size_counted total = omega (arith, is_body, first) in
-    let third : outer ≡ size_counted (size_for total) = is_outer ∙ ap (λ n. size_counted (size_for n)) second ∙ counted_twice total in
-    let fourth : contents ≡ size_counted all = omega (arith, is_contents, third, is_community) in
-    is_result ∙ ap (λ n. size_counted (size_for n)) fourth ∙ counted_twice all ∙ ap size_counted (sym (whole_size m bindings))
 
 -- an element with more contents takes more
 pub size_grows : (m n : ℕ) → m ≤ n → size_for m ≤ size_for n

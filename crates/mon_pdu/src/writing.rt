@@ -193,16 +193,34 @@ pub fn binding_size(binding: &Binding) -> usize
     element_size(binding_len(binding))
 }
 
+/// How many octets of contents a message and its PDU have, counted up to the limit, around the octets of their variable bindings.
+#[derive(Clone, Copy)]
+struct LengthsAround {
+    body: usize,
+    message: usize,
+}
+
+/// Measures the message from the inside out around its variable bindings, which take `list` octets, counted up to the limit.
+fn lengths_around(message: &Message, list: usize) -> LengthsAround
+    ensures body { (octets : List ℕ) → list ≡ size_counted (length octets) → result.body ≡ size_counted (length (contents_of_body message.now.body octets)) }
+    ensures message { (octets : List ℕ) → list ≡ size_counted (length octets) → result.message ≡ size_counted (length (contents_of_message message.now octets)) }
+{
+    let body = (numbers_len(&message.body) + element_size(list)).min(LIMIT);
+    let community = element_size(message.community.as_slice().len());
+    let contents = (integer_size(1) + community + element_size(body)).min(LIMIT);
+    LengthsAround {
+        body,
+        message: contents,
+    }
+}
+
 /// How many octets `write_message` would write for this message with other variable bindings, which take `list` octets
 /// in all, counted up to `LIMIT` of `mon_ber::writing`. Takes the same time however many they are.
 pub fn size_with(message: &Message, list: usize) -> usize
     ensures { (bindings : List AnyBinding) → list ≡ size_counted (length (list_contents bindings))
         → result ≡ size_counted (length (written_message (with_bindings message.now bindings))) }
 {
-    let body = (numbers_len(&message.body) + element_size(list)).min(LIMIT);
-    let community = element_size(message.community.as_slice().len());
-    let contents = (integer_size(1) + community + element_size(body)).min(LIMIT);
-    element_size(contents)
+    element_size(lengths_around(message, list).message)
 }
 
 #[tactic(auto, using(crate::proofs::Lengths::value_fits), unfolding(crate::specs::Writing::written_binding, mon_ber::specs::Writing::element))]
@@ -311,28 +329,6 @@ pub fn write_message(alloc: Global, message: &Message) -> Result<Vec<u8>, PduFau
     Ok(out)
 }
 
-/// How many octets of contents a message and its PDU have, counted up to the limit, around the octets of their variable bindings.
-#[derive(Clone, Copy)]
-struct LengthsAround {
-    body: usize,
-    message: usize,
-}
-
-/// Measures the message around the octets of its variable bindings from the inside out.
-#[tactic(auto, using(crate::proofs::Around::body_total, crate::proofs::Around::message_total, crate::proofs::Lengths::counted_twice))]
-fn lengths_around(message: &Message, list: &[u8]) -> LengthsAround
-    ensures body { result.body ≡ size_counted (length (contents_of_body message.now.body list.now)) }
-    ensures message { result.message ≡ size_counted (length (contents_of_message message.now list.now)) }
-{
-    let body = (numbers_len(&message.body) + element_size(list.len())).min(LIMIT);
-    let community = element_size(message.community.as_slice().len());
-    let contents = (integer_size(1) + community + element_size(body)).min(LIMIT);
-    LengthsAround {
-        body,
-        message: contents,
-    }
-}
-
 /// Writes octets that were written before, where there is room for them.
 fn put_written(out: &mut Vec<u8>, octets: &[u8])
     requires room { vec_len out.old + length octets.now ≤ vec_capacity out.old }
@@ -397,7 +393,7 @@ pub fn write_with(alloc: Global, message: &Message, list: &[u8]) -> Result<Vec<u
     ensures err { (bindings : List AnyBinding) → list.now ≡ list_contents bindings
         → IfErr result (λ e. (e ≡ OutOfMemory) ⊎ ((e ≡ BadLength) × (2 ^ 32 ≤ length (message_contents (with_bindings message.now bindings))))) }
 {
-    let lengths = lengths_around(message, list);
+    let lengths = lengths_around(message, list.len().min(LIMIT));
     if lengths.message >= LIMIT {
         return Err(PduFault::BadLength);
     }

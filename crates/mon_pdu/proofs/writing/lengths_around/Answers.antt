@@ -7,14 +7,23 @@ use Rattle.mon_pdu.proofs.Around.{body_total, message_total}
 use Rattle.mon_pdu.proofs.Lengths.{counted_twice}
 use Rattle.mon_pdu.proofs.writing.lengths_around.Goals as goal
 
-pub returns-clause-message : goal.returns-clause-message
-returns-clause-message c =
+pub returns-clause-body : goal.returns-clause-body
+returns-clause-body c = λ octets is.
     let m = c.args.message.now in
-    let list = c.args.list.now in
     let own : c.min-body.result ≡ size_counted (length (leading_integers m.body) + c.element_size.result) = search rules in
-    let body : c.min-body.result ≡ size_counted (length (contents_of_body m.body list)) = omega (arith, own, body_total m.body list, c.element_size.ensures) in
-    let outer : c.element_size-2.result ≡ size_counted (size_for (length (contents_of_body m.body list))) =
-    c.element_size-2.ensures ∙ ap (λ n. size_counted (size_for n)) body ∙ counted_twice (length (contents_of_body m.body list)) in
+    let inner : c.element_size.result ≡ size_counted (size_for (length octets)) =
+    c.element_size.ensures ∙ ap (λ n. size_counted (size_for n)) is ∙ counted_twice (length octets) in
+    omega (arith, own, body_total m.body octets, inner)
+
+pub returns-clause-message : goal.returns-clause-message
+returns-clause-message c = λ octets is.
+    let m = c.args.message.now in
+    let own : c.min-body.result ≡ size_counted (length (leading_integers m.body) + c.element_size.result) = search rules in
+    let inner : c.element_size.result ≡ size_counted (size_for (length octets)) =
+    c.element_size.ensures ∙ ap (λ n. size_counted (size_for n)) is ∙ counted_twice (length octets) in
+    let body : c.min-body.result ≡ size_counted (length (contents_of_body m.body octets)) = omega (arith, own, body_total m.body octets, inner) in
+    let outer : c.element_size-2.result ≡ size_counted (size_for (length (contents_of_body m.body octets))) =
+    c.element_size-2.ensures ∙ ap (λ n. size_counted (size_for n)) body ∙ counted_twice (length (contents_of_body m.body octets)) in
     let community : c.element_size-community.result ≡ size_counted (size_for (length m.community)) = search rules in
     let contents : c.min-contents.result ≡ size_counted (length (written (Integer (pos 1))) + c.element_size-community.result + c.element_size-2.result) = search rules in
-    omega (arith, contents, community, outer, message_total m list)
+    omega (arith, contents, community, outer, message_total m octets)

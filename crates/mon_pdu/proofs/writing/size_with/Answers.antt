@@ -1,14 +1,16 @@
-use Rattle.std.proofs.Common.{◌≡◌, ◌+◌, rules, length, pos}
-use Rattle.mon_ber.specs.declared.value.Value.TheVariants.{Integer}
-use Rattle.mon_ber.specs.Writing.{written, size_for, size_counted}
-use Rattle.mon_pdu.specs.Writing.{leading_integers}
-use Rattle.mon_pdu.proofs.Sizes.{counted_size}
+use Rattle.std.proofs.Common.{◌∙◌, ap, sym, length}
+use Rattle.mon_ber.specs.Writing.{size_for, size_counted}
+use Rattle.mon_pdu.specs.Around.{contents_of_message}
+use Rattle.mon_pdu.specs.Writing.{list_contents}
+use Rattle.mon_pdu.proofs.Around.{message_is, message_length}
+use Rattle.mon_pdu.proofs.Lengths.{counted_twice}
 use Rattle.mon_pdu.proofs.writing.size_with.Goals as goal
 
 pub returns : goal.returns
 returns c = λ bindings is_list.
-    let body : c.min-body.result ≡ size_counted (length (leading_integers c.args.message.now.body) + c.element_size.result) = search rules in
-    let community : c.element_size-community.result ≡ size_counted (size_for (length c.args.message.now.community)) = search rules in
-    let contents : c.min-contents.result ≡ size_counted (length (written (Integer (pos 1))) + c.element_size-community.result + c.element_size-2.result) = search rules in
-    counted_size c.args.message.now bindings c.args.list c.element_size.result c.min-body.result c.element_size-community.result c.element_size-2.result
-    c.min-contents.result c.element_size-3.result is_list c.element_size.ensures body community c.element_size-2.ensures contents c.element_size-3.ensures
+    let m = c.args.message.now in
+    let octets = list_contents bindings in
+    c.element_size.ensures
+    ∙ ap (λ n. size_counted (size_for n)) (c.lengths_around.ensures.message octets is_list)
+    ∙ counted_twice (length (contents_of_message m octets))
+    ∙ ap size_counted (sym (message_length m octets) ∙ ap length (sym (message_is m bindings)))
