@@ -78,8 +78,8 @@ BUGS = {
     ),
     "writes_no_community": (
         "src/writing.rt",
-        "    put_octets(out, message.community.as_slice());",
-        "    put_octets(out, &message.community.as_slice()[..0]);",
+        "    put_octets(out, message.community.as_slice());\n    put_body(",
+        "    put_octets(out, &message.community.as_slice()[..0]);\n    put_body(",
     ),
     "writes_repetitions_twice": (
         "src/writing.rt",
@@ -118,8 +118,8 @@ BUGS = {
     ),
     "writes_version_0": (
         "src/writing.rt",
-        "    put_integer(out, 1);\n",
-        "    put_integer(out, 0);\n",
+        "    put_integer(out, 1);\n    put_octets(out, message.community.as_slice());\n    put_body(",
+        "    put_integer(out, 0);\n    put_octets(out, message.community.as_slice());\n    put_body(",
     ),
     "writes_every_body_as_a_response": (
         "src/writing.rt",
@@ -133,8 +133,8 @@ BUGS = {
     ),
     "lets_a_message_over_the_limit": (
         "src/writing.rt",
-        "    if lengths.message >= LIMIT {",
-        "    if lengths.message > LIMIT {",
+        "    let lengths = lengths_of(message);\n    if lengths.message >= LIMIT {",
+        "    let lengths = lengths_of(message);\n    if lengths.message > LIMIT {",
     ),
     "adds_an_octet_to_the_body": (
         "src/writing.rt",
@@ -143,8 +143,8 @@ BUGS = {
     ),
     "takes_too_little_room": (
         "src/writing.rt",
-        "    let mut out = Vec::with_capacity(alloc, element_len(lengths.message))?;",
-        "    let mut out = Vec::with_capacity(alloc, lengths.message)?;",
+        "    let mut out = Vec::with_capacity(alloc, element_len(lengths.message))?;\n    put_message(",
+        "    let mut out = Vec::with_capacity(alloc, lengths.message)?;\n    put_message(",
     ),
     "sizes_without_the_header": (
         "src/writing.rt",
@@ -173,8 +173,8 @@ BUGS = {
     ),
     "refuses_the_longest": (
         "src/writing.rt",
-        "    if lengths.message >= LIMIT {",
-        "    if lengths.message >= LIMIT - 1 {",
+        "    let lengths = lengths_of(message);\n    if lengths.message >= LIMIT {",
+        "    let lengths = lengths_of(message);\n    if lengths.message >= LIMIT - 1 {",
     ),
     "size_off_by_one": (
         "src/writing.rt",
@@ -185,5 +185,40 @@ BUGS = {
         "src/writing.rt",
         "    put_bindings(out, bindings)",
         "    put_bindings(out, &bindings[bindings.len() / 2..])",
+    ),
+    "measures_around_a_shorter_list": (
+        "src/writing.rt",
+        "    let lengths = lengths_around(message, list.len().min(LIMIT));",
+        "    let lengths = lengths_around(message, list.len().min(LIMIT - 1));",
+    ),
+    "lets_a_message_around_a_list_over_the_limit": (
+        "src/writing.rt",
+        "    let lengths = lengths_around(message, list.len().min(LIMIT));\n    if lengths.message >= LIMIT {",
+        "    let lengths = lengths_around(message, list.len().min(LIMIT));\n    if lengths.message > LIMIT {",
+    ),
+    "puts_no_list_around": (
+        "src/writing.rt",
+        "    put_written(out, list);",
+        "    put_written(out, &list[..0]);",
+    ),
+    "puts_a_list_without_its_header": (
+        "src/writing.rt",
+        "    put_header(out, SEQUENCE, list.len());\n    put_written(",
+        "    put_written(",
+    ),
+    "puts_another_tag_around": (
+        "src/writing.rt",
+        "    put_header(out, body.octet(), len);",
+        "    put_header(out, 0xa0, len);",
+    ),
+    "writes_bindings_but_the_first": (
+        "src/writing.rt",
+        "    put_bindings(&mut out, bindings);",
+        "    put_bindings(&mut out, &bindings[bindings.len().min(1)..]);",
+    ),
+    "refuses_the_longest_bindings": (
+        "src/writing.rt",
+        "    let len = list_len(bindings);\n    if len >= LIMIT {",
+        "    let len = list_len(bindings);\n    if len >= LIMIT - 1 {",
     ),
 }

@@ -28,8 +28,8 @@ BUGS = {
     ),
     "tries_once_more": (
         "src/poller.rt",
-        "        if poll.sends >= target.tries {",
-        "        if poll.sends > target.tries {",
+        "        if poll.sends >= self.targets.at(number).tries {",
+        "        if poll.sends > self.targets.at(number).tries {",
     ),
     "wrong_names_leave_the_poll_open": (
         "src/awaiting.rt",
@@ -158,8 +158,8 @@ BUGS = {
     ),
     "a_poll_of_the_first_target": (
         "src/poller.rt",
-        "        let octets = poll_octets(alloc, &self.targets[place], id)?;",
-        "        let octets = poll_octets(alloc, &self.targets[place / 2], id)?;",
+        "        let octets = self.targets.poll(alloc, place, id)?;",
+        "        let octets = self.targets.poll(alloc, place / 2, id)?;",
     ),
     "goes_again_to_the_first_target": (
         "src/poller.rt",
@@ -168,8 +168,8 @@ BUGS = {
     ),
     "has_tries_after_the_last": (
         "src/poller.rt",
-        "poll.sends < self.targets[usize::from(poll.target)].tries",
-        "poll.sends <= self.targets[usize::from(poll.target)].tries",
+        "poll.sends < self.targets.at(usize::from(poll.target)).tries",
+        "poll.sends <= self.targets.at(usize::from(poll.target)).tries",
     ),
     "nine_tries": (
         "src/target.rt",
@@ -213,8 +213,8 @@ BUGS = {
     ),
     "sends_another_datagram_again": (
         "src/poller.rt",
-        "        let octets = poll_octets(alloc, target, id)?;",
-        "        let octets = poll_octets(alloc, target, 1)?;",
+        "        let octets = self.targets.poll(alloc, number, id)?;",
+        "        let octets = self.targets.poll(alloc, number, 1)?;",
     ),
     "uses_an_id_again": (
         "src/poller.rt",
@@ -225,5 +225,20 @@ BUGS = {
         "src/offers.rt",
         "    if stamp.engine.as_slice() != target.engine.as_slice() {",
         "    if stamp.engine.as_slice().len() != target.engine.as_slice().len() {",
+    ),
+    "asks_by_the_list_of_the_first_target": (
+        "src/asked.rt",
+        "            self.lists[number].as_slice(),",
+        "            self.lists[0].as_slice(),",
+    ),
+    "asks_for_nothing": (
+        "src/asking.rt",
+        "    match write_with(alloc, &message, list) {",
+        "    match write_with(alloc, &message, &list[..0]) {",
+    ),
+    "writes_the_names_of_the_stamp_alone": (
+        "src/asking.rt",
+        "    match write_bindings(alloc, bindings.as_slice()) {",
+        "    match write_bindings(alloc, &bindings.as_slice()[..3]) {",
     ),
 }

@@ -190,8 +190,8 @@ BUGS = {
     ),
     "saves_under_incarnation_1": (
         "src/life.rt",
-        "        write_image(alloc, &self.board, self.incarnation)",
-        "        write_image(alloc, &self.board, 1)",
+        "        write_within(image, &self.board, self.incarnation);",
+        "        write_within(image, &self.board, 1);",
     ),
     "forgets_a_fault_of_the_source": (
         "src/running.rt",
@@ -202,5 +202,10 @@ BUGS = {
         "src/life.rt",
         "            Some(number) => pairs_of(alloc, number, claim.samples.as_slice()),",
         "            Some(_) => Ok(Pairs::new(alloc)),",
+    ),
+    "saves_behind_the_last_image": (
+        "src/life.rt",
+        "        image.clear();\n",
+        "",
     ),
 }

@@ -56,4 +56,29 @@ BUGS = {
         "if peer != number {",
         "if peer == number {",
     ),
+    "stops_after_seven_calls": (
+        "src/world.rt",
+        "if calls > CALLS {",
+        "if calls > CALLS + 1 {",
+    ),
+    "delivers_an_earlier_datagram": (
+        "src/world.rt",
+        "let datagram = self.datagram_at(number)?;",
+        "let datagram = self.datagram_at(number)? / 2;",
+    ),
+    "restarts_from_the_first_disk": (
+        "src/world.rt",
+        "let disk = self.stations[place].disk().try_clone()?;",
+        "let disk = self.stations[0].disk().try_clone()?;",
+    ),
+    "says_that_a_datagram_more_was_sent": (
+        "src/sending.rt",
+        "count: (now - before) as u64,",
+        "count: (now - before) as u64 + 1,",
+    ),
+    "makes_no_last_step": (
+        "src/world.rt",
+        "        for step in steps {",
+        "        for step in &steps[..steps.len() / 2] {",
+    ),
 }
