@@ -1,6 +1,6 @@
 //! One life of a station: what it does about an event that is no save and no share.
 
-ghost use Rattle.std.specs.Prelude.{◌≡◌, ◌≤◌, ◌<◌, ◌^◌, ◌∷◌, [], ℕ, All, IfOk, IfErr, IsOk, None, OnErr, length, map, vec_capacity};
+ghost use Rattle.std.specs.Prelude.{◌≡◌, ◌≤◌, ◌<◌, ◌^◌, ◌∷◌, [], ℕ, All, IfOk, IfErr, IsOk, None, OnErr, OnOk, length, map, vec_capacity};
 ghost use Rattle.mon_board.specs.Windows.{paired};
 ghost use Rattle.mon_exchange.specs.Claim.{IsClaim};
 ghost use Rattle.mon_board.specs.Instance.{instances_of};
@@ -16,7 +16,7 @@ use mon_board::{Board, Pairs};
 use mon_exchange::{Claim, ClaimKind, ClaimRef, Peers, read_claim, write_claim};
 use mon_poller::{Addr, Poller, TimedOut};
 use mon_sample::Sample;
-use mon_saved::write_image;
+use mon_saved::{image_size, write_within};
 use std::alloc::{AllocError, Global};
 
 /// One life of a station: all that it holds in memory.
@@ -60,12 +60,15 @@ impl Life {
         let _ = self.poller.targets();
     }
 
-    /// The image of the windows and the incarnation.
-    pub(crate) fn image(&self, alloc: Global) -> Result<Vec<u8>, AllocError>
-        ensures written { IfOk result (λ octets. octets.items ≡ saved_octets (state_of self.now)) }
-        ensures spells { IfOk result (λ octets. SpellsImage octets.items (instances_of self.now.board.watch.instances) (image_of self.now.board self.now.incarnation)) }
+    /// Puts the image of the windows and the incarnation in a vector, in place of what it holds. Where it has the room, no memory is taken.
+    pub(crate) fn image(&self, image: &mut Vec<u8>) -> Result<(), AllocError>
+        ensures written { OnOk result (image.new.items ≡ saved_octets (state_of self.now)) }
+        ensures spells { OnOk result (SpellsImage image.new.items (instances_of self.now.board.watch.instances) (image_of self.now.board self.now.incarnation)) }
     {
-        write_image(alloc, &self.board, self.incarnation)
+        image.clear();
+        image.reserve(image_size(&self.board))?;
+        write_within(image, &self.board, self.incarnation);
+        Ok(())
     }
 
     /// Starts a poll of the target of this number.

@@ -69,7 +69,12 @@ impl<D: Disk + Drop> Station<D> {
         ensures cause { IfErr result (λ e. IsCausedBy (D.faults (device_of keeper)) (D.faults e.1) e.0) }
         ensures fresh { IfOk result (λ s. is_spoiled s.keeper ≡ false) }
     {
-        let mut station = Station { life, keeper };
+        let image = Vec::new(alloc);
+        let mut station = Station {
+            life,
+            keeper,
+            image,
+        };
         match station.save(alloc) {
             Ok(_) => Ok(station),
             Err(fault) => Err((fault, station.keeper.into_disk())),

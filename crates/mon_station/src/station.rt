@@ -19,6 +19,9 @@ use std::alloc::Global;
 pub struct Station<D: Disk + Drop> {
     pub(crate) life: Life,
     pub(crate) keeper: Keeper<D>,
+    /// The last image that was saved, or the beginning of one. Its room is kept from save to save: given back each time, its pages would be asked of the system
+    /// anew.
+    pub(crate) image: Vec<u8>,
 }
 
 impl<D: Disk + Drop> Station<D> {
@@ -99,8 +102,8 @@ impl<D: Disk + Drop> Station<D> {
         ensures spoiled { result ≡ Err (StationFault.Keeper KeeperFault.DiskFault) → is_spoiled self.new.keeper ≡ true }
     {
         self.life.settled();
-        let image = self.life.image(alloc)?;
-        match self.keeper.save(alloc, image.as_slice()) {
+        self.life.image(&mut self.image)?;
+        match self.keeper.save(alloc, self.image.as_slice()) {
             Ok(()) => Ok(told_none(alloc)),
             Err(fault) => Err(StationFault::from(fault)),
         }
