@@ -1,5 +1,4 @@
-use Rattle.std.proofs.Common.{◌≡◌, List, get_or, Result, Ok, Some, sym, ap, subst, ◌∙◌}
-use Rattle.std.proofs.lemmas.List.{get_or_default}
+use Rattle.std.proofs.Common.{◌≡◌, List, Result, Ok, Some, sym, ap, subst, ◌∙◌}
 use Rattle.std.proofs.lemmas.Result.{err_from_is_err_and}
 use Rattle.mon_poller.specs.declared.fault.ResponseFault.{ResponseFault}
 use Rattle.mon_poller.specs.declared.poller.Offered.{Offered}
@@ -7,7 +6,7 @@ use Rattle.mon_poller.specs.declared.target.Target.{Target}
 use Rattle.mon_poller.specs.Gives.{Gives, Fails}
 use Rattle.mon_poller.specs.Poller.{Poller, open_of, poll_in}
 use Rattle.mon_poller.specs.Polls.{Polls, closed}
-use Rattle.mon_poller.specs.Target.{no_target, target_at}
+use Rattle.mon_poller.specs.Target.{target_at}
 use Rattle.mon_poller.specs.Verdict.{awaited, poll_answer, response_verdict, to_offered, ends, after_response}
 use Rattle.mon_poller.proofs.Changes.{ended_open, are_ended}
 use Rattle.mon_poller.proofs.Verdicts.{gives_offered, ends_offered, fails_early, by_answer, ended_by}

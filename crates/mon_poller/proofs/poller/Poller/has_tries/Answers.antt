@@ -1,11 +1,10 @@
-use Rattle.std.proofs.Common.{◌≡◌, ◌↔◌, ◌∙◌, get_or, IsTrue, Some, sym, ap, subst}
+use Rattle.std.proofs.Common.{◌≡◌, ◌↔◌, ◌∙◌, IsTrue, Some, sym, ap, subst}
 use Rattle.std.specs.FinMap as map
-use Rattle.std.proofs.lemmas.List.{get_or_default}
 use Rattle.std.specs.Prelude.{nat_lt, false}
 use Rattle.mon_poller.specs.declared.target.Target.{Target}
 use Rattle.mon_poller.specs.Poller.{Poller, open_of, poll_in}
 use Rattle.mon_poller.specs.Polls.{Polls}
-use Rattle.mon_poller.specs.Target.{no_target, target_at}
+use Rattle.mon_poller.specs.Target.{target_at}
 use Rattle.mon_poller.specs.Verdict.{timeout_verdict, IsSentAgain}
 use Rattle.mon_poller.proofs.Changes.{goes_again, not_again}
 use Rattle.mon_poller.proofs.Slots.{in_none, in_slot}

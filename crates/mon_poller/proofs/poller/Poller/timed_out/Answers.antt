@@ -1,6 +1,5 @@
-use Rattle.std.proofs.Common.{◌≡◌, ◌<◌, ◌≤◌, ◌+◌, get_or, Some, sym, ap, subst, ◌∙◌, arith}
+use Rattle.std.proofs.Common.{◌≡◌, ◌<◌, ◌≤◌, ◌+◌, Some, sym, ap, subst, ◌∙◌, arith}
 use Rattle.std.specs.FinMap as map
-use Rattle.std.proofs.lemmas.List.{get_or_default}
 use Rattle.std.proofs.lemmas.Result.{err_from_is_err_and}
 use Rattle.slab.specs.Slab.{with_value}
 use Rattle.mon_poller.specs.declared.poller.OpenPoll.{OpenPoll}
@@ -8,7 +7,7 @@ use Rattle.mon_poller.specs.declared.poller.TimedOut.TheVariants.{Again, GivenUp
 use Rattle.mon_poller.specs.declared.target.Target.{Target}
 use Rattle.mon_poller.specs.Poller.{Poller, open_of, poll_in}
 use Rattle.mon_poller.specs.Polls.{Polls, timed}
-use Rattle.mon_poller.specs.Target.{no_target, target_at, poll_octets}
+use Rattle.mon_poller.specs.Target.{target_at, poll_octets}
 use Rattle.mon_poller.specs.Verdict.{timeout_verdict, tries_of, IsSentAgain}
 use Rattle.mon_poller.proofs.Changes.{ended_open, are_ended, resent_open, are_resent, not_open, given_up, again, same_poll}
 use Rattle.mon_poller.proofs.Slots.{in_none, in_slot}
