@@ -31,12 +31,12 @@ returns-in-Ok-clause-any_moment g c = λ honest.
     let image = c.in_ok-image.ensures in
     weaker D.moment D.left_since D.may_leave d _ _ _ (finds_either (D.may_leave d) (state_of c.args.self.now.life) _ _ c.as_slice.ensures.value image.written image.spells) (c.in-Ok.ensures.any_moment honest)
 
-pub returns-clause-any_moment : goal.returns-clause-any_moment
-returns-clause-any_moment g c = λ honest.
+pub returns-in-Err-clause-any_moment : goal.returns-in-Err-clause-any_moment
+returns-in-Err-clause-any_moment g c = λ honest.
     let D = g.D.Disk in
     let d = device_of c.args.self.now.keeper in
     let image = c.in_ok-image.ensures in
     weaker D.moment D.left_since D.may_leave d _ _ _ (finds_either (D.may_leave d) (state_of c.args.self.now.life) _ _ c.as_slice.ensures.value image.written image.spells) (c.in-Err.ensures.any_moment honest)
 
-pub returns-clause-answered : goal.returns-clause-answered
-returns-clause-answered g c = save_refused (state_of c.args.self.now.life) c.settled.ensures.settled c.in-Err.fault c.from.result c.from.ensures
+pub returns-in-Err-clause-answered : goal.returns-in-Err-clause-answered
+returns-in-Err-clause-answered g c = save_refused (state_of c.args.self.now.life) c.settled.ensures.settled c.in-Err.fault c.from.result c.from.ensures
