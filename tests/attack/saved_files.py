@@ -5,7 +5,7 @@ The station watches four instances at two agents, with windows and epochs of the
 """
 import images
 import slots
-from claims import sample_of
+from claims import record, sample_of
 from formats import Alarm, Instance, raised, text
 from images import Watched, kept, some_sample, some_sizes, written
 from slots import HEAD, LONGEST, OPEN, SIZE, SLOT
@@ -134,13 +134,20 @@ def station(octets, path, targets):
     return 0, report_of(windows), said, file
 
 
+def counted(chance):
+    """The records of a counter that was asked each ten seconds, by an agent that began anew perhaps."""
+    tag, start, step = chance.choice([0x41, 0x46]), chance.randrange(2**32), chance.randrange(2**31)
+    last = chance.choice([3, 3, 4])
+    return {record(chance.choice([3, last]), 10 * place, 0, tag, (start + step * place) % 2**32) for place in range(chance.choice([2, 5, 20]))}
+
+
 def some_image(chance):
     """An image of the watch in either version, and of some a field that is none, or another watch."""
     version, one = chance.choice([1, 2, 2]), some_sizes(chance)[0]
     entries = []
     for _ in WATCH:
         window, epoch = (one, one) if version == 1 else some_sizes(chance)
-        records = {some_sample(chance) for _ in range(chance.choice([0, 1, 5, 20]))}
+        records = counted(chance) if chance.random() < 0.5 else {some_sample(chance) for _ in range(chance.choice([0, 1, 5, 20]))}
         entries.append((window, epoch, kept(records, window, epoch) if chance.random() < 0.98 else sorted(records)))
     watch = WATCH
     if chance.random() < 0.05:
