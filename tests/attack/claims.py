@@ -5,6 +5,8 @@ A claim, all numbers with the greatest octet first: MX, version 1, kind 1 (Offer
 serial of 4 octets, the length of the engine id and its octets, the count of the name's sub-identifiers and these of 4 octets,
 the count of the samples and these of 21 octets: boots 4, time 4, mark 4, tag 1, value 8.
 """
+from formats import Sample
+
 NOT_A_CLAIM, BAD_VERSION, BAD_SAMPLE = "2 NotAClaim", "3 BadVersion", "4 BadSample"
 NOT_RISING, BAD_NAME, UNKNOWN_PEER, UNKNOWN_INSTANCE = "5 NotRising", "6 BadName", "7 UnknownPeer", "8 UnknownInstance"
 KINDS = {0x02: "Integer", 0x41: "Counter32", 0x42: "Gauge32", 0x43: "TimeTicks", 0x46: "Counter64"}
@@ -39,6 +41,12 @@ def is_record(octets):
     if tag == 0x02:
         return value < 2**31 or value >= 2**64 - 2**31
     return tag == 0x46 or value < 2**32
+
+
+def sample_of(octets):
+    """The sample that a record spells."""
+    boots, time, mark = (int.from_bytes(octets[at:at + 4], "big") for at in (0, 4, 8))
+    return Sample(boots, time, mark, KINDS[octets[12]], int.from_bytes(octets[13:], "big", signed=octets[12] == 0x02))
 
 
 class Octets:

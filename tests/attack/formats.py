@@ -47,6 +47,25 @@ class Instance:
         return 1000 * delta // span if span else None
 
 
+def observed(before, sample):
+    """What an alarm observes at a sample, in thousandths: its value, or of a counter the rate since the sample before, or None."""
+    if sample.kind not in COUNTERS:
+        return 1000 * sample.value
+    return Instance("", "", [before, sample]).rate() if before else None
+
+
+def raised(rising, falling, samples):
+    """The stamp of the observation that raises an alarm, or None: the earliest of at least `rising` after which all are above `falling`."""
+    stamp = None
+    for before, it in zip([None, *samples], samples):
+        seen = observed(before, it)
+        if seen is not None and seen <= falling:
+            stamp = None
+        elif seen is not None and seen >= rising and stamp is None:
+            stamp = it.boots, it.time
+    return stamp
+
+
 def points(thousandths):
     return f"{thousandths // 1000}.{thousandths % 1000:03}"
 

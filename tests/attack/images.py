@@ -149,3 +149,17 @@ def row(watch, octets):
 
 def line(watch, octets):
     return f"{','.join(map(str, watch))} {octets.hex()}"
+
+
+def some_sample(chance):
+    """A record, most often of few boots and times, so that epochs fill and samples tie."""
+    boots, time = chance.choice([0, 1, 2, 3, 2**31 - 1]), chance.randrange(40)
+    tag = chance.choice([0x02, 0x41, 0x42, 0x43, 0x46])
+    value = chance.choice([0, 1, 2**31 - 1, chance.randrange(2**31)])
+    return boots.to_bytes(4, "big") + time.to_bytes(4, "big") + chance.choice([0, 0, 5]).to_bytes(4, "big") + bytes([tag]) + value.to_bytes(8, "big")
+
+
+def some_sizes(chance):
+    """A window and an epoch."""
+    window = chance.choice([1, 2, 3, 8, 63, 64, chance.randrange(1, 65)])
+    return window, chance.choice([1, window, chance.randrange(1, window + 1)])
