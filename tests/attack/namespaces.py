@@ -1,4 +1,4 @@
-"""Where the hosts of a world are, and the relays between them: in network namespaces, or on loopback where none can be had.
+"""Where the hosts of a world are, and the relays between them: in network namespaces, or on loopback where those cannot be had.
 
 Of namespaces there is one of the relays and one of each host, which has a link to that of the relays and to no other. In the net between the
 relays and host 3 each host n has the address 10.3.0.n; all but that of host 3 itself are addresses of the relays, so a host reaches another one by
@@ -53,9 +53,9 @@ class Namespaces:
         for host, namespace in enumerate(self.hosts, 1):
             links += f"link add host{host} type veth peer name relays netns /proc/{os.getpid()}/fd/{namespace}\nlink set host{host} up\n"
             links += "".join(f"address add 10.{host}.0.{other}/24 dev host{host}\n" for other in range(1, count + 1) if other != host)
-        self.set(self.relays, links)
+        self.configure(self.relays, links)
         for host, namespace in enumerate(self.hosts, 1):
-            self.set(namespace, f"address add 10.{host}.0.{host}/24 dev relays\nlink set relays up\n")
+            self.configure(namespace, f"address add 10.{host}.0.{host}/24 dev relays\nlink set relays up\n")
         self.try_links()
 
     def made(self):
@@ -74,7 +74,7 @@ class Namespaces:
         finally:
             call("setns", self.home, NEW_NETWORK)
 
-    def set(self, namespace, lines):
+    def configure(self, namespace, lines):
         """Has `ip` do what these lines say."""
         ip = shutil.which("ip", path=os.environ.get("PATH", "") + ":/usr/sbin:/sbin")
         if ip is None:

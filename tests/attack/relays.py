@@ -1,11 +1,11 @@
 """Relays between hosts, which lose, repeat and reorder datagrams by a seed, and what they know of the lives of stations: what each held when it
 began, which polls it sent and when, what it was handed, and so what its file may hold after it.
 
-That is exact but for what is in doubt. A station hears what it is handed in order, and no wait of it is quiet while there is something to be
-heard: so what came before a round began was heard by the end of that round, and saved. A claim is always taken. The first response to a poll is
-taken while the poll is open, which it is for a wait (`wait_ms`) after it was sent last, and the system says when that was; any other is refused, and so is
-each one once the station has begun a later round. What comes between these two, or while a station opens or is killed, the relays lose, since nobody
-could say what becomes of it. In doubt is a response that the relays were held up in handing over; it may be taken or not.
+A station hears what it is handed in order, and no wait of it is quiet while there is something to be heard; so what came before a round began was
+heard by the end of that round, and then saved. A claim is always taken. The first response to a poll is taken while the poll is open, and it is open
+for a wait (`wait_ms`) after it was sent last, of which the system tells the time; any other response is refused, and so is each one once a later
+round has begun. What comes between these two, or while a station opens or is killed, the relays lose, since nobody could say what becomes of it.
+So all is exact but what is in doubt: a response that the relays looked at in time, and were held up in handing over, may be taken or not.
 """
 import heapq
 import itertools
@@ -85,9 +85,9 @@ class Life:
         return handed.poll is None or handed.at < self.asked[handed.poll] + SURE
 
     def is_saved(self, handed):
-        """Whether what it took was surely saved: it was heard in a round that is over."""
-        if handed.poll is not None:
-            return self.is_over(handed.poll)
+        """Whether this was surely heard in a round that is over: in that of its poll, or in one that began after it came."""
+        if handed.poll is not None and self.is_sure(handed) and self.is_over(handed.poll):
+            return True
         return sum(began > handed.at for began in self.rounds) > 1
 
     def least(self):
@@ -95,7 +95,7 @@ class Life:
         return self.held.union(*(it.samples for it in self.handed if self.is_sure(it)))
 
     def may_leave(self, found):
-        """Whether its file may hold this after it: of what it held, and what it took of a beginning of all that it was handed, in which all is that was saved."""
+        """Whether its file may hold this after it: what it held, and what it took of a beginning of what it was handed, with all that was saved."""
         saved = max((count for count, it in enumerate(self.handed, 1) if self.is_saved(it)), default=0)
         least, most = set(self.held), set(self.held)
         for count, it in enumerate(self.handed):
@@ -127,7 +127,7 @@ def sent_at(ancillary):
 
 
 class Net(threading.Thread):
-    """The relays between stations of these numbers and other hosts, which are agents. `wrong` tells what stations sent that they may not send."""
+    """The relays between stations of these numbers and other hosts, which are agents. `wrong` tells of a datagram that no station sends."""
 
     def __init__(self, places, stations, seed, loss):
         super().__init__(daemon=True)
@@ -171,7 +171,7 @@ class Net(threading.Thread):
         return self.random.random() * (SHORT if self.random.random() < 0.9 else LONG)
 
     def noted(self, one, other, octets, sent):
-        """The datagram, which the life that sent it is known by."""
+        """A datagram, of which the life that sent it learns."""
         if one not in self.lives:
             _, _, numbers, bindings = messages.read(octets)
             return Datagram(octets, samples_of(bindings), numbers[0])
@@ -182,8 +182,8 @@ class Net(threading.Thread):
             return Datagram(octets)
         _, station, incarnation, _, engine, name, records = claims.read(octets)
         samples = frozenset((engine, tuple(name), record) for record in records)
-        life = next(it for it in reversed(self.lives[station]) if it.incarnation == incarnation)
-        life.surplus |= samples - life.most
+        lives = [it for it in self.lives[one] if (one, it.incarnation) == (station, incarnation)]
+        lives[-1].surplus |= samples - lives[-1].most
         return Datagram(octets, samples)
 
     def send_on(self):
@@ -199,8 +199,8 @@ class Net(threading.Thread):
 
     def hand_over(self, one, station, datagram):
         with self.lock:
-            life = self.lives[station][-1]
-            is_taken = life.takes(datagram, time.time_ns())
+            life = self.lives[station][-1] if self.lives[station] else None
+            is_taken = life and life.takes(datagram, time.time_ns())
             if is_taken is None:
                 return
             self.put(one, station, datagram)
@@ -217,7 +217,8 @@ class Net(threading.Thread):
 
     def run(self):
         # On one processor, so that what is sent to a host comes to it in this order.
-        os.sched_setaffinity(0, {self.random.choice(sorted(os.sched_getaffinity(0)))})
+        processors = sorted(os.sched_getaffinity(0))
+        os.sched_setaffinity(0, {processors[os.getpid() % len(processors)]})
         try:
             while not self.is_over:
                 self.turn()
@@ -225,12 +226,16 @@ class Net(threading.Thread):
             # Whatever it is, the world has no net any more, and has to say so.
             self.wrong.append(traceback.format_exc())
 
-    def close(self):
+    def end(self):
         self.is_over = True
         if self.is_alive():
             self.join()
+
+    def close(self):
+        self.end()
         for key in list(self.selector.get_map().values()):
             key.fileobj.close()
+        self.selector.close()
 
 
 def samples_of(bindings):
