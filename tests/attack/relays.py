@@ -94,8 +94,9 @@ class Life:
         """What it held when it began, and what it surely took."""
         return self.held.union(*(it.samples for it in self.handed if self.is_sure(it)))
 
-    def may_leave(self, found):
-        """Whether its file may hold this after it: what it held, and what it took of a beginning of what it was handed, with all that was saved."""
+    def limits(self, found):
+        """The least and the most that its file may hold after it, where this was found: what it held, and what it took of a beginning of all that it was
+        handed, the shortest one with all that was saved and, if that can be, all that was found."""
         saved = max((count for count, it in enumerate(self.handed, 1) if self.is_saved(it)), default=0)
         least, most = set(self.held), set(self.held)
         for count, it in enumerate(self.handed):
@@ -103,12 +104,7 @@ class Life:
                 break
             most |= it.samples
             least |= it.samples if self.is_sure(it) else set()
-        return are_kept(self.window, found, least, most)
-
-
-def are_kept(window, found, least, most):
-    """Whether windows keep this of samples that are all of the least ones and some of the most."""
-    return found <= most and kept(window, least | found) == found
+        return least, most
 
 
 def kept(window, samples):
