@@ -95,8 +95,8 @@ class Life:
         return self.held.union(*(it.samples for it in self.handed if self.is_sure(it)))
 
     def limits(self, found):
-        """The least and the most that its file may hold after it, where this was found: what it held, and what it took of a beginning of all that it was
-        handed, the shortest one with all that was saved and, if that can be, all that was found."""
+        """The least and the most that its file may hold after it, where this was found: what it held, and what it took of a beginning of what it
+        was handed, the shortest one with all that was saved and, if that can be, all that was found."""
         saved = max((count for count, it in enumerate(self.handed, 1) if self.is_saved(it)), default=0)
         least, most = set(self.held), set(self.held)
         for count, it in enumerate(self.handed):
