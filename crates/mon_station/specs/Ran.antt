@@ -142,3 +142,11 @@ abbrev pub AreCalls : Run → ℕ → Type 0 → Type 0
 AreCalls run turns ended =
     ((run.turns ≡ turns) × (run.turns ≡ length run.answers.items + run.source_faults))
     ⊎ ((run.turns ≤ turns) × (run.turns ≡ length run.answers.items + run.source_faults + 1) × ended)
+
+-- a run in which nothing was done
+pub record IsEmpty (run : Run) : Type 0 where
+  pub answers : run.answers.items ≡ []
+  pub turns : run.turns ≡ 0
+  pub refused : run.refused ≡ 0
+  pub source_faults : run.source_faults ≡ 0
+  pub send_faults : run.send_faults ≡ 0

@@ -1,9 +1,9 @@
 //! Running a station: events from a source, datagrams to an outbox.
 
-ghost use Rattle.std.specs.Prelude.{◌≡◌, ◌≤◌, ◌<◌, ◌+◌, ◌∷◌, [], false, ℕ, IfErr, IfOk, List, OnErr, Option, Some, length, vec_capacity};
+ghost use Rattle.std.specs.Prelude.{◌≡◌, ◌≤◌, ◌<◌, ◌+◌, ◌∷◌, [], false, ℕ, IfErr, IsOk, List, OnErr, OnOk, Option, Some, length, vec_capacity};
 ghost use Rattle.mon_edge.specs.Told.{extended};
 ghost use Rattle.mon_station.specs.Ran as ran;
-ghost use Rattle.mon_station.specs.Ran.{AreCalls, HasFailed, Ran, failures_after, faults_in};
+ghost use Rattle.mon_station.specs.Ran.{AreCalls, HasFailed, IsEmpty, Ran, failures_after, faults_in};
 ghost use Rattle.mon_station.specs.Turned.{IsCounted, Turned};
 ghost use Rattle.mon_station.specs.State.{State};
 ghost use Rattle.mon_station.specs.declared.event.Outgoing.{Outgoing as AnyOutgoing};
@@ -14,7 +14,7 @@ use crate::fault::StationFault;
 use crate::station::Station;
 use mon_disk::Disk;
 use mon_edge::failed_after;
-use std::alloc::Global;
+use std::alloc::{AllocError, Global};
 use thiserror::Error;
 
 /// A source could not give an event; it has counted that.
@@ -83,7 +83,7 @@ pub enum Answer {
     Keeper(u8),
 }
 
-/// What a run did.
+/// What a run did. The room of its answers is kept from run to run.
 #[derive(Drop)]
 pub struct Run {
     /// How often the source was asked.
@@ -98,48 +98,75 @@ pub struct Run {
     pub send_faults: u64,
 }
 
+impl Run {
+    /// One that did nothing.
+    pub fn new(alloc: Global) -> Self
+        ensures { IsEmpty result }
+    {
+        Run {
+            turns: 0,
+            answers: Vec::new(alloc),
+            refused: 0,
+            source_faults: 0,
+            send_faults: 0,
+        }
+    }
+
+    /// Forgets what was done, and takes the room for so many answers where there is less.
+    fn begin(&mut self, turns: u64) -> Result<(), AllocError>
+        ensures empty { IsEmpty self.new }
+        ensures room { OnOk result (turns ≤ vec_capacity self.new.answers) }
+        ensures spared { turns ≤ vec_capacity self.old.answers → IsOk result }
+    {
+        self.turns = 0;
+        self.refused = 0;
+        self.source_faults = 0;
+        self.send_faults = 0;
+        self.answers.clear();
+        self.answers.reserve(turns as usize)
+    }
+}
+
 impl<D: Disk + Drop> Station<D> {
     ghost use Rattle.mon_disk.specs.Kept.{device_of};
     ghost use Rattle.mon_station.specs.State.{setting_of, state_of};
 
-    /// Handles what a source gives, until it ends or was asked so many times. A fault of the source and a refused event are counted, and
-    /// a datagram that could not be sent is lost; the run goes on.
+    /// Handles what a source gives, until it ends or was asked so many times, and tells in `run` what was done, in place of what stands there. A fault of the
+    /// source and a refused event are counted, and a datagram that could not be sent is lost; the run goes on.
     ///
     /// # Errors
-    /// `OutOfMemory` where there is no room for the answers, which is taken first; then nothing was asked.
+    /// `OutOfMemory` where there is no room for the answers, which is taken first where `run` has less; then nothing was asked.
     pub fn run<S: Source, O: Outbox>(
         &mut self,
         alloc: Global,
         source: &mut S,
         outbox: &mut O,
         turns: u64,
-    ) -> Result<Run, StationFault>
-        ensures ran { IfOk result (λ run. Ran (state_of self.old.life) (state_of self.new.life) (S.given source.old) (S.given source.new) (O.handed outbox.old) (O.handed outbox.new)
-            (D.is_honest (device_of self.old.keeper)) (D.is_honest (device_of self.new.keeper)) (D.may_leave (device_of self.old.keeper)) (D.may_leave (device_of self.new.keeper)) run.answers.items) }
-        ensures calls { IfOk result (λ run. AreCalls run turns (S.has_ended source.new)) }
-        ensures refused { IfOk result (λ run. run.refused ≡ faults_in run.answers.items) }
-        ensures source { IfOk result (λ run. S.failures source.new ≡ failures_after run.source_faults (S.failures source.old)) }
-        ensures outbox { IfOk result (λ run. HasFailed (O.failures outbox.old) (O.failures outbox.new) run.send_faults) }
+        run: &mut Run,
+    ) -> Result<(), StationFault>
+        ensures ran { OnOk result (Ran (state_of self.old.life) (state_of self.new.life) (S.given source.old) (S.given source.new) (O.handed outbox.old) (O.handed outbox.new)
+            (D.is_honest (device_of self.old.keeper)) (D.is_honest (device_of self.new.keeper)) (D.may_leave (device_of self.old.keeper)) (D.may_leave (device_of self.new.keeper)) run.new.answers.items) }
+        ensures calls { OnOk result (AreCalls run.new turns (S.has_ended source.new)) }
+        ensures refused { OnOk result (run.new.refused ≡ faults_in run.new.answers.items) }
+        ensures source { OnOk result (S.failures source.new ≡ failures_after run.new.source_faults (S.failures source.old)) }
+        ensures outbox { OnOk result (HasFailed (O.failures outbox.old) (O.failures outbox.new) run.new.send_faults) }
         ensures fault { IfErr result (λ f. f ≡ StationFault.OutOfMemory) }
+        ensures nothing { OnErr result (IsEmpty run.new) }
+        // Where the run has the room it is not refused, and it keeps it.
+        ensures spared { turns ≤ vec_capacity run.old.answers → IsOk result }
+        ensures room { OnOk result (turns ≤ vec_capacity run.new.answers) }
         ensures same { OnErr result (self.new ≡ self.old) }
         ensures same_source { OnErr result (source.new ≡ source.old) }
         ensures same_outbox { OnErr result (outbox.new ≡ outbox.old) }
     {
-        let answers = Vec::with_capacity(alloc, turns as usize)?;
-        let mut run = Run {
-            turns: 0,
-            answers,
-            refused: 0,
-            source_faults: 0,
-            send_faults: 0,
-        };
+        run.begin(turns)?;
         for turn in 0..turns {
             run.turns = turn + 1;
-            if !self.take_turn(alloc, source, outbox, &mut run) {
-                return Ok(run);
+            if !self.take_turn(alloc, source, outbox, run) {
+                return Ok(());
             }
         }
-        Ok(run)
+        Ok(())
     }
 
     /// Asks the source, and handles what it gives. Says whether the source goes on.

@@ -3,7 +3,7 @@
 use crate::failure::Failure;
 use crate::fault::Fault;
 use crate::files::print;
-use crate::naming::{identifier, names_of};
+use crate::naming::{asked_for, names_of};
 use clap::ArgMatches;
 use mon_app::{
     AppFault, Asking, Question, Repeats, SocketWire, ValueKind, answer_text, status_name, value_of,
@@ -132,7 +132,7 @@ fn community<'a>(alloc: Global, words: &ArgMatches<'a>) -> Result<&'a [u8], Fail
 fn asked(alloc: Global, words: &ArgMatches<'_>, known: &Names) -> Result<Vec<Oid>, Failure> {
     let mut asked = Vec::new(alloc);
     for word in words.get_raw("NAME").unwrap_or(&[]) {
-        asked.push(identifier(alloc, known, word)?)?;
+        asked.push(asked_for(alloc, known, word)?)?;
     }
     Ok(asked)
 }

@@ -3,18 +3,17 @@
 ghost use Rattle.std.specs.Prelude.{◌≤◌};
 
 use crate::agent::{agent, answer};
-use crate::choice::Choice;
 use crate::client::{bulk, get, next, set, walk};
 use crate::failure::Failure;
 use crate::files::{print, read_input, read_text};
 use crate::listing::list;
 use crate::printing::Printing;
 use crate::station::{rehearsal, report, self_test, station};
-use crate::words::{VERSION, command};
 use clap::ArgMatches;
 use clap::error::ErrorKind;
 use mon_app::Recorded;
 use mon_smi::Names;
+use mon_words::{Choice, VERSION, command};
 use std::alloc::AllocError;
 use std::fs::File;
 use std::net::Net;
@@ -85,19 +84,20 @@ fn run<R: Clock + Files<File = File> + Net + Input + Print + Eprint + AllocGloba
         return replay(rt, USUAL_SIZE);
     };
     match Choice::named(name) {
-        Choice::Get => get(rt, words),
-        Choice::Next => next(rt, words),
-        Choice::Bulk => bulk(rt, words),
-        Choice::Walk => walk(rt, words),
-        Choice::Set => set(rt, words),
-        Choice::Agent => agent(rt, words),
-        Choice::Answer => answer(rt, words),
-        Choice::Mib => mib(rt, words),
-        Choice::Station => station(rt, words),
-        Choice::Report => report(rt, words),
-        Choice::SelfTest => self_test(rt),
-        Choice::Rehearse => rehearsal(rt, words),
-        Choice::Replay => replaying(rt, words),
+        Some(Choice::Get) => get(rt, words),
+        Some(Choice::Next) => next(rt, words),
+        Some(Choice::Bulk) => bulk(rt, words),
+        Some(Choice::Walk) => walk(rt, words),
+        Some(Choice::Set) => set(rt, words),
+        Some(Choice::Agent) => agent(rt, words),
+        Some(Choice::Answer) => answer(rt, words),
+        Some(Choice::Mib) => mib(rt, words),
+        Some(Choice::Station) => station(rt, words),
+        Some(Choice::Report) => report(rt, words),
+        Some(Choice::SelfTest) => self_test(rt),
+        Some(Choice::Rehearse) => rehearsal(rt, words),
+        // The command line knows no other words.
+        Some(Choice::Replay) | None => replaying(rt, words),
     }
 }
 

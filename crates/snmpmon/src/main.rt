@@ -6,7 +6,6 @@
 
 mod agent;
 mod answering;
-mod choice;
 mod client;
 mod commands;
 mod failure;
@@ -18,7 +17,6 @@ mod printing;
 mod settings;
 mod station;
 mod telling;
-mod words;
 
 use std::process::ExitCode;
 

@@ -5,7 +5,7 @@ use crate::fault::Fault;
 use crate::files::read_text;
 use clap::ArgMatches;
 use mon_oid::Oid;
-use mon_smi::{Names, Position, TextFault, read_module};
+use mon_smi::{Names, NamesFault, Position, TextFault, read_module};
 use std::alloc::Global;
 use std::rt::Files;
 
@@ -52,10 +52,28 @@ pub fn no_module(alloc: Global, path: &str, text: &str, fault: TextFault) -> Fai
     }
 }
 
-/// The identifier that a word means.
+/// The identifier that a name of a module means.
 pub fn identifier(alloc: Global, names: &Names, word: &str) -> Result<Oid, Failure> {
     match names.resolve(alloc, word) {
         Ok(oid) => Ok(oid),
         Err(fault) => Err(Failure::at(alloc, word, Fault::Names(fault))),
     }
+}
+
+/// The identifier that a word of the command line means. Where its name is not defined, the fault says what would define it.
+pub fn asked_for(alloc: Global, names: &Names, word: &str) -> Result<Oid, Failure> {
+    match names.resolve(alloc, word) {
+        Ok(oid) => Ok(oid),
+        Err(NamesFault::Unknown) => Err(unnamed(alloc, word)),
+        Err(fault) => Err(Failure::at(alloc, word, Fault::Names(fault))),
+    }
+}
+
+/// A word whose name is not defined.
+fn unnamed(alloc: Global, word: &str) -> Failure {
+    let fault = NamesFault::Unknown;
+    Failure::said(
+        Fault::Names(fault),
+        format!(in alloc; "{word}: {fault}; --module FILE gives the names of a module"),
+    )
 }

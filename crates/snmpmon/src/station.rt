@@ -38,6 +38,8 @@ use std::time::{Duration, Instant};
 struct Running<S: Receiver + Drop, O: Outbox + Drop> {
     station: Station<FileDisk>,
     lines: Lines<S, O>,
+    /// What the last round, or the time after it, did.
+    run: Run,
     alarms: Vec<AlarmState>,
     reports: Reports,
     taken: u64,
@@ -157,6 +159,7 @@ fn one_round<R: Eprint + AllocGlobal, S: Receiver + Drop, O: Outbox + Drop>(
         &mut running.station,
         &mut running.lines.rounds,
         &mut running.lines.outbox,
+        &mut running.run,
     );
     after(rt, running, number, ran);
 }
@@ -309,6 +312,7 @@ fn begun<R: Eprint + AllocGlobal, S: Receiver + Drop, O: Outbox + Drop>(
     Ok(Running {
         station,
         lines,
+        run: Run::new(alloc),
         alarms,
         reports,
         taken: 0,
@@ -321,10 +325,10 @@ fn after<R: Eprint + AllocGlobal, S: Receiver + Drop, O: Outbox + Drop>(
     rt: &R,
     running: &mut Running<S, O>,
     number: u32,
-    ran: Result<Run, StationFault>,
+    ran: Result<(), StationFault>,
 ) {
     let told = match ran {
-        Ok(run) => told_of(rt, running, number, &run),
+        Ok(()) => told_of(rt, running, number),
         Err(fault) => Err(Failure::from(fault)),
     };
     if let Err(failure) = told {
@@ -336,14 +340,13 @@ fn told_of<R: Eprint + AllocGlobal, S: Receiver + Drop, O: Outbox + Drop>(
     rt: &R,
     running: &mut Running<S, O>,
     number: u32,
-    run: &Run,
 ) -> Result<(), Failure> {
     let alloc = rt.alloc();
     let oldest = running.station.oldest();
     let report = RoundReport::of(
         alloc,
         running.lines.rounds.round(),
-        run,
+        &running.run,
         oldest,
         &mut running.lines.log,
     )?;
@@ -376,6 +379,7 @@ fn pause<R: Clock + Eprint + AllocGlobal, S: Receiver + Drop, O: Outbox + Drop>(
             &mut running.lines.rounds,
             &mut running.lines.outbox,
             left,
+            &mut running.run,
         );
         after(rt, running, number, ran);
     }

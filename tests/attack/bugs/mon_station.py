@@ -141,6 +141,26 @@ BUGS = {
         "        *send_faults = failed_after(*send_faults, &outbox.send(out));",
         "        let _ = failed_after(*send_faults, &outbox.send(out));",
     ),
+    "keeps_the_answers_of_the_run_before": (
+        "src/running.rt",
+        "        self.answers.clear();\n",
+        "",
+    ),
+    "counts_on_from_the_run_before": (
+        "src/running.rt",
+        "        self.refused = 0;\n",
+        "",
+    ),
+    "takes_room_for_one_answer": (
+        "src/running.rt",
+        "        self.answers.reserve(turns as usize)",
+        "        self.answers.reserve(1)",
+    ),
+    "a_run_that_has_room_is_refused": (
+        "src/running.rt",
+        "        run.begin(turns)?;",
+        "        run.begin(turns)?;\n        if turns > 0 {\n            return Err(StationFault::OutOfMemory);\n        }",
+    ),
     "turns_from_0": (
         "src/running.rt",
         "            run.turns = turn + 1;",

@@ -7,7 +7,7 @@ use Rattle.mon_station.proofs.station.Station.run.Goals as goal
 
 pub loop-turn-init : goal.loop-turn-init
 loop-turn-init g c =
-    let none = c.in_ok-answers.ensures.items in
+    let none = c.begin.ensures.empty in
     record {
       room = search rules;
       turns = refl;

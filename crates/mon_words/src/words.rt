@@ -11,7 +11,7 @@ const ABOUT: &str =
 const MORE: &str = "With no command it does `replay 8`.
 
 A fault ends a command with status 1 and the line `snmpmon: CRATE NUMBER NAME` on standard error; mostly a second line
-says what was wrong and where. Words that cannot be read end it with status 2 and the usage.";
+says what was wrong and where. Words that cannot be read end it with status 2 and a line that says why.";
 
 /// The name and the version, as `--version` prints them.
 pub const VERSION: &str = "snmpmon 0.1.0\n";
@@ -279,7 +279,8 @@ const AGENT_MORE: &str =
     "Reads SETTINGS, a TOML file (examples/agent.toml explains each key), listens at the address in it, says on standard
 error where, and answers as many datagrams as --count says: Get, GetNext, GetBulk and Set requests of the communities in the settings.
 
-A fault in SETTINGS ends the command before it listens, with one line as `snmpmon: mon_settings 4 BadValue`. A datagram for which
+A fault in SETTINGS ends the command before it listens, with the line `snmpmon: mon_settings 4 BadValue`, say, and a second one that
+tells the line of SETTINGS, the key and what is wanted there. A datagram for which
 memory runs out is not answered and changes nothing: the line `snmpmon: mon_app 1 OutOfMemory` tells, and the agent goes on.
 
 Example: snmpmon agent examples/agent.toml --count 1000";
@@ -409,7 +410,8 @@ end it prints the report of its windows, as `report` does; --out writes it to a 
 Standard error tells where it listens and by which incarnation, for each round which targets gave up or were refused and why,
 and each alarm that changed. What is refused ends no round; docs/OPERATE.md tells what each line means.
 
-A damaged file ends it with mon_disk 5 Damaged, one of other instances with mon_saved 4 OtherWatch, and neither is touched.
+A damaged file ends it with mon_disk 5 Damaged, one of other instances with mon_saved 4 OtherWatch, and neither is touched. A file
+that is shorter than a station's, or in which no save was ever finished, counts as new.
 
 Examples: snmpmon station examples/station.toml --rounds 6 --interval 10
           snmpmon station examples/station.toml --rounds 6 --interval 10 --format prometheus --out snmpmon.prom";
