@@ -1,21 +1,23 @@
-use Rattle.std.proofs.Common.{length, refl, sym, ap, arith, rules}
+use Rattle.std.proofs.Common.{length, sym, ap, subst, ◌∙◌, arith, rules}
 use Rattle.mon_disk.specs.Kept.{device_of}
-use Rattle.mon_station.specs.Ran.{faults_in}
+use Rattle.mon_station.specs.Ran.{HasFailed, IsEmpty, failures_after, faults_in}
 use Rattle.mon_station.specs.State.{state_of}
 use Rattle.mon_station.proofs.Runs.{none_failed, ran_nothing, room_left}
 use Rattle.mon_station.proofs.station.Station.run.Goals as goal
 
 pub loop-turn-init : goal.loop-turn-init
 loop-turn-init g c =
-    let none = c.begin.ensures.empty in
+    let begun : IsEmpty c.begin.new.self = c.begin.ensures.empty in
+    let source = g.S.Source.failures c.args.source.now in
+    let outbox = g.O.Outbox.failures c.args.outbox.now in
     record {
       room = search rules;
-      turns = refl;
-      calls = omega (arith, ap length none);
-      source = refl;
-      outbox = none_failed (g.O.Outbox.failures c.args.outbox.now);
-      refused = sym (ap faults_in none);
-      ran = ran_nothing (state_of c.args.self.now.life) _ _ _ _ _ none;
+      turns = begun.turns;
+      calls = omega (arith, ap length begun.answers, begun.source_faults);
+      source = sym (ap (λ n. failures_after n source) begun.source_faults);
+      outbox = subst (λ n. HasFailed outbox outbox n) (sym begun.send_faults) (none_failed outbox);
+      refused = begun.refused ∙ sym (ap faults_in begun.answers);
+      ran = ran_nothing (state_of c.args.self.now.life) _ _ _ _ _ begun.answers;
     }
 
 pub take_turn-requires-clause-refused : goal.take_turn-requires-clause-refused
