@@ -106,26 +106,6 @@ pub fn put_samples(out: &mut Vec<u8>, samples: &[Sample])
     ensures samples { AllByRecursion IsSample samples.now }
 {
     for sample in samples {
-        put_sample(out, sample);
+        put_octets(out, &sample.to_record());
     }
-}
-
-/// Appends a sample's record, field by field, since the octets of a field are then written at once.
-fn put_sample(out: &mut Vec<u8>, sample: &Sample)
-    requires room { vec_len out.old + 21 ≤ vec_capacity out.old }
-    ensures items { out.new.items ≡ out.old.items ++ octets_of sample.now }
-    ensures len { vec_len out.new ≡ vec_len out.old + 21 }
-    ensures capacity { vec_capacity out.old ≤ vec_capacity out.new }
-    ensures sample { IsSample sample.now }
-{
-    let record = sample.to_record();
-    let (boots, rest) = record.split_at(4);
-    let (time, rest) = rest.split_at(4);
-    let (mark, rest) = rest.split_at(4);
-    let (tag, value) = rest.split_at(1);
-    put_octets(out, boots);
-    put_octets(out, time);
-    put_octets(out, mark);
-    put_octets(out, tag);
-    put_octets(out, value);
 }

@@ -81,14 +81,4 @@ BUGS = {
         "    put_octet(out, parts.len() as u8);",
         "    put_octet(out, engine.len() as u8);",
     ),
-    "a_samples_mark_before_its_time": (
-        "src/writing.rt",
-        "    put_octets(out, time);\n    put_octets(out, mark);",
-        "    put_octets(out, mark);\n    put_octets(out, time);",
-    ),
-    "a_sample_without_its_last_octets": (
-        "src/writing.rt",
-        "    put_octets(out, value);",
-        "    put_octets(out, tag);",
-    ),
 }
