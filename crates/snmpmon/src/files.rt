@@ -68,7 +68,18 @@ pub fn read_text<R: Files + AllocGlobal>(rt: &R, path: &str) -> Result<String, F
     };
     match read_all(alloc, &mut file) {
         Ok(octets) => text_of(alloc, path, octets),
-        Err(fault) => Err(unread(alloc, path, fault)),
+        Err(fault) => Err(unread_file(rt, path, fault)),
+    }
+}
+
+/// A file that could not be read to its end. Of a folder the cause is told.
+fn unread_file<R: Files + AllocGlobal>(rt: &R, path: &str, fault: AppFault) -> Failure {
+    let alloc = rt.alloc();
+    match fs::metadata(rt, path) {
+        Ok(found) if found.is_dir() => {
+            Failure::stream(alloc, path, io::Error::from(io::ErrorKind::IsADirectory))
+        }
+        _ => unread(alloc, path, fault),
     }
 }
 
