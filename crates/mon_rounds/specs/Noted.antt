@@ -19,6 +19,10 @@ is_stranger targets (Timeout id) = false
 is_stranger targets (Share peer) = false
 is_stranger targets Save = false
 
+-- how many of these events are datagrams of strangers, as far as 32 bits go
+abbrev pub strangers_in : List Addr → List RoundEvent → ℕ
+strangers_in targets events = min (length (filter (is_stranger targets) events)) (2 ^ 32 - 1)
+
 -- what is told of a refused event. A timeout and a save are not refused: they meet want of memory and the keeper's faults.
 abbrev pub notice_of : RoundEvent → StationFault → Option Notice
 notice_of (StartPoll target) fault = Some (notice.NotPolled target fault)

@@ -1,7 +1,7 @@
 //! What an operator is told of a round.
 
 ghost use Rattle.std.specs.Prelude.{◌≡◌, IfOk};
-ghost use Rattle.mon_rounds.specs.Noted.{gave_up, is_given_up, is_stranger, notice_of, samples_in, samples_taken};
+ghost use Rattle.mon_rounds.specs.Noted.{gave_up, is_given_up, is_stranger, notice_of, samples_in, samples_taken, strangers_in};
 ghost use Rattle.mon_rounds.specs.Order.{datagrams_in};
 
 use crate::round::{Round, RoundEvent};
@@ -140,7 +140,9 @@ fn refused(event: RoundEvent, fault: StationFault) -> Option<Notice>
 }
 
 /// How many of these events are datagrams from an address that is no target's and no peer's.
-fn count_strangers(round: &Round, events: &[RoundEvent]) -> u32 {
+fn count_strangers(round: &Round, events: &[RoundEvent]) -> u32
+    ensures { result ≡ strangers_in round.now.targets events.now }
+{
     let mut count: u32 = 0;
     for event in events {
         if is_stranger(round, *event) {
@@ -177,6 +179,7 @@ impl RoundReport {
         log: &mut PollLog,
     ) -> Result<Self, AllocError>
         ensures datagrams { IfOk result (λ r. r.datagrams ≡ datagrams_in round.now.events) }
+        ensures strangers { IfOk result (λ r. r.strangers ≡ strangers_in round.now.targets round.now.events) }
         ensures source { IfOk result (λ r. r.source_faults ≡ run.now.source_faults) }
         ensures sends { IfOk result (λ r. r.send_faults ≡ run.now.send_faults) }
         ensures taken { IfOk result (λ r. r.taken ≡ samples_taken run.now.answers.items) }

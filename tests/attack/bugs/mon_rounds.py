@@ -133,4 +133,14 @@ BUGS = {
         "        if self.addresses.is_peer(from) {",
         "        if self.addresses.is_target(from) {",
     ),
+    "counts_every_datagram_as_a_strangers": (
+        "src/reporting.rt",
+        "            strangers: count_strangers(round, events),",
+        "            strangers: round.datagrams(),",
+    ),
+    "counts_peers_as_strangers": (
+        "src/reporting.rt",
+        "        RoundEvent::FromAgent(from) => !round.is_target(from),\n        RoundEvent::FromPeer(_)\n        | RoundEvent::StartPoll(_)",
+        "        RoundEvent::FromAgent(from) => !round.is_target(from),\n        RoundEvent::FromPeer(_) => true,\n        RoundEvent::StartPoll(_)",
+    ),
 }
