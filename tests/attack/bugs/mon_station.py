@@ -29,7 +29,7 @@ BUGS = {
     "a_claim_is_told_without_its_note": (
         "src/life.rt",
         "                noted: Some(noted),",
-        "                noted: if noted == Noted::Counted { Some(noted) } else { None },",
+        "                noted: if claim.serial == 0 { Some(noted) } else { None },",
     ),
     "a_confirmation_is_an_offer": (
         "src/life.rt",
@@ -119,7 +119,7 @@ BUGS = {
     "a_refused_event_ends_the_run": (
         "src/running.rt",
         "                run.refused = counted(run.refused, answer);\n                true",
-        "                run.refused = counted(run.refused, answer);\n                answer == Answer::Handled",
+        "                run.refused = counted(run.refused, answer);\n                matches!(answer, Answer::Handled(_))",
     ),
     "a_failing_source_ends_the_run": (
         "src/running.rt",
