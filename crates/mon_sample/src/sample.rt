@@ -199,13 +199,13 @@ fn digits_of(octets: &[u8; 21]) -> Parts
 fn laid_out(boots: u32, time: u32, mark: u32, tag: u8, value: u64) -> [u8; 21]
     ensures { result ≡ layout boots time mark tag value }
 {
-    let [b0, b1, b2, b3] = boots.to_be_bytes();
-    let [t0, t1, t2, t3] = time.to_be_bytes();
-    let [m0, m1, m2, m3] = mark.to_be_bytes();
-    let [v0, v1, v2, v3, v4, v5, v6, v7] = value.to_be_bytes();
-    [
-        b0, b1, b2, b3, t0, t1, t2, t3, m0, m1, m2, m3, tag, v0, v1, v2, v3, v4, v5, v6, v7,
-    ]
+    let mut record = [0; 21];
+    record[..4].copy_from_slice(&boots.to_be_bytes());
+    record[4..8].copy_from_slice(&time.to_be_bytes());
+    record[8..12].copy_from_slice(&mark.to_be_bytes());
+    record[12] = tag;
+    record[13..].copy_from_slice(&value.to_be_bytes());
+    record
 }
 
 #[tactic(auto, unfolding(crate::specs::Record::boots_at, crate::specs::Record::time_at, crate::specs::Record::mark_at, crate::specs::Record::tag_at, crate::specs::Record::value_at))]
