@@ -113,4 +113,9 @@ BUGS = {
         "dropped: Some(dropped),",
         "dropped: None,",
     ),
+    "takes_the_newest_for_a_newer": (
+        "src/window.rt",
+        "items[items.len() - 1].compare(sample).is_lt()",
+        "items[items.len() - 1].compare(sample).is_le()",
+    ),
 }
