@@ -1,6 +1,6 @@
 //! One life of a station: what it does about an event that is no save and no share.
 
-ghost use Rattle.std.specs.Prelude.{◌≡◌, ◌≤◌, ◌<◌, ◌^◌, ◌∷◌, [], ℕ, All, IfOk, IfErr, IsOk, None, OnErr, OnOk, length, map, vec_capacity};
+ghost use Rattle.std.specs.Prelude.{◌≡◌, ◌≤◌, ◌<◌, ◌^◌, ◌∷◌, [], ℕ, All, IfOk, IfErr, IsOk, None, OnErr, OnOk, drop, length, map, vec_capacity};
 ghost use Rattle.mon_board.specs.Windows.{paired};
 ghost use Rattle.mon_exchange.specs.Claim.{IsClaim};
 ghost use Rattle.mon_board.specs.Instance.{instances_of};
@@ -13,7 +13,9 @@ use crate::event::{Outgoing, To, Told};
 use crate::fault::StationFault;
 use mon_ber::Octets;
 use mon_board::{Board, Pairs};
+use mon_disk::HEAD_ROOM;
 use mon_exchange::{Claim, ClaimKind, ClaimRef, Peers, read_claim, write_claim};
+use mon_layout::put_octets;
 use mon_poller::{Addr, Poller, TimedOut};
 use mon_sample::Sample;
 use mon_saved::{image_size, write_within};
@@ -60,13 +62,16 @@ impl Life {
         let _ = self.poller.targets();
     }
 
-    /// Puts the image of the windows and the incarnation in a vector, in place of what it holds. Where it has the room, no memory is taken.
+    /// Puts the image of the windows and the incarnation in a vector, behind room for the head that a keeper writes, in place of what it holds. Where it has the
+    /// room, no memory is taken.
     pub(crate) fn image(&self, image: &mut Vec<u8>) -> Result<(), AllocError>
-        ensures written { OnOk result (image.new.items ≡ saved_octets (state_of self.now)) }
-        ensures spells { OnOk result (SpellsImage image.new.items (instances_of self.now.board.watch.instances) (image_of self.now.board self.now.incarnation)) }
+        ensures head { OnOk result (16 ≤ length image.new.items) }
+        ensures written { OnOk result (drop 16 image.new.items ≡ saved_octets (state_of self.now)) }
+        ensures spells { OnOk result (SpellsImage (drop 16 image.new.items) (instances_of self.now.board.watch.instances) (image_of self.now.board self.now.incarnation)) }
     {
         image.clear();
-        image.reserve(image_size(&self.board))?;
+        image.reserve(HEAD_ROOM + image_size(&self.board))?;
+        put_octets(image, &[0; HEAD_ROOM]);
         write_within(image, &self.board, self.incarnation);
         Ok(())
     }

@@ -19,8 +19,8 @@ use std::alloc::Global;
 pub struct Station<D: Disk + Drop> {
     pub(crate) life: Life,
     pub(crate) keeper: Keeper<D>,
-    /// The last image that was saved, or the beginning of one. Its room is kept from save to save: given back each time, its pages would be asked of the system
-    /// anew.
+    /// The last image that was saved behind the head that the keeper wrote, or the beginning of one. Its room is kept from save to save: given back each time, its
+    /// pages would be asked of the system anew.
     pub(crate) image: Vec<u8>,
 }
 
@@ -103,7 +103,7 @@ impl<D: Disk + Drop> Station<D> {
     {
         self.life.settled();
         self.life.image(&mut self.image)?;
-        match self.keeper.save(alloc, self.image.as_slice()) {
+        match self.keeper.save_in_place(self.image.as_mut_slice()) {
             Ok(()) => Ok(told_none(alloc)),
             Err(fault) => Err(StationFault::from(fault)),
         }

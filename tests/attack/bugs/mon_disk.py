@@ -83,8 +83,8 @@ BUGS = {
     ),
     "refuses_the_greatest_body": (
         "src/keeper.rt",
-        "if body.len() > BODY_SIZE {",
-        "if body.len() >= BODY_SIZE {",
+        "if size > BODY_SIZE {",
+        "if size >= BODY_SIZE {",
     ),
     "always_finds_the_first_slot": (
         "src/keeper.rt",
@@ -108,8 +108,8 @@ BUGS = {
     ),
     "writes_generations_backwards": (
         "src/keeper.rt",
-        "octets.extend_from_slice(&generation.to_be_bytes())?;",
-        "octets.extend_from_slice(&generation.to_le_bytes())?;",
+        "octets[..8].copy_from_slice(&generation.to_be_bytes());",
+        "octets[..8].copy_from_slice(&generation.to_le_bytes());",
     ),
     "opens_spoiled": (
         "src/keeper.rt",
@@ -193,8 +193,8 @@ BUGS = {
     ),
     "same_generation": (
         "src/keeper.rt",
-        "        let octets = spell(alloc, generation + 1, body)?;",
-        "        let octets = spell(alloc, generation, body)?;",
+        "        Ok(generation + 1)",
+        "        Ok(generation)",
     ),
     "finds_the_older": (
         "src/reading.rt",
@@ -215,5 +215,20 @@ BUGS = {
         "src/keeper.rt",
         "        self.spoiled = true;",
         "        self.spoiled = generation > 1;",
+    ),
+    "leaves_the_head_as_it_was": (
+        "src/keeper.rt",
+        "        write_head(octets, generation);\n",
+        "",
+    ),
+    "counts_the_head_into_the_length": (
+        "src/keeper.rt",
+        "let size = body_size(octets) as u64;",
+        "let size = octets.len() as u64;",
+    ),
+    "leaves_out_the_bodys_first_octet": (
+        "src/keeper.rt",
+        "    octets.extend_from_slice(body)?;",
+        "    octets.extend_from_slice(&body[1..])?;",
     ),
 }
