@@ -231,4 +231,14 @@ BUGS = {
         "    octets.extend_from_slice(body)?;",
         "    octets.extend_from_slice(&body[1..])?;",
     ),
+    "touches_what_it_refuses": (
+        "src/keeper.rt",
+        "        let generation = self.next_generation(body_size(octets))?;",
+        "        octets[0] = 165;\n        let generation = self.next_generation(body_size(octets))?;",
+    ),
+    "wants_memory_for_nothing": (
+        "src/keeper.rt",
+        "        self.put(octets, generation)?;",
+        "        if generation == 7 { return Err(KeeperFault::OutOfMemory); }\n        self.put(octets, generation)?;",
+    ),
 }

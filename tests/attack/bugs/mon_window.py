@@ -118,4 +118,9 @@ BUGS = {
         "items[items.len() - 1].compare(sample).is_lt()",
         "items[items.len() - 1].compare(sample).is_le()",
     ),
+    "puts_the_newest_first": (
+        "src/window.rt",
+        "return Err(items.len());",
+        "return Err(0);",
+    ),
 }
