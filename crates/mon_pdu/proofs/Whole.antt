@@ -23,7 +23,7 @@ use Rattle.mon_pdu.specs.Grammar.{tag_of, IsBody, IsMessage, IsVersioned, HasUnk
 use Rattle.mon_pdu.specs.Reading.{Gives, lifted, ended, binding_at, list_at, made_of, body_of, behind_tag, body_at, is_one, message_of, message_at}
 use Rattle.mon_pdu.proofs.Messages.{by_kind, bind_lifted, ended_ok, kind_is, kind_again, body_takes, body_again}
 
-is_one_true : (z : ℤ) → is_one z ≡ true → z ≡ pos 1
+pub is_one_true : (z : ℤ) → is_one z ≡ true → z ≡ pos 1
 is_one_true (pos n) e = ap pos (eqb-true n 1 e)
 is_one_true (negsuc n) e = absurd cc
 

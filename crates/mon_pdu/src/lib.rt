@@ -4,12 +4,14 @@
 #![tactic(auto)]
 
 mod fault;
+mod frame;
 pub mod laws;
 mod message;
 mod reading;
 mod writing;
 
 pub use fault::PduFault;
+pub use frame::{Frame, named_value, read_frame};
 pub use message::{Binding, Bindings, Body, Bulk, Message, Pdu, PduKind};
 pub use reading::read_message;
 pub use writing::{

@@ -1,11 +1,19 @@
 -- The bindings of a poll.
-use Rattle.std.proofs.Common.{List, ◌∷◌, map}
-use Rattle.std.specs.List.{flat_map}
+use Rattle.std.proofs.Common.{ℕ, List, [], ◌∷◌, map}
+use Rattle.std.specs.List.{AllByRecursion, flat_map}
+use Rattle.mon_ber.specs.declared.value.Value.TheVariants.{Name}
+use Rattle.mon_ber.specs.Grammar.{Spells}
 use Rattle.mon_pdu.specs.declared.message.Binding.{Binding}
 use Rattle.mon_poller.specs.declared.target.Object.{Object}
 use Rattle.mon_poller.specs.Stamp.{engine_id_name, engine_boots_name, engine_time_name}
-use Rattle.mon_poller.specs.Target.{object_names, unspecified}
+use Rattle.mon_poller.specs.Target.{SpellNames, object_names, spelled_name, unspecified}
 
 -- the bindings that ask for the stamp and for these objects
 abbrev pub asking_for : List Object → List Binding
 asking_for objects = map unspecified (engine_id_name ∷ engine_boots_name ∷ engine_time_name ∷ flat_map object_names objects)
+
+-- the names that are asked for are spelled
+pub asked_spelled : (names : List (List ℕ)) → AllByRecursion (λ (b : Binding). Spells (spelled_name b.name) (Name b.name)) (map unspecified names)
+    → SpellNames (map (λ (b : Binding). spelled_name b.name) (map unspecified names)) names
+asked_spelled [] h = tt
+asked_spelled (n ∷ ns) h = (h.0, asked_spelled ns h.1)

@@ -1,6 +1,7 @@
 pub mod Addrs
 pub mod Asks
 pub mod Changes
+pub mod InPlace
 pub mod Instances
 pub mod Offering
 pub mod Readings

@@ -1,6 +1,5 @@
 -- What a call returned against what it should give.
 use Rattle.std.specs.Prelude.{◌≡◌, Result, Ok, Err, Option, Some, None, Bool, true, false, IsOk}
-use Rattle.mon_oid.specs.Steps.{◌>>=◌}
 use Rattle.mon_poller.specs.declared.fault.PollFault.{PollFault}
 use Rattle.mon_poller.specs.declared.fault.PollFault.TheVariants as start
 use Rattle.mon_poller.specs.declared.fault.ResponseFault.{ResponseFault}

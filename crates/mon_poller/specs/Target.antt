@@ -2,6 +2,8 @@
 use Rattle.std.specs.Prelude.{◌≡◌, ℕ, ◌≤◌, ◌<◌, pos, List, [], ◌∷◌, length, map, All, Option, Some, None, slice_index_or}
 use Rattle.std.specs.List.{flat_map}
 use Rattle.mon_ber.specs.declared.value.Value.TheVariants as values
+use Rattle.mon_ber.specs.Grammar.{Spells}
+use Rattle.mon_ber.specs.Writing.{written}
 use Rattle.mon_pdu.specs.declared.message.Binding.{Binding}
 use Rattle.mon_pdu.specs.declared.message.Body.TheVariants.{Pdu}
 use Rattle.mon_pdu.specs.declared.message.Message.{Message}
@@ -74,3 +76,19 @@ pub record IsAsked (t : Target) (list : List ℕ) : Type 0 where
 pub record AreAsked (targets : List Target) (lists : List (List ℕ)) : Type 0 where
   pub many : length lists ≡ length targets
   pub each : (k : ℕ) → k < length lists → IsAsked (target_at targets k) (slice_index_or lists k [])
+
+-- a name as it is spelled in a datagram
+abbrev pub spelled_name : List ℕ → List ℕ
+spelled_name name = written (values.Name name)
+
+-- octets for each of these names, which spell it
+abbrev pub SpellNames : List (List ℕ) → List (List ℕ) → Type 0
+SpellNames [] [] = Unit {0}
+SpellNames [] (name ∷ names) = ⊥
+SpellNames (text ∷ texts) [] = ⊥
+SpellNames (text ∷ texts) (name ∷ names) = Spells text (values.Name name) × SpellNames texts names
+
+-- spelled names of each target's polls, in the targets' order
+pub record AreNamed (targets : List Target) (names : List (List (List ℕ))) : Type 0 where
+  pub many : length names ≡ length targets
+  pub each : (k : ℕ) → k < length names → SpellNames (slice_index_or names k []) (poll_names (target_at targets k))

@@ -1,31 +1,33 @@
 //! Targets with what their polls ask for, which is written once.
 
 ghost use Rattle.std.specs.Prelude.{◌≡◌, ◌<◌, ◌^◌, IfOk, length};
-ghost use Rattle.mon_poller.specs.Target.{AreTargets, poll_octets, target_at};
+ghost use Rattle.mon_poller.specs.Target.{AreTargets, SpellNames, poll_names, poll_octets, target_at};
 
-use crate::asking::{asked_octets, poll_octets};
+use crate::asking::{asked_octets, poll_octets, spelled_names};
+use crate::names::Names;
 use crate::target::Target;
 use mon_ber::Octets;
 use std::alloc::{AllocError, Global};
 use std::marker::Model;
 
-/// Targets, and for each of them the variable bindings of its polls as they stand in a datagram. Contracts see the targets.
+/// Targets, and for each of them the variable bindings of its polls as they stand in a datagram, and the names in them. Contracts see the targets.
 #[derive(Drop)]
 pub(crate) struct Asked {
     targets: Vec<Target>,
     lists: Vec<Octets>,
+    names: Vec<Names>,
 }
 
 impl Model for Asked {
     ghost use Rattle.std.specs.Prelude.{List};
-    ghost use Rattle.mon_poller.specs.Target.{AreAsked};
+    ghost use Rattle.mon_poller.specs.Target.{AreAsked, AreNamed};
     ghost use Rattle.mon_poller.specs.declared.target.Target.{Target};
 
     ghost Value = { List Target };
 
     ghost view = { λ a. a.targets.items };
 
-    ghost invariant = { λ a. AreAsked a.targets.items a.lists.items };
+    ghost invariant = { λ a. AreAsked a.targets.items a.lists.items × AreNamed a.targets.items a.names.items };
 }
 
 impl Asked {
@@ -35,10 +37,16 @@ impl Asked {
         ensures { IfOk result (λ a. a ≡ targets.items) }
     {
         let mut lists = Vec::with_capacity(alloc, targets.len())?;
+        let mut names = Vec::with_capacity(alloc, targets.len())?;
         for target in targets.as_slice() {
             lists.push(asked_octets(alloc, target)?)?;
+            names.push(spelled_names(alloc, target)?)?;
         }
-        Ok(Asked { targets, lists })
+        Ok(Asked {
+            targets,
+            lists,
+            names,
+        })
     }
 
     /// The targets.
@@ -54,6 +62,14 @@ impl Asked {
         ensures { result.now ≡ target_at self.now number }
     {
         &self.targets[number]
+    }
+
+    /// The names of the polls of the target of this number, each as it is spelled in a datagram.
+    pub(crate) fn names(&self, number: usize) -> &Names
+        requires { number < length self.now }
+        ensures { SpellNames result.now (poll_names (target_at self.now number)) }
+    {
+        &self.names[number]
     }
 
     /// The datagram of a poll of the target of this number.

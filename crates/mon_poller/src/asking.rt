@@ -3,15 +3,17 @@
 ghost use Rattle.std.specs.Prelude.{◌≡◌, ◌∷◌, ◌++◌, [], ◌<◌, ◌≤◌, ◌^◌, ◌+◌, ◌*◌, IfOk, OnOk, length, map};
 ghost use Rattle.std.specs.List.{flat_map};
 ghost use Rattle.mon_poller.specs.Stamp.{engine_id_name, engine_boots_name, engine_time_name};
-ghost use Rattle.mon_poller.specs.Target.{IsAsked, IsTarget, poll_names, unspecified, object_names, poll_message, poll_octets};
+ghost use Rattle.mon_poller.specs.Target.{IsAsked, IsTarget, SpellNames, poll_names, spelled_name, unspecified, object_names, poll_message, poll_octets};
 ghost use Rattle.mon_pdu.specs.Sizes.{with_bindings};
 ghost use Rattle.mon_ber.specs.declared.value.Value.TheVariants.{Name};
+ghost use Rattle.mon_ber.specs.Grammar.{Spells};
 ghost use Rattle.mon_ber.specs.Writing.{written};
 ghost use Rattle.mon_pdu.specs.Writing.{list_contents, written_binding};
 
+use crate::names::Names;
 use crate::stamp::{ENGINE_BOOTS, ENGINE_ID, ENGINE_TIME};
 use crate::target::{Object, Target};
-use mon_ber::writing::name_size;
+use mon_ber::writing::{name_size, put_object_identifier};
 use mon_ber::{Octets, Value};
 use mon_oid::Oid;
 use mon_pdu::{
@@ -31,6 +33,30 @@ pub(crate) fn asked_octets(alloc: Global, target: &Target) -> Result<Octets, All
         Err(PduFault::OutOfMemory) => Err(AllocError),
         Err(_) => unreachable!(),
     }
+}
+
+/// The names of a target's polls, each as it is spelled in a datagram.
+pub(crate) fn spelled_names(alloc: Global, target: &Target) -> Result<Names, AllocError>
+    ensures { IfOk result (λ names. SpellNames names (poll_names target.now)) }
+{
+    let bindings = asked_bindings(alloc, target)?;
+    let mut names = Vec::with_capacity(alloc, bindings.len())?;
+    for binding in bindings.as_slice() {
+        names.push(spelled_name(alloc, &binding.name)?)?;
+    }
+    Ok(Names::new(names))
+}
+
+/// A name as it is spelled in a datagram.
+fn spelled_name(alloc: Global, name: &Oid) -> Result<Octets, AllocError>
+    ensures octets { IfOk result (λ octets. octets ≡ spelled_name name.now) }
+    ensures spells { IfOk result (λ octets. Spells octets (Name name.now)) }
+{
+    mon_ber::laws::written();
+    let _parts = name.parts();
+    let mut octets = Vec::with_capacity(alloc, name_size(name))?;
+    put_object_identifier(&mut octets, name);
+    Ok(Octets::new(octets))
 }
 
 /// The datagram of a poll: a Get of the target's names, which `list` holds as they are written. It fails for memory alone.

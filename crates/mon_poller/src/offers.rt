@@ -4,6 +4,7 @@ ghost use Rattle.std.specs.Prelude.{◌≡◌, ◌∷◌, ℕ, List, drop};
 ghost use Rattle.std.specs.List.{flat_map};
 ghost use Rattle.std.specs.Option.{option_copied};
 ghost use Rattle.mon_poller.specs.Gives.{Gives};
+ghost use Rattle.mon_poller.specs.InPlace.{sampled_at};
 ghost use Rattle.mon_poller.specs.Lent.{lent_stamp};
 ghost use Rattle.mon_poller.specs.Target.{poll_names, object_names};
 ghost use Rattle.mon_poller.specs.Verdict.{response_pdu, have_names, have_after, stamp_and_others, mark_value, bindings_for, sample_of, object_offers, target_offers, poll_answer};
@@ -14,6 +15,7 @@ use crate::stamp::{
     ENGINE_BOOTS, ENGINE_ID, ENGINE_TIME, mark_in, octets_in, sampled, stamp_number,
 };
 use crate::target::{Object, Target};
+use mon_ber::Value;
 use mon_board::Pairs;
 use mon_oid::Oid;
 use mon_pdu::{Binding, Body, Pdu, PduKind};
@@ -173,14 +175,16 @@ fn sample_of(stamp: &Stamp<'_>, object: &Object, bindings: &[Binding]) -> Option
     let [first, ..] = bindings else {
         return None;
     };
-    let Some((kind, value)) = sampled(&first.value) else {
-        return None;
-    };
-    let Some(mark) = mark_value(&object.mark, bindings) else {
-        return None;
-    };
-    let (boots, time) = (stamp.boots, stamp.time);
-    Some(Sample::new(boots, time, mark, kind, value))
+    sample_at(stamp, &first.value, mark_value(&object.mark, bindings))
+}
+
+/// The sample of a value and a mark: the value is of a sampled kind, and the mark is there.
+pub(crate) fn sample_at(stamp: &Stamp<'_>, value: &Value, mark: Option<u32>) -> Option<Sample>
+    ensures { result ≡ sampled_at (lent_stamp stamp.now) value.now mark }
+{
+    let (kind, value) = sampled(value)?;
+    let mark = mark?;
+    Some(Sample::new(stamp.boots, stamp.time, mark, kind, value))
 }
 
 /// The value of an object's mark, in the second of its bindings; 0 where it has none.

@@ -1,8 +1,9 @@
 //! Polls of targets, over their open ones.
 
-ghost use Rattle.std.specs.Prelude.{◌≡◌, ◌↔◌, ◌≤◌, ℕ, Option, Some, Ok, IfOk, IfErr, IfSome, IfNone, OnErr, OnOk, IsTrue};
+ghost use Rattle.std.specs.Prelude.{◌≡◌, ◌↔◌, ◌≤◌, ℕ, Option, Some, Ok, IfOk, IfErr, IfSome, IfNone, OnErr, OnOk, IsTrue, true};
 ghost use Rattle.std.specs.FinMap as map;
 ghost use Rattle.mon_pdu.specs.declared.message.Message.{Message as AnyMessage};
+ghost use Rattle.mon_pdu.specs.Grammar.{BeginsWithMessage};
 ghost use Rattle.mon_poller.specs.Polls.{no_polls, with_poll, timed};
 ghost use Rattle.mon_poller.specs.Target.{AreTargets, poll_octets, target_at};
 ghost use Rattle.mon_poller.specs.Verdict.{to_offered};
@@ -12,6 +13,8 @@ use crate::asked::Asked;
 use crate::awaiting::{awaited, ends_poll, read};
 use crate::fault::{PollFault, ResponseFault};
 use crate::finding::{find, least_id};
+use crate::in_place::in_place;
+use crate::laws;
 use crate::offers::poll_answer;
 use crate::target::Target;
 use mon_ber::Octets;
@@ -206,8 +209,26 @@ impl Poller {
         ensures polls { (read : Option AnyMessage) → ReadsAs octets.now read
             → self.new ≡ record self.old { polls = after_response (ends result) read self.old.polls } }
     {
+        laws::one_reading();
+        if let Some(offered) = self.offered_in_place(alloc, from, octets) {
+            return Ok(offered);
+        }
         let message = read(alloc, octets)?;
         self.answered(alloc, from, &message)
+    }
+
+    /// What a datagram from this address offers, where it has what its poll asked for, spelled as that was asked.
+    fn offered_in_place(&mut self, alloc: Global, from: Addr, octets: &[u8]) -> Option<Offered>
+        ensures offered { IfSome result (λ o. (m : AnyMessage) × BeginsWithMessage octets.now m × (response_verdict self.old.targets self.old.polls.open_polls from (Some m) ≡ Ok o)
+            × (self.new ≡ record self.old { polls = after_response true (Some m) self.old.polls })) }
+        ensures other { IfNone result (self.new ≡ self.old) }
+    {
+        let (key, poll, pairs) = in_place(alloc, &self.targets, &self.polls, from, octets)?;
+        self.polls.remove(key);
+        Some(Offered {
+            target: poll.target,
+            pairs,
+        })
     }
 
     /// What a message from this address offers.

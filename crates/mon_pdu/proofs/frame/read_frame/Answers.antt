@@ -1,0 +1,12 @@
+use Rattle.std.proofs.Common.{arith}
+use Rattle.mon_pdu.proofs.Frames.{is_found, is_only, is_spelled}
+use Rattle.mon_pdu.proofs.frame.read_frame.Goals as goal
+
+pub returns-clause-found : goal.returns-clause-found
+returns-clause-found c = is_found c.args.bytes.now c.frame_at.result c.ok.result (λ i. omega (arith, c.type_inv.bytes i)) c.ok.ensures.value c.frame_at.ensures.gives
+
+pub returns-clause-only : goal.returns-clause-only
+returns-clause-only c = λ m p body is. is_only c.args.bytes.now c.frame_at.result c.ok.result m p c.ok.ensures.value c.frame_at.ensures.no_memory c.frame_at.ensures.gives body is
+
+pub returns-clause-spells : goal.returns-clause-spells
+returns-clause-spells c = λ m p body is. is_spelled c.args.bytes.now c.frame_at.result c.ok.result m p c.ok.ensures.value c.frame_at.ensures.gives body is

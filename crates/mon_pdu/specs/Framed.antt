@@ -1,0 +1,58 @@
+-- Messages by their frames.
+use Rattle.std.specs.Prelude.{ℕ, ℤ, List, [], ◌∷◌, length, Some, None, Result, Ok, Err, ◌==◌, if◌then◌else◌}
+use Rattle.mon_ber.specs.declared.fault.BerFault.{BerFault}
+use Rattle.mon_ber.specs.declared.fault.BerFault.TheVariants.{Truncated, BadTag, BadLength, OutOfRange}
+use Rattle.mon_oid.specs.Steps.{◌>>=◌}
+use Rattle.mon_ber.specs.Reading.{contents_at, element_at, integer_at}
+use Rattle.mon_pdu.specs.declared.frame.Frame.{Frame}
+use Rattle.mon_pdu.specs.declared.message.Binding.{Binding}
+use Rattle.mon_pdu.specs.declared.message.Body.TheVariants.{Pdu}
+use Rattle.mon_pdu.specs.declared.message.Message.{Message}
+use Rattle.mon_pdu.specs.declared.message.PduKind.{PduKind}
+use Rattle.mon_pdu.specs.Kinds.{kind_of}
+use Rattle.mon_pdu.specs.Reading.{is_one}
+
+-- the message of this frame and these variable bindings
+abbrev pub framed : Frame → List Binding → Message
+framed f bindings = record {
+  community = f.community.now;
+  body = Pdu (record { kind = f.kind; request_id = f.request_id; error_status = f.error_status; error_index = f.error_index; bindings = bindings });
+}
+
+-- what a frame holds: the community, the kind, the three numbers and the octets of the variable bindings
+abbrev pub Held : Type 0
+Held = List ℕ × PduKind × ℤ × ℤ × ℤ × List ℕ
+
+abbrev pub held : Frame → Held
+held f = (f.community.now, f.kind, f.request_id, f.error_status, f.error_index, f.list.now)
+
+-- The numbers of a PDU and the octets of its variable bindings, from its contents.
+unfoldable pub fields_of : List ℕ → Result (ℤ × ℤ × ℤ × List ℕ) BerFault
+fields_of contents = do
+  first ← integer_at contents
+  second ← integer_at first.1
+  third ← integer_at second.1
+  list ← element_at 0x30 third.1
+  if length list.1 == 0 then Ok (first.0, second.0, third.0, list.0) else Err BadLength
+
+-- The kind of PDU that the octets begin with the tag of, and what follows it.
+unfoldable pub kind_at : List ℕ → Result (PduKind × List ℕ) BerFault
+kind_at [] = Err Truncated
+kind_at (t ∷ bs) = elim (kind_of t) [ Some kind ↦ Ok (kind, bs) | None ↦ Err BadTag ]
+
+-- What the frame of a message holds, from the contents of its SEQUENCE: the variable bindings are not looked at.
+unfoldable pub frame_of : List ℕ → Result Held BerFault
+frame_of contents = do
+  version ← integer_at contents
+  if is_one version.0 then (
+      element_at 0x04 version.1 >>= λ community.
+      kind_at community.1 >>= λ kind.
+      contents_at kind.1 >>= λ element.
+      if length element.1 == 0 then (fields_of element.0 >>= λ f. Ok (community.0, kind.0, f.0, f.1, f.2, f.3)) else Err BadLength
+      ) else Err OutOfRange
+
+-- What the frame of the message holds that the octets begin with.
+unfoldable pub frame_at : List ℕ → Result Held BerFault
+frame_at bytes = do
+  element ← element_at 0x30 bytes
+  frame_of element.0

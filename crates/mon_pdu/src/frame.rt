@@ -1,0 +1,138 @@
+//! Reading a message in place: its frame, and then variable bindings whose names are known. No octets are copied but those of values.
+
+ghost use Rattle.std.specs.Prelude.{◌≡◌, ◌≢◌, ◌++◌, ℕ, List, IfSome, IsSome, Err};
+ghost use Rattle.mon_ber.specs.declared.value.Value.{Value as AnyValue};
+ghost use Rattle.mon_ber.specs.declared.value.Value.TheVariants.{Name};
+ghost use Rattle.mon_ber.specs.Grammar.{IsElement, Spells};
+ghost use Rattle.mon_ber.specs.Memory.{IsInline};
+ghost use Rattle.mon_ber.specs.Sequence.{AreSpelled};
+ghost use Rattle.mon_pdu.specs.declared.message.Binding.{Binding as AnyBinding};
+ghost use Rattle.mon_pdu.specs.declared.message.Body.TheVariants as bodies;
+ghost use Rattle.mon_pdu.specs.declared.message.Message.{Message as AnyMessage};
+ghost use Rattle.mon_pdu.specs.declared.message.Pdu.{Pdu as AnyPdu};
+ghost use Rattle.mon_ber.specs.Reading.{Gives};
+ghost use Rattle.mon_pdu.specs.Framed.{framed, held, frame_at, frame_of, kind_at, fields_of};
+ghost use Rattle.mon_pdu.specs.Grammar.{BeginsWithMessage, IsBinding};
+
+use crate::message::PduKind;
+use mon_ber::element::{contents_at, element_at};
+use mon_ber::reading::{integer_at, value_at};
+use mon_ber::{BerFault, OCTET_STRING, SEQUENCE, Value};
+use std::alloc::Global;
+
+/// A message but for its variable bindings, whose octets are lent and not read yet. There is none of a GetBulk.
+#[derive(Clone, Copy, Debug, PartialEq, Eq)]
+pub struct Frame<'a> {
+    /// The community.
+    pub community: &'a [u8],
+    /// Which PDU it is.
+    pub kind: PduKind,
+    /// The request-id.
+    pub request_id: i32,
+    /// The error-status.
+    pub error_status: i32,
+    /// The error-index.
+    pub error_index: i32,
+    /// The octets of the variable bindings, one after the other.
+    pub list: &'a [u8],
+}
+
+/// The frame of the message that the octets begin with; what follows it is passed over. None where they begin with no message, or with a GetBulk, or where
+/// only the variable bindings are to blame that they begin with none: those are not looked at.
+pub fn read_frame(bytes: &[u8]) -> Option<Frame<'_>>
+    // With the variable bindings that its list spells it is the message.
+    ensures found { IfSome result (λ f. (bindings : List AnyBinding) → AreSpelled IsBinding f.list.now bindings → BeginsWithMessage bytes.now (framed f bindings)) }
+    // Each message with another PDU than a GetBulk has a frame.
+    ensures only { (m : AnyMessage) (p : AnyPdu) → m.body ≡ bodies.Pdu p → BeginsWithMessage bytes.now m → IsSome result }
+    // Its list spells the variable bindings.
+    ensures spells { (m : AnyMessage) (p : AnyPdu) → m.body ≡ bodies.Pdu p → BeginsWithMessage bytes.now m
+        → IfSome result (λ f. AreSpelled IsBinding f.list.now p.bindings) }
+{
+    frame_at(bytes).ok()
+}
+
+/// The frame of the message that the octets begin with, or why there is none.
+#[tactic(auto, unfolding(crate::specs::Framed::frame_at))]
+fn frame_at(bytes: &[u8]) -> Result<Frame<'_>, BerFault>
+    ensures gives { Gives held result (frame_at bytes.now) }
+    ensures no_memory { result ≢ Err BerFault.OutOfMemory }
+{
+    let (contents, _) = element_at(SEQUENCE, bytes)?;
+    frame_of(contents)
+}
+
+/// The frame of the message whose SEQUENCE has these contents, or why there is none.
+#[tactic(auto, unfolding(crate::specs::Framed::frame_of))]
+fn frame_of(contents: &[u8]) -> Result<Frame<'_>, BerFault>
+    ensures gives { Gives held result (frame_of contents.now) }
+    ensures no_memory { result ≢ Err BerFault.OutOfMemory }
+{
+    let (version, rest) = integer_at(contents)?;
+    if version != 1 {
+        return Err(BerFault::OutOfRange);
+    }
+    let (community, rest) = element_at(OCTET_STRING, rest)?;
+    let (kind, rest) = kind_at(rest)?;
+    let (contents, rest) = contents_at(rest)?;
+    if !rest.is_empty() {
+        return Err(BerFault::BadLength);
+    }
+    let (request_id, error_status, error_index, list) = fields_of(contents)?;
+    Ok(Frame {
+        community,
+        kind,
+        request_id,
+        error_status,
+        error_index,
+        list,
+    })
+}
+
+/// The kind of PDU that the octets begin with the tag of, and what follows it.
+#[tactic(auto, unfolding(crate::specs::Framed::kind_at))]
+fn kind_at(bytes: &[u8]) -> Result<(PduKind, &[u8]), BerFault>
+    ensures gives { Gives (λ x. (x.0, x.1.now)) result (kind_at bytes.now) }
+    ensures no_memory { result ≢ Err BerFault.OutOfMemory }
+{
+    let [tag, rest @ ..] = bytes else {
+        return Err(BerFault::Truncated);
+    };
+    match PduKind::from_octet(*tag) {
+        Some(kind) => Ok((kind, rest)),
+        None => Err(BerFault::BadTag),
+    }
+}
+
+/// The numbers of the PDU that has these contents, and the octets of its variable bindings.
+#[tactic(auto, unfolding(crate::specs::Framed::fields_of))]
+fn fields_of(contents: &[u8]) -> Result<(i32, i32, i32, &[u8]), BerFault>
+    ensures gives { Gives (λ x. (x.0, x.1, x.2, x.3.now)) result (fields_of contents.now) }
+    ensures no_memory { result ≢ Err BerFault.OutOfMemory }
+{
+    let (request_id, rest) = integer_at(contents)?;
+    let (error_status, rest) = integer_at(rest)?;
+    let (error_index, rest) = integer_at(rest)?;
+    let (list, rest) = element_at(SEQUENCE, rest)?;
+    if !rest.is_empty() {
+        return Err(BerFault::BadLength);
+    }
+    Ok((request_id, error_status, error_index, list))
+}
+
+/// The value of the variable binding that the octets begin with, where these octets spell its name, and what follows it. None where they begin with no such
+/// variable binding, or where there is no memory for its value.
+pub fn named_value<'b>(alloc: Global, name: &[u8], bytes: &'b [u8]) -> Option<(Value, &'b [u8])>
+    ensures found { IfSome result (λ r. (oid : List ℕ) → Spells name.now (Name oid)
+        → (text : List ℕ) × IsBinding text (record { name = oid; value = r.0 }) × (bytes.now ≡ text ++ r.1.now)) }
+    // A value that needs no memory is found.
+    ensures inline { (text rest spelled : List ℕ) (v : AnyValue) → IsElement 0x30 (name.now ++ spelled) text → Spells spelled v → IsInline v
+        → bytes.now ≡ text ++ rest → IsSome result }
+{
+    let (contents, after) = element_at(SEQUENCE, bytes).ok()?;
+    let rest = contents.strip_prefix(name)?;
+    let (value, rest) = value_at(alloc, rest).ok()?;
+    if !rest.is_empty() {
+        return None;
+    }
+    Some((value, after))
+}

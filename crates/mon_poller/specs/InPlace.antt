@@ -1,0 +1,47 @@
+-- What is read of a response in place.
+use Rattle.std.specs.Prelude.{◌≡◌, ℕ, pos, true, List, ◌++◌, Option, Some, Ok}
+use Rattle.std.specs.List.{flat_map}
+use Rattle.std.specs.Option.{option_map, option_and_then, option_to_list}
+use Rattle.mon_ber.specs.declared.value.Value.{Value}
+use Rattle.mon_ber.specs.Sequence.{AreSpelled}
+use Rattle.mon_pdu.specs.declared.frame.Frame.{Frame}
+use Rattle.mon_pdu.specs.declared.message.Binding.{Binding}
+use Rattle.mon_pdu.specs.declared.message.Message.{Message}
+use Rattle.mon_pdu.specs.declared.message.Pdu.{Pdu}
+use Rattle.mon_pdu.specs.Grammar.{BeginsWithMessage, IsBinding}
+use Rattle.mon_sample.specs.Key.{key}
+use Rattle.mon_sample.specs.Kind.{kind_tag}
+use Rattle.mon_poller.specs.declared.addr.Addr.{Addr}
+use Rattle.mon_poller.specs.declared.target.Object.{Object}
+use Rattle.mon_poller.specs.declared.target.Target.{Target}
+use Rattle.mon_poller.specs.Polls.{Poll, Open}
+use Rattle.mon_poller.specs.Stamp.{Stamp, sampled}
+use Rattle.mon_poller.specs.Target.{object_names, target_at}
+use Rattle.mon_poller.specs.Verdict.{awaited, have_names, object_offers, poll_answer, response_pdu}
+
+-- the PDU of this frame and these variable bindings
+abbrev pub framed_pdu : Frame → List Binding → Pdu
+framed_pdu f bindings = record { kind = f.kind; request_id = f.request_id; error_status = f.error_status; error_index = f.error_index; bindings = bindings }
+
+-- the sample of this value and this mark, where the value is of a sampled kind and the mark is there
+abbrev pub sampled_at : Stamp → Value → Option ℕ → Option ℕ
+sampled_at stamp value mark = option_and_then (λ v. option_map (λ m. key stamp.boots stamp.time m (kind_tag v.0) v.1) mark) (sampled value)
+
+-- what is offered of an instance
+abbrev pub given : ℕ → Option ℕ → List (ℕ × ℕ)
+given instance sample = option_to_list (option_map (λ s. (instance, s)) sample)
+
+-- octets spell variable bindings with the objects' names, and what these offer comes after what was there
+pub record OffersSo (stamp : Stamp) (objects : List Object) (list : List ℕ) (old new : List (ℕ × ℕ)) : Type 0 where
+  pub bindings : List Binding
+  pub spelled : AreSpelled IsBinding list bindings
+  pub named : have_names (flat_map object_names objects) bindings ≡ true
+  pub offers : new ≡ old ++ object_offers stamp objects bindings
+
+-- a datagram begins with this message, which answers the open poll and offers these pairs
+pub record IsOffered (targets : List Target) (polls : Open) (from : Addr) (octets : List ℕ) (m : Message) (pdu : Pdu) (id : ℕ) (poll : Poll) (pairs : List (ℕ × ℕ)) : Type 0 where
+  pub begins : BeginsWithMessage octets m
+  pub response : response_pdu m.body ≡ Some pdu
+  pub named : pdu.request_id ≡ pos id
+  pub found : awaited targets polls from (Some m) ≡ Ok (poll, pdu)
+  pub answer : poll_answer (target_at targets poll.target) pdu ≡ Ok pairs
