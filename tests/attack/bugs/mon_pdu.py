@@ -221,4 +221,64 @@ BUGS = {
         "    let len = list_len(bindings);\n    if len >= LIMIT {",
         "    let len = list_len(bindings);\n    if len >= LIMIT - 1 {",
     ),
+    "frames_no_message": (
+        "src/frame.rt",
+        "    frame_at(bytes).ok()",
+        "    frame_at(bytes).ok().filter(|_| false)",
+    ),
+    "frames_octets_after_the_pdu": (
+        "src/frame.rt",
+        "    if !rest.is_empty() {\n        return Err(BerFault::BadLength);\n    }\n    let (request_id",
+        "    let (request_id",
+    ),
+    "frames_octets_after_the_list": (
+        "src/frame.rt",
+        "    if !rest.is_empty() {\n        return Err(BerFault::BadLength);\n    }\n    Ok((request_id",
+        "    Ok((request_id",
+    ),
+    "frames_the_index_as_the_status": (
+        "src/frame.rt",
+        "    Ok((request_id, error_status, error_index, list))",
+        "    Ok((request_id, error_index, error_status, list))",
+    ),
+    "frames_a_community_of_another_tag": (
+        "src/frame.rt",
+        "    let (community, rest) = element_at(OCTET_STRING, rest)?;",
+        "    let (community, rest) = element_at(SEQUENCE, rest)?;",
+    ),
+    "frames_a_list_of_another_tag": (
+        "src/frame.rt",
+        "    let (list, rest) = element_at(SEQUENCE, rest)?;",
+        "    let (list, rest) = element_at(OCTET_STRING, rest)?;",
+    ),
+    "frames_no_trap": (
+        "src/frame.rt",
+        "    match PduKind::from_octet(*tag) {\n        Some(kind)",
+        "    match PduKind::from_octet(*tag) {\n        Some(PduKind::Trap) => Err(BerFault::BadTag),\n        Some(kind)",
+    ),
+    "frames_from_the_tag_again": (
+        "src/frame.rt",
+        "        Some(kind) => Ok((kind, rest)),",
+        "        Some(kind) => Ok((kind, bytes)),",
+    ),
+    "a_named_value_by_the_beginning_of_its_name": (
+        "src/frame.rt",
+        "    let rest = contents.strip_prefix(name)?;",
+        "    let rest = contents.strip_prefix(&name[..name.len().min(4)])?;",
+    ),
+    "a_named_value_in_another_element": (
+        "src/frame.rt",
+        "    let (contents, after) = element_at(SEQUENCE, bytes).ok()?;",
+        "    let (contents, after) = element_at(OCTET_STRING, bytes).ok()?;",
+    ),
+    "nothing_follows_a_named_value": (
+        "src/frame.rt",
+        "    Some((value, after))",
+        "    Some((value, &after[..0]))",
+    ),
+    "a_named_value_is_not_found": (
+        "src/frame.rt",
+        "    Some((value, after))",
+        "    if after.is_empty() {\n        return None;\n    }\n    Some((value, after))",
+    ),
 }

@@ -163,8 +163,8 @@ BUGS = {
     ),
     "goes_again_to_the_first_target": (
         "src/poller.rt",
-        "            target: poll.target,\n",
-        "            target: 0,\n",
+        "        Ok(TimedOut::Again {\n            target: poll.target,\n",
+        "        Ok(TimedOut::Again {\n            target: 0,\n",
     ),
     "has_tries_after_the_last": (
         "src/poller.rt",
@@ -198,8 +198,8 @@ BUGS = {
     ),
     "swaps_boots_and_time": (
         "src/offers.rt",
-        "    let (boots, time) = (stamp.boots, stamp.time);",
-        "    let (boots, time) = (stamp.time, stamp.boots);",
+        "    Some(Sample::new(stamp.boots, stamp.time, mark, kind, value))",
+        "    Some(Sample::new(stamp.time, stamp.boots, mark, kind, value))",
     ),
     "takes_any_host": (
         "src/awaiting.rt",
@@ -240,5 +240,70 @@ BUGS = {
         "src/asking.rt",
         "    match write_bindings(alloc, bindings.as_slice()) {",
         "    match write_bindings(alloc, &bindings.as_slice()[..3]) {",
+    ),
+    "in_place_with_any_status": (
+        "src/in_place.rt",
+        "    if frame.kind != PduKind::Response || frame.error_status != 0 {",
+        "    if frame.kind != PduKind::Response {",
+    ),
+    "in_place_of_any_pdu": (
+        "src/in_place.rt",
+        "    if frame.kind != PduKind::Response || frame.error_status != 0 {",
+        "    if frame.error_status != 0 {",
+    ),
+    "in_place_of_any_community": (
+        "src/in_place.rt",
+        "    if from != target.address || frame.community != target.community.as_slice() {",
+        "    if from != target.address {",
+    ),
+    "in_place_with_octets_left": (
+        "src/in_place.rt",
+        "        return if list.is_empty() { Some(()) } else { None };",
+        "        return Some(());",
+    ),
+    "in_place_without_a_mark": (
+        "src/in_place.rt",
+        "&value, mark_in(&mark), pairs)?;",
+        "&value, Some(0), pairs)?;",
+    ),
+    "in_place_with_a_mark_of_none": (
+        "src/in_place.rt",
+        "&value, Some(0), pairs)?;",
+        "&value, Some(1), pairs)?;",
+    ),
+    "in_place_the_time_as_the_boots": (
+        "src/in_place.rt",
+        "        boots: stamp_number(&boots)?,",
+        "        boots: stamp_number(&time)?,",
+    ),
+    "in_place_without_the_sample": (
+        "src/in_place.rt",
+        "        Some(sample) => pairs.push(instance, sample).ok(),",
+        "        Some(_) => Some(()),",
+    ),
+    "in_place_of_the_next_instance": (
+        "src/in_place.rt",
+        "        Some(sample) => pairs.push(instance, sample).ok(),",
+        "        Some(sample) => pairs.push(instance ^ 1, sample).ok(),",
+    ),
+    "in_place_the_poll_stays_open": (
+        "src/poller.rt",
+        "        self.polls.remove(key);\n        Some(Offered {",
+        "        let _ = key;\n        Some(Offered {",
+    ),
+    "in_place_of_the_first_target": (
+        "src/poller.rt",
+        "        Some(Offered {\n            target: poll.target,",
+        "        Some(Offered {\n            target: poll.target & 0,",
+    ),
+    "names_of_the_first_target": (
+        "src/asked.rt",
+        "        &self.names[number]",
+        "        &self.names[0 * number]",
+    ),
+    "a_name_spelled_as_nothing": (
+        "src/asking.rt",
+        "    put_object_identifier(&mut octets, name);\n    Ok(Octets::new(octets))",
+        "    Ok(Octets::new(octets))",
     ),
 }
