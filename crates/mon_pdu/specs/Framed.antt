@@ -23,6 +23,7 @@ framed f bindings = record {
 abbrev pub Held : Type 0
 Held = List ℕ × PduKind × ℤ × ℤ × ℤ × List ℕ
 
+-- what this frame holds
 abbrev pub held : Frame → Held
 held f = (f.community.now, f.kind, f.request_id, f.error_status, f.error_index, f.list.now)
 

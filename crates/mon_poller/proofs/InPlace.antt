@@ -10,11 +10,11 @@ use Rattle.mon_pdu.specs.declared.frame.Frame.{Frame}
 use Rattle.mon_pdu.specs.declared.message.Binding.{Binding}
 use Rattle.mon_pdu.specs.Grammar.{IsBinding}
 use Rattle.mon_poller.specs.declared.target.Object.{Object}
-use Rattle.mon_poller.specs.InPlace.{OffersSo, framed_pdu, given, sampled_at}
+use Rattle.mon_poller.specs.InPlace.{OffersSo, framed_pdu, given}
 use Rattle.mon_poller.specs.declared.target.Target.{Target}
 use Rattle.mon_poller.specs.Stamp.{Stamp, engine_boots_name, engine_id_name, engine_time_name, mark_in, octets_in, stamp_number}
 use Rattle.mon_poller.specs.Target.{object_names, poll_names}
-use Rattle.mon_poller.specs.Verdict.{have_names, object_offers, poll_answer, sample_of, stamp_and_others, stamp_of_values, target_offers}
+use Rattle.mon_poller.specs.Verdict.{have_names, object_offers, poll_answer, sample_of, sampled_at, stamp_and_others, stamp_of_values, target_offers}
 
 -- what follows the first n, as a pattern of a slice has it
 abbrev pub behind : {A : Type 0} → ℕ → List A → List A

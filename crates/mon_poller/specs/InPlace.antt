@@ -1,31 +1,24 @@
 -- What is read of a response in place.
 use Rattle.std.specs.Prelude.{◌≡◌, ℕ, pos, true, List, ◌++◌, Option, Some, Ok}
 use Rattle.std.specs.List.{flat_map}
-use Rattle.std.specs.Option.{option_map, option_and_then, option_to_list}
-use Rattle.mon_ber.specs.declared.value.Value.{Value}
+use Rattle.std.specs.Option.{option_map, option_to_list}
 use Rattle.mon_ber.specs.Sequence.{AreSpelled}
 use Rattle.mon_pdu.specs.declared.frame.Frame.{Frame}
 use Rattle.mon_pdu.specs.declared.message.Binding.{Binding}
 use Rattle.mon_pdu.specs.declared.message.Message.{Message}
 use Rattle.mon_pdu.specs.declared.message.Pdu.{Pdu}
 use Rattle.mon_pdu.specs.Grammar.{BeginsWithMessage, IsBinding}
-use Rattle.mon_sample.specs.Key.{key}
-use Rattle.mon_sample.specs.Kind.{kind_tag}
 use Rattle.mon_poller.specs.declared.addr.Addr.{Addr}
 use Rattle.mon_poller.specs.declared.target.Object.{Object}
 use Rattle.mon_poller.specs.declared.target.Target.{Target}
 use Rattle.mon_poller.specs.Polls.{Poll, Open}
-use Rattle.mon_poller.specs.Stamp.{Stamp, sampled}
+use Rattle.mon_poller.specs.Stamp.{Stamp}
 use Rattle.mon_poller.specs.Target.{object_names, target_at}
 use Rattle.mon_poller.specs.Verdict.{awaited, have_names, object_offers, poll_answer, response_pdu}
 
 -- the PDU of this frame and these variable bindings
 abbrev pub framed_pdu : Frame → List Binding → Pdu
 framed_pdu f bindings = record { kind = f.kind; request_id = f.request_id; error_status = f.error_status; error_index = f.error_index; bindings = bindings }
-
--- the sample of this value and this mark, where the value is of a sampled kind and the mark is there
-abbrev pub sampled_at : Stamp → Value → Option ℕ → Option ℕ
-sampled_at stamp value mark = option_and_then (λ v. option_map (λ m. key stamp.boots stamp.time m (kind_tag v.0) v.1) mark) (sampled value)
 
 -- what is offered of an instance
 abbrev pub given : ℕ → Option ℕ → List (ℕ × ℕ)

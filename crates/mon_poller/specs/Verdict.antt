@@ -12,7 +12,6 @@ use Rattle.mon_pdu.specs.declared.message.PduKind.TheVariants as kinds
 use Rattle.mon_pdu.specs.declared.message.Pdu.{Pdu as AnyPdu}
 use Rattle.mon_pdu.specs.Grammar.{BeginsWithMessage}
 use Rattle.mon_pdu.specs.Kinds.{octet_of}
-use Rattle.mon_sample.specs.declared.kind.Kind.{Kind}
 use Rattle.mon_sample.specs.Key.{key}
 use Rattle.mon_sample.specs.Kind.{kind_tag}
 use Rattle.mon_poller.specs.declared.addr.Addr.{Addr}
@@ -98,15 +97,14 @@ abbrev pub bindings_for : Option (List ℕ) → ℕ
 bindings_for None = 1
 bindings_for (Some name) = 2
 
--- the value of a sampled kind in the first of the bindings
-abbrev pub first_sampled : List Binding → Option (Kind × ℕ)
-first_sampled [] = None
-first_sampled (b ∷ bs) = sampled b.value
+-- the sample of this value and this mark, if the value is of a sampled kind and the mark is there
+abbrev pub sampled_at : Stamp → Value → Option ℕ → Option ℕ
+sampled_at stamp value mark = option_and_then (λ v. option_map (λ m. key stamp.boots stamp.time m (kind_tag v.0) v.1) mark) (sampled value)
 
 -- the sample of an object whose bindings stand first, if its value is of a sampled kind and its mark, where it has one, of a mark's kind
 unfoldable pub sample_of : Stamp → Object → List Binding → Option ℕ
-sample_of stamp o bindings =
-    option_and_then (λ value. option_map (λ mark. key stamp.boots stamp.time mark (kind_tag value.0) value.1) (mark_value o.mark bindings)) (first_sampled bindings)
+sample_of stamp o [] = None
+sample_of stamp o (b ∷ bs) = sampled_at stamp b.value (mark_value o.mark (b ∷ bs))
 
 -- what the bindings offer of the objects, in their order
 unfoldable pub object_offers : Stamp → List Object → List Binding → List (ℕ × ℕ)

@@ -1,4 +1,5 @@
-//! Reading a response in place: one that has all the names that its poll asked for, each spelled as it was asked. Other datagrams are not looked at further here.
+//! Reading a response in place: one that has all the names that its poll asked for, each spelled as it was asked. No name and no list of variable bindings is
+//! made of it. Any other datagram gives None here and is read as a message, which says what is wrong with it.
 
 ghost use Rattle.std.specs.Prelude.{◌≡◌, ◌++◌, ◌<◌, [], pos, List, Ok, Some, IfSome, OnSome, length, true};
 ghost use Rattle.std.specs.List.{flat_map};
@@ -9,11 +10,11 @@ ghost use Rattle.mon_pdu.specs.declared.message.Message.{Message as AnyMessage};
 ghost use Rattle.mon_pdu.specs.declared.message.Pdu.{Pdu as AnyPdu};
 ghost use Rattle.mon_pdu.specs.Framed.{framed};
 ghost use Rattle.mon_pdu.specs.Grammar.{BeginsWithMessage, IsBinding};
-ghost use Rattle.mon_poller.specs.InPlace.{IsOffered, OffersSo, framed_pdu, given, sampled_at};
+ghost use Rattle.mon_poller.specs.InPlace.{IsOffered, OffersSo, framed_pdu, given};
 ghost use Rattle.mon_poller.specs.Lent.{lent_stamp};
 ghost use Rattle.mon_poller.specs.Poller.{AreSlots, open_of, poll_in};
 ghost use Rattle.mon_poller.specs.Target.{SpellNames, object_names, poll_names, target_at};
-ghost use Rattle.mon_poller.specs.Verdict.{awaited, have_names, poll_answer, response_pdu, target_offers};
+ghost use Rattle.mon_poller.specs.Verdict.{awaited, have_names, response_pdu, sampled_at, target_offers};
 
 use crate::addr::Addr;
 use crate::asked::Asked;

@@ -4,10 +4,9 @@ ghost use Rattle.std.specs.Prelude.{◌≡◌, ◌∷◌, ℕ, List, drop};
 ghost use Rattle.std.specs.List.{flat_map};
 ghost use Rattle.std.specs.Option.{option_copied};
 ghost use Rattle.mon_poller.specs.Gives.{Gives};
-ghost use Rattle.mon_poller.specs.InPlace.{sampled_at};
 ghost use Rattle.mon_poller.specs.Lent.{lent_stamp};
 ghost use Rattle.mon_poller.specs.Target.{poll_names, object_names};
-ghost use Rattle.mon_poller.specs.Verdict.{response_pdu, have_names, have_after, stamp_and_others, mark_value, bindings_for, sample_of, object_offers, target_offers, poll_answer};
+ghost use Rattle.mon_poller.specs.Verdict.{response_pdu, have_names, have_after, stamp_and_others, mark_value, bindings_for, sample_of, sampled_at, object_offers, target_offers, poll_answer};
 
 use crate::fault::ResponseFault;
 use crate::lent::Stamp;

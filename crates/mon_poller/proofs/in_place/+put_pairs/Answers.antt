@@ -4,10 +4,11 @@ use Rattle.std.specs.List.{flat_map}
 use Rattle.mon_ber.specs.declared.value.Value.TheVariants.{Name}
 use Rattle.mon_ber.specs.Grammar.{Spells}
 use Rattle.mon_poller.specs.declared.target.Object.{Object}
-use Rattle.mon_poller.specs.InPlace.{OffersSo, given, sampled_at}
+use Rattle.mon_poller.specs.InPlace.{OffersSo, given}
 use Rattle.mon_poller.specs.Lent.{lent_stamp}
 use Rattle.mon_poller.specs.Stamp.{mark_in}
 use Rattle.mon_poller.specs.Target.{SpellNames, object_names}
+use Rattle.mon_poller.specs.Verdict.{sampled_at}
 use Rattle.mon_poller.proofs.InPlace.{begins, behind, marked, none_left, nothing, plain, with_marked, with_plain}
 use Rattle.mon_poller.proofs.in_place.+put_pairs.Goals as goal
 
