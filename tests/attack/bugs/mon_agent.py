@@ -221,4 +221,9 @@ BUGS = {
         "                self.mib.recount(before);",
         "                let _ = before;",
     ),
+    "bulk_cuts_at_whole_rounds": (
+        "src/growing.rt",
+        "            return Ok(false);",
+        "            { self.bindings.truncate(self.bindings.len() / 2 * 2); return Ok(false); }",
+    ),
 }

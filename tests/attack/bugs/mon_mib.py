@@ -391,4 +391,19 @@ BUGS = {
         "        if !policy.sees(access, &binding.name) {",
         "        if mon_ber::Tag::of(&binding.value) == mon_ber::Tag::Null { return Err(BindingFault::Refused(SetStatus::WrongType)); } if !policy.sees(access, &binding.name) {",
     ),
+    "commit_leaves_what_was_assigned": (
+        "src/commit.rt",
+        "    let Err(_) = device.apply(change) else {",
+        "    if index > 0 { return; } let Err(_) = device.apply(change) else {",
+    ),
+    "next_leaves_a_column_at_a_hidden_row": (
+        "src/mib.rt",
+        "            rest = Start::Above(instance);",
+        "            rest = Start::Nowhere;",
+    ),
+    "next_shows_a_hidden_name": (
+        "src/mib.rt",
+        "        let least = self.search(alloc, gaps, object, policy, access, start)?;",
+        "        let least = if object == Object::Scalar(Scalar::SysDescr) { self.next_instance(object, start) } else { self.search(alloc, gaps, object, policy, access, start)? };",
+    ),
 }

@@ -306,4 +306,29 @@ BUGS = {
         "    put_object_identifier(&mut octets, name);\n    Ok(Octets::new(octets))",
         "    Ok(Octets::new(octets))",
     ),
+    "memory_closes_a_poll": (
+        "src/awaiting.rt",
+        "        Err(fault) => fault.number() > 5,",
+        "        Err(fault) => fault.number() > 5 || fault.number() == 1,",
+    ),
+    "reads_in_place_from_any_address": (
+        "src/in_place.rt",
+        "    if from != target.address || frame.community != target.community.as_slice() {",
+        "    if frame.community != target.community.as_slice() {",
+    ),
+    "reads_in_place_from_any_engine": (
+        "src/in_place.rt",
+        "    if stamp.engine.as_slice() != target.engine.as_slice() {",
+        "    if stamp.engine.as_slice().len() != target.engine.as_slice().len() {",
+    ),
+    "takes_a_response_of_a_closed_poll": (
+        "src/awaiting.rt",
+        "        Ok(_) => true,",
+        "        Ok(_) => false,",
+    ),
+    "takes_other_names": (
+        "src/offers.rt",
+        "    mark.parts() == binding.name.parts() && name_objects(objects, bindings)",
+        "    mark.parts().len() == binding.name.parts().len() && name_objects(objects, bindings)",
+    ),
 }

@@ -81,4 +81,9 @@ BUGS = {
         "        for step in steps {",
         "        for step in &steps[..steps.len() / 2] {",
     ),
+    "delivers_nothing": (
+        "src/world.rt",
+        "let told = stations[place].step(alloc, event)?;",
+        "let told = stations[place].step(alloc, Event::Timeout(0))?;",
+    ),
 }
