@@ -55,13 +55,13 @@ class Poller:
         return self.last, self.targets[number].poll(self.last)
 
     def timeout(self, request_id):
-        """The target and the octets of a poll that is sent once more; or that it is given up, or not open."""
+        """The target and the octets of a poll that is sent once more; or that its target gave up, by its number, or that none is open."""
         if request_id not in self.open:
             return "not open"
         number, sends = self.open[request_id]
         if sends >= self.targets[number].tries:
             del self.open[request_id]
-            return "given up"
+            return f"given up {number}"
         self.open[request_id][1] += 1
         return number, self.targets[number].poll(request_id)
 

@@ -153,7 +153,7 @@ module _ (targets : List Target) (p : Polls) (id : ℕ) where
   not_open none = (ap (timeout_at targets id) none, ap (λ o. timed_at (tries_of targets) id o p) none)
 
   module _ (poll : Poll) (has : map.get p.open_polls id ≡ Some poll) where
-    pub given_up : (target_at targets poll.target).tries ≤ poll.sends → (timeout_verdict targets p id ≡ GivenUp) × (timed (tries_of targets) id p ≡ closed id p)
+    pub given_up : (target_at targets poll.target).tries ≤ poll.sends → (timeout_verdict targets p id ≡ GivenUp poll.target) × (timed (tries_of targets) id p ≡ closed id p)
     given_up last =
         let test : nat_lt poll.sends (target_at targets poll.target).tries ≡ false = grind (arith, nat_tests) in
         (ap (timeout_at targets id) has ∙ rw test refl, ap (λ o. timed_at (tries_of targets) id o p) has ∙ rw test refl)

@@ -167,7 +167,7 @@ tries_of targets i = (target_at targets i).tries
 
 -- what is answered to a timeout of this poll of the target
 abbrev pub timeout_of : Target → ℕ → Poll → TimedOut
-timeout_of t id poll = if nat_lt poll.sends t.tries then Again poll.target (poll_octets t id) else GivenUp
+timeout_of t id poll = if nat_lt poll.sends t.tries then Again poll.target (poll_octets t id) else GivenUp poll.target
 
 -- the same for the open poll, where there is one
 abbrev pub timeout_at : List Target → ℕ → Option Poll → TimedOut
@@ -181,5 +181,5 @@ timeout_verdict targets p id = timeout_at targets id (finmap.get p.open_polls id
 -- a datagram is to be sent again
 abbrev pub IsSentAgain : TimedOut → Type 0
 IsSentAgain (Again target octets) = Unit {0}
-IsSentAgain GivenUp = ⊥
+IsSentAgain (GivenUp target) = ⊥
 IsSentAgain NotOpen = ⊥

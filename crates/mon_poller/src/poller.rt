@@ -50,7 +50,10 @@ pub enum TimedOut {
         octets: Octets,
     },
     /// It was sent as often as its target is tried: the poll is closed.
-    GivenUp,
+    GivenUp {
+        /// The number of the target, which answered none of its datagrams.
+        target: u16,
+    },
     /// No poll of this request-id is open.
     NotOpen,
 }
@@ -175,7 +178,9 @@ impl Poller {
         let number = usize::from(poll.target);
         if poll.sends >= self.targets.at(number).tries {
             self.polls.remove(key);
-            return Ok(TimedOut::GivenUp);
+            return Ok(TimedOut::GivenUp {
+                target: poll.target,
+            });
         }
         let octets = self.targets.poll(alloc, number, id)?;
         self.polls[key].sends += 1;

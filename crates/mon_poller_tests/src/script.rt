@@ -64,7 +64,7 @@ fn timeout(alloc: Global, polls: &mut Poller, id: u32) -> Option<String> {
             let octets = hex::encode(alloc, octets.as_slice()).ok()?;
             format!(in alloc; "again {target} {octets} ({tries})").ok()
         }
-        TimedOut::GivenUp => format!(in alloc; "given up ({tries})").ok(),
+        TimedOut::GivenUp { target } => format!(in alloc; "given up {target} ({tries})").ok(),
         TimedOut::NotOpen => format!(in alloc; "not open ({tries})").ok(),
     }
 }

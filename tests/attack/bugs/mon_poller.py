@@ -148,8 +148,13 @@ BUGS = {
     ),
     "given_up_and_still_open": (
         "src/poller.rt",
-        "            self.polls.remove(key);\n            return Ok(TimedOut::GivenUp);",
-        "            return Ok(TimedOut::GivenUp);",
+        "            self.polls.remove(key);\n            return Ok(TimedOut::GivenUp {",
+        "            return Ok(TimedOut::GivenUp {",
+    ),
+    "the_first_target_gave_up": (
+        "src/poller.rt",
+        "            return Ok(TimedOut::GivenUp {\n                target: poll.target,\n",
+        "            return Ok(TimedOut::GivenUp {\n                target: 0,\n",
     ),
     "a_start_for_too_many_is_of_an_unknown_target": (
         "src/poller.rt",

@@ -41,7 +41,7 @@ returns-then-poll-at-clause-told c =
     c.at.ensures ∙ ap (target_at targets) c.from-number.ensures in
     let has : map.get (open_of slots) c.args.id ≡ Some (poll_in poll) = ap (map.get (open_of slots)) (sym c.in-Some.ensures.same) ∙ in_slot slots c.in-Some.key poll c.self.invariant.slots.distinct c.in-Some.ensures.found in
     let last : (target_at targets poll.target).tries ≤ poll.sends = subst (λ (t : Target). t.tries ≤ poll.sends) target c.if-poll-at.true in
-    subst (λ (b : Poller). GivenUp ≡ timeout_verdict b.targets b.polls c.args.id) c.self.view_is (sym (given_up targets p c.args.id (poll_in poll) has last).0)
+    subst (λ (b : Poller). GivenUp poll.target ≡ timeout_verdict b.targets b.polls c.args.id) c.self.view_is (sym (given_up targets p c.args.id (poll_in poll) has last).0)
 
 pub returns-then-poll-at-clause-polls : goal.returns-then-poll-at-clause-polls
 returns-then-poll-at-clause-polls c =
