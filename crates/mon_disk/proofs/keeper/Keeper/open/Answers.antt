@@ -1,4 +1,4 @@
-use Rattle.std.proofs.Common.{option_map, sym, subst}
+use Rattle.std.proofs.Common.{sym, subst}
 use Rattle.mon_disk.specs.Keeper.{FindsBody}
 use Rattle.mon_disk.proofs.keeper.Keeper.open.Goals as goal
 
