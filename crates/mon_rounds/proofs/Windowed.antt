@@ -1,12 +1,15 @@
 -- The windows that a disk holds, and why there are none.
-use Rattle.std.proofs.Common.{◌≡◌, ℕ, List, Option, Some, None, Result, Ok, Err, Vec, Global, refl, sym, ap, subst, ◌∙◌}
+use Rattle.std.proofs.Common.{◌≡◌, true, false, ℕ, List, Option, Some, None, Result, Ok, Err, Vec, Global, refl, sym, ap, subst, ◌∙◌}
 use Rattle.std.specs.Prelude.{IfOk}
 use Rattle.std.specs.FinSet as set
 use Rattle.mon_board.specs.Board.{Board, window_of}
 use Rattle.mon_board.specs.Instance.{instances_of}
 use Rattle.mon_board.specs.Watch.{Watch}
-use Rattle.mon_disk.specs.Keeper.{FindsBody}
-use Rattle.mon_rounds.specs.Found.{IsBoardOf, IsFaultOfFound, IsFaultOfImage}
+use Rattle.mon_disk.specs.declared.fault.KeeperFault.{KeeperFault}
+use Rattle.mon_disk.specs.declared.fault.KeeperFault.TheVariants as keeper
+use Rattle.mon_disk.specs.Fault.{is_of_opening}
+use Rattle.mon_disk.specs.Keeper.{FindsBody, is_undamaged}
+use Rattle.mon_rounds.specs.Found.{IsBoardOf, IsFaultOfFound, IsFaultOfImage, IsFindingFault}
 use Rattle.mon_saved.specs.declared.fault.ImageFault.{ImageFault}
 use Rattle.mon_saved.specs.declared.fault.ImageFault.TheVariants as image
 use Rattle.mon_saved.specs.declared.image.Image.{Image}
@@ -16,7 +19,7 @@ use Rattle.mon_saved.specs.Reading.{image_at}
 use Rattle.mon_saved.specs.Restored.{IsRestored}
 use Rattle.mon_station.specs.declared.fault.StationFault.{StationFault}
 use Rattle.mon_station.specs.declared.fault.StationFault.TheVariants as station
-use Rattle.mon_station.specs.Fault.{image_refusal}
+use Rattle.mon_station.specs.Fault.{image_refusal, keeper_refusal}
 
 -- the windows of an image
 pub of_image : (watch : Watch) (octets : List ℕ) (board : Board) (incarnation : ℕ) → IsRestored watch octets board incarnation → IsBoardOf watch (Some octets) board
@@ -47,3 +50,29 @@ fault_of_found watch file body (station.Response f) finds h = absurd h
 fault_of_found watch file body (station.Exchange f) finds h = absurd h
 fault_of_found watch file body (station.Image f) finds h = subst (λ (b : Option (List ℕ)). IsFaultOfImage watch b (station.Image f)) (sym finds.body_is) h
 fault_of_found watch file body station.NoMoreIncarnations finds h = absurd h
+
+pub finding_image : (watch : Watch) (body : Option (List ℕ)) (fault : StationFault) → IsFaultOfImage watch body fault → IsFindingFault fault
+finding_image watch body station.OutOfMemory h = tt
+finding_image watch body (station.Keeper f) h = absurd h
+finding_image watch body (station.Poll f) h = absurd h
+finding_image watch body (station.Response f) h = absurd h
+finding_image watch body (station.Exchange f) h = absurd h
+finding_image watch body (station.Image f) h = tt
+finding_image watch body station.NoMoreIncarnations h = absurd h
+
+-- a fault of the keeper's opening
+pub finding_keeper : (f : KeeperFault) → is_of_opening f ≡ true → IsFindingFault (keeper_refusal f)
+finding_keeper keeper.OutOfMemory of = tt
+finding_keeper keeper.DiskFault of = tt
+finding_keeper keeper.NoMoreGenerations of = absurd (let no : false ≡ true = of in cc)
+finding_keeper keeper.TooLarge of = absurd (let no : false ≡ true = of in cc)
+finding_keeper keeper.Damaged of = tt
+finding_keeper keeper.Reopen of = absurd (let no : false ≡ true = of in cc)
+
+pub found_keeper : (watch : Watch) (file : List ℕ) (f : KeeperFault) → is_of_opening f ≡ true → (f ≡ keeper.Damaged → is_undamaged file ≡ false) → IsFaultOfFound watch file (keeper_refusal f)
+found_keeper watch file keeper.OutOfMemory of h = tt
+found_keeper watch file keeper.DiskFault of h = tt
+found_keeper watch file keeper.NoMoreGenerations of h = absurd (let no : false ≡ true = of in cc)
+found_keeper watch file keeper.TooLarge of h = absurd (let no : false ≡ true = of in cc)
+found_keeper watch file keeper.Damaged of h = h refl
+found_keeper watch file keeper.Reopen of h = absurd (let no : false ≡ true = of in cc)

@@ -32,7 +32,18 @@ abbrev pub IsFaultOfImage : Watch → Option (List ℕ) → StationFault → Typ
 IsFaultOfImage watch body fault.NoMoreIncarnations = ⊥
 IsFaultOfImage watch body other = IsFaultOfBody watch body other
 
--- why a file has no windows: the keeper, which answers Damaged only where the file is, or its body
+-- Why a file has no windows: its body, or the keeper. Of the keeper's faults the disk's has its cause in the disk, Damaged is answered only where the file is damaged, and no
+-- other at all.
 abbrev pub IsFaultOfFound : Watch → List ℕ → StationFault → Type 0
-IsFaultOfFound watch file (fault.Keeper f) = f ≡ keeper.Damaged → is_undamaged file ≡ false
+IsFaultOfFound watch file (fault.Keeper keeper.DiskFault) = Unit {0}
+IsFaultOfFound watch file (fault.Keeper keeper.Damaged) = is_undamaged file ≡ false
+IsFaultOfFound watch file (fault.Keeper f) = ⊥
 IsFaultOfFound watch file other = IsFaultOfImage watch (found_body file) other
+
+-- one of the faults with which windows are not found, whatever the disk is
+abbrev pub IsFindingFault : StationFault → Type 0
+IsFindingFault fault.OutOfMemory = Unit {0}
+IsFindingFault (fault.Keeper keeper.DiskFault) = Unit {0}
+IsFindingFault (fault.Keeper keeper.Damaged) = Unit {0}
+IsFindingFault (fault.Image f) = Unit {0}
+IsFindingFault other = ⊥

@@ -13,8 +13,12 @@ abbrev pub name_of : TrialFault → List ℕ
 name_of OutOfMemory = codes "OutOfMemory"
 name_of Unexpected = codes "Unexpected"
 
--- what a trial with a good end prints: three samples of a counter of 1000 octets a second, 20 seconds apart
-abbrev pub trial_text : List ℕ
-trial_text =
+-- what a station has to report at the end of a trial: three samples of a counter of 1000 octets a second, over 20 seconds
+abbrev pub trial_report : List ℕ
+trial_report =
     codes "8000000001 1.3.6.1.2.1.31.1.1.1.6.1 n=3 1:100..1:120 Counter64=120000 delta=20000 span=20 rate=1000.000\n"
-    ++ codes "end 1 instances 3 samples\n" ++ codes "selftest: ok\n"
+    ++ codes "end 1 instances 3 samples\n"
+
+-- what a trial with a good end prints
+abbrev pub trial_text : List ℕ
+trial_text = trial_report ++ codes "selftest: ok\n"

@@ -27,4 +27,4 @@ pub use running::{rest, run_round};
 pub use saved::saved_board;
 pub use socket::{Socket, SocketOutbox, SocketReceiver};
 pub use source::Rounds;
-pub use trial::{TrialFault, selftest};
+pub use trial::{Trial, TrialFault, selftest};

@@ -2,7 +2,7 @@
 
 ghost use Rattle.std.specs.Prelude.{Some, option_map, IfErr, IfOk};
 ghost use Rattle.mon_disk.specs.Keeper.{IsOpening, found_body};
-ghost use Rattle.mon_rounds.specs.Found.{IsBoardOf, IsFaultOfFound, IsFaultOfImage};
+ghost use Rattle.mon_rounds.specs.Found.{IsBoardOf, IsFaultOfFound, IsFaultOfImage, IsFindingFault};
 ghost use Rattle.mon_station.specs.Saved.{IsCausedBy};
 
 use mon_board::{Board, Watch};
@@ -26,7 +26,9 @@ pub fn saved_board<D: Disk + Drop>(
     // Nothing is done to the disk but what each opening of it does: a crash at any moment leaves what an opening takes for one of the files before.
     ensures opening { D.is_honest disk → IfOk result (λ r. IsOpening D.seen D.may_leave D.moment D.left_since disk r.1) }
     ensures opening_err { D.is_honest disk → IfErr result (λ e. IsOpening D.seen D.may_leave D.moment D.left_since disk e.1) }
-    ensures fault { D.is_honest disk → IfErr result (λ e. IsFaultOfFound watch.now (D.seen disk) e.0) }
+    // Each fault is one of an opening and has its cause.
+    ensures fault { IfErr result (λ e. IsFindingFault e.0) }
+    ensures fault_of { D.is_honest disk → IfErr result (λ e. IsFaultOfFound watch.now (D.seen disk) e.0) }
     ensures honest { IfOk result (λ r. D.is_honest disk → D.is_honest r.1) }
     ensures cause { IfErr result (λ e. IsCausedBy (D.faults disk) (D.faults e.1) e.0) }
 {

@@ -1,9 +1,14 @@
 //! A station's trial of itself: it polls an agent in memory three times, saves and finds again what it took.
 
-ghost use Rattle.std.specs.Prelude.{◌≡◌, ◌++◌, IfErr, IfOk};
+ghost use Rattle.std.specs.Prelude.{◌≡◌, ◌++◌, IfErr, IfOk, OnOk};
 ghost use Rattle.mon_board.specs.Board.{window_of};
+ghost use Rattle.mon_disk.specs.Disk.{Leaves};
+ghost use Rattle.mon_disk.specs.Kept.{device_of};
+ghost use Rattle.mon_disk.specs.Memory.{memory_leaves};
 ghost use Rattle.mon_report.specs.Report.{report};
-ghost use Rattle.mon_rounds.specs.Trial.{name_of, number_of, trial_text};
+ghost use Rattle.mon_rounds.specs.Trial.{name_of, number_of, trial_report, trial_text};
+ghost use Rattle.mon_station.specs.Saved.{FindsState};
+ghost use Rattle.mon_station.specs.State.{state_of};
 
 use crate::saved::saved_board;
 use mon_agent::{Agent, AgentFault, Reply};
@@ -160,22 +165,38 @@ fn agent_address() -> Addr {
     }
 }
 
-/// Tries a station on a disk in memory: an agent in memory, which counts 1000 octets a second, is polled 100, 110 and 120 seconds after its start, and
-/// the windows are saved. The text is the station's report and `selftest: ok`, where both the report and that of what the disk then
-/// holds are what they have to be.
+/// A trial with a good end.
+#[derive(Drop)]
+pub struct Trial {
+    /// The station's report and `selftest: ok`.
+    pub text: Vec<u8>,
+    /// The station that was tried, with what it took.
+    pub station: Station<MemoryDisk>,
+}
+
+/// Tries a station on a disk in memory. It polls an agent in memory, which counts 1000 octets a second, 100, 110 and 120 seconds after the agent's start, and
+/// saves. The trial has a good end where its report, and that of what its disk then holds, are what they must be.
 ///
 /// # Errors
 /// `OutOfMemory`; `Unexpected` where anything else was answered, also by a disk in memory that found no room.
-pub fn selftest(alloc: Global) -> Result<Vec<u8>, TrialFault>
-    ensures { IfOk result (λ text. text.items ≡ trial_text) }
+pub fn selftest(alloc: Global) -> Result<Trial, TrialFault>
+    // The text is one text, and it is the report of the station that was tried.
+    ensures text { IfOk result (λ trial. trial.text.items ≡ trial_text) }
+    ensures report { IfOk result (λ trial. report (state_of trial.station.life).board.watch (window_of (state_of trial.station.life).board) ≡ trial_report) }
+    // The station has saved what it reports.
+    ensures saved { IfOk result (λ trial. Leaves (memory_leaves (device_of trial.station.keeper)) (FindsState (state_of trial.station.life))) }
 {
-    let text = tried(alloc)?;
-    judged(text, REPORT.as_bytes(), DONE.as_bytes())
+    let settings = station_settings(alloc, STATION)?;
+    let station = tried(alloc, &settings)?;
+    let text = found_again(alloc, settings.core.watch(), &station)?;
+    let text = judged(text, REPORT.as_bytes(), DONE.as_bytes())?;
+    Ok(Trial { text, station })
 }
 
 /// A text, with a last line after it, where it is what it has to be.
 fn judged(text: Vec<u8>, wanted: &[u8], last: &[u8]) -> Result<Vec<u8>, TrialFault>
-    ensures { IfOk result (λ all. all.items ≡ wanted.now ++ last.now) }
+    ensures all { IfOk result (λ all. all.items ≡ wanted.now ++ last.now) }
+    ensures wanted { OnOk result (text.items ≡ wanted.now) }
 {
     if text.as_slice() != wanted {
         return Err(TrialFault::Unexpected);
@@ -185,9 +206,10 @@ fn judged(text: Vec<u8>, wanted: &[u8], last: &[u8]) -> Result<Vec<u8>, TrialFau
     Ok(text)
 }
 
-/// The report of a station that was tried, where that of what it saved is the same.
-fn tried(alloc: Global) -> Result<Vec<u8>, TrialFault> {
-    let settings = station_settings(alloc, STATION)?;
+/// A station of these settings that polled the agent and saved.
+fn tried(alloc: Global, settings: &StationSettings) -> Result<Station<MemoryDisk>, TrialFault>
+    ensures saved { IfOk result (λ station. Leaves (memory_leaves (device_of station.keeper)) (FindsState (state_of station.life))) }
+{
     let core = settings.core.try_clone(alloc)?;
     let disk = MemoryDisk::new(alloc, &[])?;
     let mut station = match Station::open(alloc, core, disk) {
@@ -195,7 +217,16 @@ fn tried(alloc: Global) -> Result<Vec<u8>, TrialFault> {
         Err((fault, _)) => return Err(TrialFault::from(fault)),
     };
     poll_agent(alloc, &mut station, AGENT)?;
-    reported(alloc, settings.core.watch(), station)
+    save(alloc, &mut station)?;
+    Ok(station)
+}
+
+/// Saves.
+fn save(alloc: Global, station: &mut Station<MemoryDisk>) -> Result<(), TrialFault>
+    ensures { OnOk result (Leaves (memory_leaves (device_of station.new.keeper)) (FindsState (state_of station.new.life))) }
+{
+    station.step(alloc, Event::Save)?;
+    Ok(())
 }
 
 /// Polls an agent of these settings at each of the moments.
@@ -228,16 +259,17 @@ fn polled_at<D: Disk + Drop, E: Device + Drop>(
     Ok(())
 }
 
-/// Saves, and gives the station's report where that of what it saved is the same.
-fn reported<D: Disk + Drop>(
+/// The station's report, where that of what an opening of a copy of its disk finds is the same.
+fn found_again(
     alloc: Global,
     watch: &Watch,
-    station: Station<D>,
-) -> Result<Vec<u8>, TrialFault> {
-    let mut station = station;
-    station.step(alloc, Event::Save)?;
+    station: &Station<MemoryDisk>,
+) -> Result<Vec<u8>, TrialFault>
+    ensures { IfOk result (λ text. text.items ≡ report (state_of station.now.life).board.watch (window_of (state_of station.now.life).board)) }
+{
     let text = written(alloc, station.board())?;
-    match saved_board(alloc, watch, station.into_disk()) {
+    let copy = station.disk().try_clone()?;
+    match saved_board(alloc, watch, copy) {
         Ok((board, _)) => same(written(alloc, &board)?, text),
         Err((fault, _)) => Err(TrialFault::from(fault)),
     }
@@ -256,7 +288,9 @@ fn written(alloc: Global, board: &Board) -> Result<Vec<u8>, StationFault>
 }
 
 /// The second text, where the first is the same.
-fn same(saved: Vec<u8>, text: Vec<u8>) -> Result<Vec<u8>, TrialFault> {
+fn same(saved: Vec<u8>, text: Vec<u8>) -> Result<Vec<u8>, TrialFault>
+    ensures { IfOk result (λ one. one.items ≡ text.items) }
+{
     if saved.as_slice() == text.as_slice() {
         Ok(text)
     } else {

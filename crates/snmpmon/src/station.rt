@@ -220,8 +220,8 @@ fn count_of(words: &ArgMatches<'_>) -> u32
 
 /// Prints what a station in memory measured of an agent in memory.
 pub fn self_test<R: Print + AllocGlobal>(rt: &R) -> Result<(), Failure> {
-    let text = selftest(rt.alloc())?;
-    print(rt, text.as_slice())
+    let trial = selftest(rt.alloc())?;
+    print(rt, trial.text.as_slice())
 }
 
 /// What the file of a station's settings says, by the names of the modules that it lists, and how its reports are printed.
