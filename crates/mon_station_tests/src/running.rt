@@ -176,8 +176,10 @@ fn run_listed<O: Outbox>(
     ensures { IfSome result (λ run. RanOver source.old.events.items source.new.events.items (O.handed outbox.old) (O.handed outbox.new) turns run) }
 {
     let mut run = used(alloc)?;
-    station.run(alloc, source, outbox, turns, &mut run).ok()?;
-    Some(run)
+    match station.run(alloc, source, outbox, turns, &mut run) {
+        Ok(()) => Some(run),
+        Err(_) => None,
+    }
 }
 
 /// The counts, the answers and what was sent.

@@ -44,7 +44,7 @@ returns-then-not-take_turn-clause-ran g c =
     let first = seen c.args.self.now (S.view c.args.source.now) (O.handed c.args.outbox.now) in
     let last = seen c.take_turn.new.self (S.view c.take_turn.new.source) (O.handed c.take_turn.new.outbox) in
     let more = so_far_more g.D.Disk S.gives first (seen c.loop-turn.self (S.view c.loop-turn.source) (O.handed c.loop-turn.outbox)) last c.loop-turn.run (with_turns c.loop-turn.run (c.loop-turn.turn + 1)) c.take_turn.new.run c.take_turn.result
-        so_far.ran c.take_turn.ensures.called refl refl (ap (λ n. n + 1) (sym so_far.turns)) in
+    so_far.ran c.take_turn.ensures.called refl refl (ap (λ n. n + 1) (sym so_far.turns)) in
     ran_of g.D.Disk S.gives first last c.args.turns c.take_turn.new.run c.take_turn.result more
     (inr (omega (arith, so_far.ran.told.turns, so_far.turns, c.loop-turn-test.true), more.going_is ∙ c.if-not-take_turn.true))
 

@@ -24,7 +24,7 @@ returns-in-Ok-clause-turned g c =
     (c.hand.ensures.handed ∙ ap (λ (l : List Outgoing). extended (g.O.Outbox.handed c.args.outbox.now) l) c.as_slice.ensures.value) c.answered.ensures
     (λ honest. file_told D.may_leave s old new c.args.event (λ other. ap device_of (c.in-Ok.ensures.disk (not_save event (λ e. other (sym is ∙ e))))) (λ e. c.in-Ok.ensures.saved honest (is_save event (is ∙ e))))
     (λ honest. amid D s old new (λ disk t h left. g.met.D.Disk.only_now disk t h left) honest c.args.event (λ other. ap device_of (c.in-Ok.ensures.disk (not_save event (λ e. other (sym is ∙ e)))))
-        (c.in-Ok.ensures.any_moment honest))
+    (c.in-Ok.ensures.any_moment honest))
 
 pub returns-clause-turned : goal.returns-clause-turned
 returns-clause-turned g c =
@@ -41,4 +41,4 @@ returns-clause-turned g c =
     (λ honest. file_fault D.may_leave s old new c.args.event c.in-Err.fault (λ other. ap device_of (c.in-Err.ensures.disk (not_save event (λ e. other (sym is ∙ e))))) (λ other. ap device_of (c.in-Err.ensures.unsaved other))
     (at_end D.moment D.left_since D.may_leave old new (FindsRunning (D.may_leave old) s) (λ t f le left. g.met.D.Disk.counts_now new t f (c.in-Err.ensures.honest honest) le left) (c.in-Err.ensures.any_moment honest)))
     (λ honest. amid D s old new (λ disk t h left. g.met.D.Disk.only_now disk t h left) honest c.args.event (λ other. ap device_of (c.in-Err.ensures.disk (not_save event (λ e. other (sym is ∙ e)))))
-        (c.in-Err.ensures.any_moment honest))
+    (c.in-Err.ensures.any_moment honest))
