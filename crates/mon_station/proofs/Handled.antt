@@ -10,12 +10,11 @@ use Rattle.mon_poller.specs.declared.fault.PollFault.{PollFault}
 use Rattle.mon_poller.specs.declared.fault.ResponseFault.{ResponseFault}
 use Rattle.mon_poller.specs.declared.poller.Offered.{Offered}
 use Rattle.mon_poller.specs.declared.poller.TimedOut.{TimedOut}
-use Rattle.mon_poller.specs.declared.poller.TimedOut.TheVariants.{Again, GivenUp, NotOpen}
 use Rattle.mon_poller.specs.Gives.{Fails, StartFails}
 use Rattle.mon_poller.specs.Poller.{Poller}
 use Rattle.mon_poller.specs.Polls.{Polls, with_poll, timed}
 use Rattle.mon_poller.specs.Target.{poll_octets, target_at}
-use Rattle.mon_poller.specs.Verdict.{IsSentAgain, after_response, ends, response_verdict, start_verdict, timeout_verdict, tries_of}
+use Rattle.mon_poller.specs.Verdict.{after_response, ends, response_verdict, start_verdict, timeout_verdict, tries_of}
 use Rattle.mon_station.specs.declared.event.Outgoing.{Outgoing}
 use Rattle.mon_station.specs.declared.event.Told.{Told}
 use Rattle.mon_station.specs.declared.fault.StationFault.{StationFault}
@@ -27,7 +26,7 @@ use Rattle.mon_exchange.specs.declared.fault.ExchangeFault.TheVariants as exchan
 use Rattle.mon_station.specs.ReadEvent.{ReadEvent, StartPoll, Timeout, FromAgent, FromPeer, Share, Save}
 use Rattle.mon_station.specs.State.{State, IsHandled, setting_of}
 use Rattle.mon_station.specs.Step.{IsSettled, left_polls}
-use Rattle.mon_station.specs.Told.{IsAnswered, IsTold, resends, to_target}
+use Rattle.mon_station.specs.Told.{IsAnswered, IsTold, given_up_by, resends, to_target}
 use Rattle.mon_station.specs.Verdict.{Setting, IsLawfulFault, fault_in, polls_after, response_pairs, share_fault, slot_of}
 use Rattle.mon_station.proofs.Faults.{ends_as, response_lawful, response_memory, start_lawful}
 use Rattle.mon_poller.specs.declared.fault.ResponseFault.TheVariants as response
@@ -58,12 +57,6 @@ pub by_memory : (s : State) → IsSettled s → (e : ReadEvent) (result : Result
 by_memory s settled e (Ok told) h = absurd h
 by_memory s settled e (Err f) h = subst (λ (g : StationFault). IsHandled e (Some g) s s) (sym h) (refused s settled e station.OutOfMemory (memory_polls (setting_of s) e s.poller.polls) tt)
 
--- nothing is sent
-pub quiet_sends : (v : TimedOut) → (IsSentAgain v → ⊥) → [] ≡ resends v
-quiet_sends (Again target octets) h = absurd (h tt)
-quiet_sends (GivenUp target) h = refl
-quiet_sends NotOpen h = refl
-
 -- ---- polls
 module _ (s : State) (settled : IsSettled s) where
   pub start_refused : (t : ℕ) (f : PollFault) (g : StationFault) (n : Poller) → g ≡ poll_refusal f → n ≡ s.poller → StartFails f (start_verdict s.poller.targets s.poller.polls t) → IsHandled (StartPoll t) (Some g) s (with_poller s n)
@@ -76,24 +69,24 @@ module _ (s : State) (settled : IsSettled s) where
   quiet_start t = record { nothing = refl; serial = refl; known = λ y. refl; marks = λ k. refl }
 
   pub started : (t id : ℕ) (n : Poller) (told : Told) (out : Outgoing) → start_verdict s.poller.targets s.poller.polls t ≡ Ok id → n ≡ with_polls s.poller (with_poll t s.poller.polls)
-      → told.taken ≡ [] → told.sends.items ≡ out ∷ [] → told.noted ≡ None → out ≡ to_target t (poll_octets (target_at s.poller.targets t) (s.poller.polls.started + 1))
+      → told.taken ≡ [] → told.sends.items ≡ out ∷ [] → told.noted ≡ None → told.given_up ≡ None → out ≡ to_target t (poll_octets (target_at s.poller.targets t) (s.poller.polls.started + 1))
       → IsHandled (StartPoll t) None s (with_poller s n) × IsTold s (StartPoll t) told
-  started t id n told out ok is taken sends noted sent = (
+  started t id n told out ok is taken sends noted given_up sent = (
     subst (λ (p : Poller). IsHandled (StartPoll t) None s (with_poller s p)) (sym is)
         (record { lawful = ap (fault_in station.Poll) ok; after = quiet_after s settled (StartPoll t) None (quiet_start t) (with_poll t s.poller.polls) refl }),
-    record { taken = taken; sent = sends ∙ ap (λ (o : Outgoing). o ∷ []) sent; noted = noted; claims = tt },
+    record { taken = taken; sent = sends ∙ ap (λ (o : Outgoing). o ∷ []) sent; noted = noted; given_up = given_up; claims = tt },
   )
 
   quiet_timeout : (id : ℕ) → IsQuiet s (Timeout id) None
   quiet_timeout id = record { nothing = refl; serial = refl; known = λ y. refl; marks = λ k. refl }
 
   pub timed_out : (id : ℕ) (n : Poller) (told : Told) (is : TimedOut) → n ≡ with_polls s.poller (timed (tries_of s.poller.targets) id s.poller.polls)
-      → told.taken ≡ [] → told.sends.items ≡ resends is → told.noted ≡ None → is ≡ timeout_verdict s.poller.targets s.poller.polls id
+      → told.taken ≡ [] → told.sends.items ≡ resends is → told.noted ≡ None → told.given_up ≡ given_up_by is → is ≡ timeout_verdict s.poller.targets s.poller.polls id
       → IsHandled (Timeout id) None s (with_poller s n) × IsTold s (Timeout id) told
-  timed_out id n told verdict is taken sends noted same = (
+  timed_out id n told verdict is taken sends noted given_up same = (
     subst (λ (p : Poller). IsHandled (Timeout id) None s (with_poller s p)) (sym is)
         (record { lawful = refl; after = quiet_after s settled (Timeout id) None (quiet_timeout id) (timed (tries_of s.poller.targets) id s.poller.polls) refl }),
-    record { taken = taken; sent = sends ∙ ap resends same; noted = noted; claims = tt },
+    record { taken = taken; sent = sends ∙ ap resends same; noted = noted; given_up = given_up ∙ ap given_up_by same; claims = tt },
   )
 
   -- ---- responses
@@ -112,9 +105,9 @@ module _ (s : State) (settled : IsSettled s) where
   pub response_taken : (a : Addr) (r : Option Message) (o : Offered) (n : Poller) (b : Board) (told : Told) (pairs : List (ℕ × ℕ))
       → response_verdict s.poller.targets s.poller.polls.open_polls a r ≡ Ok o → n ≡ with_polls s.poller (after_response true r s.poller.polls) → pairs ≡ o.pairs
       → b.watch ≡ s.board.watch → ((i : ℕ) → window_of b i ≡ joined (rule_of s.board.watch) (window_of s.board) pairs i) → KeepsMarks s.board b
-      → told.taken ≡ o.pairs → told.sends.items ≡ [] → told.noted ≡ None
+      → told.taken ≡ o.pairs → told.sends.items ≡ [] → told.noted ≡ None → told.given_up ≡ None
       → IsHandled (FromAgent a r) None s (record { board = b; poller = n; peers = s.peers; incarnation = s.incarnation; serial = s.serial }) × IsTold s (FromAgent a r) told
-  response_taken a r o n b told pairs ok is same watch windows marks taken sends noted =
+  response_taken a r o n b told pairs ok is same watch windows marks taken sends noted given_up =
       let offered : o.pairs ≡ response_pairs (response_verdict s.poller.targets s.poller.polls.open_polls a r) = sym (ap response_pairs ok) in (
         record {
           lawful = ap (fault_in station.Response) ok;
@@ -128,17 +121,17 @@ module _ (s : State) (settled : IsSettled s) where
             marks = λ k i x j. marks k j i x;
           };
         },
-        record { taken = taken ∙ offered; sent = sends; noted = noted; claims = tt },
+        record { taken = taken ∙ offered; sent = sends; noted = noted; given_up = given_up; claims = tt },
       )
 
   -- ---- saves
   quiet_save : IsQuiet s Save None
   quiet_save = record { nothing = refl; serial = refl; known = λ y. refl; marks = λ k. refl }
 
-  pub saved : (told : Told) → told.taken ≡ [] → told.sends.items ≡ [] → told.noted ≡ None → IsHandled Save None s s × IsTold s Save told
-  saved told taken sends noted = (
+  pub saved : (told : Told) → told.taken ≡ [] → told.sends.items ≡ [] → told.noted ≡ None → told.given_up ≡ None → IsHandled Save None s s × IsTold s Save told
+  saved told taken sends noted given_up = (
     record { lawful = refl; after = quiet_after s settled Save None quiet_save s.poller.polls refl },
-    record { taken = taken; sent = sends; noted = noted; claims = tt },
+    record { taken = taken; sent = sends; noted = noted; given_up = given_up; claims = tt },
   )
 
   pub save_refused : (f : KeeperFault) (g : StationFault) → g ≡ keeper_refusal f → IsHandled Save (Some g) s s

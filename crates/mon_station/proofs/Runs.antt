@@ -1,11 +1,15 @@
--- A run, one turn after another.
-use Rattle.std.proofs.Common.{ℕ, ◌≡◌, List, [], ◌∷◌, ◌++◌, Option, Some, None, Result, Ok, Err, refl, sym, ap, subst, ◌∙◌, append_assoc, ◌+◌, ◌≤◌, length, zero-add, arith, ◌<◌, ◌^◌, ◌-◌, suc, add-one, inl, inr, ⊎_elim}
+-- A run, one call after another.
+use Rattle.std.proofs.Common.{ℕ, ◌≡◌, Bool, true, List, [], ◌∷◌, ◌++◌, Option, Some, None, Result, Ok, Err, refl, sym, ap, subst, ◌∙◌, append_assoc, ◌+◌, ◌≤◌, ◌⊎◌, length, length-append, zero-add, arith, ◌<◌, ◌^◌, ◌-◌, suc, add-one, inl, inr, ⊎_elim}
+use Rattle.std.specs.Prelude.{IfNone, IfSome, IsTrue}
+use Rattle.std.specs.FinMap as map
+use Rattle.mon_disk.specs.declared.disk.Disk.{Ghosts}
 use Rattle.mon_disk.specs.declared.fault.KeeperFault.TheVariants as keeper
-use Rattle.mon_disk.specs.Disk.{Leaves}
+use Rattle.mon_disk.specs.Disk.{Leaves, LeavesSince}
 use Rattle.mon_disk.specs.Keeper.{FindsAs, IsAs}
-use Rattle.mon_disk.proofs.Promised.{as_body_of, as_then, itself}
+use Rattle.mon_disk.proofs.Promised.{as_body_of, as_then, at_rest, chained, itself, weaker}
 use Rattle.mon_edge.specs.Counts.{failed_after, next_count}
 use Rattle.mon_edge.specs.Told.{extended}
+use Rattle.mon_poller.specs.Polls.{Open}
 use Rattle.mon_station.specs.declared.event.Event.{Event}
 use Rattle.mon_station.specs.declared.event.Event.TheVariants as lent
 use Rattle.mon_station.specs.declared.event.Outgoing.{Outgoing}
@@ -15,15 +19,22 @@ use Rattle.mon_station.specs.declared.event.Told.{Told}
 use Rattle.mon_station.specs.declared.fault.StationFault.{StationFault}
 use Rattle.mon_station.specs.declared.fault.StationFault.TheVariants as station
 use Rattle.mon_station.specs.declared.running.Answer.{Answer}
-use Rattle.mon_station.specs.declared.running.Answer.TheVariants.{Handled, Memory, Refused, Keeper}
+use Rattle.mon_station.specs.declared.running.Answer.TheVariants.{Handled, GaveUp, Memory, Refused, Keeper}
+use Rattle.mon_station.specs.declared.running.Run.{Run}
+use Rattle.mon_station.specs.declared.running.SourceFault.{SourceFault}
+use Rattle.mon_station.specs.Lived.{HandledIn, IsLived, last_state}
 use Rattle.mon_station.specs.ReadEvent.{ReadEvent, ReadsAs, owned}
-use Rattle.mon_station.specs.Ran.{HasFailed, FindsAfter, FindsLast, FindsSaved, Ran, Turn, IsTurn, failures_after, faults_in, shown, state_after}
+use Rattle.mon_station.specs.Ran as ran
+use Rattle.mon_station.specs.Ran.{AreAsked, AreCalls, Call, Did, FindsAfter, FindsAmid, FindsDuring, FindsLast, FindsSaved, Gave, HasFailed, IsKnown, IsMet, IsOldest, IsTurn, LiveOn, Ran, Tells, Turn, answers_of, entries_by, entry_of, failed_in, failed_of, failures_after, faults_in, go_on, goes_on, result_of, sent_of, shown, state_after, turn_in, turns_of, view_after}
 use Rattle.mon_station.specs.Saved.{FindsRunning, FindsState}
-use Rattle.mon_station.specs.State.{State}
+use Rattle.mon_station.specs.Seen.{Seen}
+use Rattle.mon_station.specs.State.{State, IsHandled}
+use Rattle.mon_station.specs.Step.{IsRead}
+use Rattle.mon_station.specs.Taken.{Entry, Answered}
 use Rattle.mon_station.specs.Told.{IsAnswered}
-use Rattle.mon_station.specs.Turned.{Turned}
+use Rattle.mon_station.specs.Turned.{Called, IsCounted, RanSoFar, Turned}
 
-append_nil : {A : Type 0} (xs : List A) → xs ++ [] ≡ xs
+pub append_nil : {A : Type 0} (xs : List A) → xs ++ [] ≡ xs
 append_nil [] = refl
 append_nil (x ∷ xs) = ap (λ l. x ∷ l) (append_nil xs)
 
@@ -71,80 +82,301 @@ as_last : (first : State) (outcomes : List ℕ → Type 0) (turns : List Turn) (
 as_last first outcomes [] a b same h = (h.0, h.1, as_then a b h.0 same h.2)
 as_last first outcomes (t ∷ turns) a b same h = as_after (state_after first turns) t.event t.answer _ _ a b same (as_last first outcomes turns a b same) h
 
--- one turn more
-last_more : (first : State) (left_before left_mid left_now : List ℕ → Type 0) (turns : List Turn) (t : Turn) → Leaves left_mid (FindsLast first left_before turns)
-    → Leaves left_now (λ c. FindsAfter (state_after first turns) t.event t.answer (FindsAs left_mid c) c) → Leaves left_now (FindsLast first left_before (t ∷ turns))
-last_more first left_before left_mid left_now turns t before now c left =
-    as_after (state_after first turns) t.event t.answer (FindsLast first left_before turns c) (FindsAs left_mid c) c c (is_itself c)
-    (λ as_is. as_last first left_before turns c as_is.0 as_is.2 (before as_is.0 as_is.1)) (now c left)
+-- ---- moments
+during_before : (s : State) (event : OwnedEvent) (P : Type 0) (c : List ℕ) → P → FindsDuring s event P c
+during_before s own.Save P c p = inl p
+during_before s (own.StartPoll t) P c p = p
+during_before s (own.Timeout id) P c p = p
+during_before s (own.FromAgent from o) P c p = p
+during_before s (own.FromPeer o) P c p = p
+during_before s (own.Share y) P c p = p
 
--- ---- turns
-pub ran_nothing : (s : State) (given : Option (List OwnedEvent)) (handed : Option (List Outgoing)) (honest : Type 0) (left : List ℕ → Type 0) (answers : List Answer) → answers ≡ []
-    → Ran s s given given handed handed honest honest left left answers
-ran_nothing s given handed honest left answers e = record {
-  turns = [];
-  are = tt;
-  after_is = refl;
-  given = extended_none given;
-  handed = extended_none handed;
-  answered = e;
-  honest = λ h. h;
-  file = λ h c l. itself left c l;
-}
+during_more : (s : State) (event : OwnedEvent) (P Q : Type 0) (c : List ℕ) → (P → Q) → FindsDuring s event P c → FindsDuring s event Q c
+during_more s own.Save P Q c f h = ⊎_elim (λ p. inl (f p)) (λ finds. inr finds) h
+during_more s (own.StartPoll t) P Q c f h = f h
+during_more s (own.Timeout id) P Q c f h = f h
+during_more s (own.FromAgent from o) P Q c f h = f h
+during_more s (own.FromPeer o) P Q c f h = f h
+during_more s (own.Share y) P Q c f h = f h
 
-pub ran_more : (before s after : State) (given0 given1 given2 : Option (List OwnedEvent)) (handed0 handed1 handed2 : Option (List Outgoing)) (honest0 honest1 honest2 : Type 0) (left0 left1 left2 : List ℕ → Type 0)
-    (answers more : List Answer) (event : OwnedEvent) (answer : Answer)
-    → Ran before s given0 given1 handed0 handed1 honest0 honest1 left0 left1 answers → Turned s after event handed1 handed2 honest1 honest2 left1 left2 answer
-    → given2 ≡ extended given1 (event ∷ []) → more ≡ answers ++ answer ∷ [] → Ran before after given0 given2 handed0 handed2 honest0 honest2 left0 left2 more
-ran_more before s after given0 given1 given2 handed0 handed1 handed2 honest0 honest1 honest2 left0 left1 left2 answers more event answer r t given_is more_is =
-    let turn : Turn = record { event = event; answer = t.is; taken = t.taken; sent = t.sent; after = after } in
-    record {
-      turns = turn ∷ r.turns;
-      are = (subst (λ (u : State). (e : ReadEvent) → ReadsAs u.board.watch event e → IsTurn u e turn) r.after_is t.each, r.are);
-      after_is = refl;
-      given = given_is ∙ ap (λ (g : Option (List OwnedEvent)). extended g (event ∷ [])) r.given ∙ extended_twice given0 _ (event ∷ []);
-      handed = t.handed ∙ ap (λ (h : Option (List Outgoing)). extended h t.sent) r.handed ∙ extended_twice handed0 _ t.sent;
-      answered = more_is ∙ (λ k. r.answered k ++ t.shown_is k ∷ []);
-      honest = λ h. t.honest (r.honest h);
-      file = λ h. last_more before left0 left1 left2 r.turns turn (r.file h)
-          (subst (λ (u : State). Leaves left2 (λ c. FindsAfter u event t.is (FindsAs left1 c) c)) r.after_is (t.file (r.honest h)));
+saved_during : (s : State) (answer : Option StationFault) (P : Type 0) (c : List ℕ) → FindsSaved s answer P c → P ⊎ FindsState s c
+saved_during s None P c h = inr h
+saved_during s (Some station.OutOfMemory) P c h = inl h
+saved_during s (Some (station.Poll x)) P c h = inl h
+saved_during s (Some (station.Response x)) P c h = inl h
+saved_during s (Some (station.Exchange x)) P c h = inl h
+saved_during s (Some (station.Image x)) P c h = inl h
+saved_during s (Some station.NoMoreIncarnations) P c h = inl h
+saved_during s (Some (station.Keeper keeper.OutOfMemory)) P c h = inl h
+saved_during s (Some (station.Keeper keeper.DiskFault)) P c h = ⊎_elim (λ finds. inr finds) (λ p. inl p) h
+saved_during s (Some (station.Keeper keeper.NoMoreGenerations)) P c h = inl h
+saved_during s (Some (station.Keeper keeper.TooLarge)) P c h = inl h
+saved_during s (Some (station.Keeper keeper.Damaged)) P c h = inl h
+saved_during s (Some (station.Keeper keeper.Reopen)) P c h = inl h
+
+after_during : (s : State) (event : OwnedEvent) (answer : Option StationFault) (P : Type 0) (c : List ℕ) → FindsAfter s event answer P c → FindsDuring s event P c
+after_during s own.Save answer P c h = saved_during s answer P c h
+after_during s (own.StartPoll t) answer P c h = h
+after_during s (own.Timeout id) answer P c h = h
+after_during s (own.FromAgent from o) answer P c h = h
+after_during s (own.FromPeer o) answer P c h = h
+after_during s (own.Share y) answer P c h = h
+
+-- what turns left is found at some moment of them
+last_amid : (first : State) (outcomes : List ℕ → Type 0) (turns : List Turn) (c : List ℕ) → FindsLast first outcomes turns c → FindsAmid first outcomes turns c
+last_amid first outcomes [] c h = h
+last_amid first outcomes (t ∷ turns) c h = inr (after_during (state_after first turns) t.event t.answer _ c h)
+
+-- ---- lives
+live_read : (s : State) (e : ReadEvent) (answer : Option StationFault) (after : State) → IsHandled e answer s after → LiveOn s after ((Answered e answer, after) ∷ [])
+live_read s e answer after handled past lived is = ((subst (λ (o : Option State). HandledIn o e answer after) (sym is) handled, lived), refl)
+
+live_entry : (s : State) (t : Turn) (reading : Option ReadEvent) → IsTurn s t → IsKnown s.board.watch t.event t.answer reading → LiveOn s t.after (entry_of reading t.answer t.after)
+live_entry s t (Some e) turn reads = live_read s e t.answer t.after (turn.each e reads).handled
+live_entry s t None turn memory = λ past lived is. (lived, is ∙ ap Some (sym (turn.memory memory).after))
+
+live_then : (a b c : State) (some more : List (Entry × State)) → LiveOn a b some → LiveOn b c more → LiveOn a c (more ++ some)
+live_then a b c some more first second past lived is =
+    let mid = first past lived is in
+    subst (λ (l : List (Entry × State)). IsLived l × (last_state l ≡ Some c)) (sym (append_assoc more some past)) (second (some ++ past) mid.0 mid.1)
+
+live_gave : (first : State) (turns : List Turn) (gave : Gave) → IsMet (state_after first turns) gave → LiveOn first (state_after first turns) (entries_by turns)
+    → LiveOn first (state_after first (turn_in gave ++ turns)) (entries_by (turn_in gave ++ turns))
+live_gave first turns (ran.Event t) met so_far =
+    live_then first (state_after first turns) t.after (entries_by turns) (entry_of t.reading t.answer t.after) so_far (live_entry (state_after first turns) t t.reading met met.known)
+live_gave first turns ran.End met so_far = so_far
+live_gave first turns (ran.Fault f) met so_far = so_far
+
+some_fault : {f g : StationFault} → Some f ≡ Some g → f ≡ g
+some_fault e = cc
+
+-- ---- what an opening finds after a call, and amid it
+module _ (first s : State) (left_before left_mid : List ℕ → Type 0) (turns : List Turn) (is : s ≡ state_after first turns) (before : Leaves left_mid (FindsLast first left_before turns)) where
+  back : (c : List ℕ) → FindsAs left_mid c → FindsLast first left_before turns c
+  back c found = as_last first left_before turns c found.0 found.2 (before found.0 found.1)
+
+  last_on : (gave : Gave) (c : List ℕ) → FindsLast s left_mid (turn_in gave ++ []) c → FindsLast first left_before (turn_in gave ++ turns) c
+  last_on (ran.Event t) c h =
+      as_after (state_after first turns) t.event t.answer (FindsLast first left_before turns c) (FindsAs left_mid c) c c (is_itself c) (back c)
+      (subst (λ (u : State). FindsAfter u t.event t.answer (FindsAs left_mid c) c) is h)
+  last_on ran.End c h = back c h
+  last_on (ran.Fault f) c h = back c h
+
+  amid_on : (gave : Gave) (c : List ℕ) → FindsAmid s left_mid (turn_in gave ++ []) c → FindsAmid first left_before (turn_in gave ++ turns) c
+  amid_on (ran.Event t) c h = inr (⊎_elim (λ found. during_before (state_after first turns) t.event _ c (back c found))
+      (λ during. during_more (state_after first turns) t.event _ _ c (back c) (subst (λ (u : State). FindsDuring u t.event (FindsAs left_mid c) c) is during)) h)
+  amid_on ran.End c h = last_amid first left_before turns c (back c h)
+  amid_on (ran.Fault f) c h = last_amid first left_before turns c (back c h)
+
+amid_more : (first : State) (outcomes : List ℕ → Type 0) (turns : List Turn) (gave : Gave) (c : List ℕ) → FindsAmid first outcomes turns c → FindsAmid first outcomes (turn_in gave ++ turns) c
+amid_more first outcomes turns (ran.Event t) c h = inl h
+amid_more first outcomes turns ran.End c h = h
+amid_more first outcomes turns (ran.Fault f) c h = h
+
+-- ---- what calls leave
+state_on : (gave : Gave) (first s : State) (turns : List Turn) → s ≡ state_after first turns → state_after s (turn_in gave ++ []) ≡ state_after first (turn_in gave ++ turns)
+state_on (ran.Event t) first s turns is = refl
+state_on ran.End first s turns is = is
+state_on (ran.Fault f) first s turns is = is
+
+sent_on : (gave : Gave) (turns : List Turn) → sent_of turns ++ sent_of (turn_in gave ++ []) ≡ sent_of (turn_in gave ++ turns)
+sent_on (ran.Event t) turns = refl
+sent_on ran.End turns = append_nil (sent_of turns)
+sent_on (ran.Fault f) turns = append_nil (sent_of turns)
+
+answers_on : (gave : Gave) (turns : List Turn) → answers_of turns ++ answers_of (turn_in gave) ≡ answers_of (turn_in gave ++ turns)
+answers_on (ran.Event t) turns = refl
+answers_on ran.End turns = append_nil (answers_of turns)
+answers_on (ran.Fault f) turns = append_nil (answers_of turns)
+
+module _ {V X : Type 0} (G : Ghosts X) (Gives : V → Option ℕ → Result (Option OwnedEvent) SourceFault → V → Type 0) where
+  -- one call more
+  pub did_more : (a b c : Seen V G) (calls : List (Call V)) (call : Call V) → Did Gives a b calls → go_on calls ≡ true → Did Gives b c (call ∷ []) → Did Gives a c (call ∷ calls)
+  did_more a b c calls call so_far going last =
+      let turns : List Turn = turns_of calls in
+      let more : List Outgoing = sent_of (turn_in call.gave ++ []) in
+      record {
+        are = (
+          subst (λ (s : State). ran.IsCall Gives (view_after a.view calls) s call) so_far.state (subst (λ (v : V). ran.IsCall Gives v b.state call) so_far.view last.are.0),
+          going,
+          so_far.are,
+        );
+        state = last.state ∙ state_on call.gave a.state b.state turns so_far.state;
+        view = last.view;
+        handed = last.handed ∙ ap (λ (h : Option (List Outgoing)). extended h more) so_far.handed ∙ extended_twice a.handed (sent_of turns) more ∙ ap (extended a.handed) (sent_on call.gave turns);
+        honest = λ h. last.honest (so_far.honest h);
+        file = λ h c left. last_on a.state b.state (G.may_leave a.disk) (G.may_leave b.disk) turns so_far.state (so_far.file h) call.gave c (last.file (so_far.honest h) c left);
+        any_moment = λ h. chained G.moment G.left_since G.may_leave a.disk b.disk c.disk _
+            (weaker G.moment G.left_since G.may_leave a.disk b.disk _ _ (amid_more a.state (G.may_leave a.disk) turns call.gave) (so_far.any_moment h))
+            (weaker G.moment G.left_since G.may_leave b.disk c.disk _ _ (amid_on a.state b.state (G.may_leave a.disk) (G.may_leave b.disk) turns so_far.state (so_far.file h) call.gave) (last.any_moment (so_far.honest h)));
+      }
+
+  -- a call that gave an event
+  pub did_event : (before after : State) (v w : V) (handed0 handed1 : Option (List Outgoing)) (old new : X) (oldest : Option ℕ) (event : OwnedEvent) (answer : Answer)
+      → (t : Turned {G = G} (record { state = before; view = tt {0}; handed = handed0; disk = old }) (record { state = after; view = tt {0}; handed = handed1; disk = new }) event answer)
+      → IsOldest before.poller.polls.open_polls oldest → Gives v oldest (Ok (Some event)) w
+      → Did {G = G} Gives (record { state = before; view = v; handed = handed0; disk = old }) (record { state = after; view = w; handed = handed1; disk = new }) (record { oldest = oldest; gave = ran.Event t.turn; view = w } ∷ [])
+  did_event before after v w handed0 handed1 old new oldest event answer t least gives = record {
+    are = (record { oldest = least; gives = subst (λ (e : OwnedEvent). Gives v oldest (Ok (Some e)) w) (sym t.event_is) gives; met = t.is }, refl, tt);
+    state = t.state;
+    view = refl;
+    handed = t.handed;
+    honest = t.honest;
+    file = t.file;
+    any_moment = t.any_moment;
+  }
+
+  -- a call that gave none
+  module _ (only_now : (disk : X) (c : List ℕ) → G.is_honest disk → G.left_since disk (G.moment disk) c → G.may_leave disk c) where
+    rests : (s : State) (disk : X) → G.is_honest disk → LeavesSince G.moment G.left_since disk disk (FindsAmid s (G.may_leave disk) [])
+    rests s disk h = at_rest G.moment G.left_since G.may_leave disk (λ c left. only_now disk c h left)
+
+    pub did_nothing : (s : Seen V G) → Did Gives s s []
+    did_nothing s = record {
+      are = tt;
+      state = refl;
+      view = refl;
+      handed = extended_none s.handed;
+      honest = λ h. h;
+      file = λ h c l. itself (G.may_leave s.disk) c l;
+      any_moment = rests s.state s.disk;
     }
 
--- a call for the next event that gave none
-pub ran_on : (before s : State) (given0 given1 given2 : Option (List OwnedEvent)) (handed0 handed1 : Option (List Outgoing)) (honest0 honest1 : Type 0) (left0 left1 : List ℕ → Type 0) (answers : List Answer)
-    → given2 ≡ extended given1 [] → Ran before s given0 given1 handed0 handed1 honest0 honest1 left0 left1 answers → Ran before s given0 given2 handed0 handed1 honest0 honest1 left0 left1 answers
-ran_on before s given0 given1 given2 handed0 handed1 honest0 honest1 left0 left1 answers is r =
-    subst (λ (g : Option (List OwnedEvent)). Ran before s given0 g handed0 handed1 honest0 honest1 left0 left1 answers) (extended_none given1 ∙ sym is) r
+    pub did_none : (state : State) (v w : V) (handed : Option (List Outgoing)) (disk : X) (oldest : Option ℕ) (gave : Gave) → turn_in gave ≡ [] → IsMet state gave
+        → IsOldest state.poller.polls.open_polls oldest → Gives v oldest (result_of gave) w
+        → Did {G = G} Gives (record { state = state; view = v; handed = handed; disk = disk }) (record { state = state; view = w; handed = handed; disk = disk }) (record { oldest = oldest; gave = gave; view = w } ∷ [])
+    did_none state v w handed disk oldest gave none met least gives =
+        let no_turn : turn_in gave ++ [] ≡ [] = ap (λ (ts : List Turn). ts ++ []) none in
+        record {
+          are = (record { oldest = least; gives = gives; met = met }, refl, tt);
+          state = sym (ap (state_after state) no_turn);
+          view = refl;
+          handed = extended_none handed ∙ sym (ap (λ (ts : List Turn). extended handed (sent_of ts)) no_turn);
+          honest = λ h. h;
+          file = λ h. subst (λ (ts : List Turn). Leaves (G.may_leave disk) (FindsLast state (G.may_leave disk) ts)) (sym no_turn) (λ c l. itself (G.may_leave disk) c l);
+          any_moment = λ h. subst (λ (ts : List Turn). LeavesSince G.moment G.left_since disk disk (FindsAmid state (G.may_leave disk) ts)) (sym no_turn) (rests state disk h);
+        }
+
+    pub so_far_none : (s : Seen V G) (run : Run) → ran.IsEmpty run → RanSoFar Gives s s run true
+    so_far_none s run empty = record {
+      calls = [];
+      did = did_nothing s;
+      told = record { turns = empty.turns; answers = empty.answers; source_faults = empty.source_faults };
+      going_is = refl;
+    }
+
+  -- what is told of one call more
+  pub so_far_more : (a b c : Seen V G) (run mid new : Run) (going : Bool) → RanSoFar Gives a b run true → Called Gives b c mid new going
+      → mid.answers.items ≡ run.answers.items → mid.source_faults ≡ run.source_faults → mid.turns ≡ run.turns + 1 → RanSoFar Gives a c new going
+  so_far_more a b c run mid new going so called answers faults turns =
+      let gave : Gave = called.call.gave in
+      record {
+        calls = called.call ∷ so.calls;
+        did = did_more a b c so.calls called.call so.did so.going_is called.did;
+        told = record {
+          turns = omega (arith, called.counted.turns, turns, so.told.turns);
+          answers = called.counted.answers ∙ ap (λ (l : List Answer). l ++ answers_of (turn_in gave)) (answers ∙ so.told.answers) ∙ answers_on gave (turns_of so.calls);
+          source_faults = called.counted.faults ∙ ap (λ n. n + failed_in gave) (faults ∙ so.told.source_faults);
+        };
+        going_is = called.going_is;
+      }
+
+  -- ---- lives
+  lives : (view : V) (first : State) (calls : List (Call V)) → AreCalls Gives view first calls → LiveOn first (state_after first (turns_of calls)) (entries_by (turns_of calls))
+  lives view first [] are = λ past lived is. (lived, is)
+  lives view first (c ∷ calls) are = live_gave first (turns_of calls) c.gave are.0.met (lives view first calls are.2)
+
+  pub ran_of : (a b : Seen V G) (turns : ℕ) (run : Run) (going : Bool) (so : RanSoFar Gives a b run going) → AreAsked turns so.calls → Ran Gives a b turns run
+  ran_of a b turns run going so asked = record {
+    calls = so.calls;
+    did = so.did;
+    told = so.told;
+    asked = asked;
+    lived = subst (λ (s : State). LiveOn a.state s (entries_by (turns_of so.calls))) (sym so.did.state) (lives a.view a.state so.calls so.did.are);
+  }
+
+-- ---- one call
+pub oldest_of : (polls : Open) (oldest : Option ℕ) → IfSome oldest (λ id. IsTrue (map.contains_key polls id)) → IfSome oldest (λ id. (other : ℕ) → IsTrue (map.contains_key polls other) → id ≤ other) → IfNone oldest (polls ≡ map.empty)
+    → IsOldest polls oldest
+oldest_of polls None there least none = none
+oldest_of polls (Some id) there least none = (there, least)
 
 -- ---- one event
-module _ (before after : State) (event : OwnedEvent) (honest0 honest1 : Type 0) (left0 left1 : List ℕ → Type 0) (still : honest0 → honest1) where
+-- how it reads, if that is known
+known_fault : (s : State) (event : OwnedEvent) (f : StationFault) → ((f ≡ station.OutOfMemory → ⊥) → (e : ReadEvent) × ReadsAs s.board.watch event e) → (r : Option ReadEvent) × IsKnown s.board.watch event (Some f) r
+known_fault s event station.OutOfMemory h = (None, refl)
+known_fault s event (station.Poll x) h = let r = h (λ e. cc) in (Some r.0, r.1)
+known_fault s event (station.Response x) h = let r = h (λ e. cc) in (Some r.0, r.1)
+known_fault s event (station.Exchange x) h = let r = h (λ e. cc) in (Some r.0, r.1)
+known_fault s event (station.Keeper x) h = let r = h (λ e. cc) in (Some r.0, r.1)
+known_fault s event (station.Image x) h = let r = h (λ e. cc) in (Some r.0, r.1)
+known_fault s event station.NoMoreIncarnations h = let r = h (λ e. cc) in (Some r.0, r.1)
+
+no_fault : {f : StationFault} → None ≡ Some f → ⊥
+no_fault e = cc
+
+module _ {X : Type 0} (G : Ghosts X) (before after : State) (event : OwnedEvent) (old new : X) (still : G.is_honest old → G.is_honest new) where
   pub turned_told : (told : Told) (handed0 handed1 : Option (List Outgoing)) (answer : Answer) → ((e : ReadEvent) → ReadsAs before.board.watch event e → IsAnswered before after e (Ok told))
-      → handed1 ≡ extended handed0 told.sends.items → answer ≡ Handled (length told.taken) → (honest0 → Leaves left1 (λ c. FindsAfter before event None (FindsAs left0 c) c))
-      → Turned before after event handed0 handed1 honest0 honest1 left0 left1 answer
-  turned_told told handed0 handed1 answer h handed is file = record {
-    taken = told.taken;
-    sent = told.sends.items;
-    is = None;
-    each = λ e reads. let r = h e reads in record { handled = r.0; taken = r.1.taken; sent = r.1.sent };
+      → (e : ReadEvent) × ReadsAs before.board.watch event e → handed1 ≡ extended handed0 told.sends.items → answer ≡ shown None told.taken told.given_up
+      → (G.is_honest old → Leaves (G.may_leave new) (λ c. FindsAfter before event None (FindsAs (G.may_leave old) c) c))
+      → (G.is_honest old → LeavesSince G.moment G.left_since old new (λ c. FindsAs (G.may_leave old) c ⊎ FindsDuring before event (FindsAs (G.may_leave old) c) c))
+      → Turned {G = G} (record { state = before; view = tt {0}; handed = handed0; disk = old }) (record { state = after; view = tt {0}; handed = handed1; disk = new }) event answer
+  turned_told told handed0 handed1 answer h read handed is file amid = record {
+    turn = record { event = event; reading = Some read.0; answer = None; taken = told.taken; given_up = told.given_up; sent = told.sends.items; after = after };
+    event_is = refl;
+    is = record {
+      each = λ e reads. let r = h e reads in record { handled = r.0; taken = r.1.taken; given_up = r.1.given_up; sent = r.1.sent };
+      known = read.1;
+      memory = λ e. absurd (no_fault e);
+    };
+    state = refl;
     handed = handed;
     shown_is = is;
     honest = still;
     file = file;
+    any_moment = amid;
   }
 
   pub turned_fault : (fault : StationFault) (handed : Option (List Outgoing)) (answer : Answer) → ((e : ReadEvent) → ReadsAs before.board.watch event e → IsAnswered before after e (Err fault))
-      → answer ≡ shown (Some fault) [] → (honest0 → Leaves left1 (λ c. FindsAfter before event (Some fault) (FindsAs left0 c) c))
-      → Turned before after event handed handed honest0 honest1 left0 left1 answer
-  turned_fault fault handed answer h is file = record {
-    taken = [];
-    sent = [];
-    is = Some fault;
-    each = λ e reads. record { handled = h e reads; taken = refl; sent = refl };
-    handed = extended_none handed;
-    shown_is = is;
-    honest = still;
-    file = file;
-  }
+      → ((fault ≡ station.OutOfMemory → ⊥) → (e : ReadEvent) × ReadsAs before.board.watch event e) → (fault ≡ station.OutOfMemory → after ≡ before) → answer ≡ shown (Some fault) [] None
+      → (G.is_honest old → Leaves (G.may_leave new) (λ c. FindsAfter before event (Some fault) (FindsAs (G.may_leave old) c) c))
+      → (G.is_honest old → LeavesSince G.moment G.left_since old new (λ c. FindsAs (G.may_leave old) c ⊎ FindsDuring before event (FindsAs (G.may_leave old) c) c))
+      → Turned {G = G} (record { state = before; view = tt {0}; handed = handed; disk = old }) (record { state = after; view = tt {0}; handed = handed; disk = new }) event answer
+  turned_fault fault handed answer h read stays is file amid =
+      let known = known_fault before event fault read in
+      record {
+        turn = record { event = event; reading = known.0; answer = Some fault; taken = []; given_up = None; sent = []; after = after };
+        event_is = refl;
+        is = record {
+          each = λ e reads. record { handled = h e reads; taken = refl; given_up = refl; sent = refl };
+          known = known.1;
+          memory = λ e. record { after = stays (some_fault e); taken = refl; given_up = refl; sent = refl };
+        };
+        state = refl;
+        handed = extended_none handed;
+        shown_is = is;
+        honest = still;
+        file = file;
+        any_moment = amid;
+      }
+
+-- what a crash amid an event leaves
+module _ {X : Type 0} (G : Ghosts X) (s : State) (old new : X) (only_now : (disk : X) (c : List ℕ) → G.is_honest disk → G.left_since disk (G.moment disk) c → G.may_leave disk c) (honest : G.is_honest old) where
+  abbrev Amid : OwnedEvent → Type 0
+  Amid event = LeavesSince G.moment G.left_since old new (λ c. FindsAs (G.may_leave old) c ⊎ FindsDuring s event (FindsAs (G.may_leave old) c) c)
+
+  rested : (event : OwnedEvent) → new ≡ old → Amid event
+  rested event same =
+      subst (λ (d : X). LeavesSince G.moment G.left_since old d (λ c. FindsAs (G.may_leave old) c ⊎ FindsDuring s event (FindsAs (G.may_leave old) c) c)) (sym same)
+      (weaker G.moment G.left_since G.may_leave old old _ _ (λ c found. inl found) (at_rest G.moment G.left_since G.may_leave old (λ c left. only_now old c honest left)))
+
+  pub amid : (event : OwnedEvent) → ((event ≡ own.Save → ⊥) → new ≡ old) → LeavesSince G.moment G.left_since old new (FindsRunning (G.may_leave old) s) → Amid event
+  amid (own.StartPoll t) same running = rested (own.StartPoll t) (same (λ e. cc))
+  amid (own.Timeout id) same running = rested (own.Timeout id) (same (λ e. cc))
+  amid (own.FromAgent a o) same running = rested (own.FromAgent a o) (same (λ e. cc))
+  amid (own.FromPeer o) same running = rested (own.FromPeer o) (same (λ e. cc))
+  amid (own.Share y) same running = rested (own.Share y) (same (λ e. cc))
+  amid own.Save same running = weaker G.moment G.left_since G.may_leave old new _ _ (λ c found. ⊎_elim (λ a. inl a) (λ f. inr (inr f)) found) running
 
 -- what a crash leaves after an event
 module _ {D : Type 0} (left : D → List ℕ → Type 0) (s : State) (old new : D) where
@@ -198,6 +430,7 @@ is_save lent.Save is = refl
 pub faults_more : (answers : List Answer) (answer : Answer) → faults_in (answers ++ answer ∷ []) ≡ faults_in answers + faults_in (answer ∷ [])
 faults_more [] answer = sym (zero-add (faults_in (answer ∷ [])))
 faults_more (Handled n ∷ answers) answer = faults_more answers answer
+faults_more (GaveUp n ∷ answers) answer = faults_more answers answer
 faults_more (Memory ∷ answers) answer = omega (arith, faults_more answers answer)
 faults_more (Refused f ∷ answers) answer = omega (arith, faults_more answers answer)
 faults_more (Keeper n ∷ answers) answer = omega (arith, faults_more answers answer)
@@ -205,9 +438,27 @@ faults_more (Keeper n ∷ answers) answer = omega (arith, faults_more answers an
 pub faults_few : (answers : List Answer) → faults_in answers ≤ length answers
 faults_few [] = omega arith
 faults_few (Handled n ∷ answers) = omega (arith, faults_few answers)
+faults_few (GaveUp n ∷ answers) = omega (arith, faults_few answers)
 faults_few (Memory ∷ answers) = omega (arith, faults_few answers)
 faults_few (Refused f ∷ answers) = omega (arith, faults_few answers)
 faults_few (Keeper n ∷ answers) = omega (arith, faults_few answers)
+
+-- answers and faults of the source are no more than the calls
+pub calls_few : {V : Type 0} (calls : List (Call V)) → length (answers_of (turns_of calls)) + failed_of calls ≤ length calls
+calls_few [] = omega arith
+calls_few (c ∷ calls) = one_more c.gave (calls_few calls)
+  where
+    one_more : (gave : Gave) → length (answers_of (turns_of calls)) + failed_of calls ≤ length calls → length (answers_of (turn_in gave ++ turns_of calls)) + (failed_of calls + failed_in gave) ≤ suc (length calls)
+    one_more (ran.Event t) few = omega (arith, few, length-append (answers_of (turns_of calls)) (shown t.answer t.taken t.given_up ∷ []))
+    one_more ran.End few = omega (arith, few)
+    one_more (ran.Fault f) few = omega (arith, few)
+
+pub few_told : {V : Type 0} (run : Run) (calls : List (Call V)) → Tells run calls → length run.answers.items + run.source_faults ≤ run.turns
+few_told run calls told = omega (arith, calls_few calls, ap length told.answers, told.source_faults, told.turns)
+
+-- the same run with this many calls
+abbrev pub with_turns : Run → ℕ → Run
+with_turns run turns = record { turns = turns; answers = run.answers; refused = run.refused; source_faults = run.source_faults; send_faults = run.send_faults }
 
 pub room_left : (refused turn turns : ℕ) (answers : List Answer) → refused ≡ faults_in answers → length answers ≤ turn → turn < turns → turns < 2 ^ 64 → refused < 2 ^ 64 - 1
 room_left refused turn turns answers e few lt fits = omega (arith, e, faults_few answers)

@@ -4,6 +4,7 @@ pub mod Opened
 pub mod Ran
 pub mod ReadEvent
 pub mod Saved
+pub mod Seen
 pub mod State
 pub mod Step
 pub mod Stops

@@ -1,57 +1,64 @@
--- What a run of a station did, turn by turn.
-use Rattle.std.specs.Prelude.{ℕ, zero, suc, ◌≡◌, ◌≤◌, ◌+◌, ◌⊎◌, List, [], ◌∷◌, ◌++◌, length, Option, Some, None, Result, Ok, Err}
+-- What a run of a station did, call by call.
+use Rattle.std.specs.Prelude.{ℕ, zero, suc, ◌≡◌, ◌≤◌, ◌+◌, ◌⊎◌, Bool, true, false, IsTrue, List, [], ◌∷◌, ◌++◌, length, Option, Some, None, Result, Ok, Err}
+use Rattle.std.specs.FinMap as map
+use Rattle.mon_board.specs.Watch.{Watch}
+use Rattle.mon_disk.specs.declared.disk.Disk.{Ghosts}
 use Rattle.mon_disk.specs.declared.fault.KeeperFault.TheVariants as keeper
-use Rattle.mon_disk.specs.Disk.{Leaves}
+use Rattle.mon_disk.specs.Disk.{Leaves, LeavesSince}
 use Rattle.mon_disk.specs.Fault as keeping
 use Rattle.mon_disk.specs.Keeper.{FindsAs}
 use Rattle.mon_edge.specs.Counts.{next_count}
 use Rattle.mon_edge.specs.Told.{extended}
+use Rattle.mon_poller.specs.Polls.{Open}
 use Rattle.mon_station.specs.declared.event.Outgoing.{Outgoing}
 use Rattle.mon_station.specs.declared.event.OwnedEvent.{OwnedEvent}
 use Rattle.mon_station.specs.declared.event.OwnedEvent.TheVariants as owned
 use Rattle.mon_station.specs.declared.fault.StationFault.{StationFault}
 use Rattle.mon_station.specs.declared.fault.StationFault.TheVariants as fault
 use Rattle.mon_station.specs.declared.running.Answer.{Answer}
-use Rattle.mon_station.specs.declared.running.Answer.TheVariants.{Handled, Memory, Refused, Keeper}
+use Rattle.mon_station.specs.declared.running.Answer.TheVariants.{Handled, GaveUp, Memory, Refused, Keeper}
 use Rattle.mon_station.specs.declared.running.Run.{Run}
+use Rattle.mon_station.specs.declared.running.SourceFault.{SourceFault}
+use Rattle.mon_station.specs.Lived.{IsLived, last_state}
 use Rattle.mon_station.specs.ReadEvent.{ReadEvent, ReadsAs}
 use Rattle.mon_station.specs.Saved.{FindsState}
+use Rattle.mon_station.specs.Seen.{Seen}
 use Rattle.mon_station.specs.State.{State, IsHandled, setting_of}
-use Rattle.mon_station.specs.Told.{sends}
+use Rattle.mon_station.specs.Taken.{Entry, Answered}
+use Rattle.mon_station.specs.Told.{gave_up_in, sends}
 use Rattle.mon_station.specs.Verdict.{added}
 
--- the event that a call for the next one gave
-abbrev pub event_in : {F : Type 0} → Result (Option OwnedEvent) F → List OwnedEvent
-event_in (Ok (Some event)) = event ∷ []
-event_in (Ok None) = []
-event_in (Err f) = []
-
 -- ---- answers
--- an answer as a run shows it, where these samples were offered
-abbrev pub shown : Option StationFault → List (ℕ × ℕ) → Answer
-shown None taken = Handled (length taken)
-shown (Some fault.OutOfMemory) taken = Memory
-shown (Some (fault.Keeper f)) taken = Keeper (keeping.number_of f)
-shown (Some (fault.Poll f)) taken = Refused (fault.Poll f)
-shown (Some (fault.Response f)) taken = Refused (fault.Response f)
-shown (Some (fault.Exchange f)) taken = Refused (fault.Exchange f)
-shown (Some (fault.Image f)) taken = Refused (fault.Image f)
-shown (Some fault.NoMoreIncarnations) taken = Refused fault.NoMoreIncarnations
+-- an answer as a run shows it, where these samples were offered and this target gave up
+abbrev pub shown : Option StationFault → List (ℕ × ℕ) → Option ℕ → Answer
+shown None taken None = Handled (length taken)
+shown None taken (Some target) = GaveUp target
+shown (Some fault.OutOfMemory) taken given_up = Memory
+shown (Some (fault.Keeper f)) taken given_up = Keeper (keeping.number_of f)
+shown (Some (fault.Poll f)) taken given_up = Refused (fault.Poll f)
+shown (Some (fault.Response f)) taken given_up = Refused (fault.Response f)
+shown (Some (fault.Exchange f)) taken given_up = Refused (fault.Exchange f)
+shown (Some (fault.Image f)) taken given_up = Refused (fault.Image f)
+shown (Some fault.NoMoreIncarnations) taken given_up = Refused fault.NoMoreIncarnations
 
 -- how many answers are faults
 abbrev pub faults_in : List Answer → ℕ
 faults_in [] = 0
 faults_in (Handled n ∷ answers) = faults_in answers
+faults_in (GaveUp target ∷ answers) = faults_in answers
 faults_in (Memory ∷ answers) = faults_in answers + 1
 faults_in (Refused f ∷ answers) = faults_in answers + 1
 faults_in (Keeper number ∷ answers) = faults_in answers + 1
 
 -- ---- turns, of which the newest stands first
--- one event: its answer, the samples that it offered by the numbers of their instances, what the outbox was handed, and the state that was left
+-- One event: how it reads, if that is known; its answer; the samples that it offered, by the numbers of their instances; the target that gave up; what the
+-- outbox was handed; and the state that was left.
 pub record Turn : Type 0 where
   pub event : OwnedEvent
+  pub reading : Option ReadEvent
   pub answer : Option StationFault
   pub taken : List (ℕ × ℕ)
+  pub given_up : Option ℕ
   pub sent : List Outgoing
   pub after : State
 
@@ -68,7 +75,7 @@ events_of (t ∷ turns) = events_of turns ++ t.event ∷ []
 -- what they answered, in order
 abbrev pub answers_of : List Turn → List Answer
 answers_of [] = []
-answers_of (t ∷ turns) = answers_of turns ++ shown t.answer t.taken ∷ []
+answers_of (t ∷ turns) = answers_of turns ++ shown t.answer t.taken t.given_up ∷ []
 
 -- what they handed to the outbox, in order
 abbrev pub sent_of : List Turn → List Outgoing
@@ -84,16 +91,114 @@ sent_by s e (Some f) = []
 abbrev pub taken_of : State → ReadEvent → Option StationFault → List (ℕ × ℕ)
 taken_of s e answer = added (setting_of s) s.poller.polls e answer
 
--- an event was answered lawfully, its samples were taken, and what it sends was handed to the outbox
-pub record IsTurn (before : State) (e : ReadEvent) (t : Turn) : Type 0 where
+-- the target that gave up at an event with this answer
+abbrev pub given_up_of : State → ReadEvent → Option StationFault → Option ℕ
+given_up_of s e None = gave_up_in s e
+given_up_of s e (Some f) = None
+
+-- an event that reads so was answered lawfully; its samples were taken, the target that gave up is known, and what it sends was handed to the outbox
+pub record IsAnswer (before : State) (e : ReadEvent) (t : Turn) : Type 0 where
   pub handled : IsHandled e t.answer before t.after
   pub taken : t.taken ≡ taken_of before e t.answer
+  pub given_up : t.given_up ≡ given_up_of before e t.answer
   pub sent : t.sent ≡ sent_by before e t.answer
 
--- each turn is one, however its datagram reads
-abbrev pub AreTurns : State → List Turn → Type 0
-AreTurns first [] = Unit {0}
-AreTurns first (t ∷ turns) = ((e : ReadEvent) → ReadsAs (state_after first turns).board.watch t.event e → IsTurn (state_after first turns) e t) × AreTurns first turns
+-- an event with this answer reads so; only where memory ran out may that not be known
+abbrev pub IsKnown : Watch → OwnedEvent → Option StationFault → Option ReadEvent → Type 0
+IsKnown watch event answer (Some e) = ReadsAs watch event e
+IsKnown watch event answer None = answer ≡ Some fault.OutOfMemory
+
+-- nothing was taken or sent, no target gave up, and the state stayed
+pub record IsNothing (before : State) (t : Turn) : Type 0 where
+  pub after : t.after ≡ before
+  pub taken : t.taken ≡ []
+  pub given_up : t.given_up ≡ None
+  pub sent : t.sent ≡ []
+
+-- a turn: its event was answered so in every way that it reads, it reads in one unless memory ran out, and want of memory does nothing
+pub record IsTurn (before : State) (t : Turn) : Type 0 where
+  pub each : (e : ReadEvent) → ReadsAs before.board.watch t.event e → IsAnswer before e t
+  pub known : IsKnown before.board.watch t.event t.answer t.reading
+  pub memory : t.answer ≡ Some fault.OutOfMemory → IsNothing before t
+
+-- ---- calls, of which the newest stands first
+-- what a call for the next event gave: an event, with the turn that it led to; the end; or a fault
+pub data Gave : Type 0 where
+  Event : Turn → Gave
+  End : Gave
+  Fault : SourceFault → Gave
+
+-- a call: the oldest open poll that the source was told, what it gave, and the view of it after that
+pub record Call (V : Type 0) : Type 0 where
+  pub oldest : Option ℕ
+  pub gave : Gave
+  pub view : V
+
+-- what a call gave, as the source's result
+abbrev pub result_of : Gave → Result (Option OwnedEvent) SourceFault
+result_of (Event t) = Ok (Some t.event)
+result_of End = Ok None
+result_of (Fault f) = Err f
+
+-- the turn of a call, if it led to one
+abbrev pub turn_in : Gave → List Turn
+turn_in (Event t) = t ∷ []
+turn_in End = []
+turn_in (Fault f) = []
+
+-- the turns of calls
+abbrev pub turns_of : {V : Type 0} → List (Call V) → List Turn
+turns_of [] = []
+turns_of (c ∷ calls) = turn_in c.gave ++ turns_of calls
+
+-- how many of these is a fault of the source
+abbrev pub failed_in : Gave → ℕ
+failed_in (Event t) = 0
+failed_in End = 0
+failed_in (Fault f) = 1
+
+-- how many calls were a fault of the source
+abbrev pub failed_of : {V : Type 0} → List (Call V) → ℕ
+failed_of [] = 0
+failed_of (c ∷ calls) = failed_of calls + failed_in c.gave
+
+-- the view of the source that calls left
+abbrev pub view_after : {V : Type 0} → V → List (Call V) → V
+view_after first [] = first
+view_after first (c ∷ calls) = c.view
+
+-- there may be a further call: the source did not end
+abbrev pub goes_on : Gave → Bool
+goes_on (Event t) = true
+goes_on End = false
+goes_on (Fault f) = true
+
+-- the same of the last call
+abbrev pub go_on : {V : Type 0} → List (Call V) → Bool
+go_on [] = true
+go_on (c ∷ calls) = goes_on c.gave
+
+-- this is the least request-id of an open poll, or none is open
+abbrev pub IsOldest : Open → Option ℕ → Type 0
+IsOldest polls None = polls ≡ map.empty
+IsOldest polls (Some id) = IsTrue (map.contains_key polls id) × ((other : ℕ) → IsTrue (map.contains_key polls other) → id ≤ other)
+
+-- what a call led to: an event to its turn, and all else to nothing
+abbrev pub IsMet : State → Gave → Type 0
+IsMet s (Event t) = IsTurn s t
+IsMet s End = Unit {0}
+IsMet s (Fault f) = Unit {0}
+
+-- a source that was told the oldest open poll gave this, and it was met
+pub record IsCall {V : Type 0} (Gives : V → Option ℕ → Result (Option OwnedEvent) SourceFault → V → Type 0) (before : V) (s : State) (c : Call V) : Type 0 where
+  pub oldest : IsOldest s.poller.polls.open_polls c.oldest
+  pub gives : Gives before c.oldest (result_of c.gave) c.view
+  pub met : IsMet s c.gave
+
+-- each call is one, in the state and the view that the calls before it left, and none follows the end
+abbrev pub AreCalls : {V : Type 0} (Gives : V → Option ℕ → Result (Option OwnedEvent) SourceFault → V → Type 0) → V → State → List (Call V) → Type 0
+AreCalls Gives view first [] = Unit {0}
+AreCalls Gives view first (c ∷ calls) = IsCall Gives (view_after view calls) (state_after first (turns_of calls)) c × (go_on calls ≡ true) × AreCalls Gives view first calls
 
 -- ---- the file
 -- an opening of this file finds the saved state, or what was said of it before, by the answer to the save
@@ -113,17 +218,60 @@ abbrev pub FindsLast : State → (List ℕ → Type 0) → List Turn → List �
 FindsLast first outcomes [] file = FindsAs outcomes file
 FindsLast first outcomes (t ∷ turns) file = FindsAfter (state_after first turns) t.event t.answer (FindsLast first outcomes turns file) file
 
--- what a run did: from one state to another, with what the source gave and the outbox was handed, and what a crash may leave on an honest disk
-pub record Ran (before after : State) (given_before given_now : Option (List OwnedEvent)) (handed_before handed_now : Option (List Outgoing))
-    (honest_before honest_now : Type 0) (left_before left_now : List ℕ → Type 0) (answers : List Answer) : Type 0 where
-  pub turns : List Turn
-  pub are : AreTurns before turns
-  pub after_is : after ≡ state_after before turns
-  pub given : given_now ≡ extended given_before (events_of turns)
-  pub handed : handed_now ≡ extended handed_before (sent_of turns)
-  pub answered : answers ≡ answers_of turns
-  pub honest : honest_before → honest_now
-  pub file : honest_before → Leaves left_now (FindsLast before left_before turns)
+-- while an event is handled, an opening of this file finds what was said of it before, or the state that a save is saving
+abbrev pub FindsDuring : State → OwnedEvent → Type 0 → List ℕ → Type 0
+FindsDuring s owned.Save Before file = Before ⊎ FindsState s file
+FindsDuring s event Before file = Before
+
+-- at some moment of these turns, an opening of this file finds what the turns until then left, or the state that a save was saving
+abbrev pub FindsAmid : State → (List ℕ → Type 0) → List Turn → List ℕ → Type 0
+FindsAmid first outcomes [] file = FindsAs outcomes file
+FindsAmid first outcomes (t ∷ turns) file = FindsAmid first outcomes turns file ⊎ FindsDuring (state_after first turns) t.event (FindsLast first outcomes turns file) file
+
+-- ---- lives
+-- the entry of a turn, where its event was read
+abbrev pub entry_of : Option ReadEvent → Option StationFault → State → List (Entry × State)
+entry_of None answer after = []
+entry_of (Some e) answer after = (Answered e answer, after) ∷ []
+
+-- the entries of turns
+abbrev pub entries_by : List Turn → List (Entry × State)
+entries_by [] = []
+entries_by (t ∷ turns) = entry_of t.reading t.answer t.after ++ entries_by turns
+
+-- all lives that come to the first state go on by these entries, and come to the other
+abbrev pub LiveOn : State → State → List (Entry × State) → Type 0
+LiveOn before after more = (past : List (Entry × State)) → IsLived past → last_state past ≡ Some before → IsLived (more ++ past) × (last_state (more ++ past) ≡ Some after)
+
+-- ---- runs
+-- What calls did, from one sight of a station to another. They left the state, the view and what the outbox was handed; an honest disk stays so; a crash after
+-- them leaves the last save, and a crash at any moment of them what was saved then.
+pub record Did {V X : Type 0} {G : Ghosts X} (Gives : V → Option ℕ → Result (Option OwnedEvent) SourceFault → V → Type 0) (before after : Seen V G) (calls : List (Call V)) : Type 0 where
+  pub are : AreCalls Gives before.view before.state calls
+  pub state : after.state ≡ state_after before.state (turns_of calls)
+  pub view : after.view ≡ view_after before.view calls
+  pub handed : after.handed ≡ extended before.handed (sent_of (turns_of calls))
+  pub honest : G.is_honest before.disk → G.is_honest after.disk
+  pub file : G.is_honest before.disk → Leaves (G.may_leave after.disk) (FindsLast before.state (G.may_leave before.disk) (turns_of calls))
+  pub any_moment : G.is_honest before.disk → LeavesSince G.moment G.left_since before.disk after.disk (FindsAmid before.state (G.may_leave before.disk) (turns_of calls))
+
+-- what is told of calls: how many they were, how their events were answered, in order, and how often the source failed
+pub record Tells (run : Run) {V : Type 0} (calls : List (Call V)) : Type 0 where
+  pub turns : run.turns ≡ length calls
+  pub answers : run.answers.items ≡ answers_of (turns_of calls)
+  pub source_faults : run.source_faults ≡ failed_of calls
+
+-- the calls are as many as were asked for, or fewer and the last one gave the end
+abbrev pub AreAsked : {V : Type 0} → ℕ → List (Call V) → Type 0
+AreAsked turns calls = (length calls ≡ turns) ⊎ ((length calls ≤ turns) × (go_on calls ≡ false))
+
+-- a run of at most so many calls: what they did and what is told of them; and they are the next entries of any life of the station
+pub record Ran {V X : Type 0} {G : Ghosts X} (Gives : V → Option ℕ → Result (Option OwnedEvent) SourceFault → V → Type 0) (before after : Seen V G) (turns : ℕ) (run : Run) : Type 0 where
+  pub calls : List (Call V)
+  pub did : Did Gives before after calls
+  pub told : Tells run calls
+  pub asked : AreAsked turns calls
+  pub lived : LiveOn before.state after.state (entries_by (turns_of calls))
 
 -- ---- counts
 -- a count of failures after so many more
@@ -136,12 +284,6 @@ pub record HasFailed (first now counted : ℕ) : Type 0 where
   pub times : ℕ
   pub stream : now ≡ failures_after times first
   pub count : counted ≡ failures_after times 0
-
--- the calls for the next event: as many as were asked for, or fewer and the last one ended it
-abbrev pub AreCalls : Run → ℕ → Type 0 → Type 0
-AreCalls run turns ended =
-    ((run.turns ≡ turns) × (run.turns ≡ length run.answers.items + run.source_faults))
-    ⊎ ((run.turns ≤ turns) × (run.turns ≡ length run.answers.items + run.source_faults + 1) × ended)
 
 -- a run in which nothing was done
 pub record IsEmpty (run : Run) : Type 0 where

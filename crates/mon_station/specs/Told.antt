@@ -91,11 +91,23 @@ abbrev pub noted_in : State → ReadEvent → Option Noted
 noted_in s (FromPeer (Ok said)) = Some (noted_as (known_of s said.claim.station) said.claim.incarnation)
 noted_in s e = None
 
+-- the target that a timeout gives up, after its last try
+abbrev pub given_up_by : TimedOut → Option ℕ
+given_up_by (Again target octets) = None
+given_up_by (GivenUp target) = Some target
+given_up_by NotOpen = None
+
+-- the target that gives up at an event
+abbrev pub gave_up_in : State → ReadEvent → Option ℕ
+gave_up_in s (Timeout id) = given_up_by (timeout_verdict s.poller.targets s.poller.polls id)
+gave_up_in s e = None
+
 -- what is told of an event that was handled
 pub record IsTold (s : State) (e : ReadEvent) (told : Told) : Type 0 where
   pub taken : told.taken ≡ offers (setting_of s) s.poller.polls e
   pub sent : told.sends.items ≡ sends s e
   pub noted : told.noted ≡ noted_in s e
+  pub given_up : told.given_up ≡ gave_up_in s e
   -- what goes to peers spells claims
   pub claims : AllByRecursion IsClaim (claims_sent s e)
 

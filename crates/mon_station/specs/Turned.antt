@@ -1,39 +1,45 @@
--- What one turn of a run did, and what it counts.
-use Rattle.std.specs.Prelude.{ℕ, ◌≡◌, ◌≤◌, ◌+◌, Bool, true, false, List, length, Option, vec_capacity}
-use Rattle.mon_disk.specs.Disk.{Leaves}
-use Rattle.mon_disk.specs.Keeper.{FindsAs}
+-- What one call of a run did, and what it counts.
+use Rattle.std.specs.Prelude.{ℕ, ◌≡◌, ◌≤◌, ◌+◌, Bool, List, [], ◌∷◌, ◌++◌, Option, Result, length, vec_capacity}
+use Rattle.mon_disk.specs.declared.disk.Disk.{Ghosts}
+use Rattle.mon_disk.specs.Disk.{Leaves, LeavesSince}
 use Rattle.mon_edge.specs.Told.{extended}
-use Rattle.mon_station.specs.declared.event.Outgoing.{Outgoing}
 use Rattle.mon_station.specs.declared.event.OwnedEvent.{OwnedEvent}
-use Rattle.mon_station.specs.declared.fault.StationFault.{StationFault}
 use Rattle.mon_station.specs.declared.running.Answer.{Answer}
 use Rattle.mon_station.specs.declared.running.Run.{Run}
-use Rattle.mon_station.specs.ReadEvent.{ReadEvent, ReadsAs}
-use Rattle.mon_station.specs.Ran.{FindsAfter, IsTurn, faults_in, shown}
-use Rattle.mon_station.specs.State.{State}
+use Rattle.mon_station.specs.declared.running.SourceFault.{SourceFault}
+use Rattle.mon_station.specs.Ran.{Call, Did, FindsAmid, FindsLast, Gave, IsTurn, Tells, Turn, answers_of, failed_in, faults_in, go_on, goes_on, shown, turn_in}
+use Rattle.mon_station.specs.Seen.{Seen}
 
--- one event: its answer as it is shown with how many samples it offered, what the outbox was handed, and of what can be said of files that are as each other, what can be said after it
-pub record Turned (before after : State) (event : OwnedEvent) (handed_before handed_now : Option (List Outgoing))
-    (honest_before honest_now : Type 0) (left_before left_now : List ℕ → Type 0) (answer : Answer) : Type 0 where
-  pub taken : List (ℕ × ℕ)
-  pub sent : List Outgoing
-  pub is : Option StationFault
-  pub each : (e : ReadEvent) → ReadsAs before.board.watch event e → IsTurn before e (record { event = event; answer = is; taken = taken; sent = sent; after = after })
-  pub handed : handed_now ≡ extended handed_before sent
-  pub shown_is : answer ≡ shown is taken
-  pub honest : honest_before → honest_now
-  pub file : honest_before → Leaves left_now (λ c. FindsAfter before event is (FindsAs left_before c) c)
+-- one event: its turn, its answer as it is shown, and what is left of the station, its outbox and its disk
+pub record Turned {V X : Type 0} {G : Ghosts X} (before after : Seen V G) (event : OwnedEvent) (answer : Answer) : Type 0 where
+  pub turn : Turn
+  pub event_is : turn.event ≡ event
+  pub is : IsTurn before.state turn
+  pub state : after.state ≡ turn.after
+  pub handed : after.handed ≡ extended before.handed turn.sent
+  pub shown_is : answer ≡ shown turn.answer turn.taken turn.given_up
+  pub honest : G.is_honest before.disk → G.is_honest after.disk
+  pub file : G.is_honest before.disk → Leaves (G.may_leave after.disk) (FindsLast before.state (G.may_leave before.disk) (turn ∷ []))
+  pub any_moment : G.is_honest before.disk → LeavesSince G.moment G.left_since before.disk after.disk (FindsAmid before.state (G.may_leave before.disk) (turn ∷ []))
 
--- an answer or a fault of the source, if it goes on
-abbrev pub calls_of : Bool → ℕ
-calls_of true = 1
-calls_of false = 0
-
--- what one turn counts
-pub record IsCounted (old new : Run) (going : Bool) : Type 0 where
+-- what is counted of what a call gave
+pub record IsCounted (old new : Run) (gave : Gave) : Type 0 where
   pub turns : new.turns ≡ old.turns
-  pub calls : length new.answers.items + new.source_faults ≡ length old.answers.items + old.source_faults + calls_of going
-  pub answers : length old.answers.items ≤ length new.answers.items
-  pub faults : old.source_faults ≤ new.source_faults
+  pub answers : new.answers.items ≡ old.answers.items ++ answers_of (turn_in gave)
+  pub faults : new.source_faults ≡ old.source_faults + failed_in gave
   pub room : vec_capacity old.answers ≤ vec_capacity new.answers
   pub refused : old.refused ≡ faults_in old.answers.items → new.refused ≡ faults_in new.answers.items
+
+-- one call, what it did and what is counted of it; and whether the source goes on
+pub record Called {V X : Type 0} {G : Ghosts X} (Gives : V → Option ℕ → Result (Option OwnedEvent) SourceFault → V → Type 0) (before after : Seen V G) (old new : Run) (going : Bool) : Type 0 where
+  pub call : Call V
+  pub did : Did Gives before after (call ∷ [])
+  pub counted : IsCounted old new call.gave
+  pub going_is : goes_on call.gave ≡ going
+
+-- the calls so far, and whether the source goes on
+pub record RanSoFar {V X : Type 0} {G : Ghosts X} (Gives : V → Option ℕ → Result (Option OwnedEvent) SourceFault → V → Type 0) (before after : Seen V G) (run : Run) (going : Bool) : Type 0 where
+  pub calls : List (Call V)
+  pub did : Did Gives before after calls
+  pub told : Tells run calls
+  pub going_is : go_on calls ≡ going

@@ -86,4 +86,6 @@ pub struct Told {
     pub sends: Vec<Outgoing>,
     /// What became of a peer's claim.
     pub noted: Option<Noted>,
+    /// The target that gave up, at a timeout after its last try.
+    pub given_up: Option<u16>,
 }

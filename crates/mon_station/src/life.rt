@@ -7,6 +7,7 @@ ghost use Rattle.mon_board.specs.Instance.{instances_of};
 ghost use Rattle.mon_poller.specs.Target.{AreTargets};
 ghost use Rattle.mon_saved.specs.Image.{SpellsImage};
 ghost use Rattle.mon_saved.specs.Written.{image_of};
+ghost use Rattle.mon_poller.specs.Verdict.{IsSentAgain, timeout_verdict};
 ghost use Rattle.mon_station.specs.Verdict.{claim_pairs};
 
 use crate::event::{Outgoing, To, Told};
@@ -40,7 +41,7 @@ pub(crate) struct Life {
 
 impl Life {
     ghost use Rattle.std.specs.List.{AllByRecursion};
-    ghost use Rattle.mon_poller.specs.Verdict.{IsSentAgain, ReadsAs, timeout_verdict};
+    ghost use Rattle.mon_poller.specs.Verdict.{ReadsAs};
     ghost use Rattle.mon_pdu.specs.declared.message.Message.{Message as AnyMessage};
     ghost use Rattle.mon_exchange.specs.declared.fault.ExchangeFault.{ExchangeFault as AnyExchangeFault};
     ghost use Rattle.std.specs.Prelude.{Err, Option, Result, Ok};
@@ -49,7 +50,7 @@ impl Life {
     ghost use Rattle.mon_station.specs.Saved.{saved_octets};
     ghost use Rattle.mon_station.specs.State.{state_of};
     ghost use Rattle.mon_station.specs.Step.{IsSettled, left_polls};
-    ghost use Rattle.mon_station.specs.Told.{IsAnswered, confirm_of, confirms, to_peer};
+    ghost use Rattle.mon_station.specs.Told.{IsAnswered, confirm_of, confirms, given_up_by, resends, to_peer};
 
     /// What holds of every state, for the proofs of its callers. It does nothing.
     pub(crate) fn settled(&self)
@@ -104,20 +105,48 @@ impl Life {
         ensures refused { OnErr result (state_of self.new ≡ state_of self.old) }
     {
         self.settled();
-        if !self.poller.has_tries(id) {
-            let _ = self.poller.timed_out(alloc, id)?;
-            return Ok(told_none(alloc));
+        let room = self.room_to_send_again(alloc, id)?;
+        let timed_out = self.poller.timed_out(alloc, id)?;
+        Ok(Self::told_timeout(alloc, room, timed_out))
+    }
+
+    /// Room for the datagram of a timeout, where one is sent.
+    fn room_to_send_again(&self, alloc: Global, id: u32) -> Result<Vec<Outgoing>, AllocError>
+        ensures room { IfOk result (λ room. IsSentAgain (timeout_verdict self.now.poller.targets self.now.poller.polls id) → 1 ≤ vec_capacity room) }
+        ensures empty { IfOk result (λ room. room.items ≡ []) }
+        ensures memory { OnErr result (IsSentAgain (timeout_verdict self.now.poller.targets self.now.poller.polls id)) }
+    {
+        if self.poller.has_tries(id) {
+            room_for_one(alloc)
+        } else {
+            Ok(Vec::new(alloc))
         }
-        let room = room_for_one(alloc)?;
-        match self.poller.timed_out(alloc, id)? {
+    }
+
+    /// What a timeout leads to. There is room for its datagram, where one is sent.
+    fn told_timeout(alloc: Global, room: Vec<Outgoing>, timed_out: TimedOut) -> Told
+        requires room { IsSentAgain timed_out → 1 ≤ vec_capacity room }
+        requires empty { room.items ≡ [] }
+        ensures taken { result.taken ≡ [] }
+        ensures sends { result.sends.items ≡ resends timed_out }
+        ensures noted { result.noted ≡ None }
+        ensures given_up { result.given_up ≡ given_up_by timed_out }
+    {
+        match timed_out {
             TimedOut::Again { target, octets } => {
                 let out = Outgoing {
                     to: To::Target(target),
                     octets,
                 };
-                Ok(told_one(alloc, room, out))
+                told_one(alloc, room, out)
             }
-            TimedOut::GivenUp { .. } | TimedOut::NotOpen => Ok(told_none(alloc)),
+            TimedOut::GivenUp { target } => Told {
+                taken: Pairs::new(alloc),
+                sends: room,
+                noted: None,
+                given_up: Some(target),
+            },
+            TimedOut::NotOpen => told_none(alloc),
         }
     }
 
@@ -174,6 +203,7 @@ impl Life {
                 taken,
                 sends,
                 noted: Some(noted),
+                given_up: None,
             }),
             Err(fault) => Err(StationFault::from(fault)),
         }
@@ -254,6 +284,7 @@ fn told_one(alloc: Global, room: Vec<Outgoing>, out: Outgoing) -> Told
     ensures taken { result.taken ≡ [] }
     ensures sends { result.sends.items ≡ out ∷ [] }
     ensures noted { result.noted ≡ None }
+    ensures given_up { result.given_up ≡ None }
 {
     let mut sends = room;
     sends.push(out).unwrap();
@@ -261,6 +292,7 @@ fn told_one(alloc: Global, room: Vec<Outgoing>, out: Outgoing) -> Told
         taken: Pairs::new(alloc),
         sends,
         noted: None,
+        given_up: None,
     }
 }
 
@@ -269,11 +301,13 @@ fn told_taken(alloc: Global, taken: Pairs) -> Told
     ensures taken { result.taken ≡ taken }
     ensures sends { result.sends.items ≡ [] }
     ensures noted { result.noted ≡ None }
+    ensures given_up { result.given_up ≡ None }
 {
     Told {
         taken,
         sends: Vec::new(alloc),
         noted: None,
+        given_up: None,
     }
 }
 
@@ -282,6 +316,7 @@ pub(crate) fn told_none(alloc: Global) -> Told
     ensures taken { result.taken ≡ [] }
     ensures sends { result.sends.items ≡ [] }
     ensures noted { result.noted ≡ None }
+    ensures given_up { result.given_up ≡ None }
 {
     told_taken(alloc, Pairs::new(alloc))
 }

@@ -1,15 +1,13 @@
 //! Running a station: events from a source, datagrams to an outbox.
 
-ghost use Rattle.std.specs.Prelude.{◌≡◌, ◌≤◌, ◌<◌, ◌+◌, ◌∷◌, [], false, ℕ, IfErr, IsOk, List, OnErr, OnOk, Option, Some, length, vec_capacity};
+ghost use Rattle.std.specs.Prelude.{◌≡◌, ◌≤◌, ◌<◌, ◌+◌, ◌∷◌, [], ℕ, IfErr, IsOk, None, OnErr, OnOk, Some, length, vec_capacity};
 ghost use Rattle.mon_edge.specs.Told.{extended};
 ghost use Rattle.mon_station.specs.Ran as ran;
-ghost use Rattle.mon_station.specs.Ran.{AreCalls, HasFailed, IsEmpty, Ran, failures_after, faults_in};
-ghost use Rattle.mon_station.specs.Turned.{IsCounted, Turned};
-ghost use Rattle.mon_station.specs.State.{State};
-ghost use Rattle.mon_station.specs.declared.event.Outgoing.{Outgoing as AnyOutgoing};
-ghost use Rattle.mon_station.specs.declared.event.OwnedEvent.{OwnedEvent as AnyEvent};
+ghost use Rattle.mon_station.specs.Ran.{HasFailed, IsEmpty, Ran, failures_after, faults_in};
+ghost use Rattle.mon_station.specs.Turned.{Called, Turned};
+ghost use Rattle.mon_station.specs.Seen.{seen};
 
-use crate::event::{Outgoing, OwnedEvent};
+use crate::event::{Outgoing, OwnedEvent, Told};
 use crate::fault::StationFault;
 use crate::station::Station;
 use mon_disk::Disk;
@@ -29,25 +27,26 @@ pub struct OutboxFault;
 
 /// Where a station's events come from.
 pub trait Source {
-    ghost use Rattle.std.specs.Prelude.{◌≡◌, List, None, Ok, Option, ℕ};
+    ghost use Rattle.std.specs.Prelude.{◌≡◌, Option, Result, ℕ};
     ghost use Rattle.mon_edge.specs.Counts.{failed_after};
-    ghost use Rattle.mon_edge.specs.Told.{extended};
-    ghost use Rattle.mon_station.specs.Ran.{event_in};
     ghost use Rattle.mon_station.specs.declared.event.OwnedEvent.{OwnedEvent as AnyEvent};
+    ghost use Rattle.mon_station.specs.declared.running.SourceFault.{SourceFault as AnySourceFault};
 
-    // The events that it gave, where it tells them.
-    ghost given: { Self → Option (List AnyEvent) };
+    // What can be said of it.
+    ghost View: { Type 0 };
+
+    // The view of this one.
+    ghost view: { Self → View };
+
+    // From this view, a call that is told this oldest open poll gives this and leaves that view.
+    ghost gives: { View → Option ℕ → Result (Option AnyEvent) AnySourceFault → View → Type 0 };
 
     // How often it failed, at most 2^64 - 1.
     ghost failures: { Self → ℕ };
 
-    // It answered that there are no more events.
-    ghost has_ended: { Self → Type 0 };
-
     /// The next event; none where the source ends. It is told the request-id of the oldest open poll.
     fn next(&mut self, oldest: Option<u32>) -> Result<Option<OwnedEvent>, SourceFault>
-        ensures given { given self.new ≡ extended (given self.old) (event_in result) }
-        ensures ended { result ≡ Ok None → has_ended self.new }
+        ensures gives { gives (view self.old) oldest result (view self.new) }
         ensures failures { failures self.new ≡ failed_after result (failures self.old) };
 }
 
@@ -75,6 +74,8 @@ pub trait Outbox {
 pub enum Answer {
     /// It was handled, and offered so many samples.
     Handled(u64),
+    /// It was a timeout, and the target of this number gave up.
+    GaveUp(u16),
     /// Memory was refused.
     Memory,
     /// It was refused, and why.
@@ -128,9 +129,6 @@ impl Run {
 }
 
 impl<D: Disk + Drop> Station<D> {
-    ghost use Rattle.mon_disk.specs.Kept.{device_of};
-    ghost use Rattle.mon_station.specs.State.{setting_of, state_of};
-
     /// Handles what a source gives, until it ends or was asked so many times, and tells in `run` what was done, in place of what stands there. A fault of the
     /// source and a refused event are counted, and a datagram that could not be sent is lost; the run goes on.
     ///
@@ -144,9 +142,8 @@ impl<D: Disk + Drop> Station<D> {
         turns: u64,
         run: &mut Run,
     ) -> Result<(), StationFault>
-        ensures ran { OnOk result (Ran (state_of self.old.life) (state_of self.new.life) (S.given source.old) (S.given source.new) (O.handed outbox.old) (O.handed outbox.new)
-            (D.is_honest (device_of self.old.keeper)) (D.is_honest (device_of self.new.keeper)) (D.may_leave (device_of self.old.keeper)) (D.may_leave (device_of self.new.keeper)) run.new.answers.items) }
-        ensures calls { OnOk result (AreCalls run.new turns (S.has_ended source.new)) }
+        // The calls of the source, what became of each event, what was sent, what a crash leaves and left, and that all lives go on so.
+        ensures ran { OnOk result (Ran S.gives (seen self.old (S.view source.old) (O.handed outbox.old)) (seen self.new (S.view source.new) (O.handed outbox.new)) turns run.new) }
         ensures refused { OnOk result (run.new.refused ≡ faults_in run.new.answers.items) }
         ensures source { OnOk result (S.failures source.new ≡ failures_after run.new.source_faults (S.failures source.old)) }
         ensures outbox { OnOk result (HasFailed (O.failures outbox.old) (O.failures outbox.new) run.new.send_faults) }
@@ -180,13 +177,7 @@ impl<D: Disk + Drop> Station<D> {
         requires room { length run.old.answers.items < vec_capacity run.old.answers }
         requires faults { run.old.source_faults < u64.MAX }
         requires refused { run.old.refused < u64.MAX }
-        ensures ran { (start : State) (given : Option (List AnyEvent)) (handed : Option (List AnyOutgoing)) (first : D)
-            → Ran start (state_of self.old.life) given (S.given source.old) handed (O.handed outbox.old)
-            (D.is_honest first) (D.is_honest (device_of self.old.keeper)) (D.may_leave first) (D.may_leave (device_of self.old.keeper)) run.old.answers.items
-            → Ran start (state_of self.new.life) given (S.given source.new) handed (O.handed outbox.new)
-            (D.is_honest first) (D.is_honest (device_of self.new.keeper)) (D.may_leave first) (D.may_leave (device_of self.new.keeper)) run.new.answers.items }
-        ensures counts { IsCounted run.old run.new result }
-        ensures ended { result ≡ false → S.has_ended source.new }
+        ensures called { Called S.gives (seen self.old (S.view source.old) (O.handed outbox.old)) (seen self.new (S.view source.new) (O.handed outbox.new)) run.old run.new result }
         ensures source { (first : ℕ) → S.failures source.old ≡ failures_after run.old.source_faults first → S.failures source.new ≡ failures_after run.new.source_faults first }
         ensures outbox { (first : ℕ) → HasFailed first (O.failures outbox.old) run.old.send_faults → HasFailed first (O.failures outbox.new) run.new.send_faults }
     {
@@ -214,14 +205,13 @@ impl<D: Disk + Drop> Station<D> {
         event: OwnedEvent,
         send_faults: &mut u64,
     ) -> Answer
-        ensures turned { Turned (state_of self.old.life) (state_of self.new.life) event (O.handed outbox.old) (O.handed outbox.new)
-            (D.is_honest (device_of self.old.keeper)) (D.is_honest (device_of self.new.keeper)) (D.may_leave (device_of self.old.keeper)) (D.may_leave (device_of self.new.keeper)) result }
+        ensures turned { Turned (seen self.old (tt {0}) (O.handed outbox.old)) (seen self.new (tt {0}) (O.handed outbox.new)) event result }
         ensures failed { (first : ℕ) → HasFailed first (O.failures outbox.old) send_faults.old → HasFailed first (O.failures outbox.new) send_faults.new }
     {
         match self.step(alloc, event.lend()) {
             Ok(told) => {
                 hand(outbox, told.sends.as_slice(), send_faults);
-                Answer::Handled(told.taken.as_slice().len() as u64)
+                answered(&told)
             }
             Err(fault) => shown(fault),
         }
@@ -234,7 +224,7 @@ fn counted(refused: u64, answer: Answer) -> u64
     ensures { result ≡ refused + faults_in (answer ∷ []) }
 {
     match answer {
-        Answer::Handled(_) => refused,
+        Answer::Handled(_) | Answer::GaveUp(_) => refused,
         Answer::Memory | Answer::Refused(_) | Answer::Keeper(_) => refused + 1,
     }
 }
@@ -249,9 +239,19 @@ fn hand<O: Outbox>(outbox: &mut O, sends: &[Outgoing], send_faults: &mut u64)
     }
 }
 
+/// What is told of an event as a run shows it.
+fn answered(told: &Told) -> Answer
+    ensures { result ≡ ran.shown None told.now.taken told.now.given_up }
+{
+    match told.given_up {
+        Some(target) => Answer::GaveUp(target),
+        None => Answer::Handled(told.taken.as_slice().len() as u64),
+    }
+}
+
 /// A fault as a run shows it.
 fn shown(fault: StationFault) -> Answer
-    ensures { result ≡ ran.shown (Some fault) [] }
+    ensures { result ≡ ran.shown (Some fault) [] None }
 {
     match fault {
         StationFault::OutOfMemory => Answer::Memory,

@@ -52,6 +52,7 @@ impl Life {
             taken: Pairs::new(alloc),
             sends,
             noted: None,
+            given_up: None,
         })
     }
 

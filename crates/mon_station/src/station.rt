@@ -67,6 +67,9 @@ impl<D: Disk + Drop> Station<D> {
         ensures happens { D.is_honest (device_of self.old.keeper) → (e : ReadEvent) → ReadsAs self.old.life.board.watch (owned event.entry) e
             → Happens D.seen D.may_leave D.moment D.left_since (Some (state_of self.old.life)) (Handled e (answer_in result) (state_of self.new.life)) (device_of self.old.keeper) (device_of self.new.keeper) }
 
+        // A save changes nothing in memory.
+        ensures same { event.entry ≡ Event.Save → self.new.life ≡ self.old.life }
+
         // The file: no other event than a save changes it, and after one that was answered Ok a crash leaves a file in which it is found.
         ensures disk { (event.entry ≡ Event.Save → ⊥) → self.new.keeper ≡ self.old.keeper }
         ensures saved { D.is_honest (device_of self.old.keeper) → event.entry ≡ Event.Save → OnOk result (Leaves (D.may_leave (device_of self.new.keeper)) (FindsState (state_of self.old.life))) }

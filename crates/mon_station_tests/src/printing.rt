@@ -6,7 +6,7 @@ use mon_station::{Outgoing, StationFault, To, Told};
 use std::alloc::Global;
 use std::fmt::Write;
 
-/// The samples that were taken, what became of a claim, and each datagram that is sent.
+/// The samples that were taken, what became of a claim, the target that gave up, and each datagram that is sent.
 pub fn told(alloc: Global, told: &Told) -> Option<String> {
     let mut text = format!(in alloc; "ok").ok()?;
     for (instance, sample) in told.taken.as_slice() {
@@ -15,6 +15,9 @@ pub fn told(alloc: Global, told: &Told) -> Option<String> {
     }
     if let Some(noted) = told.noted {
         write!(text, " {noted:?}").ok()?;
+    }
+    if let Some(target) = told.given_up {
+        write!(text, " gave up {target}").ok()?;
     }
     for out in told.sends.as_slice() {
         sent(alloc, &mut text, out)?;

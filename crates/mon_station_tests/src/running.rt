@@ -1,6 +1,7 @@
 //! A run of the station over events that a line lists.
 
-ghost use Rattle.std.specs.Prelude.{◌≡◌, None, Ok, true};
+ghost use Rattle.std.specs.Prelude.{◌≡◌, IfSome};
+ghost use Rattle.mon_station_tests.specs.Listed.{RanOver};
 
 use crate::events::events_of;
 use crate::printing::{fault, sent};
@@ -19,12 +20,15 @@ struct Listed {
     events: VecDeque<OwnedEvent>,
     calls_to_the_failing_one: u32,
     failures: u64,
-    ended: bool,
 }
 
 impl Listed {
+    ghost use Rattle.std.specs.Prelude.{None};
+    ghost use Rattle.mon_station_tests.specs.Listed.{GivesListed};
+
     fn given(&mut self) -> Result<Option<OwnedEvent>, SourceFault>
-        ensures ended { result ≡ Ok None → self.new.ended ≡ true }
+        ensures given { GivesListed (record { events = self.old.events.items; calls_to_fault = self.old.calls_to_the_failing_one }) None result
+            (record { events = self.new.events.items; calls_to_fault = self.new.calls_to_the_failing_one }) }
         ensures same { self.new.failures ≡ self.old.failures }
     {
         if self.calls_to_the_failing_one == 1 {
@@ -32,20 +36,20 @@ impl Listed {
             return Err(SourceFault);
         }
         self.calls_to_the_failing_one = self.calls_to_the_failing_one.saturating_sub(1);
-        let event = self.events.pop_front();
-        self.ended = event.is_none();
-        Ok(event)
+        Ok(self.events.pop_front())
     }
 }
 
 impl Source for Listed {
-    ghost use Rattle.std.specs.Prelude.{◌≡◌, None, true};
+    ghost use Rattle.mon_station_tests.specs.Listed.{GivesListed, Listing};
 
-    ghost given = { λ _. None };
+    ghost View = { Listing };
+
+    ghost view = { λ s. record { events = s.events.items; calls_to_fault = s.calls_to_the_failing_one } };
+
+    ghost gives = { GivesListed };
 
     ghost failures = { λ s. s.failures };
-
-    ghost has_ended = { λ s. s.ended ≡ true };
 
     fn next(&mut self, _oldest: Option<u32>) -> Result<Option<OwnedEvent>, SourceFault> {
         let given = self.given();
@@ -150,7 +154,6 @@ fn run_over(
         events,
         calls_to_the_failing_one: asked.source_call,
         failures: 0,
-        ended: false,
     };
     let mut outbox = Noting {
         alloc,
@@ -158,11 +161,25 @@ fn run_over(
         calls_to_the_failing_one: asked.outbox_call,
         failures: 0,
     };
-    let mut run = used(alloc)?;
-    station
-        .run(alloc, &mut source, &mut outbox, asked.turns, &mut run)
-        .ok()?;
+    let run = run_listed(alloc, station, &mut source, &mut outbox, asked.turns)?;
     shown(alloc, &run, &outbox.text)
+}
+
+/// Runs the station over the list of a source, after another run.
+fn run_listed<O: Outbox>(
+    alloc: Global,
+    station: &mut Station<FuseDisk<MemoryDisk>>,
+    source: &mut Listed,
+    outbox: &mut O,
+    turns: u64,
+) -> Option<Run>
+    ensures { IfSome result (λ run. RanOver source.old.events.items source.new.events.items (O.handed outbox.old) (O.handed outbox.new) turns run) }
+{
+    let mut run = used(alloc)?;
+    match station.run(alloc, source, outbox, turns, &mut run) {
+        Ok(()) => Some(run),
+        Err(_) => None,
+    }
 }
 
 /// The counts, the answers and what was sent.
@@ -186,6 +203,7 @@ fn shown(alloc: Global, run: &Run, handed: &str) -> Option<String> {
 fn put_answer(alloc: Global, text: &mut String, answer: Answer) -> Option<()> {
     match answer {
         Answer::Handled(_) => write!(text, " ok;").ok(),
+        Answer::GaveUp(target) => write!(text, " gave up {target};").ok(),
         Answer::Memory => write!(text, " memory;").ok(),
         Answer::Refused(why) => {
             let why = fault(alloc, why)?;

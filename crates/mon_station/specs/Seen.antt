@@ -1,0 +1,18 @@
+-- What contracts see of a station that is run.
+use Rattle.std.specs.Prelude.{List, Option}
+use Rattle.mon_disk.specs.declared.disk.Disk.{Ghosts}
+use Rattle.mon_disk.specs.Kept.{device_of}
+use Rattle.mon_station.specs.declared.event.Outgoing.{Outgoing}
+use Rattle.mon_station.specs.declared.station.Station.{Station}
+use Rattle.mon_station.specs.State.{State, state_of}
+
+-- its state, the view of its source, what its outbox was handed, and its disk
+pub record Seen (V : Type 0) {X : Type 0} (G : Ghosts X) : Type 0 where
+  pub state : State
+  pub view : V
+  pub handed : Option (List Outgoing)
+  pub disk : X
+
+-- a station beside a source of this view, and an outbox that was handed this
+abbrev pub seen : {V X : Type 0} {G : Ghosts X} → Station X G → V → Option (List Outgoing) → Seen V G
+seen s view handed = record { state = state_of s.life; view = view; handed = handed; disk = device_of s.keeper }
