@@ -1,4 +1,5 @@
 mod Changing
 mod Onward
-mod Telling
+mod Notices
+mod Wholly
 mod Windowed

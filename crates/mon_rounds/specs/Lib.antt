@@ -8,3 +8,4 @@ pub mod Orderly
 pub mod Reached
 pub mod Reception
 pub mod Trial
+pub mod Whole

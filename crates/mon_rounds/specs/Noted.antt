@@ -1,5 +1,5 @@
 -- What an operator is told of a round.
-use Rattle.std.specs.Prelude.{ℕ, ◌-◌, ◌^◌, min, Bool, true, false, not, List, Option, Some, None, filter, length, sum_by}
+use Rattle.std.specs.Prelude.{ℕ, ◌-◌, ◌^◌, min, Bool, true, false, not, cond, List, [], ◌∷◌, ◌++◌, Option, Some, None, filter, length, sum_by}
 use Rattle.mon_poller.specs.declared.addr.Addr.{Addr}
 use Rattle.mon_rounds.specs.declared.reporting.Notice.{Notice}
 use Rattle.mon_rounds.specs.declared.reporting.Notice.TheVariants as notice
@@ -23,18 +23,46 @@ is_stranger targets Save = false
 abbrev pub strangers_in : List Addr → List RoundEvent → ℕ
 strangers_in targets events = min (length (filter (is_stranger targets) events)) (2 ^ 32 - 1)
 
+-- what is told of a refused datagram that is no peer's: of a stranger's nothing
+abbrev pub response_notice : List Addr → Addr → StationFault → Option Notice
+response_notice targets from fault = cond (stands_in targets from) (Some (notice.BadResponse from fault)) None
+
 -- what is told of a refused event. A timeout and a save are not refused: they meet want of memory and the keeper's faults.
-abbrev pub notice_of : RoundEvent → StationFault → Option Notice
-notice_of (StartPoll target) fault = Some (notice.NotPolled target fault)
-notice_of (FromAgent from) fault = Some (notice.BadResponse from fault)
-notice_of (FromPeer from) fault = Some (notice.BadClaim from fault)
-notice_of (Share peer) fault = Some (notice.NotShared peer fault)
-notice_of (Timeout id) fault = None
-notice_of Save fault = None
+abbrev pub refusal_of : List Addr → RoundEvent → StationFault → Option Notice
+refusal_of targets (StartPoll target) fault = Some (notice.NotPolled target fault)
+refusal_of targets (FromAgent from) fault = response_notice targets from fault
+refusal_of targets (FromPeer from) fault = Some (notice.BadClaim from fault)
+refusal_of targets (Share peer) fault = Some (notice.NotShared peer fault)
+refusal_of targets (Timeout id) fault = None
+refusal_of targets Save fault = None
+
+-- what is told of an event that was answered so, where anything is
+abbrev pub notice_of : List Addr → RoundEvent → Answer → Option Notice
+notice_of targets e (answer.Handled n) = None
+notice_of targets e (answer.GaveUp target) = Some (notice.GaveUp target)
+notice_of targets e answer.Memory = Some (notice.NoMemory e)
+notice_of targets e (answer.Refused fault) = refusal_of targets e fault
+notice_of targets e (answer.Keeper number) = Some (notice.NotSaved number)
+
+-- the notice, if there is one
+abbrev pub listed : Option Notice → List Notice
+listed None = []
+listed (Some told) = told ∷ []
+
+-- what is told of an event that was answered so, as a list
+abbrev pub told_of : List Addr → RoundEvent → Answer → List Notice
+told_of targets e a = listed (notice_of targets e a)
+
+-- what is told of events that were answered so, in order
+abbrev pub notices_of : List Addr → List RoundEvent → List Answer → List Notice
+notices_of targets [] answers = []
+notices_of targets (e ∷ events) [] = []
+notices_of targets (e ∷ events) (a ∷ answers) = told_of targets e a ++ notices_of targets events answers
 
 -- how many samples were offered in an event that was answered so
 abbrev pub samples_in : Answer → ℕ
 samples_in (answer.Handled n) = n
+samples_in (answer.GaveUp target) = 0
 samples_in answer.Memory = 0
 samples_in (answer.Refused fault) = 0
 samples_in (answer.Keeper number) = 0

@@ -21,7 +21,7 @@ mod trial;
 pub use addresses::Addresses;
 pub use alarms::{AlarmChange, alarm_changes, alarm_line, alarm_states};
 pub use receiver::{Arrival, Receiver, ReceiverFault, Wait};
-pub use reporting::{Notice, PollLog, RoundReport};
+pub use reporting::{Notice, RoundReport};
 pub use round::{Phase, Round, RoundEvent};
 pub use running::{rest, run_round};
 pub use saved::saved_board;

@@ -1,11 +1,11 @@
 //! What an operator is told of a round.
 
-ghost use Rattle.std.specs.Prelude.{◌≡◌, IfOk};
-ghost use Rattle.mon_rounds.specs.Noted.{gave_up, is_given_up, is_stranger, notice_of, samples_in, samples_taken, strangers_in};
+ghost use Rattle.std.specs.Prelude.{◌≡◌, ◌++◌, IfOk, OnOk};
+ghost use Rattle.mon_rounds.specs.Noted.{gave_up, is_stranger, notice_of, notices_of, refusal_of, response_notice, samples_taken, strangers_in, told_of};
 ghost use Rattle.mon_rounds.specs.Order.{datagrams_in};
 
 use crate::round::{Round, RoundEvent};
-use mon_poller::{Addr, Target};
+use mon_poller::Addr;
 use mon_station::{Answer, Run, StationFault};
 use std::alloc::{AllocError, Global};
 
@@ -47,95 +47,27 @@ pub struct RoundReport {
     pub given_up: u64,
 }
 
-/// A poll that may be open.
-#[derive(Clone, Copy, Debug, PartialEq, Eq)]
-struct OpenPoll {
-    id: u32,
-    target: u16,
-    sent: u8,
-}
-
-/// Which polls a station has begun in its life, and how often their datagrams were sent. A station's request-ids count from 1.
-#[derive(Drop)]
-pub struct PollLog {
-    tries: Vec<u8>,
-    open: Vec<OpenPoll>,
-    started: u32,
-}
-
-impl PollLog {
-    /// The log of a life that begins, over these targets.
-    pub fn new(alloc: Global, targets: &[Target]) -> Result<Self, AllocError> {
-        let mut tries = Vec::with_capacity(alloc, targets.len())?;
-        for target in targets {
-            tries.push(target.tries)?;
-        }
-        Ok(PollLog {
-            tries,
-            open: Vec::new(alloc),
-            started: 0,
-        })
-    }
-
-    /// Notes what was answered to an event, and gives what is to be told of it.
-    fn note(&mut self, event: RoundEvent, answer: Answer) -> Result<Option<Notice>, AllocError> {
-        match answer {
-            Answer::Handled(_) => self.handled(event),
-            Answer::Memory => Ok(Some(Notice::NoMemory(event))),
-            Answer::Refused(fault) => Ok(refused(event, fault)),
-            Answer::Keeper(number) => Ok(Some(Notice::NotSaved(number))),
-        }
-    }
-
-    fn handled(&mut self, event: RoundEvent) -> Result<Option<Notice>, AllocError> {
-        match event {
-            RoundEvent::StartPoll(target) => {
-                self.started = self.started.saturating_add(1);
-                let id = self.started;
-                self.open.push(OpenPoll {
-                    id,
-                    target,
-                    sent: 1,
-                })?;
-                Ok(None)
-            }
-            RoundEvent::Timeout(id) => Ok(self.timed_out(id)),
-            _ => Ok(None),
-        }
-    }
-
-    /// A timeout of the poll of this request-id was handled: its datagram was sent again, or its target gave up.
-    fn timed_out(&mut self, id: u32) -> Option<Notice> {
-        let place = self.open.as_slice().iter().position(|poll| poll.id == id)?;
-        let poll = self.open[place];
-        let tries = self.tries.as_slice().get(usize::from(poll.target)).copied();
-        if poll.sent < tries.unwrap_or(0) {
-            self.open[place].sent = poll.sent + 1;
-            return None;
-        }
-        self.open.remove(place);
-        Some(Notice::GaveUp(poll.target))
-    }
-
-    /// Only polls from this request-id on are open; none where that is none.
-    fn close(&mut self, oldest: Option<u32>) {
-        match oldest {
-            Some(id) => self.open.retain(|poll| poll.id >= id),
-            None => self.open.clear(),
-        }
-    }
-}
-
-/// What is told of a refused event.
-fn refused(event: RoundEvent, fault: StationFault) -> Option<Notice>
-    ensures { result ≡ notice_of event fault }
+/// What is told of a refused event. A stranger's datagram is counted alone.
+fn refused(round: &Round, event: RoundEvent, fault: StationFault) -> Option<Notice>
+    ensures { result ≡ refusal_of round.now.targets event fault }
 {
     match event {
         RoundEvent::StartPoll(target) => Some(Notice::NotPolled(target, fault)),
-        RoundEvent::FromAgent(from) => Some(Notice::BadResponse(from, fault)),
+        RoundEvent::FromAgent(from) => bad_response(round, from, fault),
         RoundEvent::FromPeer(from) => Some(Notice::BadClaim(from, fault)),
         RoundEvent::Share(peer) => Some(Notice::NotShared(peer, fault)),
         RoundEvent::Timeout(_) | RoundEvent::Save => None,
+    }
+}
+
+/// What is told of a refused datagram from this address, where it is a target's.
+fn bad_response(round: &Round, from: Addr, fault: StationFault) -> Option<Notice>
+    ensures { result ≡ response_notice round.now.targets from fault }
+{
+    if round.is_target(from) {
+        Some(Notice::BadResponse(from, fault))
+    } else {
+        None
     }
 }
 
@@ -167,17 +99,13 @@ fn is_stranger(round: &Round, event: RoundEvent) -> bool
 }
 
 impl RoundReport {
-    /// What is to be told of a round, or of the time between two, that was run so. `oldest` is the station's oldest open poll after it.
+    /// What is to be told of a round, or of the time between two, that was run so.
     ///
     /// # Errors
-    /// `AllocError` where there is no room for the notices; the log may then have forgotten polls.
-    pub fn of(
-        alloc: Global,
-        round: &Round,
-        run: &Run,
-        oldest: Option<u32>,
-        log: &mut PollLog,
-    ) -> Result<Self, AllocError>
+    /// `AllocError` where there is no room for the notices.
+    pub fn of(alloc: Global, round: &Round, run: &Run) -> Result<Self, AllocError>
+        // Of each event what its answer is to be told by, in order; a stranger's datagram that was refused is counted alone.
+        ensures notices { IfOk result (λ r. r.notices.items ≡ notices_of round.now.targets round.now.events run.now.answers.items) }
         ensures datagrams { IfOk result (λ r. r.datagrams ≡ datagrams_in round.now.events) }
         ensures strangers { IfOk result (λ r. r.strangers ≡ strangers_in round.now.targets round.now.events) }
         ensures source { IfOk result (λ r. r.source_faults ≡ run.now.source_faults) }
@@ -187,9 +115,8 @@ impl RoundReport {
     {
         let events = round.events();
         let answers = run.answers.as_slice();
-        let notices = notices_of(alloc, round, answers, log)?;
+        let notices = notices_of(alloc, round, answers)?;
         let given_up = count_given_up(notices.as_slice());
-        log.close(oldest);
         Ok(RoundReport {
             notices,
             datagrams: round.datagrams(),
@@ -229,33 +156,41 @@ fn count_given_up(notices: &[Notice]) -> u64
 }
 
 /// What is to be told of the events of a round that were answered so.
-fn notices_of(
-    alloc: Global,
-    round: &Round,
-    answers: &[Answer],
-    log: &mut PollLog,
-) -> Result<Vec<Notice>, AllocError> {
+fn notices_of(alloc: Global, round: &Round, answers: &[Answer]) -> Result<Vec<Notice>, AllocError>
+    ensures { IfOk result (λ notices. notices.items ≡ notices_of round.now.targets round.now.events answers.now) }
+{
+    let events = round.events();
     let mut notices = Vec::new(alloc);
-    for (event, answer) in round.events().iter().zip(answers) {
-        if let Some(notice) = log.note(*event, *answer)? {
-            put_notice(round, &mut notices, notice)?;
-        }
+    for place in 0..events.len().min(answers.len()) {
+        put_notice(round, &mut notices, events[place], answers[place])?;
     }
     Ok(notices)
 }
 
-/// Adds a notice, unless it is of a stranger's datagram, which is counted alone.
-fn put_notice(round: &Round, notices: &mut Vec<Notice>, notice: Notice) -> Result<(), AllocError> {
-    if is_of_stranger(round, notice) {
-        return Ok(());
+/// Adds what is to be told of an event that was answered so.
+fn put_notice(
+    round: &Round,
+    notices: &mut Vec<Notice>,
+    event: RoundEvent,
+    answer: Answer,
+) -> Result<(), AllocError>
+    ensures { OnOk result (notices.new.items ≡ notices.old.items ++ told_of round.now.targets event answer) }
+{
+    if let Some(notice) = notice_of(round, event, answer) {
+        notices.push(notice)?;
     }
-    notices.push(notice)?;
     Ok(())
 }
 
-fn is_of_stranger(round: &Round, notice: Notice) -> bool {
-    match notice {
-        Notice::BadResponse(from, _) => !round.is_target(from),
-        _ => false,
+/// What is to be told of an event that was answered so, where anything is.
+fn notice_of(round: &Round, event: RoundEvent, answer: Answer) -> Option<Notice>
+    ensures { result ≡ notice_of round.now.targets event answer }
+{
+    match answer {
+        Answer::Handled(_) => None,
+        Answer::GaveUp(target) => Some(Notice::GaveUp(target)),
+        Answer::Memory => Some(Notice::NoMemory(event)),
+        Answer::Refused(fault) => refused(round, event, fault),
+        Answer::Keeper(number) => Some(Notice::NotSaved(number)),
     }
 }

@@ -146,6 +146,7 @@ impl Round {
     /// Begins to hear between two rounds, for this many milliseconds.
     pub(crate) fn rest(&mut self, milliseconds: u32)
         ensures state { self.new ≡ begun_rest milliseconds self.old }
+        ensures turns { turns_left self.new ≤ 4704 }
     {
         self.events.clear();
         self.datagrams = MOST_DATAGRAMS;

@@ -1,11 +1,10 @@
 //! Running a station through a round, and between two.
 
-ghost use Rattle.std.specs.Prelude.{◌≡◌, ◌≤◌, [], IfErr, IsOk, OnErr, OnOk, vec_capacity};
-ghost use Rattle.mon_disk.specs.Kept.{device_of};
-ghost use Rattle.mon_rounds.specs.Given.{round_told};
-ghost use Rattle.mon_rounds.specs.Next.{IsEnded};
-ghost use Rattle.mon_station.specs.Ran.{AreCalls, HasFailed, IsEmpty, Ran, failures_after, faults_in};
-ghost use Rattle.mon_station.specs.State.{state_of};
+ghost use Rattle.std.specs.Prelude.{◌≡◌, ◌≤◌, IfErr, IsOk, OnErr, OnOk, vec_capacity};
+ghost use Rattle.mon_rounds.specs.Orderly.{begun, begun_rest};
+ghost use Rattle.mon_rounds.specs.Whole.{HasRun, IsWholeRest, IsWholeRound, view_of};
+ghost use Rattle.mon_station.specs.Ran.{HasFailed, IsEmpty, failures_after, faults_in};
+ghost use Rattle.mon_station.specs.Seen.{seen};
 
 use crate::receiver::Receiver;
 use crate::source::Rounds;
@@ -28,11 +27,9 @@ pub fn run_round<D: Disk + Drop, R: Receiver + Drop, O: Outbox>(
     outbox: &mut O,
     run: &mut Run,
 ) -> Result<(), StationFault>
-    // The station was handed these events in their order, each with its datagram, and answered them so.
-    ensures ran { OnOk result (Ran (state_of station.old.life) (state_of station.new.life) (round_told [] (R.heard rounds.old.receiver)) (round_told rounds.new.round.events (R.heard rounds.new.receiver))
-        (O.handed outbox.old) (O.handed outbox.new) (D.is_honest (device_of station.old.keeper)) (D.is_honest (device_of station.new.keeper)) (D.may_leave (device_of station.old.keeper)) (D.may_leave (device_of station.new.keeper)) run.new.answers.items) }
-    // It is over, unless it was asked so often.
-    ensures calls { OnOk result (AreCalls run.new 5000 (IsEnded rounds.new.round.phase)) }
+    // The station was given the events of a whole round, and answered them so.
+    ensures ran { OnOk result (HasRun (IsWholeRound rounds.old.round rounds.new.round) (seen station.old (view_of (begun rounds.old.round) (R.heard rounds.old.receiver)) (O.handed outbox.old))
+        (seen station.new (view_of rounds.new.round (R.heard rounds.new.receiver)) (O.handed outbox.new)) run.new) }
     ensures refused { OnOk result (run.new.refused ≡ faults_in run.new.answers.items) }
     ensures source { OnOk result (R.failures rounds.new.receiver ≡ failures_after run.new.source_faults (R.failures rounds.old.receiver)) }
     ensures outbox { OnOk result (HasFailed (O.failures outbox.old) (O.failures outbox.new) run.new.send_faults) }
@@ -44,7 +41,9 @@ pub fn run_round<D: Disk + Drop, R: Receiver + Drop, O: Outbox>(
     ensures same { OnErr result (station.new ≡ station.old) }
 {
     rounds.begin();
-    station.run(alloc, rounds, outbox, TURNS, run)
+    station.run(alloc, rounds, outbox, TURNS, run)?;
+    rounds.orderly();
+    Ok(())
 }
 
 /// Hands a station what comes between two rounds, for this many milliseconds, or until 4096 datagrams came or 16 receptions failed, and tells in `run` what
@@ -60,11 +59,9 @@ pub fn rest<D: Disk + Drop, R: Receiver + Drop, O: Outbox>(
     milliseconds: u32,
     run: &mut Run,
 ) -> Result<(), StationFault>
-    // The station was handed these events in their order, each with its datagram, and answered them so.
-    ensures ran { OnOk result (Ran (state_of station.old.life) (state_of station.new.life) (round_told [] (R.heard rounds.old.receiver)) (round_told rounds.new.round.events (R.heard rounds.new.receiver))
-        (O.handed outbox.old) (O.handed outbox.new) (D.is_honest (device_of station.old.keeper)) (D.is_honest (device_of station.new.keeper)) (D.may_leave (device_of station.old.keeper)) (D.may_leave (device_of station.new.keeper)) run.new.answers.items) }
-    // It is over, unless it was asked so often.
-    ensures calls { OnOk result (AreCalls run.new 5000 (IsEnded rounds.new.round.phase)) }
+    // The station was given what came in this time, and answered it so.
+    ensures ran { OnOk result (HasRun (IsWholeRest rounds.old.round rounds.new.round) (seen station.old (view_of (begun_rest milliseconds rounds.old.round) (R.heard rounds.old.receiver)) (O.handed outbox.old))
+        (seen station.new (view_of rounds.new.round (R.heard rounds.new.receiver)) (O.handed outbox.new)) run.new) }
     ensures refused { OnOk result (run.new.refused ≡ faults_in run.new.answers.items) }
     ensures source { OnOk result (R.failures rounds.new.receiver ≡ failures_after run.new.source_faults (R.failures rounds.old.receiver)) }
     ensures outbox { OnOk result (HasFailed (O.failures outbox.old) (O.failures outbox.new) run.new.send_faults) }
@@ -76,5 +73,7 @@ pub fn rest<D: Disk + Drop, R: Receiver + Drop, O: Outbox>(
     ensures same { OnErr result (station.new ≡ station.old) }
 {
     rounds.rest(milliseconds);
-    station.run(alloc, rounds, outbox, TURNS, run)
+    station.run(alloc, rounds, outbox, TURNS, run)?;
+    rounds.orderly();
+    Ok(())
 }

@@ -1,12 +1,12 @@
 //! A station's events, from its rounds and a receiver.
 
-ghost use Rattle.std.specs.Prelude.{◌≡◌, ◌≤◌, IfOk, Ok, None, Some};
+ghost use Rattle.std.specs.Prelude.{◌≡◌, ◌≤◌, IfOk, Ok, None, Some, length};
 ghost use Rattle.mon_edge.specs.Counts.{failed_after};
-ghost use Rattle.mon_edge.specs.Told.{GoesOnBy, extended};
-ghost use Rattle.mon_rounds.specs.Given.{round_told};
+ghost use Rattle.mon_edge.specs.Told.{GoesOnBy};
+ghost use Rattle.mon_rounds.specs.Order.{AreSoFar};
+ghost use Rattle.mon_rounds.specs.Whole.{GivesOn, RoundsView, view_of};
 ghost use Rattle.mon_rounds.specs.Orderly.{begun, begun_rest, unbegun};
 ghost use Rattle.mon_rounds.specs.Next.{GivesNext, IsEnded, TakesTurn, next_wait, turns_left};
-ghost use Rattle.mon_station.specs.Ran.{event_in};
 
 use crate::addresses::Addresses;
 use crate::receiver::{Arrival, Receiver, Wait};
@@ -45,6 +45,13 @@ impl<R: Receiver + Drop> Rounds<R> {
         &self.round
     }
 
+    /// The events of the round are in its order. It does nothing.
+    pub(crate) fn orderly(&self)
+        ensures { AreSoFar (length self.now.round.targets) self.now.round.peers self.now.round.phase self.now.round.events }
+    {
+        let _ = self.round.events();
+    }
+
     /// The receiver.
     pub fn receiver(&self) -> &R
         ensures { result.now ≡ self.now.receiver }
@@ -66,15 +73,29 @@ impl<R: Receiver + Drop> Rounds<R> {
     pub fn rest(&mut self, milliseconds: u32)
         ensures round { self.new.round ≡ begun_rest milliseconds self.old.round }
         ensures receiver { self.new.receiver ≡ self.old.receiver }
+        // It is over after at most so many calls for an event.
+        ensures turns { turns_left self.new.round ≤ 4704 }
     {
         self.round.rest(milliseconds);
+    }
+
+    /// Gives the next event, by what the receiver got.
+    fn give(&mut self, oldest: Option<u32>) -> Result<Option<OwnedEvent>, SourceFault>
+        ensures step { GoesOnBy (λ log. GivesNext self.old.round oldest log result self.new.round) (R.heard self.old.receiver) (R.heard self.new.receiver) }
+        ensures failures { R.failures self.new.receiver ≡ failed_after result (R.failures self.old.receiver) }
+        ensures ended { result ≡ Ok None → IsEnded self.new.round.phase }
+        ensures turns { TakesTurn result (turns_left self.old.round) (turns_left self.new.round) }
+    {
+        match self.round.next_wait() {
+            Some(wait) => self.hear(wait, oldest),
+            None => Ok(self.round.proceed(oldest)),
+        }
     }
 
     /// Receives in this wait.
     fn hear(&mut self, wait: Wait, oldest: Option<u32>) -> Result<Option<OwnedEvent>, SourceFault>
         requires due { next_wait self.old.round ≡ Some wait }
         ensures step { GoesOnBy (λ log. GivesNext self.old.round oldest log result self.new.round) (R.heard self.old.receiver) (R.heard self.new.receiver) }
-        ensures given { round_told self.new.round.events (R.heard self.new.receiver) ≡ extended (round_told self.old.round.events (R.heard self.old.receiver)) (event_in result) }
         ensures failures { R.failures self.new.receiver ≡ failed_after result (R.failures self.old.receiver) }
         ensures ended { result ≡ Ok None → IsEnded self.new.round.phase }
         ensures turns { TakesTurn result (turns_left self.old.round) (turns_left self.new.round) }
@@ -91,26 +112,17 @@ impl<R: Receiver + Drop> Rounds<R> {
 }
 
 impl<R: Receiver + Drop> Source for Rounds<R> {
-    // What it gave since the round began, where the receiver tells what it received.
-    ghost given = { λ s. round_told s.round.events (R.heard s.receiver) };
+    // The round, and what its receiver got, where that tells it.
+    ghost View = { RoundsView };
+
+    ghost view = { λ s. view_of s.round (R.heard s.receiver) };
+
+    ghost gives = { GivesOn };
 
     ghost failures = { λ s. R.failures s.receiver };
 
-    ghost has_ended = { λ s. IsEnded s.round.phase };
-
     /// The next event, none where the round is over. It is told the request-id of the oldest open poll.
-    fn next(&mut self, oldest: Option<u32>) -> Result<Option<OwnedEvent>, SourceFault>
-        ensures given { round_told self.new.round.events (R.heard self.new.receiver) ≡ extended (round_told self.old.round.events (R.heard self.old.receiver)) (event_in result) }
-        ensures ended { result ≡ Ok None → IsEnded self.new.round.phase }
-        ensures failures { R.failures self.new.receiver ≡ failed_after result (R.failures self.old.receiver) }
-        // What it answers, and what becomes of the round, by what the receiver got.
-        ensures step { GoesOnBy (λ log. GivesNext self.old.round oldest log result self.new.round) (R.heard self.old.receiver) (R.heard self.new.receiver) }
-        // Each call but the last leaves fewer of them.
-        ensures turns { TakesTurn result (turns_left self.old.round) (turns_left self.new.round) }
-    {
-        match self.round.next_wait() {
-            Some(wait) => self.hear(wait, oldest),
-            None => Ok(self.round.proceed(oldest)),
-        }
+    fn next(&mut self, oldest: Option<u32>) -> Result<Option<OwnedEvent>, SourceFault> {
+        self.give(oldest)
     }
 }

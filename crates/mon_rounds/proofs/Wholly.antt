@@ -1,0 +1,258 @@
+-- A round from its beginning to its end.
+use Rattle.std.proofs.Common.{ℕ, ◌≡◌, ◌≤◌, ◌<◌, ◌+◌, ◌⊎◌, inl, inr, ⊎_elim, Bool, true, false, List, [], ◌∷◌, ◌++◌, Option, Some, None, Result, Ok, Err, length, refl, sym, ap, subst, ◌∙◌, arith}
+use Rattle.std.specs.Prelude.{zero, suc, cond, nat_lt, option_map}
+use Rattle.std.proofs.lemmas.List.{append-nil}
+use Rattle.mon_disk.specs.declared.disk.Disk.{Ghosts}
+use Rattle.mon_poller.specs.declared.addr.Addr.{Addr}
+use Rattle.mon_rounds.specs.declared.receiver.Arrival.{Arrival}
+use Rattle.mon_rounds.specs.declared.receiver.Arrival.TheVariants.{Datagram, Quiet}
+use Rattle.mon_rounds.specs.declared.round.Phase.{Phase}
+use Rattle.mon_rounds.specs.declared.round.Phase.TheVariants.{Polling, Hearing, Sharing, Listening, Over, Resting, Rested}
+use Rattle.mon_rounds.specs.declared.round.RoundEvent.{RoundEvent}
+use Rattle.mon_rounds.specs.declared.round.RoundEvent.TheVariants.{StartPoll, Timeout, FromAgent, FromPeer, Share, Save}
+use Rattle.mon_rounds.specs.Given.{AreGiven, IsGiven, with_octets}
+use Rattle.mon_rounds.specs.Next.{GivesNext, HandsOn, IsEnded, LeadsTo, Misses, Proceeds, RoundState, TakesTurn, after_datagram, after_event, after_failure, after_polls, event_from, event_in_phase, next_event, phase_after, phase_ended, share_at, slot_after, turns_left}
+use Rattle.mon_rounds.specs.Order.{AreSoFar, IsRound}
+use Rattle.mon_rounds.specs.Orderly.{first_phase}
+use Rattle.mon_rounds.specs.Reception.{Reception}
+use Rattle.mon_rounds.specs.Whole.{GivesOn, HasRun, HasSame, IsWholeRest, IsWholeRound, RoundsView, view_of}
+use Rattle.mon_station.specs.declared.event.OwnedEvent.{OwnedEvent}
+use Rattle.mon_station.specs.declared.running.Run.{Run}
+use Rattle.mon_station.specs.declared.running.SourceFault.{SourceFault}
+use Rattle.mon_station.specs.Ran.{AreAsked, AreCalls, Call, End, Event, Fault, Gave, Ran, Turn, events_of, go_on, goes_on, result_of, turn_in, turns_of, view_after}
+use Rattle.mon_station.specs.Seen.{Seen}
+use Rattle.mon_station.specs.State.{State}
+
+-- ---- one call
+-- the event of a result
+abbrev given_in : Result (Option OwnedEvent) SourceFault → List OwnedEvent
+given_in (Ok (Some e)) = e ∷ []
+given_in (Ok None) = []
+given_in (Err f) = []
+
+-- one event more
+given_more : (events : List RoundEvent) (given : List OwnedEvent) (e : RoundEvent) (o : OwnedEvent) → AreGiven events given → IsGiven e o → AreGiven (events ++ e ∷ []) (given ++ o ∷ [])
+given_more [] [] e o are is = (is, tt)
+given_more [] (g ∷ given) e o are is = absurd are
+given_more (x ∷ events) [] e o are is = absurd are
+given_more (x ∷ events) (g ∷ given) e o are is = (are.0, given_more events given e o are.1 is)
+
+given_none : (events : List RoundEvent) (given : List OwnedEvent) → AreGiven events given → AreGiven events (given ++ [])
+given_none events given are = subst (AreGiven events) (sym (append-nil given)) are
+
+-- the time between two rounds
+abbrev is_rest : Phase → Bool
+is_rest Resting = true
+is_rest Rested = true
+is_rest (Polling target) = false
+is_rest Hearing = false
+is_rest (Sharing slot) = false
+is_rest Listening = false
+is_rest Over = false
+
+-- what a call leaves
+record IsLeft (r new : RoundState) (result : Result (Option OwnedEvent) SourceFault) : Type 0 where
+  same : HasSame r new
+  given : (all : List OwnedEvent) → AreGiven r.events all → AreGiven new.events (all ++ given_in result)
+  rest : is_rest new.phase ≡ is_rest r.phase
+
+itself : (r : RoundState) → HasSame r r
+itself r = record { targets = refl; peers = refl; peer_addresses = refl; wait_ms = refl }
+
+share_rest : (r : RoundState) (peers : List ℕ) (slot : ℕ) → is_rest (phase_after r (share_at peers slot)) ≡ false
+share_rest r [] slot = refl
+share_rest r (p ∷ peers) zero = elim (nat_lt (slot_after r.phase) (length r.peers)) as (λ b. is_rest (cond b (Sharing (slot_after r.phase)) Listening) ≡ false) [ true ↦ refl | false ↦ refl ]
+share_rest r (p ∷ peers) (suc slot) = share_rest r peers slot
+
+-- the phase that an event of a round leaves
+event_rest : (r : RoundState) (oldest : Option ℕ) (phase : Phase) (e : RoundEvent) → r.phase ≡ phase → event_in_phase phase r oldest ≡ Some e → is_rest (phase_after r e) ≡ is_rest phase
+event_rest r oldest (Polling target) e is given =
+    let same : StartPoll target ≡ e = (let s : Some (StartPoll target) ≡ Some e = given in cc) in
+    subst (λ x. is_rest (phase_after r x) ≡ false) same
+    (elim (nat_lt (target + 1) (length r.targets)) as (λ b. is_rest (cond b (Polling (target + 1)) Hearing) ≡ false) [ true ↦ refl | false ↦ refl ])
+event_rest r oldest Hearing e is given =
+    let same : after_polls r oldest ≡ e = (let s : Some (after_polls r oldest) ≡ Some e = given in cc) in
+    subst (λ x. is_rest (phase_after r x) ≡ false) same (polls oldest)
+  where
+    timed : (b : Bool) (id : ℕ) → is_rest (phase_after r (cond b (Timeout id) (share_at r.peers 0))) ≡ false
+    timed true id = ap is_rest is
+    timed false id = share_rest r r.peers 0
+
+    polls : (oldest : Option ℕ) → is_rest (phase_after r (after_polls r oldest)) ≡ false
+    polls None = share_rest r r.peers 0
+    polls (Some id) = timed (nat_lt 0 r.timeouts) id
+event_rest r oldest (Sharing slot) e is given =
+    let same : share_at r.peers slot ≡ e = (let s : Some (share_at r.peers slot) ≡ Some e = given in cc) in
+    subst (λ x. is_rest (phase_after r x) ≡ false) same (share_rest r r.peers slot)
+event_rest r oldest Listening e is given =
+    let same : Save ≡ e = (let s : Some Save ≡ Some e = given in cc) in
+    subst (λ x. is_rest (phase_after r x) ≡ false) same refl
+event_rest r oldest Over e is given = absurd (let s : None ≡ Some e = given in cc)
+event_rest r oldest Resting e is given = absurd (let s : None ≡ Some e = given in cc)
+event_rest r oldest Rested e is given = absurd (let s : None ≡ Some e = given in cc)
+
+ended_rest : (phase : Phase) → is_rest (phase_ended phase) ≡ is_rest phase
+ended_rest (Polling target) = refl
+ended_rest Hearing = refl
+ended_rest (Sharing slot) = refl
+ended_rest Listening = refl
+ended_rest Over = refl
+ended_rest Resting = refl
+ended_rest Rested = refl
+
+-- the next event of the round, if it has one
+next_left : (r : RoundState) (oldest : Option ℕ) (n : Option RoundEvent) → next_event r oldest ≡ n → IsLeft r (after_event r n) (Ok (option_map (λ e. with_octets e []) n))
+next_left r oldest None is = record { same = record { targets = refl; peers = refl; peer_addresses = refl; wait_ms = refl }; given = λ all are. given_none r.events all are; rest = ended_rest r.phase }
+next_left r oldest (Some e) is = record {
+  same = record { targets = refl; peers = refl; peer_addresses = refl; wait_ms = refl };
+  given = λ all are. given_more r.events all e (with_octets e []) are ([], refl);
+  rest = event_rest r oldest r.phase e refl is;
+}
+
+left_as : (r new other : RoundState) (result given : Result (Option OwnedEvent) SourceFault) → new ≡ other → result ≡ given → IsLeft r other given → IsLeft r new result
+left_as r new other result given is same left = subst (λ (s : RoundState). IsLeft r s result) (sym is) (subst (λ (g : Result (Option OwnedEvent) SourceFault). IsLeft r other g) (sym same) left)
+
+proceeds_left : (r new : RoundState) (oldest : Option ℕ) (result : Result (Option OwnedEvent) SourceFault) → Proceeds r oldest result new → IsLeft r new result
+proceeds_left r new oldest result p = left_as r new _ result _ p.after p.event (next_left r oldest (next_event r oldest) refl)
+
+arrived_left : (r new : RoundState) (oldest : Option ℕ) (arrival : Option Arrival) (result : Result (Option OwnedEvent) SourceFault) → LeadsTo r oldest arrival result new → IsLeft r new result
+arrived_left r new oldest None result m = left_as r new (after_failure r) result (Err m.fault.0) m.after m.fault.1 (record { same = record { targets = refl; peers = refl; peer_addresses = refl; wait_ms = refl }; given = λ all are. given_none r.events all are; rest = refl })
+arrived_left r new oldest (Some Quiet) result p = proceeds_left r new oldest result p
+arrived_left r new oldest (Some (Datagram from octets)) result h =
+    left_as r new (after_datagram r from) result (Ok (Some (with_octets (event_from r from) octets))) h.after h.event
+    (record { same = record { targets = refl; peers = refl; peer_addresses = refl; wait_ms = refl }; given = λ all are. given_more r.events all (event_from r from) (with_octets (event_from r from) octets) are (octets, refl); rest = refl })
+
+call_left : (r new : RoundState) (oldest : Option ℕ) (log : List Reception) (result : Result (Option OwnedEvent) SourceFault) → GivesNext r oldest log result new → IsLeft r new result
+call_left r new oldest [] result g = proceeds_left r new oldest result g.1
+call_left r new oldest (one ∷ []) result g = arrived_left r new oldest one.arrival result g.1
+call_left r new oldest (one ∷ two ∷ more) result g = absurd g
+
+-- ---- all calls
+same_then : (a b c : RoundState) → HasSame a b → HasSame b c → HasSame a c
+same_then a b c one two = record {
+  targets = two.targets ∙ one.targets;
+  peers = two.peers ∙ one.peers;
+  peer_addresses = two.peer_addresses ∙ one.peer_addresses;
+  wait_ms = two.wait_ms ∙ one.wait_ms;
+}
+
+-- what the turn of a call was given
+turn_given : (gave : Gave) (turns : List Turn) → events_of (turn_in gave ++ turns) ≡ events_of turns ++ given_in (result_of gave)
+turn_given (Event t) turns = refl
+turn_given End turns = sym (append-nil (events_of turns))
+turn_given (Fault f) turns = sym (append-nil (events_of turns))
+
+-- what calls leave
+pub record AreLeft (first now : RoundState) (given : List OwnedEvent) : Type 0 where
+  pub same : HasSame first now
+  pub are : AreGiven now.events given
+  pub rest : is_rest now.phase ≡ is_rest first.phase
+
+pub calls_left : (v : RoundsView) (s : State) (calls : List (Call RoundsView)) → v.round.events ≡ [] → AreCalls GivesOn v s calls → AreLeft v.round (view_after v calls).round (events_of (turns_of calls))
+calls_left v s [] none are = record { same = itself v.round; are = subst (λ (l : List RoundEvent). AreGiven l []) (sym none) tt; rest = refl }
+calls_left v s (c ∷ calls) none are =
+    let before = calls_left v s calls none are.2 in
+    let gives = are.0.gives in
+    let left = call_left (view_after v calls).round c.view.round c.oldest gives.step.more (result_of c.gave) gives.step.holds in
+    record {
+      same = same_then v.round (view_after v calls).round c.view.round before.same left.same;
+      are = subst (AreGiven c.view.round.events) (sym (turn_given c.gave (turns_of calls))) (left.given (events_of (turns_of calls)) before.are);
+      rest = left.rest ∙ before.rest;
+    }
+
+-- each call but the end leaves fewer
+fewer : (gave : Gave) (before now n first : ℕ) → goes_on gave ≡ true → TakesTurn (result_of gave) before now → before + n ≤ first → now + (n + 1) ≤ first
+fewer (Event t) before now n first on takes le = omega (arith, takes, le)
+fewer End before now n first on takes le = absurd (let no : false ≡ true = on in cc)
+fewer (Fault f) before now n first on takes le = omega (arith, takes, le)
+
+counted : (v : RoundsView) (s : State) (calls : List (Call RoundsView)) → AreCalls GivesOn v s calls → go_on calls ≡ true → turns_left (view_after v calls).round + length calls ≤ turns_left v.round
+counted v s [] are on = omega arith
+counted v s (c ∷ calls) are on =
+    let le = counted v s calls are.2 are.1 in
+    let now : turns_left c.view.round + (length calls + 1) ≤ turns_left v.round =
+    fewer c.gave (turns_left (view_after v calls).round) (turns_left c.view.round) (length calls) (turns_left v.round) on are.0.gives.turns le in
+    omega (arith, now)
+
+-- so a run of 5000 calls comes to the end
+comes_to : (v : RoundsView) (s : State) (calls : List (Call RoundsView)) (b : Bool) → go_on calls ≡ b → turns_left v.round ≤ 4704 → AreCalls GivesOn v s calls → AreAsked 5000 calls → go_on calls ≡ false
+comes_to v s calls false is few are asked = is
+comes_to v s calls true is few are asked =
+    let le = counted v s calls are is in
+    ⊎_elim (λ all. absurd (omega (arith, le, few, all))) (λ less. less.1) asked
+
+end_of : (gave : Gave) → goes_on gave ≡ false → result_of gave ≡ Ok None
+end_of (Event t) off = absurd (let no : true ≡ false = off in cc)
+end_of End off = refl
+end_of (Fault f) off = absurd (let no : true ≡ false = off in cc)
+
+last_ends : (v : RoundsView) (s : State) (calls : List (Call RoundsView)) → go_on calls ≡ false → AreCalls GivesOn v s calls → IsEnded (view_after v calls).round.phase
+last_ends v s [] off are = absurd (let no : true ≡ false = off in cc)
+last_ends v s (c ∷ calls) off are = are.0.gives.ended (end_of c.gave off)
+
+pub ends : (v : RoundsView) (s : State) (calls : List (Call RoundsView)) → turns_left v.round ≤ 4704 → AreCalls GivesOn v s calls → AreAsked 5000 calls → IsEnded (view_after v calls).round.phase
+ends v s calls few are asked = last_ends v s calls (comes_to v s calls (go_on calls) refl few are asked) are
+
+pub over : (phase : Phase) → IsEnded phase → is_rest phase ≡ false → phase ≡ Over
+over phase (inl is) round = is
+over phase (inr is) round = absurd (let no : true ≡ false = sym (ap is_rest is) ∙ round in cc)
+
+pub rested : (phase : Phase) → IsEnded phase → is_rest phase ≡ true → phase ≡ Rested
+rested phase (inl is) rest = absurd (let no : false ≡ true = sym (ap is_rest is) ∙ rest in cc)
+rested phase (inr is) rest = is
+
+-- ---- whole runs
+module _ {X : Type 0} {G : Ghosts X} (old new : RoundState) (begins : RoundState) (heard now : Option (List Reception)) (before after : Seen RoundsView G) (run : Run)
+    (ran : Ran GivesOn before after 5000 run) (from : before.view ≡ view_of begins heard) (to : after.view ≡ view_of new now)
+    (none : begins.events ≡ []) (few : turns_left begins ≤ 4704) (still : HasSame old begins) (order : AreSoFar (length new.targets) new.peers new.phase new.events) where
+  abbrev given : List OwnedEvent
+  given = events_of (turns_of ran.calls)
+
+  first_is : before.view.round ≡ begins
+  first_is = ap (λ (v : RoundsView). v.round) from
+
+  last_is : (view_after before.view ran.calls).round ≡ new
+  last_is = ap (λ (v : RoundsView). v.round) (sym ran.did.view ∙ to)
+
+  left : AreLeft begins new given
+  left =
+      subst (λ (r : RoundState). AreLeft r new given) first_is
+      (subst (λ (r : RoundState). AreLeft before.view.round r given) last_is
+      (calls_left before.view before.state ran.calls (ap (λ (r : RoundState). r.events) first_is ∙ none) ran.did.are))
+
+  ended : IsEnded new.phase
+  ended = subst (λ (r : RoundState). IsEnded r.phase) last_is (ends before.view before.state ran.calls (subst (λ (r : RoundState). turns_left r ≤ 4704) (sym first_is) few) ran.did.are ran.asked)
+
+  kept : HasSame old new
+  kept = same_then old begins new still left.same
+
+  pub whole_round : is_rest begins.phase ≡ false → HasRun (IsWholeRound old new) before after run
+  whole_round round =
+      let phase : new.phase ≡ Over = over new.phase ended (left.rest ∙ round) in
+      let events : IsRound (length new.targets) new.peers new.events = subst (λ (p : Phase). AreSoFar (length new.targets) new.peers p new.events) phase order in
+      record {
+        ran = ran;
+        are = record {
+          same = kept;
+          over = phase;
+          order = subst (λ (n : ℕ). IsRound n old.peers new.events) (ap length kept.targets) (subst (λ (p : List ℕ). IsRound (length new.targets) p new.events) kept.peers events);
+          are = left.are;
+        };
+      }
+
+  pub whole_rest : is_rest begins.phase ≡ true → HasRun (IsWholeRest old new) before after run
+  whole_rest resting =
+      let phase : new.phase ≡ Rested = rested new.phase ended (left.rest ∙ resting) in
+      record {
+        ran = ran;
+        are = record {
+          same = kept;
+          over = phase;
+          each = subst (λ (p : Phase). AreSoFar (length new.targets) new.peers p new.events) phase order;
+          are = left.are;
+        };
+      }
+
+pub begins_round : (targets : List Addr) → is_rest (first_phase targets) ≡ false
+begins_round [] = refl
+begins_round (t ∷ targets) = refl
