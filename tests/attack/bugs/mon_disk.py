@@ -3,13 +3,13 @@
 BUGS = {
     "shows_by_another_gate": (
         "src/file.rt",
-        "disk.write_at(slot.offset(), &[165])?;",
-        "disk.write_at(slot.offset(), &[164])?;",
+        "put_down(disk, slot.offset(), &[165], calls)",
+        "put_down(disk, slot.offset(), &[164], calls)",
     ),
     "closes_the_octet_after_the_gate": (
         "src/file.rt",
-        "disk.write_at(slot.offset(), &[0])?;",
-        "disk.write_at(slot.offset() + 1, &[0])?;",
+        "put_down(disk, slot.offset(), &[0], calls)",
+        "put_down(disk, slot.offset() + 1, &[0], calls)",
     ),
     "puts_the_second_slot_one_lower": (
         "src/file.rt",
@@ -98,13 +98,13 @@ BUGS = {
     ),
     "fills_the_second_slot": (
         "src/keeper.rt",
-        "fill(&mut self.device, slot, octets)?;",
-        "fill(&mut self.device, Slot::Second, octets)?;",
+        "fill(&mut self.device, slot, octets, calls - 2)?;",
+        "fill(&mut self.device, Slot::Second, octets, calls - 2)?;",
     ),
     "shows_the_second_slot": (
         "src/keeper.rt",
-        "show(&mut self.device, slot)?;",
-        "show(&mut self.device, Slot::Second)?;",
+        "show(&mut self.device, slot, calls - 4)?;",
+        "show(&mut self.device, Slot::Second, calls - 4)?;",
     ),
     "writes_generations_backwards": (
         "src/keeper.rt",
@@ -183,8 +183,8 @@ BUGS = {
     ),
     "closes_the_first_slot": (
         "src/keeper.rt",
-        "        close(&mut self.device, slot)?;",
-        "        close(&mut self.device, Slot::First)?;",
+        "        close(&mut self.device, slot, calls)?;",
+        "        close(&mut self.device, Slot::First, calls)?;",
     ),
     "laid_out_open": (
         "src/layout.rt",
@@ -238,7 +238,134 @@ BUGS = {
     ),
     "wants_memory_for_nothing": (
         "src/keeper.rt",
-        "        self.put(octets, generation)?;",
-        "        if generation == 7 { return Err(KeeperFault::OutOfMemory); }\n        self.put(octets, generation)?;",
+        "        self.put(octets, generation, calls)?;",
+        "        if generation == 7 { return Err(KeeperFault::OutOfMemory); }\n        self.put(octets, generation, calls)?;",
+    ),
+    "makes_one_call_more": (
+        "src/keeper.rt",
+        "        self.put(octets, generation, calls)?;",
+        "        self.put(octets, generation, calls + 1)?;",
+    ),
+    "makes_one_call_fewer": (
+        "src/keeper.rt",
+        "        self.put(octets, generation, calls)?;",
+        "        self.put(octets, generation, calls.saturating_sub(1))?;",
+    ),
+    "makes_all_calls_always": (
+        "src/keeper.rt",
+        "        self.put(octets, generation, calls)?;",
+        "        self.put(octets, generation, SAVE_CALLS)?;",
+    ),
+    "makes_no_call_and_says_done": (
+        "src/keeper.rt",
+        "        self.put(octets, generation, calls)?;",
+        "        if calls > 6 { self.put(octets, generation, calls)?; }",
+    ),
+    "lets_none_through_unasked": (
+        "src/keeper.rt",
+        "        let generation = self.next_generation(body_size(octets))?;",
+        "        if calls == 0 { return Ok(()); }\n        let generation = self.next_generation(body_size(octets))?;",
+    ),
+    "saves_without_the_last_sync": (
+        "src/keeper.rt",
+        "        self.save_calls(octets, SAVE_CALLS)",
+        "        self.save_calls(octets, SAVE_CALLS - 1)",
+    ),
+    "stops_before_the_fifth_call": (
+        "src/keeper.rt",
+        "        if calls <= 4 {",
+        "        if calls <= 5 {",
+    ),
+    "goes_on_after_five_calls": (
+        "src/keeper.rt",
+        "        if calls < SAVE_CALLS {",
+        "        if calls < SAVE_CALLS - 1 {",
+    ),
+    "refuses_a_save_as_damaged": (
+        "src/keeper.rt",
+        "        self.next_generation(body.len())?;",
+        "        if body.len() == 7 { return Err(KeeperFault::Damaged); }\n        self.next_generation(body.len())?;",
+    ),
+    "gives_no_body_of_an_opening": (
+        "src/keeper.rt",
+        "            Ok((newest, body)) => Ok((",
+        "            Ok((newest, _)) => Ok((",
+        "                body,\n            )),",
+        "                None,\n            )),",
+    ),
+    "lays_out_for_an_opening_that_failed": (
+        "src/keeper.rt",
+        "            Err(fault) => Err(NotOpened {",
+        "            Err(KeeperFault::OutOfMemory) => match device.write_at(0, &[0xA5]) { Ok(()) | Err(_) => Err(NotOpened { fault: KeeperFault::OutOfMemory, disk: device }) },\n            Err(fault) => Err(NotOpened {",
+    ),
+    "never_syncs_a_step": (
+        "src/file.rt",
+        "    disk.sync()",
+        "    if disk.failures() < u64::MAX { return Ok(()); }\n    disk.sync()",
+    ),
+    "syncs_after_one_call": (
+        "src/file.rt",
+        "    if calls == 1 {",
+        "    if calls == 0 {",
+    ),
+    "writes_without_a_call": (
+        "src/file.rt",
+        "    if calls == 0 {",
+        "    if calls == 7 {",
+    ),
+    "shows_unsynced": (
+        "src/file.rt",
+        "put_down(disk, slot.offset(), &[165], calls)",
+        "put_down(disk, slot.offset(), &[165], calls.min(1))",
+    ),
+    "reads_on_after_a_sync_that_failed": (
+        "src/opening.rt",
+        "    sync_first(disk)?;",
+        "    let _ = sync_first(disk);",
+    ),
+    "takes_a_failed_sync_for_done": (
+        "src/opening.rt",
+        "    disk.sync()",
+        "    match disk.sync() { Ok(()) | Err(DiskError) => Ok(()) }",
+    ),
+    "keeps_what_was_synced_before": (
+        "src/memory.rt",
+        "        let synced = self.octets.to_vec(self.alloc)?;",
+        "        let synced = self.synced.to_vec(self.alloc)?;",
+    ),
+    "syncs_before_it_is_recorded": (
+        "src/memory.rt",
+        "        self.calls.push(Call::Sync)?;\n        self.synced = synced;",
+        "        self.synced = synced;\n        self.calls.push(Call::Sync)?;",
+    ),
+    "makes_the_call_that_it_fails": (
+        "src/fuse.rt",
+        "        if !self.fuse.passes() {\n            return Err(DiskError);\n        }\n        self.disk.sync()",
+        "        let passes = self.fuse.passes();\n        let done = self.disk.sync();\n        if !passes {\n            return Err(DiskError);\n        }\n        done",
+    ),
+    "passes_a_read_when_blown": (
+        "src/fuse.rt",
+        "        if !self.fuse.passes() {\n            return Err(DiskError);\n        }\n        self.disk.read_at(at, buffer)",
+        "        let _ = self.fuse.passes();\n        self.disk.read_at(at, buffer)",
+    ),
+    "takes_two_calls_for_a_write": (
+        "src/fuse.rt",
+        "        if !self.fuse.passes() {\n            return Err(DiskError);\n        }\n        self.disk.write_at(at, octets)",
+        "        if !self.fuse.passes() || !self.fuse.passes() {\n            return Err(DiskError);\n        }\n        self.disk.write_at(at, octets)",
+    ),
+    "takes_no_call_for_a_size": (
+        "src/fuse.rt",
+        "        if !self.fuse.passes() {\n            return Err(DiskError);\n        }\n        self.disk.size()",
+        "        if self.fuse.left == Some(0) {\n            return Err(DiskError);\n        }\n        self.disk.size()",
+    ),
+    "fails_the_last_call_that_is_left": (
+        "src/fuse.rt",
+        "            Some(0) => {\n                self.blown",
+        "            Some(0 | 1) => {\n                self.left = Some(0);\n                self.blown",
+    ),
+    "takes_a_refused_sync_for_done": (
+        "src/memory.rt",
+        "        match self.write_down() {\n            Ok(()) => Ok(()),\n            Err(_) => {",
+        "        match self.write_down() {\n            Ok(()) => Ok(()),\n            Err(_) if self.failures > 7 => Ok(()),\n            Err(_) => {",
     ),
 }
