@@ -19,8 +19,8 @@ use mon_poller::Addr;
 use mon_rehearsal::rehearse;
 use mon_report::write_report;
 use mon_rounds::{
-    Addresses, PollLog, Receiver, RoundReport, Rounds, Socket, SocketOutbox, SocketReceiver,
-    alarm_states, rest, run_round, saved_board, selftest,
+    Addresses, Receiver, RoundReport, Rounds, Socket, SocketOutbox, SocketReceiver, alarm_states,
+    rest, run_round, saved_board, selftest,
 };
 use mon_settings::{Kind, StationSettings, module_files, read_station};
 use mon_smi::Names;
@@ -46,13 +46,12 @@ struct Running<S: Receiver + Drop, O: Outbox + Drop> {
     given_up: u64,
 }
 
-/// What a station hears and sends by, and what it tells of its targets and peers by.
+/// What a station hears and sends by, and where its targets and peers are reached.
 #[derive(Drop)]
 struct Lines<S: Receiver + Drop, O: Outbox + Drop> {
     rounds: Rounds<S>,
     outbox: O,
     addresses: Addresses,
-    log: PollLog,
     peers: Vec<u32>,
 }
 
@@ -119,13 +118,11 @@ fn lines_by<S: Receiver + Drop, O: Outbox + Drop>(
         settings.wait_ms,
         receiver,
     )?;
-    let log = PollLog::new(alloc, settings.core.targets())?;
     let peers = Vec::from_slice(alloc, settings.core.peers())?;
     Ok(Lines {
         rounds,
         outbox,
         addresses,
-        log,
         peers,
     })
 }
@@ -342,14 +339,7 @@ fn told_of<R: Eprint + AllocGlobal, S: Receiver + Drop, O: Outbox + Drop>(
     number: u32,
 ) -> Result<(), Failure> {
     let alloc = rt.alloc();
-    let oldest = running.station.oldest();
-    let report = RoundReport::of(
-        alloc,
-        running.lines.rounds.round(),
-        &running.run,
-        oldest,
-        &mut running.lines.log,
-    )?;
+    let report = RoundReport::of(alloc, running.lines.rounds.round(), &running.run)?;
     running.taken = running.taken.saturating_add(report.taken);
     running.given_up = running.given_up.saturating_add(report.given_up);
     tell_notices(rt, number, &running.lines.addresses, &report);
