@@ -1,4 +1,4 @@
-use Rattle.std.proofs.Common.{ℕ, ◌≡◌, ◌++◌, ◌+◌, ◌∷◌, [], List, Option, Result, None, Ok, refl, sym, ap, subst, ◌∙◌, arith, rules}
+use Rattle.std.proofs.Common.{ℕ, ◌≡◌, ◌++◌, ◌+◌, ◌∷◌, [], List, Option, Ok, refl, sym, ap, subst, ◌∙◌, arith, rules}
 use Rattle.std.proofs.lemmas.Slice.{pushed}
 use Rattle.mon_disk.specs.Kept.{device_of}
 use Rattle.mon_station.specs.declared.event.OwnedEvent.{OwnedEvent}
