@@ -29,10 +29,9 @@ use Rattle.mon_station.specs.Ran.{AreAsked, AreCalls, Call, Did, FindsAfter, Fin
 use Rattle.mon_station.specs.Saved.{FindsRunning, FindsState}
 use Rattle.mon_station.specs.Seen.{Seen}
 use Rattle.mon_station.specs.State.{State, IsHandled}
-use Rattle.mon_station.specs.Step.{IsRead}
 use Rattle.mon_station.specs.Taken.{Entry, Answered}
 use Rattle.mon_station.specs.Told.{IsAnswered}
-use Rattle.mon_station.specs.Turned.{Called, IsCounted, RanSoFar, Turned}
+use Rattle.mon_station.specs.Turned.{Called, RanSoFar, Turned}
 
 pub append_nil : {A : Type 0} (xs : List A) → xs ++ [] ≡ xs
 append_nil [] = refl

@@ -1,9 +1,10 @@
 //! Running a station: events from a source, datagrams to an outbox.
 
-ghost use Rattle.std.specs.Prelude.{◌≡◌, ◌≤◌, ◌<◌, ◌+◌, ◌∷◌, [], ℕ, IfErr, IsOk, None, OnErr, OnOk, Some, length, vec_capacity};
+ghost use Rattle.std.specs.Prelude.{◌≡◌, ◌≤◌, ◌<◌, ◌+◌, ◌∷◌, [], ℕ, IfErr, IsOk, None, OnErr, OnOk, Option, Some, length, vec_capacity};
+ghost use Rattle.mon_edge.specs.Counts.{failed_after as counted_after};
 ghost use Rattle.mon_edge.specs.Told.{extended};
 ghost use Rattle.mon_station.specs.Ran as ran;
-ghost use Rattle.mon_station.specs.Ran.{HasFailed, IsEmpty, Ran, failures_after, faults_in};
+ghost use Rattle.mon_station.specs.Ran.{HasFailed, IsEmpty, IsOldest, Ran, failures_after, faults_in};
 ghost use Rattle.mon_station.specs.Turned.{Called, Turned};
 ghost use Rattle.mon_station.specs.Seen.{seen};
 
@@ -181,8 +182,7 @@ impl<D: Disk + Drop> Station<D> {
         ensures source { (first : ℕ) → S.failures source.old ≡ failures_after run.old.source_faults first → S.failures source.new ≡ failures_after run.new.source_faults first }
         ensures outbox { (first : ℕ) → HasFailed first (O.failures outbox.old) run.old.send_faults → HasFailed first (O.failures outbox.new) run.new.send_faults }
     {
-        let oldest = self.life.poller.oldest();
-        match source.next(oldest) {
+        match self.ask(source) {
             Ok(Some(event)) => {
                 let answer = self.turn(alloc, outbox, event, &mut run.send_faults);
                 run.answers.push(answer).unwrap();
@@ -195,6 +195,16 @@ impl<D: Disk + Drop> Station<D> {
                 true
             }
         }
+    }
+
+    /// Asks the source for the next event, and tells it the oldest open poll.
+    #[tactic(auto, using(crate::proofs::Runs::oldest_of))]
+    fn ask<S: Source>(&self, source: &mut S) -> Result<Option<OwnedEvent>, SourceFault>
+        ensures asked { (oldest : Option ℕ) × IsOldest self.now.life.poller.polls.open_polls oldest × S.gives (S.view source.old) oldest result (S.view source.new) }
+        ensures failures { S.failures source.new ≡ counted_after result (S.failures source.old) }
+    {
+        let oldest = self.life.poller.oldest();
+        source.next(oldest)
     }
 
     /// Handles an event, and hands its datagrams to the outbox.

@@ -8,8 +8,8 @@ BUGS = {
     ),
     "a_timeout_always_wants_room": (
         "src/life.rt",
-        "        if !self.poller.has_tries(id) {\n            let _ = self.poller.timed_out(alloc, id)?;\n            return Ok(told_none(alloc));\n        }\n",
-        "",
+        "        if self.poller.has_tries(id) {\n            room_for_one(alloc)\n        } else {\n            Ok(Vec::new(alloc))\n        }",
+        "        room_for_one(alloc)",
     ),
     "a_resend_to_target_0": (
         "src/life.rt",
@@ -128,12 +128,12 @@ BUGS = {
     ),
     "no_samples_are_told": (
         "src/running.rt",
-        "                Answer::Handled(told.taken.as_slice().len() as u64)",
-        "                Answer::Handled(0)",
+        "        None => Answer::Handled(told.taken.as_slice().len() as u64),",
+        "        None => Answer::Handled(0),",
     ),
     "an_answer_is_refused_for_fine": (
         "src/running.rt",
-        "                Answer::Handled(told.taken.as_slice().len() as u64)\n            }\n            Err(fault) => shown(fault),",
+        "                answered(&told)\n            }\n            Err(fault) => shown(fault),",
         "                Answer::Refused(StationFault::NoMoreIncarnations)\n            }\n            Err(fault) => shown(fault),",
     ),
     "failed_sends_are_not_counted": (
@@ -193,8 +193,8 @@ BUGS = {
     ),
     "counts_only_other_faults": (
         "src/running.rt",
-        "        Answer::Handled(_) => refused,",
-        "        Answer::Handled(_) | Answer::Memory => refused,",
+        "        Answer::Handled(_) | Answer::GaveUp(_) => refused,",
+        "        Answer::Handled(_) | Answer::GaveUp(_) | Answer::Memory => refused,",
         "        Answer::Memory | Answer::Refused(_) | Answer::Keeper(_) => refused + 1,",
         "        Answer::Refused(_) | Answer::Keeper(_) => refused + 1,",
     ),
@@ -227,5 +227,98 @@ BUGS = {
         "src/life.rt",
         "        image.clear();\n",
         "",
+    ),
+    # ---- what a source is told, which target gave up, and the calls of a run
+    "tells_no_oldest_poll": (
+        "src/running.rt",
+        "        source.next(oldest)",
+        "        source.next(oldest.and(None))",
+    ),
+    "tells_another_poll_than_the_first": (
+        "src/running.rt",
+        "        source.next(oldest)",
+        "        source.next(if oldest == Some(1) { Some(2) } else { oldest })",
+    ),
+    "tells_of_a_poll_where_none_is_open": (
+        "src/running.rt",
+        "        source.next(oldest)",
+        "        source.next(Some(oldest.unwrap_or(1)))",
+    ),
+    "asks_twice_and_drops_the_first": (
+        "src/running.rt",
+        "        source.next(oldest)",
+        "        let _ = source.next(oldest);\n        source.next(oldest)",
+    ),
+    "sends_nothing_of_what_it_took": (
+        "src/running.rt",
+        "                hand(outbox, told.sends.as_slice(), send_faults);",
+        "                hand(outbox, if told.taken.as_slice().is_empty() { told.sends.as_slice() } else { &[] }, send_faults);",
+    ),
+    "handles_an_event_twice": (
+        "src/running.rt",
+        "        match self.step(alloc, event.lend()) {",
+        "        let _ = self.step(alloc, event.lend());\n        match self.step(alloc, event.lend()) {",
+    ),
+    "passes_over_a_save": (
+        "src/running.rt",
+        "        match self.step(alloc, event.lend()) {",
+        "        if let OwnedEvent::Save = event {\n            return Answer::Handled(0);\n        }\n        match self.step(alloc, event.lend()) {",
+    ),
+    "shows_target_0_for_each_that_gave_up": (
+        "src/running.rt",
+        "        Some(target) => Answer::GaveUp(target),",
+        "        Some(_) => Answer::GaveUp(0),",
+    ),
+    "shows_a_target_that_gave_up_as_handled": (
+        "src/running.rt",
+        "        Some(target) => Answer::GaveUp(target),",
+        "        Some(_) => Answer::Handled(0),",
+    ),
+    "counts_a_target_that_gave_up_as_a_fault": (
+        "src/running.rt",
+        "        Answer::Handled(_) | Answer::GaveUp(_) => refused,",
+        "        Answer::Handled(_) => refused,",
+        "        Answer::Memory | Answer::Refused(_) | Answer::Keeper(_) => refused + 1,",
+        "        Answer::GaveUp(_) | Answer::Memory | Answer::Refused(_) | Answer::Keeper(_) => refused + 1,",
+    ),
+    "shows_want_of_memory_as_handled": (
+        "src/running.rt",
+        "        StationFault::OutOfMemory => Answer::Memory,",
+        "        StationFault::OutOfMemory => Answer::Handled(0),",
+    ),
+    "asks_one_time_fewer": (
+        "src/running.rt",
+        "        for turn in 0..turns {",
+        "        for turn in 0..turns.saturating_sub(1) {",
+    ),
+    "goes_on_after_the_end": (
+        "src/running.rt",
+        "            Ok(None) => false,",
+        "            Ok(None) => true,",
+    ),
+    "counts_calls_that_it_did_not_make": (
+        "src/running.rt",
+        "                return Ok(());",
+        "                run.turns = turns;\n                return Ok(());",
+    ),
+    "gives_up_target_0": (
+        "src/life.rt",
+        "                given_up: Some(target),",
+        "                given_up: Some(target.min(0)),",
+    ),
+    "never_tells_who_gave_up": (
+        "src/life.rt",
+        "                given_up: Some(target),",
+        "                given_up: if target == u16::MAX { Some(target) } else { None },",
+    ),
+    "tells_that_a_poll_gave_up_that_is_not_open": (
+        "src/life.rt",
+        "            TimedOut::NotOpen => told_none(alloc),",
+        "            TimedOut::NotOpen => Told {\n                taken: Pairs::new(alloc),\n                sends: room,\n                noted: None,\n                given_up: Some(0),\n            },",
+    ),
+    "takes_no_room_to_send_again": (
+        "src/life.rt",
+        "        if self.poller.has_tries(id) {\n            room_for_one(alloc)",
+        "        if self.poller.has_tries(id) && id > 1 {\n            room_for_one(alloc)",
     ),
 }
