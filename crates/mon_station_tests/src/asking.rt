@@ -1,6 +1,7 @@
 //! What each line asks of the station.
 
 use crate::events::event;
+use crate::interrupting::interrupted;
 use crate::printing::{fault, report, told};
 use crate::running::run;
 use crate::setting::core;
@@ -90,6 +91,7 @@ fn stepped(
     match word {
         "owed" => owed(alloc, station, rest.parse().ok()?),
         "report" => report(alloc, station.board()),
+        "interrupted" => interrupted(alloc, station.board()),
         _ => {
             let event = event(alloc, word, rest)?;
             step(alloc, station, event.lend())

@@ -12,20 +12,28 @@
 //!     save              saves
 //!     owed PEER         how many samples the peer is owed, and its known incarnation
 //!     report            the report
+//!     interrupted       the report, by a writer of which every other call is interrupted
 //!     run TURNS S O: EVENT; EVENT   runs the station over these events, lines as above; call S of the source and call O of the outbox fail
 //!     stop CALLS KEEP   saves while only so many calls of the disk pass, and goes on with what a crash leaves: `keep` or `lose`
+//!
+//! Beside the station, on a line of its own:
+//!
+//!     world COUNT SHARES   a world of so many stations in which so many offers are made and delivered in one run
 #![tactic(auto)]
 
 mod asking;
 mod events;
+mod interrupting;
 mod printing;
 mod running;
 mod setting;
+mod worlds;
 
 use asking::Stage;
 use std::alloc::Global;
 use std::io::{BufRead, BufReader};
 use std::process::ExitCode;
+use worlds::world;
 
 fn main(rt: HostRuntime) -> ExitCode {
     match rows(&rt, rt.alloc()) {
@@ -50,6 +58,11 @@ fn rows(rt: &HostRuntime, alloc: Global) -> Option<()> {
 fn after(rt: &HostRuntime, alloc: Global, stage: Stage, line: &str) -> Option<Stage> {
     if line == "new" {
         return Stage::new(alloc);
+    }
+    if let Some(asked) = line.strip_prefix("world ") {
+        let text = world(alloc, asked)?;
+        println!(rt; "{text}").ok()?;
+        return Some(stage);
     }
     let (next, text) = stage.answered(alloc, line)?;
     println!(rt; "{text}").ok()?;

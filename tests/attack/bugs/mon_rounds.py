@@ -143,4 +143,89 @@ BUGS = {
         "        RoundEvent::FromAgent(from) => !round.is_target(from),\n        RoundEvent::FromPeer(_)\n        | RoundEvent::StartPoll(_)",
         "        RoundEvent::FromAgent(from) => !round.is_target(from),\n        RoundEvent::FromPeer(_) => true,\n        RoundEvent::StartPoll(_)",
     ),
+    "round_only_rests": (
+        "src/running.rt",
+        "    rounds.begin();\n    station.run",
+        "    rounds.begin();\n    rounds.rest(0);\n    station.run",
+    ),
+    "rest_runs_a_round": (
+        "src/running.rt",
+        "    rounds.rest(milliseconds);\n",
+        "    rounds.rest(milliseconds);\n    rounds.begin();\n",
+    ),
+    "rests_half_the_time": (
+        "src/running.rt",
+        "    rounds.rest(milliseconds);\n",
+        "    rounds.rest(milliseconds / 2);\n",
+    ),
+    "asks_for_few_events": (
+        "src/running.rt",
+        "const TURNS: u64 = 5000;",
+        "const TURNS: u64 = 64;",
+    ),
+    "returns_no_notice": (
+        "src/reporting.rt",
+        "answers[place])?;\n    }\n    Ok(notices)",
+        "answers[place])?;\n    }\n    notices.clear();\n    Ok(notices)",
+    ),
+    "forgets_the_last_notices": (
+        "src/reporting.rt",
+        "    for place in 0..events.len().min(answers.len()) {",
+        "    for place in 0..events.len().min(answers.len()) / 2 {",
+    ),
+    "the_first_target_gave_up": (
+        "src/reporting.rt",
+        "        Answer::GaveUp(target) => Some(Notice::GaveUp(target)),",
+        "        Answer::GaveUp(_) => Some(Notice::GaveUp(0)),",
+    ),
+    "hides_who_gave_up": (
+        "src/reporting.rt",
+        "        Answer::GaveUp(target) => Some(Notice::GaveUp(target)),",
+        "        Answer::GaveUp(_) => None,",
+    ),
+    "tells_of_strangers": (
+        "src/reporting.rt",
+        "    if round.is_target(from) {\n        Some(Notice::BadResponse(from, fault))\n    } else {\n        None\n    }",
+        "    if round.is_target(from) {\n        Some(Notice::BadResponse(from, fault))\n    } else {\n        Some(Notice::BadResponse(from, fault))\n    }",
+    ),
+    "hides_bad_responses": (
+        "src/reporting.rt",
+        "    if round.is_target(from) {\n        Some(Notice::BadResponse(from, fault))",
+        "    if round.is_target(from) {\n        None",
+    ),
+    "tells_no_want_of_memory": (
+        "src/reporting.rt",
+        "        Answer::Memory => Some(Notice::NoMemory(event)),",
+        "        Answer::Memory => None,",
+    ),
+    "not_saved_by_another_number": (
+        "src/reporting.rt",
+        "        Answer::Keeper(number) => Some(Notice::NotSaved(number)),",
+        "        Answer::Keeper(_) => Some(Notice::NotSaved(2)),",
+    ),
+    "hides_bad_claims": (
+        "src/reporting.rt",
+        "        RoundEvent::FromPeer(from) => Some(Notice::BadClaim(from, fault)),",
+        "        RoundEvent::FromPeer(_) => None,",
+    ),
+    "windows_not_found_are_too_large": (
+        "src/saved.rt",
+        "        Err(error) => Err((StationFault::from(error.fault), error.disk)),",
+        "        Err(error) => Err((StationFault::Keeper(mon_disk::KeeperFault::TooLarge), error.disk)),",
+    ),
+    "a_bad_image_is_the_disks_fault": (
+        "src/saved.rt",
+        "            Err(fault) => Err((fault, keeper.into_disk())),",
+        "            Err(_) => Err((StationFault::Keeper(mon_disk::KeeperFault::DiskFault), keeper.into_disk())),",
+    ),
+    "tests_itself_without_a_trial": (
+        "src/trial.rt",
+        "    let text = found_again(alloc, settings.core.watch(), &station)?;\n",
+        "    let mut text = Vec::new(alloc);\n    text.extend_from_slice(REPORT.as_bytes())?;\n",
+    ),
+    "a_trial_that_is_not_saved": (
+        "src/trial.rt",
+        "    save(alloc, &mut station)?;\n    Ok(station)",
+        "    Ok(station)",
+    ),
 }

@@ -321,4 +321,39 @@ BUGS = {
         "        if self.poller.has_tries(id) {\n            room_for_one(alloc)",
         "        if self.poller.has_tries(id) && id > 1 {\n            room_for_one(alloc)",
     ),
+    "a_save_is_too_large": (
+        "src/station.rt",
+        "            Err(fault) => Err(StationFault::from(fault)),",
+        "            Err(_) => Err(StationFault::Keeper(KeeperFault::TooLarge)),",
+    ),
+    "a_failed_save_asks_for_reopening": (
+        "src/station.rt",
+        "            Err(fault) => Err(StationFault::from(fault)),",
+        "            Err(_) => Err(StationFault::Keeper(KeeperFault::Reopen)),",
+    ),
+    "the_first_save_says_damaged": (
+        "src/opening.rt",
+        "            Err(fault) => Err((fault, station.keeper.into_disk())),",
+        "            Err(_) => Err((StationFault::Keeper(mon_disk::KeeperFault::Damaged), station.keeper.into_disk())),",
+    ),
+    "the_first_save_says_no_more_generations": (
+        "src/opening.rt",
+        "            Err(fault) => Err((fault, station.keeper.into_disk())),",
+        "            Err(_) => Err((StationFault::Keeper(mon_disk::KeeperFault::NoMoreGenerations), station.keeper.into_disk())),",
+    ),
+    "a_bad_image_is_the_greatest_incarnation": (
+        "src/opening.rt",
+        "        Err(fault) => Err(StationFault::from(fault)),\n    }\n}",
+        "        Err(_) => Err(StationFault::NoMoreIncarnations),\n    }\n}",
+    ),
+    "a_bad_body_is_a_damaged_file": (
+        "src/opening.rt",
+        "                Err(fault) => Err((fault, keeper.into_disk())),",
+        "                Err(_) => Err((StationFault::Keeper(mon_disk::KeeperFault::Damaged), keeper.into_disk())),",
+    ),
+    "a_share_is_refused_by_the_keeper": (
+        "src/station.rt",
+        "            Event::Share(peer) => self.life.share(alloc, peer),",
+        "            Event::Share(peer) => match self.life.share(alloc, peer) { Ok(told) => Ok(told), Err(_) => Err(StationFault::Keeper(KeeperFault::Reopen)) },",
+    ),
 }
