@@ -1,9 +1,7 @@
 -- A run over a list.
-use Rattle.std.proofs.Common.{ℕ, ◌≡◌, ◌<◌, ◌⊎◌, false, List, [], ◌∷◌, ◌++◌, length, Option, Result, None, Some, inl, inr, refl, sym, ap, ◌∙◌, append_assoc, arith}
+use Rattle.std.proofs.Common.{ℕ, ◌≡◌, ◌<◌, false, List, [], ◌∷◌, ◌++◌, Option, inl, inr, refl, sym, ap, ◌∙◌, append_assoc, arith}
 use Rattle.mon_disk.specs.declared.disk.Disk.{Ghosts}
-use Rattle.mon_station.specs.declared.event.OwnedEvent.{OwnedEvent}
 use Rattle.mon_station.specs.declared.running.Run.{Run}
-use Rattle.mon_station.specs.declared.running.SourceFault.{SourceFault}
 use Rattle.mon_station.specs.Ran as ran
 use Rattle.mon_station.specs.Ran.{AreAsked, AreCalls, Call, Gave, Ran, Turn, events_of, go_on, result_of, turn_in, turns_of, view_after}
 use Rattle.mon_station.specs.Seen.{Seen}
