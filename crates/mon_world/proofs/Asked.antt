@@ -53,7 +53,7 @@ peers_of y (c ∷ cs) = ap (λ (l : List Parcel). (y, claim_octets c) ∷ l) (pe
 
 no_resends : (verdict : TimedOut) → to_peers (resends verdict) ≡ []
 no_resends (Again target octets) = refl
-no_resends GivenUp = refl
+no_resends (GivenUp target) = refl
 no_resends NotOpen = refl
 
 sends_are : (s : State) (e : ReadEvent) → map parcel_of (to_peers (sends s e)) ≡ map parcel_with (map (letter (addressee e)) (claims_sent s e))

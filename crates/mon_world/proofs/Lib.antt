@@ -15,6 +15,7 @@ mod Offered
 mod Offers
 mod Others
 mod Outcomes
+pub mod Promised
 mod Reopened
 mod Results
 mod Squared
@@ -22,3 +23,4 @@ mod Stations
 mod Strangers
 mod Tells
 mod Unforged
+mod Unopened

@@ -133,18 +133,18 @@ module _ (meaning : (octets : List ℕ) (c d : Claim) → SpellsClaim octets c �
       by None is = (subst AreClaims is all, subst AreUnforged (sym is))
       by (Some g) h = let before = made_claims s (Some g) past now h all in (before, made s (Some g) past now unforged before h)
 
-  outcomes_both : (steps : List Step) (results : List (Result Sent WorldFault)) (past now : List Move) → AllByRecursion IsUnforged steps → AreClaims now → AreStepOutcomes settings steps results past now → AreClaims past × (AreUnforged past → AreUnforged now)
-  outcomes_both [] [] past now unforged all is = (subst AreClaims is all, subst AreUnforged (sym is))
-  outcomes_both [] (r ∷ results) past now unforged all h = absurd h
-  outcomes_both (s ∷ steps) [] past now unforged all h = absurd h
-  outcomes_both (s ∷ steps) (r ∷ results) past now unforged all h =
-      let rest = outcomes_both steps results h.0 now unforged.1 all h.2 in
-      let first = outcome_both s r past h.0 unforged.0 rest.0 h.1 in
+  outcomes_both : (n : ℕ) (steps : List Step) (results : List (Result Sent WorldFault)) (past now : List Move) → AllByRecursion IsUnforged steps → AreClaims now → AreStepOutcomes settings n steps results past now → AreClaims past × (AreUnforged past → AreUnforged now)
+  outcomes_both n [] [] past now unforged all is = (subst AreClaims is all, subst AreUnforged (sym is))
+  outcomes_both n [] (r ∷ results) past now unforged all h = absurd h
+  outcomes_both n (s ∷ steps) [] past now unforged all h = absurd h
+  outcomes_both n (s ∷ steps) (r ∷ results) past now unforged all h =
+      let rest = outcomes_both n steps results h.0 now unforged.1 all h.2 in
+      let first = outcome_both s r past h.0 unforged.0 rest.0 h.1.outcome in
       (first.0, λ were. rest.1 (first.1 were))
 
   -- steps of which none forges a claim
-  pub unforged_outcomes : (steps : List Step) (results : List (Result Sent WorldFault)) (past now : List Move) → AllByRecursion IsUnforged steps → AreClaims now → AreStepOutcomes settings steps results past now → AreUnforged past → AreUnforged now
-  unforged_outcomes steps results past now unforged all h = (outcomes_both steps results past now unforged all h).1
+  pub unforged_outcomes : (n : ℕ) (steps : List Step) (results : List (Result Sent WorldFault)) (past now : List Move) → AllByRecursion IsUnforged steps → AreClaims now → AreStepOutcomes settings n steps results past now → AreUnforged past → AreUnforged now
+  unforged_outcomes n steps results past now unforged all h = (outcomes_both n steps results past now unforged all h).1
 
   pub unforged_outcome : (s : Step) (r : Result Sent WorldFault) (past now : List Move) → IsUnforged s → AreClaims now → IsStepOutcome settings s r past now → AreUnforged past → AreUnforged now
   unforged_outcome s r past now unforged all h = (outcome_both s r past now unforged all h).1

@@ -1,5 +1,5 @@
 -- What a step of a world does: the moves that it adds.
-use Rattle.std.specs.Prelude.{ℕ, ◌≡◌, ◌+◌, ◌-◌, nat_lt, ◌&&◌, if◌then◌else◌, List, [], ◌∷◌, Option, Some, None, Result, Ok, Err, All, length}
+use Rattle.std.specs.Prelude.{ℕ, ◌≡◌, ◌+◌, ◌-◌, nat_lt, ◌&&◌, if◌then◌else◌, List, [], ◌∷◌, Option, Some, None, Result, Ok, Err, All, IfErr, IfOk, OnErr, OnOk, length}
 use Rattle.mon_disk.specs.declared.fault.KeeperFault.TheVariants as keeper
 use Rattle.mon_exchange.specs.Claim.{claim_octets}
 use Rattle.mon_poller.specs.declared.addr.Addr.{Addr}
@@ -17,7 +17,7 @@ use Rattle.mon_world.specs.declared.fault.WorldFault.{WorldFault}
 use Rattle.mon_world.specs.declared.sending.Sent.{Sent}
 use Rattle.mon_world.specs.declared.step.Step.{Step}
 use Rattle.mon_world.specs.declared.step.Step.TheVariants as step
-use Rattle.mon_world.specs.Fault.{refusal_in}
+use Rattle.mon_world.specs.Fault.{IsCause, IsThere, refusal_in}
 use Rattle.mon_world.specs.Moves.{Move, Letter, sent_in}
 use Rattle.mon_world.specs.Places.{HasNumber, IsNumberTo, IsNoNumberTo}
 
@@ -105,8 +105,26 @@ IsUnforged step = Unit {0}
 abbrev pub IsStepOutcome : (ℕ → Setting) → Step → Result Sent WorldFault → List Move → List Move → Type 0
 IsStepOutcome settings step result past now = Does (Makes settings step) result past now
 
+-- the numbers of the datagrams between stations that were sent between two lists of moves
+pub record AreNumbers (past now : List Move) (sent : Sent) : Type 0 where
+  pub first : sent.first ≡ length (sent_in past) + 1
+  pub count : length (sent_in past) + sent.count ≡ length (sent_in now)
+
+-- Of so many stations, a step that led from moves to moves is answered so: what it names is there and its numbers are those of the datagrams that it sent, or its
+-- fault has its cause and it sent none.
+pub record IsStepAnswer (stations : ℕ) (past now : List Move) (step : Step) (result : Result Sent WorldFault) : Type 0 where
+  pub there : OnOk result (IsThere stations (length (sent_in past)) step)
+  pub cause : IfErr result (IsCause stations (length (sent_in past)) step)
+  pub numbers : IfOk result (AreNumbers past now)
+  pub none : OnErr result (length (sent_in now) ≡ length (sent_in past))
+
+-- of so many stations with these settings, a step with this result leads from moves to moves
+pub record IsStepMade (settings : ℕ → Setting) (stations : ℕ) (step : Step) (result : Result Sent WorldFault) (past now : List Move) : Type 0 where
+  pub outcome : IsStepOutcome settings step result past now
+  pub answer : IsStepAnswer stations past now step result
+
 -- what steps with these results do, the first first
-abbrev pub AreStepOutcomes : (ℕ → Setting) → List Step → List (Result Sent WorldFault) → List Move → List Move → Type 0
-AreStepOutcomes settings [] [] past now = now ≡ past
-AreStepOutcomes settings (s ∷ steps) (r ∷ results) past now = (middle : List Move) × IsStepOutcome settings s r past middle × AreStepOutcomes settings steps results middle now
-AreStepOutcomes settings steps results past now = ⊥
+abbrev pub AreStepOutcomes : (settings : ℕ → Setting) → (stations : ℕ) → List Step → List (Result Sent WorldFault) → List Move → List Move → Type 0
+AreStepOutcomes settings n [] [] past now = now ≡ past
+AreStepOutcomes settings n (s ∷ steps) (r ∷ results) past now = (middle : List Move) × IsStepMade settings n s r past middle × AreStepOutcomes settings n steps results middle now
+AreStepOutcomes settings n steps results past now = ⊥
