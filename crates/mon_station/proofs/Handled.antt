@@ -61,7 +61,7 @@ by_memory s settled e (Err f) h = subst (λ (g : StationFault). IsHandled e (Som
 -- nothing is sent
 pub quiet_sends : (v : TimedOut) → (IsSentAgain v → ⊥) → [] ≡ resends v
 quiet_sends (Again target octets) h = absurd (h tt)
-quiet_sends GivenUp h = refl
+quiet_sends (GivenUp target) h = refl
 quiet_sends NotOpen h = refl
 
 -- ---- polls

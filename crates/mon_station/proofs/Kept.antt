@@ -1,5 +1,5 @@
 -- What an opening finds after an opening and a save.
-use Rattle.std.proofs.Common.{ℕ, ◌≡◌, ◌≤◌, ◌<◌, ◌-◌, ◌^◌, ◌⊎◌, inl, inr, ⊎_elim, false, List, Option, Some, Result, Ok, Err, IfOk, IfErr, refl, sym, subst, ◌∙◌, arith}
+use Rattle.std.proofs.Common.{ℕ, ◌≡◌, ◌≤◌, ◌<◌, ◌-◌, ◌^◌, ◌⊎◌, inl, inr, ⊎_elim, true, false, List, Option, Some, Result, Ok, Err, IfOk, IfErr, refl, sym, subst, ◌∙◌, arith}
 use Rattle.std.specs.Result.{IsErrAnd}
 use Rattle.std.proofs.lemmas.Bool.{cases_lt}
 use Rattle.mon_board.specs.Instance.{instances_of}
@@ -7,15 +7,17 @@ use Rattle.mon_board.specs.Watch.{Watch}
 use Rattle.mon_disk.specs.declared.fault.KeeperFault.{KeeperFault}
 use Rattle.mon_disk.specs.declared.fault.KeeperFault.TheVariants as keeper
 use Rattle.mon_disk.specs.Disk.{Leaves, LeavesSince}
-use Rattle.mon_disk.specs.Fault.{HasDiskCause}
-use Rattle.mon_disk.specs.Keeper.{FindsAs, FindsBody, IsOpening, found_body, is_undamaged}
+use Rattle.mon_disk.specs.Fault.{HasDiskCause, is_of_opening}
+use Rattle.mon_disk.specs.File.{found}
+use Rattle.mon_disk.specs.Keeper.{FindsAs, FindsBody, IsOpening, found_body, found_generation, is_undamaged}
+use Rattle.mon_disk.specs.declared.file.TheConstants.{SLOT_SIZE}
 use Rattle.mon_disk.proofs.Promised.{as_before, as_found, at_end, at_rest, both_as, chained, weaker}
 use Rattle.mon_saved.specs.Image.{SpellsImage}
 use Rattle.mon_saved.specs.Written.{image_of}
 use Rattle.mon_station.specs.declared.fault.StationFault.{StationFault}
 use Rattle.mon_station.specs.declared.fault.StationFault.TheVariants as station
 use Rattle.mon_station.specs.Fault.{keeper_refusal}
-use Rattle.mon_station.specs.Saved.{FindsBegun, FindsRunning, FindsState, IsBeginning, IsBegun, IsCausedBy, IsFaultOfBody, IsFaultOfFile, IsSaveFault, saved_octets}
+use Rattle.mon_station.specs.Saved.{FindsBegun, FindsRunning, FindsState, IsBeginning, IsBegun, IsCausedBy, IsFaultOfBody, IsFaultOfFile, IsFirstSaveFault, IsForItsBody, IsOpeningFault, IsSaveFault, saved_octets}
 use Rattle.mon_station.specs.State.{State}
 use Rattle.mon_station.specs.Verdict.{Setting}
 
@@ -38,15 +40,61 @@ pub rests : {D : Type 0} (may_leave : D → List ℕ → Type 0) (moment : D →
 rests may_leave moment left_since d s only_now = weaker moment left_since may_leave d d (FindsAs (may_leave d)) (FindsRunning (may_leave d) s) (λ c same. inl same) (at_rest moment left_since may_leave d only_now)
 
 -- ---- faults
--- what a save refuses, an opening does
-pub save_fault : (watch : Watch) (file : List ℕ) (fault : StationFault) → IsSaveFault fault → IsFaultOfFile watch file fault
-save_fault watch file station.OutOfMemory h = tt
-save_fault watch file (station.Keeper f) h = λ e. absurd (h e)
-save_fault watch file (station.Poll f) h = absurd h
-save_fault watch file (station.Response f) h = absurd h
-save_fault watch file (station.Exchange f) h = absurd h
-save_fault watch file (station.Image f) h = absurd h
-save_fault watch file station.NoMoreIncarnations h = absurd h
+-- what the first save refuses, an opening does
+pub save_fault : (watch : Watch) (file : List ℕ) (generation : ℕ) (fault : StationFault) → found_generation (found SLOT_SIZE file) ≡ generation → IsFirstSaveFault generation fault → IsFaultOfFile watch file fault
+save_fault watch file generation station.OutOfMemory is h = tt
+save_fault watch file generation (station.Keeper keeper.OutOfMemory) is h = absurd h
+save_fault watch file generation (station.Keeper keeper.DiskFault) is h = tt
+save_fault watch file generation (station.Keeper keeper.NoMoreGenerations) is h = is ∙ h
+save_fault watch file generation (station.Keeper keeper.TooLarge) is h = absurd h
+save_fault watch file generation (station.Keeper keeper.Damaged) is h = absurd h
+save_fault watch file generation (station.Keeper keeper.Reopen) is h = absurd h
+save_fault watch file generation (station.Poll f) is h = absurd h
+save_fault watch file generation (station.Response f) is h = absurd h
+save_fault watch file generation (station.Exchange f) is h = absurd h
+save_fault watch file generation (station.Image f) is h = absurd h
+save_fault watch file generation station.NoMoreIncarnations is h = absurd h
+
+-- one of an opening's, and not for the body
+pub save_opening : (generation : ℕ) (fault : StationFault) → IsFirstSaveFault generation fault → IsOpeningFault fault × (IsForItsBody fault → ⊥)
+save_opening generation station.OutOfMemory h = (tt, λ b. b)
+save_opening generation (station.Keeper keeper.OutOfMemory) h = absurd h
+save_opening generation (station.Keeper keeper.DiskFault) h = (tt, λ b. b)
+save_opening generation (station.Keeper keeper.NoMoreGenerations) h = (tt, λ b. b)
+save_opening generation (station.Keeper keeper.TooLarge) h = absurd h
+save_opening generation (station.Keeper keeper.Damaged) h = absurd h
+save_opening generation (station.Keeper keeper.Reopen) h = absurd h
+save_opening generation (station.Poll f) h = absurd h
+save_opening generation (station.Response f) h = absurd h
+save_opening generation (station.Exchange f) h = absurd h
+save_opening generation (station.Image f) h = absurd h
+save_opening generation station.NoMoreIncarnations h = absurd h
+
+-- a save's fault at a keeper that was opened just now
+pub first_save : (generation : ℕ) (fault : StationFault) → IsSaveFault fault → (fault ≡ station.Keeper keeper.Reopen → ⊥) → (fault ≡ station.Keeper keeper.NoMoreGenerations → generation ≡ 2 ^ 64 - 1)
+    → IsFirstSaveFault generation fault
+first_save generation station.OutOfMemory h fresh last = tt
+first_save generation (station.Keeper keeper.OutOfMemory) h fresh last = absurd h
+first_save generation (station.Keeper keeper.DiskFault) h fresh last = tt
+first_save generation (station.Keeper keeper.NoMoreGenerations) h fresh last = last refl
+first_save generation (station.Keeper keeper.TooLarge) h fresh last = absurd h
+first_save generation (station.Keeper keeper.Damaged) h fresh last = absurd h
+first_save generation (station.Keeper keeper.Reopen) h fresh last = absurd (fresh refl)
+first_save generation (station.Poll f) h fresh last = absurd h
+first_save generation (station.Response f) h fresh last = absurd h
+first_save generation (station.Exchange f) h fresh last = absurd h
+first_save generation (station.Image f) h fresh last = absurd h
+first_save generation station.NoMoreIncarnations h fresh last = absurd h
+
+-- a body's fault is one of an opening's
+pub body_opening : (watch : Watch) (body : Option (List ℕ)) (fault : StationFault) → IsFaultOfBody watch body fault → IsOpeningFault fault
+body_opening watch body station.OutOfMemory h = tt
+body_opening watch body (station.Keeper f) h = absurd h
+body_opening watch body (station.Poll f) h = absurd h
+body_opening watch body (station.Response f) h = absurd h
+body_opening watch body (station.Exchange f) h = absurd h
+body_opening watch body (station.Image f) h = tt
+body_opening watch body station.NoMoreIncarnations h = tt
 
 pub body_fault : (watch : Watch) (file : List ℕ) (body : Option (List ℕ)) (fault : StationFault) → FindsBody body file → IsFaultOfBody watch body fault → IsFaultOfFile watch file fault
 body_fault watch file body station.OutOfMemory finds h = tt
@@ -57,22 +105,31 @@ body_fault watch file body (station.Exchange f) finds h = absurd h
 body_fault watch file body (station.Image f) finds h = subst (λ (b : Option (List ℕ)). IsFaultOfBody watch b (station.Image f)) (sym finds.body_is) h
 body_fault watch file body station.NoMoreIncarnations finds h = subst (λ (b : Option (List ℕ)). IsFaultOfBody watch b station.NoMoreIncarnations) (sym finds.body_is) h
 
--- a fault of the keeper, as the station's
-pub keeper_of_file : (watch : Watch) (file : List ℕ) (f : KeeperFault) → (f ≡ keeper.Damaged → is_undamaged file ≡ false) → IsFaultOfFile watch file (keeper_refusal f)
-keeper_of_file watch file keeper.OutOfMemory h = tt
-keeper_of_file watch file keeper.DiskFault h = h
-keeper_of_file watch file keeper.NoMoreGenerations h = h
-keeper_of_file watch file keeper.TooLarge h = h
-keeper_of_file watch file keeper.Damaged h = h
-keeper_of_file watch file keeper.Reopen h = h
+-- a fault of the keeper's opening, as the station's
+pub keeper_of_file : (watch : Watch) (file : List ℕ) (f : KeeperFault) → is_of_opening f ≡ true → (f ≡ keeper.Damaged → is_undamaged file ≡ false) → IsFaultOfFile watch file (keeper_refusal f)
+keeper_of_file watch file keeper.OutOfMemory of h = tt
+keeper_of_file watch file keeper.DiskFault of h = tt
+keeper_of_file watch file keeper.NoMoreGenerations of h = absurd (let no : false ≡ true = of in cc)
+keeper_of_file watch file keeper.TooLarge of h = absurd (let no : false ≡ true = of in cc)
+keeper_of_file watch file keeper.Damaged of h = h refl
+keeper_of_file watch file keeper.Reopen of h = absurd (let no : false ≡ true = of in cc)
 
-pub keeper_of_save : (f : KeeperFault) → (f ≡ keeper.Damaged → ⊥) → IsSaveFault (keeper_refusal f)
-keeper_of_save keeper.OutOfMemory h = tt
-keeper_of_save keeper.DiskFault h = h
-keeper_of_save keeper.NoMoreGenerations h = h
-keeper_of_save keeper.TooLarge h = h
-keeper_of_save keeper.Damaged h = h
-keeper_of_save keeper.Reopen h = h
+pub keeper_opening : (f : KeeperFault) → is_of_opening f ≡ true → IsOpeningFault (keeper_refusal f) × (IsForItsBody (keeper_refusal f) → ⊥)
+keeper_opening keeper.OutOfMemory of = (tt, λ b. b)
+keeper_opening keeper.DiskFault of = (tt, λ b. b)
+keeper_opening keeper.NoMoreGenerations of = absurd (let no : false ≡ true = of in cc)
+keeper_opening keeper.TooLarge of = absurd (let no : false ≡ true = of in cc)
+keeper_opening keeper.Damaged of = (tt, λ b. b)
+keeper_opening keeper.Reopen of = absurd (let no : false ≡ true = of in cc)
+
+-- of a save of what fits, as the station's
+pub keeper_of_save : (f : KeeperFault) → (f ≡ keeper.Damaged → ⊥) → (f ≡ keeper.TooLarge → ⊥) → IsSaveFault (keeper_refusal f)
+keeper_of_save keeper.OutOfMemory sound fits = tt
+keeper_of_save keeper.DiskFault sound fits = tt
+keeper_of_save keeper.NoMoreGenerations sound fits = tt
+keeper_of_save keeper.TooLarge sound fits = absurd (fits refl)
+keeper_of_save keeper.Damaged sound fits = absurd (sound refl)
+keeper_of_save keeper.Reopen sound fits = tt
 
 -- the station's fault is the keeper's of this kind
 pub was_keeper : (f g : KeeperFault) → keeper_refusal f ≡ station.Keeper g → f ≡ g

@@ -8,4 +8,6 @@ mod Past
 mod Quiet
 mod Runs
 mod Said
+mod Headline
+mod Stopping
 mod Taken

@@ -25,7 +25,7 @@ use Rattle.mon_station.specs.Taken.{Entry, Restart, Answered, Origin, Nothing, S
 use Rattle.mon_station.specs.Verdict.{Setting, added, polls_after}
 
 -- what is chosen of what is chosen
-chosen_twice : (rule : KeepingRule) (i : ℕ) (a : Samples) → rule.choice i (rule.choice i a) ≡ rule.choice i a
+pub chosen_twice : (rule : KeepingRule) (i : ℕ) (a : Samples) → rule.choice i (rule.choice i a) ≡ rule.choice i a
 chosen_twice rule i a =
     ap (rule.choice i) (sym (union_none (rule.choice i a))) ∙ chosen_union (rule.choice i) (rule.is_choice i) a (set.from_list []) ∙ ap (rule.choice i) (union_none a)
 

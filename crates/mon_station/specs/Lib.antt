@@ -6,6 +6,7 @@ pub mod ReadEvent
 pub mod Saved
 pub mod State
 pub mod Step
+pub mod Stops
 pub mod Taken
 pub mod Told
 pub mod Turned

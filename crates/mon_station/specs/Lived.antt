@@ -1,14 +1,17 @@
 -- The states of a station over all its lives, as the clauses of `open` and `step` give them one after another.
-use Rattle.std.specs.Prelude.{ℕ, ◌≡◌, List, [], ◌∷◌, Option, Some, None, map}
+use Rattle.std.specs.Prelude.{ℕ, ◌≡◌, List, [], ◌∷◌, Option, Some, None, Result, Ok, Err, map}
+use Rattle.mon_board.specs.Board.{is_marked, window_of}
 use Rattle.mon_board.specs.Instance.{instances_of}
+use Rattle.mon_board.specs.declared.instance.Instance.{Instance}
 use Rattle.mon_saved.specs.Image.{SpellsImage}
 use Rattle.mon_saved.specs.Written.{image_of}
 use Rattle.mon_station.specs.declared.fault.StationFault.{StationFault}
 use Rattle.mon_station.specs.ReadEvent.{ReadEvent, StartPoll, Timeout, FromAgent, FromPeer, Share, Save}
 use Rattle.mon_station.specs.Saved.{IsBegun, saved_octets}
-use Rattle.mon_station.specs.State.{State, IsHandled}
+use Rattle.mon_station.specs.State.{State, IsHandled, known_of, setting_of}
 use Rattle.mon_station.specs.Taken.{Entry, Restart, Answered, Origin, Nothing, Saved, Other, at_place}
 use Rattle.mon_station.specs.Verdict.{Setting}
+use Rattle.mon_window.specs.Window.{In}
 
 -- the state after a list of entries, each with the state that it left, of which the newest stands first
 abbrev pub last_state : List (Entry × State) → Option State
@@ -58,6 +61,35 @@ abbrev pub IsLived : List (Entry × State) → Type 0
 IsLived [] = Unit {0}
 IsLived ((Restart origin w, s) ∷ past) = BeginsFrom (saved_states past) origin w s × IsLived past
 IsLived ((Answered e answer, s) ∷ past) = HandledIn (last_state past) e answer s × IsLived past
+
+-- the image of this saved state, if there is one, is these octets, and of these instances
+abbrev pub IsImageOf : Option State → List ℕ → List Instance → Type 0
+IsImageOf None octets instances = ⊥
+IsImageOf (Some old) octets instances =
+    (saved_octets old ≡ octets) × (instances ≡ instances_of old.board.watch.instances)
+    × SpellsImage octets (instances_of old.board.watch.instances) (image_of old.board old.incarnation)
+
+-- From where a life of these instances begins that found this body, after these saves: from nothing where none was found, from a save that wrote it, or from an image
+abbrev pub IsOrigin : List State → Option (List ℕ) → List Instance → Origin → Type 0
+IsOrigin saved None instances Nothing = Unit {0}
+IsOrigin saved (Some octets) instances (Saved later) = IsImageOf (at_place later saved) octets instances
+IsOrigin saved (Some octets) instances (Other image) = SpellsImage octets instances image
+IsOrigin saved body instances origin = ⊥
+
+-- the answer of a call as an entry has it: a fault, or none
+abbrev pub answer_in : {A F : Type 0} → Result A F → Option F
+answer_in (Ok x) = None
+answer_in (Err fault) = Some fault
+
+-- what a refused event leaves as it was: of each instance the window, the marks on what stands in it and all that was taken; the known incarnations, the incarnation, and
+-- the serial of the next offer. It may end an open poll.
+pub record IsLeftAlone (old new : State) : Type 0 where
+  pub setting : setting_of new ≡ setting_of old
+  pub windows : (i : ℕ) → window_of new.board i ≡ window_of old.board i
+  pub marks : (k i s : ℕ) → In s (window_of old.board i) → is_marked new.board k i s ≡ is_marked old.board k i s
+  pub known : (y : ℕ) → known_of new y ≡ known_of old y
+  pub incarnation : new.incarnation ≡ old.incarnation
+  pub serial : new.serial ≡ old.serial
 
 -- the entries alone
 abbrev pub entries_of : List (Entry × State) → List Entry

@@ -1,5 +1,5 @@
 -- What a station leaves on its disk, and what an opening makes of it.
-use Rattle.std.specs.Prelude.{ℕ, ◌≡◌, ◌≤◌, ◌+◌, ◌⊎◌, false, List, Option, Some, None, Err}
+use Rattle.std.specs.Prelude.{ℕ, ◌≡◌, ◌≤◌, ◌+◌, ◌-◌, ◌^◌, ◌⊎◌, false, List, Option, Some, None, Err}
 use Rattle.std.specs.FinSet as set
 use Rattle.mon_board.specs.Board.{Board, window_of}
 use Rattle.mon_board.specs.Instance.{instances_of}
@@ -7,7 +7,9 @@ use Rattle.mon_board.specs.Watch.{Watch}
 use Rattle.mon_disk.specs.declared.fault.KeeperFault.TheVariants as keeper
 use Rattle.mon_disk.specs.Disk.{Leaves, LeavesSince}
 use Rattle.mon_disk.specs.Fault.{HasDiskCause}
-use Rattle.mon_disk.specs.Keeper.{FindsAs, FindsBody, IsAs, found_body, is_undamaged}
+use Rattle.mon_disk.specs.File.{found}
+use Rattle.mon_disk.specs.Keeper.{FindsAs, FindsBody, IsAs, found_body, found_generation, is_undamaged}
+use Rattle.mon_disk.specs.declared.file.TheConstants.{SLOT_SIZE}
 use Rattle.mon_poller.specs.Polls.{no_polls}
 use Rattle.mon_saved.specs.declared.image.Image.{Image}
 use Rattle.mon_saved.specs.Image.{SpellsImage}
@@ -67,16 +69,50 @@ IsFaultOfBody watch body (fault.Image f) =
 IsFaultOfBody watch body fault.NoMoreIncarnations = (octets : List ℕ) × (board : Board) × (body ≡ Some octets) × IsRestored watch octets board 4294967295
 IsFaultOfBody watch body other = ⊥
 
--- why an opening of this file was refused: its body, or the keeper, which answers Damaged only where the file is
+-- Why an opening of this file was refused: its body, or the keeper. Of the keeper's faults the disk's has its cause in the disk, Damaged is answered only where
+-- the file is damaged, NoMoreGenerations only where the greatest generation is found, and no other at all.
 abbrev pub IsFaultOfFile : Watch → List ℕ → StationFault → Type 0
-IsFaultOfFile watch file (fault.Keeper f) = f ≡ keeper.Damaged → is_undamaged file ≡ false
+IsFaultOfFile watch file (fault.Keeper keeper.DiskFault) = Unit {0}
+IsFaultOfFile watch file (fault.Keeper keeper.Damaged) = is_undamaged file ≡ false
+IsFaultOfFile watch file (fault.Keeper keeper.NoMoreGenerations) = found_generation (found SLOT_SIZE file) ≡ 2 ^ 64 - 1
+IsFaultOfFile watch file (fault.Keeper f) = ⊥
 IsFaultOfFile watch file other = IsFaultOfBody watch (found_body file) other
 
--- a save is refused for want of memory, or by the keeper
+-- one of the faults of an opening, whatever the disk is
+abbrev pub IsOpeningFault : StationFault → Type 0
+IsOpeningFault fault.OutOfMemory = Unit {0}
+IsOpeningFault (fault.Keeper keeper.DiskFault) = Unit {0}
+IsOpeningFault (fault.Keeper keeper.Damaged) = Unit {0}
+IsOpeningFault (fault.Keeper keeper.NoMoreGenerations) = Unit {0}
+IsOpeningFault (fault.Image f) = Unit {0}
+IsOpeningFault fault.NoMoreIncarnations = Unit {0}
+IsOpeningFault other = ⊥
+
+-- an opening was refused for the body that it found
+abbrev pub IsForItsBody : StationFault → Type 0
+IsForItsBody (fault.Image f) = Unit {0}
+IsForItsBody fault.NoMoreIncarnations = Unit {0}
+IsForItsBody other = ⊥
+
+-- A save is refused for want of memory, or by the keeper: where the disk failed in it or in an earlier one, or at the greatest generation. An image fits always.
 abbrev pub IsSaveFault : StationFault → Type 0
 IsSaveFault fault.OutOfMemory = Unit {0}
-IsSaveFault (fault.Keeper f) = f ≡ keeper.Damaged → ⊥
+IsSaveFault (fault.Keeper keeper.DiskFault) = Unit {0}
+IsSaveFault (fault.Keeper keeper.NoMoreGenerations) = Unit {0}
+IsSaveFault (fault.Keeper keeper.Reopen) = Unit {0}
 IsSaveFault other = ⊥
+
+-- The same at a keeper that was opened just now, and knew of this generation: the disk failed in no earlier save.
+abbrev pub IsFirstSaveFault : ℕ → StationFault → Type 0
+IsFirstSaveFault generation fault.OutOfMemory = Unit {0}
+IsFirstSaveFault generation (fault.Keeper keeper.DiskFault) = Unit {0}
+IsFirstSaveFault generation (fault.Keeper keeper.NoMoreGenerations) = generation ≡ 2 ^ 64 - 1
+IsFirstSaveFault generation other = ⊥
+
+-- the fault is one of the keeper's
+abbrev pub IsOfKeeper : StationFault → Type 0
+IsOfKeeper (fault.Keeper f) = Unit {0}
+IsOfKeeper other = ⊥
 
 -- the disk's fault is told only where its count of failures rose, or stood at its end
 abbrev pub IsCausedBy : (before now : ℕ) → StationFault → Type 0

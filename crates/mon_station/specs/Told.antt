@@ -67,7 +67,7 @@ to_target target octets = record { to = to.Target target; octets = octets }
 -- what a timeout sends
 abbrev pub resends : TimedOut → List Outgoing
 resends (Again target octets) = to_target target octets ∷ []
-resends GivenUp = []
+resends (GivenUp target) = []
 resends NotOpen = []
 
 -- the claims that an event sends which is not refused

@@ -1,13 +1,25 @@
 //! Laws over all lives of a station. Each is a function that does nothing; its clauses are the law.
 
-ghost use Rattle.std.specs.Prelude.{◌≡◌, List, Some, ℕ};
+ghost use Rattle.std.specs.Prelude.{◌≡◌, ◌<◌, ◌∷◌, true, List, None, Option, Some, ℕ};
+ghost use Rattle.std.specs.List.{AllByRecursion};
 ghost use Rattle.mon_board.specs.Board.{window_of};
 ghost use Rattle.mon_board.specs.Rules.{rule_of};
+ghost use Rattle.mon_board.specs.Watch.{Watch as AnyWatch};
+ghost use Rattle.mon_board.specs.Windows.{IsWhole, of_both};
+ghost use Rattle.mon_disk.specs.Disk.{Leaves};
+ghost use Rattle.mon_disk.specs.Keeper.{FindsBody, is_undamaged};
 ghost use Rattle.mon_report.specs.Report.{report};
-ghost use Rattle.mon_station.specs.Lived.{IsLived, entries_of, last_state};
+ghost use Rattle.mon_station.specs.declared.fault.StationFault.{StationFault};
+ghost use Rattle.mon_station.specs.Lived.{IsLeftAlone, IsLived, entries_of, last_state};
+ghost use Rattle.mon_station.specs.ReadEvent.{ReadEvent};
 ghost use Rattle.mon_station.specs.State.{State};
+ghost use Rattle.mon_station.specs.Stops.{FindsOneOf, GoesOn, Happening, IsHistory, MayFind, Opened, begun_in, last_disk};
 ghost use Rattle.mon_station.specs.Taken as lives;
-ghost use Rattle.mon_station.specs.Taken.{Entry};
+ghost use Rattle.mon_station.specs.Taken.{Answered, Entry};
+ghost use Rattle.mon_station.specs.Verdict.{Setting};
+ghost use Rattle.mon_window.specs.Window.{Samples};
+
+use mon_disk::Disk;
 
 /// Over any list of lawful answers, in which each life begins from the image that it found: a station's windows are what the watch
 /// keeps of the samples that it took. So two stations with equal watches that took the same samples, directly or through others, hold
@@ -21,6 +33,50 @@ pub fn taken()
     ensures reports { (some others : List (Entry × State)) (s t : State) → IsLived some → IsLived others → last_state some ≡ Some s → last_state others ≡ Some t
         → s.board.watch ≡ t.board.watch → ((i : ℕ) → lives.taken (entries_of some) i ≡ lives.taken (entries_of others) i)
         → report s.board.watch (window_of s.board) ≡ report t.board.watch (window_of t.board) }
+{
+    mon_saved::laws::one_image();
+    mon_saved::laws::read_back();
+}
+
+/// The headline. Over any list of events, answered in any lawful way, and of lives that begin from what was saved: each window is what the watch keeps of the samples that
+/// were taken of its instance, so two stations with equal watches that took the same, directly or through others, hold equal windows and print equal reports. Joining
+/// windows is commutative, associative and idempotent. What is refused, for memory too, changes nothing but a poll that it ends.
+///
+/// `Station::open`, `step` and `run` extend such a list by what they answered (`lived`), so it holds of every station.
+pub fn headline()
+    ensures windows { (history : List (Entry × State)) (s : State) → IsLived history → last_state history ≡ Some s
+        → (i : ℕ) → window_of s.board i ≡ (rule_of s.board.watch).choice i (lives.taken (entries_of history) i) }
+    ensures equal { (some others : List (Entry × State)) (s t : State) → IsLived some → IsLived others → last_state some ≡ Some s → last_state others ≡ Some t
+        → s.board.watch ≡ t.board.watch → ((i : ℕ) → lives.taken (entries_of some) i ≡ lives.taken (entries_of others) i)
+        → (i : ℕ) → window_of s.board i ≡ window_of t.board i }
+    ensures reports { (some others : List (Entry × State)) (s t : State) → IsLived some → IsLived others → last_state some ≡ Some s → last_state others ≡ Some t
+        → s.board.watch ≡ t.board.watch → ((i : ℕ) → lives.taken (entries_of some) i ≡ lives.taken (entries_of others) i)
+        → report s.board.watch (window_of s.board) ≡ report t.board.watch (window_of t.board) }
+    ensures commutative { (watch : AnyWatch) (a b : ℕ → Samples) (i : ℕ) → of_both (rule_of watch) a b i ≡ of_both (rule_of watch) b a i }
+    ensures associative { (watch : AnyWatch) (a b c : ℕ → Samples) (i : ℕ) → of_both (rule_of watch) (of_both (rule_of watch) a b) c i ≡ of_both (rule_of watch) a (of_both (rule_of watch) b c) i }
+    ensures idempotent { (watch : AnyWatch) (a : ℕ → Samples) (i : ℕ) → IsWhole (rule_of watch) a i → of_both (rule_of watch) a a i ≡ a i }
+    ensures refused { (past : List (Entry × State)) (old new : State) (e : ReadEvent) (fault : StationFault) → IsLived ((Answered e (Some fault), new) ∷ past) → last_state past ≡ Some old
+        → IsLeftAlone old new }
+    ensures untaken { (past : List (Entry × State)) (new : State) (e : ReadEvent) (fault : StationFault) (i : ℕ)
+        → lives.taken (entries_of ((Answered e (Some fault), new) ∷ past)) i ≡ lives.taken (entries_of past) i }
+{
+    taken();
+    mon_board::laws::joining();
+}
+
+/// Stopped at any moment: over any list of lives on an honest disk on which nothing was saved before, whatever openings, events, saves and stops there were, and under
+/// changing watches. An opening finds the last save that was acknowledged, or one that was running since, and no older one later; none is damaged. A life that an opening
+/// answers goes on from such a save, with what its watch keeps of the windows, and its incarnation is greater than that of each earlier life that was handed out; no other
+/// life sent anything.
+pub fn stops<D: Disk>()
+    ensures left { (first : D) (history : List (Happening × D)) → D.is_honest first → Leaves (D.may_leave first) (FindsBody None)
+        → IsHistory D.is_honest D.seen D.may_leave D.moment D.left_since first history → Leaves (D.may_leave (last_disk first history)) (FindsOneOf (MayFind D.seen first history)) }
+    ensures undamaged { (first : D) (history : List (Happening × D)) → D.is_honest first → Leaves (D.may_leave first) (FindsBody None)
+        → IsHistory D.is_honest D.seen D.may_leave D.moment D.left_since first history → is_undamaged (D.seen (last_disk first history)) ≡ true }
+    ensures opened { (first disk : D) (past : List (Happening × D)) (w : Setting) (s : State) → D.is_honest first → Leaves (D.may_leave first) (FindsBody None)
+        → IsHistory D.is_honest D.seen D.may_leave D.moment D.left_since first ((Opened w s, disk) ∷ past) → (save : Option State) × MayFind D.seen first past save × GoesOn w save s }
+    ensures later { (first disk : D) (past : List (Happening × D)) (w : Setting) (s : State) → D.is_honest first → Leaves (D.may_leave first) (FindsBody None)
+        → IsHistory D.is_honest D.seen D.may_leave D.moment D.left_since first ((Opened w s, disk) ∷ past) → AllByRecursion (λ life. life.incarnation < s.incarnation) (begun_in past) }
 {
     mon_saved::laws::one_image();
     mon_saved::laws::read_back();

@@ -68,9 +68,11 @@ impl Life {
         ensures head { OnOk result (16 ≤ length image.new.items) }
         ensures written { OnOk result (drop 16 image.new.items ≡ saved_octets (state_of self.now)) }
         ensures spells { OnOk result (SpellsImage (drop 16 image.new.items) (instances_of self.now.board.watch.instances) (image_of self.now.board self.now.incarnation)) }
+        ensures few { length (saved_octets (state_of self.now)) ≤ 484617 }
     {
+        let size = image_size(&self.board);
         image.clear();
-        image.reserve(HEAD_ROOM + image_size(&self.board))?;
+        image.reserve(HEAD_ROOM + size)?;
         put_octets(image, &[0; HEAD_ROOM]);
         write_within(image, &self.board, self.incarnation);
         Ok(())
@@ -115,7 +117,7 @@ impl Life {
                 };
                 Ok(told_one(alloc, room, out))
             }
-            TimedOut::GivenUp | TimedOut::NotOpen => Ok(told_none(alloc)),
+            TimedOut::GivenUp { .. } | TimedOut::NotOpen => Ok(told_none(alloc)),
         }
     }
 

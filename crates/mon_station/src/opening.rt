@@ -1,8 +1,8 @@
 //! Opening a station.
 
-ghost use Rattle.std.specs.Prelude.{◌≡◌, ◌≤◌, Some, false, option_map, IfErr, IfOk};
+ghost use Rattle.std.specs.Prelude.{◌≡◌, ◌≤◌, ◌∷◌, List, Option, Some, false, option_map, IfErr, IfOk};
 ghost use Rattle.mon_disk.specs.Disk.{Leaves, LeavesSince};
-ghost use Rattle.mon_disk.specs.Keeper.{found_body};
+ghost use Rattle.mon_disk.specs.Keeper.{FindsBody, found_body};
 ghost use Rattle.mon_saved.specs.Restored.{IsUnmarked};
 ghost use Rattle.mon_station.specs.Opened.{setting_in};
 ghost use Rattle.mon_station.specs.Saved.{IsBegun, IsFaultOfBody, IsRestoredFrom};
@@ -20,9 +20,13 @@ use mon_settings::Core;
 use std::alloc::Global;
 
 impl<D: Disk + Drop> Station<D> {
-    ghost use Rattle.mon_disk.specs.Kept.{device_of, is_spoiled};
-    ghost use Rattle.mon_station.specs.Saved.{FindsRunning, FindsState, IsBeginning, IsCausedBy, IsFaultOfFile, IsSaveFault};
-    ghost use Rattle.mon_station.specs.State.{setting_of};
+    ghost use Rattle.mon_disk.specs.Kept.{device_of, is_spoiled, last_generation};
+    ghost use Rattle.mon_station.specs.Saved.{FindsRunning, FindsState, IsBeginning, IsCausedBy, IsFaultOfFile, IsFirstSaveFault, IsForItsBody, IsOpeningFault};
+    ghost use Rattle.mon_board.specs.Instance.{instances_of};
+    ghost use Rattle.mon_station.specs.Lived.{IsLived, IsOrigin, saved_states};
+    ghost use Rattle.mon_station.specs.State.{State, setting_of};
+    ghost use Rattle.mon_station.specs.Stops.{Happens, Opened, Unopened};
+    ghost use Rattle.mon_station.specs.Taken.{Entry, Origin, Restart};
 
     /// Begins a life from what the disk holds: its windows, and the next incarnation, which is saved before the station is handed out.
     ///
@@ -35,10 +39,20 @@ impl<D: Disk + Drop> Station<D> {
         ensures opened { D.is_honest disk → IfOk result (λ s. IsBegun (setting_in core) (found_body (D.seen disk)) (state_of s.life)) }
         // From then on a crash leaves a file in which an opening finds these windows and this incarnation.
         ensures kept { D.is_honest disk → IfOk result (λ s. Leaves (D.may_leave (device_of s.keeper)) (FindsState (state_of s.life))) }
+        // A lived history goes on, from where the body that is found was written.
+        ensures lived { D.is_honest disk → IfOk result (λ s. (past : List (Entry × State)) (origin : Origin) → IsLived past
+            → IsOrigin (saved_states past) (found_body (D.seen disk)) (instances_of core.watch.instances) origin → IsLived ((Restart origin (setting_in core), state_of s.life) ∷ past)) }
+        // It is a step of the law of stops.
+        ensures happens { D.is_honest disk → (running : Option State) → IfOk result (λ s. Happens D.seen D.may_leave D.moment D.left_since running (Opened (setting_in core) (state_of s.life)) disk (device_of s.keeper)) }
+        ensures happens_err { D.is_honest disk → (running : Option State) → IfErr result (λ e. Happens D.seen D.may_leave D.moment D.left_since running (Unopened (setting_in core)) disk e.1) }
         // At each moment of it a crash leaves what was there, or the raised incarnation; and no older one later.
         ensures beginning { D.is_honest disk → IfOk result (λ s. IsBeginning (setting_in core) D.seen D.may_leave D.moment D.left_since disk (device_of s.keeper)) }
         ensures beginning_err { D.is_honest disk → IfErr result (λ e. IsBeginning (setting_in core) D.seen D.may_leave D.moment D.left_since disk e.1) }
-        ensures fault { D.is_honest disk → IfErr result (λ e. IsFaultOfFile core.watch (D.seen disk) e.0) }
+        // Each fault is one of an opening and has its cause.
+        ensures fault { IfErr result (λ e. IsOpeningFault e.0) }
+        ensures fault_of { D.is_honest disk → IfErr result (λ e. IsFaultOfFile core.watch (D.seen disk) e.0) }
+        // Where it was refused for the body that was found, a crash leaves files in which that body is found.
+        ensures found_still { D.is_honest disk → IfErr result (λ e. IsForItsBody e.0 → Leaves (D.may_leave e.1) (FindsBody (found_body (D.seen disk)))) }
         ensures honest { IfOk result (λ s. D.is_honest disk → D.is_honest (device_of s.keeper)) }
         ensures honest_err { IfErr result (λ e. D.is_honest disk → D.is_honest e.1) }
         ensures count { IfOk result (λ s. D.faults disk ≤ D.faults (device_of s.keeper)) }
@@ -56,13 +70,14 @@ impl<D: Disk + Drop> Station<D> {
 
     /// A station of this life, which is saved first.
     fn settle(alloc: Global, life: Life, keeper: Keeper<D>) -> Result<Self, (StationFault, D)>
+        requires fresh { is_spoiled keeper ≡ false }
         ensures life { IfOk result (λ s. s.life ≡ life) }
         ensures kept { D.is_honest (device_of keeper) → IfOk result (λ s. Leaves (D.may_leave (device_of s.keeper)) (FindsState (state_of life))) }
         ensures any_moment { D.is_honest (device_of keeper) → IfOk result (λ s. LeavesSince D.moment D.left_since (device_of keeper) (device_of s.keeper)
             (FindsRunning (D.may_leave (device_of keeper)) (state_of life))) }
         ensures any_moment_err { D.is_honest (device_of keeper) → IfErr result (λ e. LeavesSince D.moment D.left_since (device_of keeper) e.1
             (FindsRunning (D.may_leave (device_of keeper)) (state_of life))) }
-        ensures fault { IfErr result (λ e. IsSaveFault e.0) }
+        ensures fault { IfErr result (λ e. IsFirstSaveFault (last_generation keeper) e.0) }
         ensures honest { IfOk result (λ s. D.is_honest (device_of keeper) → D.is_honest (device_of s.keeper)) }
         ensures honest_err { IfErr result (λ e. D.is_honest (device_of keeper) → D.is_honest e.1) }
         ensures count { IfOk result (λ s. D.faults (device_of keeper) ≤ D.faults (device_of s.keeper)) }

@@ -1,6 +1,6 @@
 //! Stations.
 
-ghost use Rattle.std.specs.Prelude.{◌≡◌, ◌≤◌, ◌<◌, ◌+◌, ◌-◌, ◌^◌, ℕ, true, false, Err, OnErr, OnOk, Some, IfErr, IfNone, IfOk, IfSome, IsOk, IsTrue, length};
+ghost use Rattle.std.specs.Prelude.{◌≡◌, ◌≤◌, ◌-◌, ◌^◌, ◌∷◌, List, ℕ, true, false, Err, OnErr, OnOk, Some, IfErr, IfNone, IfOk, IfSome, IsOk, IsTrue, length};
 ghost use Rattle.std.specs.FinMap as map;
 ghost use Rattle.mon_disk.specs.declared.file.TheConstants.{SLOT_SIZE};
 ghost use Rattle.mon_disk.specs.File.{found};
@@ -25,15 +25,19 @@ pub struct Station<D: Disk + Drop> {
 }
 
 impl<D: Disk + Drop> Station<D> {
-    ghost use Rattle.mon_disk.specs.Kept.{device_of, is_spoiled};
+    ghost use Rattle.mon_disk.specs.Kept.{device_of, is_spoiled, last_generation};
     ghost use Rattle.mon_station.specs.ReadEvent.{ReadEvent, ReadsAs, owned};
     ghost use Rattle.mon_station.specs.ReadEvent as read;
-    ghost use Rattle.mon_station.specs.Saved.{FindsRunning, FindsState, IsCausedBy, IsSaveFault, saved_octets};
+    ghost use Rattle.mon_station.specs.Saved.{FindsRunning, FindsState, IsCausedBy, IsOfKeeper, IsSaveFault};
     ghost use Rattle.mon_station.specs.State.{known_of, owed_count, setting_of, state_of};
     ghost use Rattle.mon_station.specs.Verdict.{slot_of};
     ghost use Rattle.mon_station.specs.Told.{IsAnswered};
     ghost use Rattle.mon_poller.specs.Verdict.{IsSentAgain, timeout_verdict};
     ghost use Rattle.mon_station.specs.Step.{IsRead, left_polls};
+    ghost use Rattle.mon_station.specs.State.{State};
+    ghost use Rattle.mon_station.specs.Taken.{Answered, Entry};
+    ghost use Rattle.mon_station.specs.Lived.{IsLived, answer_in, last_state};
+    ghost use Rattle.mon_station.specs.Stops.{Handled, Happens};
 
     /// Handles an event. All memory is taken before anything is changed.
     ///
@@ -56,6 +60,13 @@ impl<D: Disk + Drop> Station<D> {
         // A timeout at which nothing is sent takes no memory.
         ensures spared { (id : ℕ) → owned event.entry ≡ OwnedEvent.Timeout id → ¬ (IsSentAgain (timeout_verdict self.old.life.poller.targets self.old.life.poller.polls id)) → IsOk result }
 
+        // A lived history goes on: with the event, as it reads, its answer and the state that it left.
+        ensures lived { (past : List (Entry × State)) → IsLived past → last_state past ≡ Some (state_of self.old.life)
+            → (e : ReadEvent) → ReadsAs self.old.life.board.watch (owned event.entry) e → IsLived ((Answered e (answer_in result), state_of self.new.life) ∷ past) }
+        // It is a step of the law of stops.
+        ensures happens { D.is_honest (device_of self.old.keeper) → (e : ReadEvent) → ReadsAs self.old.life.board.watch (owned event.entry) e
+            → Happens D.seen D.may_leave D.moment D.left_since (Some (state_of self.old.life)) (Handled e (answer_in result) (state_of self.new.life)) (device_of self.old.keeper) (device_of self.new.keeper) }
+
         // The file: no other event than a save changes it, and after one that was answered Ok a crash leaves a file in which it is found.
         ensures disk { (event.entry ≡ Event.Save → ⊥) → self.new.keeper ≡ self.old.keeper }
         ensures saved { D.is_honest (device_of self.old.keeper) → event.entry ≡ Event.Save → OnOk result (Leaves (D.may_leave (device_of self.new.keeper)) (FindsState (state_of self.old.life))) }
@@ -65,12 +76,14 @@ impl<D: Disk + Drop> Station<D> {
             (FindsRunning (D.may_leave (device_of self.old.keeper)) (state_of self.old.life)) }
         ensures honest { D.is_honest (device_of self.old.keeper) → D.is_honest (device_of self.new.keeper) }
 
-        // The keeper's faults have their causes.
+        // A keeper's fault is a save's, and each has its cause.
+        ensures keeper { IfErr result (λ f. IsOfKeeper f → event.entry ≡ Event.Save) }
+        ensures save_fault { event.entry ≡ Event.Save → IfErr result IsSaveFault }
         ensures count { D.faults (device_of self.old.keeper) ≤ D.faults (device_of self.new.keeper) }
         ensures cause { IfErr result (IsCausedBy (D.faults (device_of self.old.keeper)) (D.faults (device_of self.new.keeper))) }
         ensures reopen { event.entry ≡ Event.Save → result ≡ Err (StationFault.Keeper KeeperFault.Reopen) → is_spoiled self.old.keeper ≡ true }
-        ensures no_more { D.is_honest (device_of self.old.keeper) → event.entry ≡ Event.Save → result ≡ Err (StationFault.Keeper KeeperFault.NoMoreGenerations) → found_generation (found SLOT_SIZE (D.seen (device_of self.old.keeper))) ≡ 2 ^ 64 - 1 }
-        ensures too_large { event.entry ≡ Event.Save → result ≡ Err (StationFault.Keeper KeeperFault.TooLarge) → SLOT_SIZE < length (saved_octets (state_of self.old.life)) + 17 }
+        ensures no_more { event.entry ≡ Event.Save → result ≡ Err (StationFault.Keeper KeeperFault.NoMoreGenerations) → last_generation self.old.keeper ≡ 2 ^ 64 - 1 }
+        ensures no_more_found { D.is_honest (device_of self.old.keeper) → event.entry ≡ Event.Save → result ≡ Err (StationFault.Keeper KeeperFault.NoMoreGenerations) → found_generation (found SLOT_SIZE (D.seen (device_of self.old.keeper))) ≡ 2 ^ 64 - 1 }
         ensures spoiled { event.entry ≡ Event.Save → result ≡ Err (StationFault.Keeper KeeperFault.DiskFault) → is_spoiled self.new.keeper ≡ true }
     {
         match event {
@@ -97,8 +110,8 @@ impl<D: Disk + Drop> Station<D> {
         ensures count { D.faults (device_of self.old.keeper) ≤ D.faults (device_of self.new.keeper) }
         ensures cause { IfErr result (IsCausedBy (D.faults (device_of self.old.keeper)) (D.faults (device_of self.new.keeper))) }
         ensures reopen { result ≡ Err (StationFault.Keeper KeeperFault.Reopen) → is_spoiled self.old.keeper ≡ true }
-        ensures no_more { D.is_honest (device_of self.old.keeper) → result ≡ Err (StationFault.Keeper KeeperFault.NoMoreGenerations) → found_generation (found SLOT_SIZE (D.seen (device_of self.old.keeper))) ≡ 2 ^ 64 - 1 }
-        ensures too_large { result ≡ Err (StationFault.Keeper KeeperFault.TooLarge) → SLOT_SIZE < length (saved_octets (state_of self.old.life)) + 17 }
+        ensures no_more { result ≡ Err (StationFault.Keeper KeeperFault.NoMoreGenerations) → last_generation self.old.keeper ≡ 2 ^ 64 - 1 }
+        ensures no_more_found { D.is_honest (device_of self.old.keeper) → result ≡ Err (StationFault.Keeper KeeperFault.NoMoreGenerations) → found_generation (found SLOT_SIZE (D.seen (device_of self.old.keeper))) ≡ 2 ^ 64 - 1 }
         ensures spoiled { result ≡ Err (StationFault.Keeper KeeperFault.DiskFault) → is_spoiled self.new.keeper ≡ true }
     {
         self.life.settled();

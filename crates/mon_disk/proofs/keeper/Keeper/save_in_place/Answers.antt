@@ -1,123 +1,14 @@
-use Rattle.std.proofs.Common.{rules, arith, ◌≡◌, ◌<◌, ◌≤◌, ◌+◌, ◌-◌, ◌^◌, ◌++◌, false, Some, List, ℕ, drop, length, sym, ◌∙◌, ap, subst}
-use Rattle.mon_disk.specs.File.{save_of, found, FindsEither}
-use Rattle.mon_disk.specs.Keeper.{FindsBody, spelled, found_generation, generation_of}
-use Rattle.mon_disk.specs.declared.file.TheConstants.{SLOT_SIZE}
-use Rattle.mon_disk.proofs.Moments.{began, weaker}
-use Rattle.mon_disk.proofs.Saves.{generation_found}
-use Rattle.mon_disk.proofs.Opened.{as_body}
-use Rattle.mon_disk.proofs.Spelled.{saved_as, spelled_size, save_spelled, save_alone, next_is, as_either, nothing_else, before_save}
+use Rattle.std.proofs.Common.{arith}
 use Rattle.mon_disk.proofs.keeper.Keeper.save_in_place.Goals as goal
 
-pub returns-in_err-generation-clause-no_more_found : goal.returns-in_err-generation-clause-no_more_found
-returns-in_err-generation-clause-no_more_found g c = λ h is.
-    let k = c.args.self.now in
-    let full : (k.spoiled ≡ false) × (generation_of k.newest ≡ 2 ^ 64 - 1) = c.next_generation.ensures.no_more.1 (search rules) in
-    let kept = k.kept full.0 h in
-    generation_found SLOT_SIZE k.newest (g.D.Disk.seen k.device) kept.whole kept.newest_is ∙ full.1
-
-pub returns-in_err-generation-clause-any_moment : goal.returns-in_err-generation-clause-any_moment
-returns-in_err-generation-clause-any_moment g c = λ h.
-    let d = c.args.self.now.device in
-    began g.D.Disk.moment g.D.Disk.left_since g.D.Disk.may_leave d _ (λ f left. g.met.D.Disk.only_now d f h left)
-    (nothing_else (g.D.Disk.may_leave d) (drop 16 c.args.octets.now))
-
-pub put-requires-clause-room : goal.put-requires-clause-room
-put-requires-clause-room g c =
-    let body = drop 16 c.args.octets.now in
-    let next = c.in_ok-generation.generation in
-    let fits : next < 2 ^ 64 = search rules in
-    let short : length body < 2 ^ 64 = search rules in
-    let octets : c.write_head.new.octets ≡ spelled next body = search rules in
-    let small : length body + 17 ≤ SLOT_SIZE = search rules in
-    omega (arith, ap length octets, spelled_size next body fits short, small)
-
-pub put-requires-clause-alone : goal.put-requires-clause-alone
-put-requires-clause-alone g c = λ rest.
-    let body = drop 16 c.args.octets.now in
-    let next = c.in_ok-generation.generation in
-    let fits : next < 2 ^ 64 = search rules in
-    let short : length body < 2 ^ 64 = search rules in
-    let octets : c.write_head.new.octets ≡ spelled next body = search rules in
-    ap (λ (l : List ℕ). save_of (l ++ rest)) octets ∙ save_spelled next body fits short rest ∙ sym (save_alone next body fits short) ∙ sym (ap save_of octets)
-
-pub put-requires-clause-generation : goal.put-requires-clause-generation
-put-requires-clause-generation g c =
-    let body = drop 16 c.args.octets.now in
-    let next = c.in_ok-generation.generation in
-    let fits : next < 2 ^ 64 = search rules in
-    let short : length body < 2 ^ 64 = search rules in
-    let octets : c.write_head.new.octets ≡ spelled next body = search rules in
-    ap (λ (l : List ℕ). (save_of l).generation) octets ∙ ap (λ s. s.generation) (save_alone next body fits short)
-
-pub put-requires-clause-fits : goal.put-requires-clause-fits
-put-requires-clause-fits g c =
-    let body = drop 16 c.args.octets.now in
-    let next = c.in_ok-generation.generation in
-    let fits : next < 2 ^ 64 = search rules in
-    let short : length body < 2 ^ 64 = search rules in
-    let octets : c.write_head.new.octets ≡ spelled next body = search rules in
-    let small : length body + 17 ≤ SLOT_SIZE = search rules in
-    let size : (save_of c.write_head.new.octets).size ≡ length body = ap (λ (l : List ℕ). (save_of l).size) octets ∙ ap (λ s. s.size) (save_alone next body fits short) in
-    omega (arith, size, small)
-
-pub returns-in_err-put-clause-any_moment : goal.returns-in_err-put-clause-any_moment
-returns-in_err-put-clause-any_moment g c = λ h.
-    let body = drop 16 c.args.octets.now in
-    let next = c.in_ok-generation.generation in
-    let fits : next < 2 ^ 64 = search rules in
-    let short : length body < 2 ^ 64 = search rules in
-    let octets : c.write_head.new.octets ≡ spelled next body = search rules in
-    let k = c.args.self.now in
-    let fresh : k.spoiled ≡ false = search rules in
-    let kept = k.kept fresh h in
-    let file = g.D.Disk.seen k.device in
-    let said : (save_of c.write_head.new.octets).body ≡ body = ap (λ (l : List ℕ). (save_of l).body) octets ∙ ap (λ s. s.body) (save_alone next body fits short) in
-    weaker g.D.Disk.moment g.D.Disk.left_since k.device c.put.new.self.device (FindsEither SLOT_SIZE (found SLOT_SIZE file) (Some (save_of c.write_head.new.octets))) _
-    (as_either (found SLOT_SIZE file) body (save_of c.write_head.new.octets) file (g.D.Disk.may_leave k.device) (g.met.D.Disk.seen_now k.device h) (before_save k.newest file (g.D.Disk.may_leave k.device) kept) said)
-    (c.put.ensures.any_moment h)
-
-pub returns-clause-any_moment : goal.returns-clause-any_moment
-returns-clause-any_moment g c = λ h.
-    let body = drop 16 c.args.octets.now in
-    let next = c.in_ok-generation.generation in
-    let fits : next < 2 ^ 64 = search rules in
-    let short : length body < 2 ^ 64 = search rules in
-    let octets : c.write_head.new.octets ≡ spelled next body = search rules in
-    let k = c.args.self.now in
-    let fresh : k.spoiled ≡ false = search rules in
-    let kept = k.kept fresh h in
-    let file = g.D.Disk.seen k.device in
-    let said : (save_of c.write_head.new.octets).body ≡ body = ap (λ (l : List ℕ). (save_of l).body) octets ∙ ap (λ s. s.body) (save_alone next body fits short) in
-    weaker g.D.Disk.moment g.D.Disk.left_since k.device c.put.new.self.device (FindsEither SLOT_SIZE (found SLOT_SIZE file) (Some (save_of c.write_head.new.octets))) _
-    (as_either (found SLOT_SIZE file) body (save_of c.write_head.new.octets) file (g.D.Disk.may_leave k.device) (g.met.D.Disk.seen_now k.device h) (before_save k.newest file (g.D.Disk.may_leave k.device) kept) said)
-    (c.put.ensures.any_moment h)
-
 pub returns-clause-saved : goal.returns-clause-saved
-returns-clause-saved g c = λ h f left.
-    let body = drop 16 c.args.octets.now in
-    let next = c.in_ok-generation.generation in
-    let fits : next < 2 ^ 64 = search rules in
-    let short : length body < 2 ^ 64 = search rules in
-    let octets : c.write_head.new.octets ≡ spelled next body = search rules in
-    let at_end = c.in_ok-put.ensures.durable h f left in
-    let said : (save_of c.write_head.new.octets).body ≡ body = ap (λ (l : List ℕ). (save_of l).body) octets ∙ ap (λ s. s.body) (save_alone next body fits short) in
-    let finds : FindsBody (Some (save_of c.write_head.new.octets).body) (g.D.Disk.seen c.put.new.self.device) = as_body (Some (save_of c.write_head.new.octets)) (g.D.Disk.seen c.put.new.self.device) (c.in_ok-put.ensures.saved h) in
-    subst (FindsBody (Some body)) (sym at_end) (subst (λ b. FindsBody (Some b) (g.D.Disk.seen c.put.new.self.device)) said finds)
+returns-clause-saved g c = λ h. c.save_calls.ensures.saved h (omega arith)
 
 pub returns-clause-next : goal.returns-clause-next
-returns-clause-next g c = λ h.
-    let body = drop 16 c.args.octets.now in
-    let next = c.in_ok-generation.generation in
-    let fits : next < 2 ^ 64 = search rules in
-    let short : length body < 2 ^ 64 = search rules in
-    let octets : c.write_head.new.octets ≡ spelled next body = search rules in
-    let k = c.args.self.now in
-    let fresh : k.spoiled ≡ false = search rules in
-    let kept = k.kept fresh h in
-    let file = g.D.Disk.seen k.device in
-    let generation : next ≡ found_generation (found SLOT_SIZE file) + 1 = omega (arith, c.in_ok-generation.ensures.next, generation_found SLOT_SIZE k.newest file kept.whole kept.newest_is) in
-    (c.in_ok-put.ensures.saved h).finds
-    ∙ ap (λ (l : List ℕ). Some (save_of l)) octets
-    ∙ ap Some (save_alone next body fits short)
-    ∙ ap (λ n. Some (saved_as n body)) generation
-    ∙ sym (next_is (found SLOT_SIZE file) body)
+returns-clause-next g c = c.save_calls.ensures.seen
+
+pub returns-clause-happens : goal.returns-clause-happens
+returns-clause-happens g c = λ h. c.save_calls.ensures.happens h (omega arith)
+
+pub returns-clause-generation : goal.returns-clause-generation
+returns-clause-generation g c = c.save_calls.ensures.generation (omega arith)
