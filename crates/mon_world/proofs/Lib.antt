@@ -4,7 +4,6 @@ mod Appended
 mod Begun
 mod Asked
 mod First
-mod Fused
 mod Heard
 mod Instances
 mod Kept
@@ -20,6 +19,7 @@ mod Reopened
 mod Results
 mod Squared
 mod Stations
+mod Stopped
 mod Strangers
 mod Tells
 mod Unforged

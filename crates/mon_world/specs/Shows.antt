@@ -1,9 +1,10 @@
 -- A world in memory against the moves that led to it.
-use Rattle.std.specs.Prelude.{ℕ, ◌≡◌, ◌+◌, List, [], ◌∷◌, Option, Some, None, map, length, slice_set}
+use Rattle.std.specs.Prelude.{ℕ, ◌≡◌, ◌+◌, Bool, true, false, List, [], ◌∷◌, Option, Some, None, map, length, slice_set}
 use Rattle.std.specs.List.{AllByRecursion}
 use Rattle.mon_board.specs.Board.{window_of}
 use Rattle.mon_board.specs.Windows.{Has}
 use Rattle.mon_disk.specs.Disk.{Leaves}
+use Rattle.mon_disk.specs.Keeper.{IsAs}
 use Rattle.mon_disk.specs.Kept.{device_of}
 use Rattle.mon_disk.specs.Memory.{memory_leaves}
 use Rattle.mon_disk.specs.declared.disk.Disk.{Ghosts}
@@ -53,6 +54,12 @@ pub record FindsOne (lives : List (Entry × State)) (file : List ℕ) : Type 0 w
   pub may : MayFind lives later
   pub there : at_place later (saved_states lives) ≡ Some state
   pub finds : FindsState state file
+
+-- An opening of this file finds what a stop within a save of this state left of the old file: where that was too early, what an opening of the old file finds,
+-- and else this state.
+abbrev pub FindsStopped : (early : Bool) → State → (old file : List ℕ) → Type 0
+FindsStopped true s old file = IsAs file old
+FindsStopped false s old file = FindsState s file
 
 -- the state of a station over a disk in memory
 abbrev pub state_in : {G : Ghosts MemoryDisk} → Station MemoryDisk G → State

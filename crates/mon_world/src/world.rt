@@ -218,7 +218,7 @@ impl World {
     /// Opens a station again from what a stop within a save leaves of a copy of its disk.
     fn stop(&mut self, number: u32, calls: u8, keep: bool) -> Result<Sent, WorldFault>
         ensures outcome { (past : List Move) → Shows self.old.core self.old.stations.items self.old.sent.items past
-            → LeadsTo self.new.core self.new.stations.items self.new.sent.items (λ now. Does (StopsAndOpens (setting_at self.old.core (length self.old.stations.items)) number) result past now) }
+            → LeadsTo self.new.core self.new.stations.items self.new.sent.items (λ now. Does (StopsAndOpens (setting_at self.old.core (length self.old.stations.items)) number calls keep) result past now) }
         ensures there { OnOk result (IsNumberTo (length self.old.stations.items) number × (calls ≤ 6)) }
         ensures cause { IfErr result (IsStopCause (length self.old.stations.items) number calls) }
         ensures refused { OnErr result (self.new.stations.items ≡ self.old.stations.items) }
