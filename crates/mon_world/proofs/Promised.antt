@@ -1,5 +1,5 @@
 -- What the clauses of a step say of the moves that it led to. Crates above cite this file alone.
-use Rattle.std.proofs.Common.{ℕ, ◌≡◌, ◌+◌, ◌∙◌, List, Result, Ok, Err, length, map, sym, ap, subst, arith}
+use Rattle.std.proofs.Common.{ℕ, ◌≡◌, ◌+◌, ◌∙◌, List, Result, Ok, Err, length, sym, ap, subst, arith}
 use Rattle.std.specs.Prelude.{IfErr, IfOk, OnErr, OnOk}
 use Rattle.std.proofs.lemmas.List.{length-map}
 use Rattle.mon_disk.specs.declared.disk.Disk.{Ghosts}

@@ -8,7 +8,7 @@ use Rattle.mon_disk.specs.File.{Saved, found}
 use Rattle.mon_disk.specs.Keeper.{FindsBody, IsWhole, found_body, is_undamaged, next_saved, saved_body, shown_from}
 use Rattle.mon_saved.specs.Image.{SpellsImage}
 use Rattle.mon_saved.specs.Written.{image_of, written_image}
-use Rattle.mon_station.specs.Saved.{FindsState, saved_octets}
+use Rattle.mon_station.specs.Saved.{saved_octets}
 use Rattle.mon_station.specs.State.{State}
 use Rattle.mon_world.specs.Outcome.{calls_of_save}
 use Rattle.mon_world.specs.Shows.{FindsStopped}
