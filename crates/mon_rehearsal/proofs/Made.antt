@@ -1,6 +1,5 @@
 -- Steps of a script that were made one after another, and the text of a rehearsal.
-use Rattle.std.proofs.Common.{ℕ, suc, ◌≡◌, ◌≢◌, ◌+◌, List, [], ◌∷◌, ◌++◌, Result, Ok, Err, length, map, refl, sym, ap, ◌∙◌, append_assoc, subst, arith}
-use Rattle.std.specs.Prelude.{IfOk}
+use Rattle.std.proofs.Common.{ℕ, suc, ◌≡◌, ◌≢◌, ◌+◌, List, [], ◌∷◌, ◌++◌, Result, Err, length, map, refl, sym, ap, ◌∙◌, append_assoc, subst, arith}
 use Rattle.std.proofs.lemmas.List.{append-nil, length-map}
 use Rattle.mon_disk.specs.declared.disk.Disk.{Ghosts}
 use Rattle.mon_disk.specs.declared.memory.MemoryDisk.{MemoryDisk}
@@ -12,60 +11,48 @@ use Rattle.mon_world.specs.declared.fault.WorldFault.TheVariants.{OutOfMemory}
 use Rattle.mon_world.specs.declared.sending.Datagram.{Datagram}
 use Rattle.mon_world.specs.declared.sending.Sent.{Sent}
 use Rattle.mon_world.specs.declared.step.Step.{Step}
-use Rattle.mon_world.specs.Moves.{AreMoves, Move, sent_in}
-use Rattle.mon_world.specs.Outcome.{IsStepOutcome, first_lives}
+use Rattle.mon_world.specs.Moves.{AreMoves, AreUnforged, Move}
+use Rattle.mon_world.specs.Outcome.{IsStepMade, first_lives}
 use Rattle.mon_world.specs.Places.{setting_at}
-use Rattle.mon_world.specs.Shows.{LeadsTo, Parcel, Shows, parcel_of, parcel_with, state_in}
+use Rattle.mon_world.specs.Shows.{LeadsTo, Shows, StatesOweTruly, state_in}
 use Rattle.mon_rehearsal.specs.declared.script.ScriptStep.{ScriptStep}
 use Rattle.mon_rehearsal.specs.Printed.{stations_text, step_line, step_lines}
-use Rattle.mon_rehearsal.specs.Rehearsed.{AreMade, AreNumbers, HaveBeenMade, IsMade, IsRehearsal, IsStepOf}
+use Rattle.mon_rehearsal.specs.Rehearsed.{AreMade, HaveBeenMade, IsMade, IsRehearsal, IsStepOf}
 use Rattle.mon_rehearsal.specs.Script.{AreSteps, Says}
 use Rattle.mon_rehearsal.proofs.Texts.{lines_more}
 
 -- one step more
-made_more : (settings : ℕ → Setting) (steps : List ScriptStep) (answers : List (Result Sent WorldFault)) (said : ScriptStep) (answer : Result Sent WorldFault) (past middle now : List Move)
-    → AreMade settings steps answers past middle → IsMade settings said answer middle now → AreMade settings (steps ++ said ∷ []) (answers ++ answer ∷ []) past now
-made_more settings [] [] said answer past middle now is one = (now, subst (λ m. IsMade settings said answer m now) is one, refl)
-made_more settings [] (a ∷ answers) said answer past middle now is one = absurd is
-made_more settings (s ∷ steps) [] said answer past middle now is one = absurd is
-made_more settings (s ∷ steps) (a ∷ answers) said answer past middle now is one = (is.0, is.1, made_more settings steps answers said answer is.0 middle now is.2 one)
+made_more : (settings : ℕ → Setting) (n : ℕ) (steps : List ScriptStep) (answers : List (Result Sent WorldFault)) (said : ScriptStep) (answer : Result Sent WorldFault) (past middle now : List Move)
+    → AreMade settings n steps answers past middle → IsMade settings n said answer middle now → AreMade settings n (steps ++ said ∷ []) (answers ++ answer ∷ []) past now
+made_more settings n [] [] said answer past middle now is one = (now, subst (λ m. IsMade settings n said answer m now) is one, refl)
+made_more settings n [] (a ∷ answers) said answer past middle now is one = absurd is
+made_more settings n (s ∷ steps) [] said answer past middle now is one = absurd is
+made_more settings n (s ∷ steps) (a ∷ answers) said answer past middle now is one = (is.0, is.1, made_more settings n steps answers said answer is.0 middle now is.2 one)
 
 -- each step has an answer
-answers_count : (settings : ℕ → Setting) (steps : List ScriptStep) (answers : List (Result Sent WorldFault)) (past now : List Move) → AreMade settings steps answers past now → length answers ≡ length steps
-answers_count settings [] [] past now is = refl
-answers_count settings [] (a ∷ answers) past now is = absurd is
-answers_count settings (s ∷ steps) [] past now is = absurd is
-answers_count settings (s ∷ steps) (a ∷ answers) past now is = ap suc (answers_count settings steps answers is.0 now is.2)
-
--- as many datagrams as claims were sent
-sent_count : {G : Ghosts MemoryDisk} (core : Core) (stations : List (Station MemoryDisk G)) (sent : List Datagram) (moves : List Move) → Shows core stations sent moves → length sent ≡ length (sent_in moves)
-sent_count core stations sent moves shows = sym (length-map sent parcel_of) ∙ ap (λ (l : List Parcel). length l) shows.letters.parcels ∙ length-map (sent_in moves) parcel_with
-
-are_numbers : (was now : ℕ) (past moves : List Move) (answer : Result Sent WorldFault) → was ≡ length (sent_in past) → now ≡ length (sent_in moves) → IfOk answer (λ sent. sent.first ≡ was + 1) → IfOk answer (λ sent. was + sent.count ≡ now)
-    → IfOk answer (AreNumbers past moves)
-are_numbers was now past moves (Ok sent) before after first count = record { first = omega (arith, before, first); count = omega (arith, before, after, count) }
-are_numbers was now past moves (Err f) before after first count = tt
+answers_count : (settings : ℕ → Setting) (n : ℕ) (steps : List ScriptStep) (answers : List (Result Sent WorldFault)) (past now : List Move) → AreMade settings n steps answers past now → length answers ≡ length steps
+answers_count settings n [] [] past now is = refl
+answers_count settings n [] (a ∷ answers) past now is = absurd is
+answers_count settings n (s ∷ steps) [] past now is = absurd is
+answers_count settings n (s ∷ steps) (a ∷ answers) past now is = ap suc (answers_count settings n steps answers is.0 now is.2)
 
 -- before the first step
-pub none_made : {G : Ghosts MemoryDisk} (core : Core) (stations : List (Station MemoryDisk G)) (sent : List Datagram) (settings : ℕ → Setting) (past : List Move) (text : List ℕ) → Shows core stations sent past
-    → HaveBeenMade core stations sent settings [] past text text
-none_made core stations sent settings past text shows = record { answers = []; text = sym (append-nil text); leads = record { now = past; shows = shows; is = refl } }
+pub none_made : {G : Ghosts MemoryDisk} (core : Core) (stations : List (Station MemoryDisk G)) (sent : List Datagram) (settings : ℕ → Setting) (n : ℕ) (past : List Move) (text : List ℕ) → Shows core stations sent past
+    → HaveBeenMade core stations sent settings n [] past text text
+none_made core stations sent settings n past text shows = record { answers = []; text = sym (append-nil text); leads = record { now = past; shows = shows; is = refl } }
 
-pub one_made : {G : Ghosts MemoryDisk} (core now_core : Core) (settings now_settings : ℕ → Setting) (stations now_stations : List (Station MemoryDisk G)) (sent now_sent : List Datagram) (steps more : List ScriptStep) (said : ScriptStep) (made : Step)
-    (answer : Result Sent WorldFault) (past : List Move) (start text now_text : List ℕ) (number : ℕ) → more ≡ steps ++ said ∷ [] → number ≡ length steps + 1 → now_settings ≡ settings → IsStepOf said made → now_text ≡ text ++ step_line number answer
-    → ((middle : List Move) → Shows core stations sent middle → LeadsTo now_core now_stations now_sent (λ now. IsStepOutcome now_settings made answer middle now))
-    → answer ≢ Err OutOfMemory → IfOk answer (λ s. s.first ≡ length sent + 1) → IfOk answer (λ s. length sent + s.count ≡ length now_sent)
-    → HaveBeenMade core stations sent settings steps past start text → HaveBeenMade now_core now_stations now_sent settings more past start now_text
-one_made core now_core settings now_settings stations now_stations sent now_sent steps more said made answer past start text now_text number is_more is_number same is written next ample first count were =
+pub one_made : {G : Ghosts MemoryDisk} (core now_core : Core) (settings now_settings : ℕ → Setting) (n now_n : ℕ) (stations now_stations : List (Station MemoryDisk G)) (sent now_sent : List Datagram) (steps more : List ScriptStep) (said : ScriptStep) (made : Step)
+    (answer : Result Sent WorldFault) (past : List Move) (start text now_text : List ℕ) (number : ℕ) → more ≡ steps ++ said ∷ [] → number ≡ length steps + 1 → now_settings ≡ settings → now_n ≡ n → IsStepOf said made → now_text ≡ text ++ step_line number answer
+    → ((middle : List Move) → Shows core stations sent middle → LeadsTo now_core now_stations now_sent (λ now. IsStepMade now_settings now_n made answer middle now))
+    → answer ≢ Err OutOfMemory → HaveBeenMade core stations sent settings n steps past start text → HaveBeenMade now_core now_stations now_sent settings n more past start now_text
+one_made core now_core settings now_settings n now_n stations now_stations sent now_sent steps more said made answer past start text now_text number is_more is_number same same_n is written next ample were =
     let leads = next were.leads.now were.leads.shows in
-    let counted : length were.answers ≡ length steps = answers_count settings steps were.answers past were.leads.now were.leads.is in
+    let counted : length were.answers ≡ length steps = answers_count settings n steps were.answers past were.leads.now were.leads.is in
     let numbered : number ≡ 1 + length were.answers = omega (arith, is_number, counted) in
-    let one : IsMade settings said answer were.leads.now leads.now = record {
+    let one : IsMade settings n said answer were.leads.now leads.now = record {
       made = made;
       is = is;
-      outcome = subst (λ (w : ℕ → Setting). IsStepOutcome w made answer were.leads.now leads.now) same leads.is;
-      numbers = are_numbers (length sent) (length now_sent) were.leads.now leads.now answer (sent_count core stations sent were.leads.now were.leads.shows)
-          (sent_count now_core now_stations now_sent leads.now leads.shows) first count;
+      leads = subst (λ m. IsStepMade settings m made answer were.leads.now leads.now) same_n (subst (λ (w : ℕ → Setting). IsStepMade w now_n made answer were.leads.now leads.now) same leads.is);
       ample = ample;
     } in
     record {
@@ -76,7 +63,7 @@ one_made core now_core settings now_settings stations now_stations sent now_sent
       leads = record {
         now = leads.now;
         shows = leads.shows;
-        is = subst (λ (l : List ScriptStep). AreMade settings l (were.answers ++ answer ∷ []) past leads.now) (sym is_more) (made_more settings steps were.answers said answer past were.leads.now leads.now were.leads.is one);
+        is = subst (λ (l : List ScriptStep). AreMade settings n l (were.answers ++ answer ∷ []) past leads.now) (sym is_more) (made_more settings n steps were.answers said answer past were.leads.now leads.now were.leads.is one);
       };
     }
 
@@ -84,10 +71,11 @@ one_made core now_core settings now_settings stations now_stations sent now_sent
 pub rehearsed : {G : Ghosts MemoryDisk} (core world_core now_core : Core) (count : ℕ) (stations now_stations : List (Station MemoryDisk G)) (sent now_sent : List Datagram) (lines : List (List ℕ)) (steps : List ScriptStep) (start text whole : List ℕ)
     → AreSteps Says lines steps → world_core ≡ core → length stations ≡ count → now_core ≡ world_core → length now_stations ≡ length stations → start ≡ []
     → Shows core stations sent (first_lives (setting_at core count) 1 (map state_in stations))
-    → ((past : List Move) → Shows world_core stations sent past → HaveBeenMade now_core now_stations now_sent (setting_at world_core (length stations)) steps past start text)
+    → ((past : List Move) → Shows world_core stations sent past → HaveBeenMade now_core now_stations now_sent (setting_at world_core (length stations)) (length stations) steps past start text)
+    → ((moves : List Move) → Shows now_core now_stations now_sent moves → AreUnforged moves → StatesOweTruly moves)
     → ((moves : List Move) → Shows now_core now_stations now_sent moves → whole ≡ text ++ stations_text count moves count)
     → IsRehearsal core count lines whole
-rehearsed core world_core now_core count stations now_stations sent now_sent lines steps start text whole said same counted kept as_many empty opened made written =
+rehearsed core world_core now_core count stations now_stations sent now_sent lines steps start text whole said same counted kept as_many empty opened made square written =
     let firsts = first_lives (setting_at core count) 1 (map state_in stations) in
     let have = made firsts (subst (λ (c : Core). Shows c stations sent firsts) (sym same) opened) in
     let now_same : now_core ≡ core = kept ∙ same in
@@ -100,7 +88,9 @@ rehearsed core world_core now_core count stations now_stations sent now_sent lin
         answers = have.answers;
         moves = have.leads.now;
         are = subst (λ (w : ℕ → Setting). AreMoves w have.leads.now) (λ j. setting_at (now_same j) (now_counted j)) have.leads.shows.shown.are;
-        made = subst (λ (w : ℕ → Setting). AreMade w steps have.answers firsts have.leads.now) (λ j. setting_at (same j) (counted j)) have.leads.is;
+        made = subst (λ m. AreMade (setting_at core count) m steps have.answers firsts have.leads.now) counted
+            (subst (λ (w : ℕ → Setting). AreMade w (length stations) steps have.answers firsts have.leads.now) (λ j. setting_at (same j) (counted j)) have.leads.is);
+        square = square have.leads.now have.leads.shows;
         is = written have.leads.now have.leads.shows ∙ ap (λ l. l ++ stations_text count have.leads.now count) (have.text ∙ ap (λ l. l ++ step_lines 1 have.answers) empty);
       },
     )

@@ -1,5 +1,5 @@
 -- What a rehearsal is: the steps of its script, made one after another in a world, and what that prints.
-use Rattle.std.specs.Prelude.{ℕ, ◌≡◌, ◌≢◌, ◌+◌, List, [], ◌∷◌, ◌++◌, Result, Err, IfOk, length, min}
+use Rattle.std.specs.Prelude.{ℕ, ◌≡◌, ◌≢◌, List, [], ◌∷◌, ◌++◌, Result, Err, length, min}
 use Rattle.std.specs.Borrow.{Bor}
 use Rattle.mon_disk.specs.declared.disk.Disk.{Ghosts}
 use Rattle.mon_disk.specs.declared.memory.MemoryDisk.{MemoryDisk}
@@ -13,10 +13,10 @@ use Rattle.mon_world.specs.declared.sending.Datagram.{Datagram}
 use Rattle.mon_world.specs.declared.sending.Sent.{Sent}
 use Rattle.mon_world.specs.declared.step.Step.{Step}
 use Rattle.mon_world.specs.declared.step.Step.TheVariants as step
-use Rattle.mon_world.specs.Moves.{AreMoves, Move, sent_in}
-use Rattle.mon_world.specs.Outcome.{IsStepOutcome, first_lives}
+use Rattle.mon_world.specs.Moves.{AreMoves, AreUnforged, Move}
+use Rattle.mon_world.specs.Outcome.{IsStepMade, first_lives}
 use Rattle.mon_world.specs.Places.{setting_at}
-use Rattle.mon_world.specs.Shows.{LeadsTo}
+use Rattle.mon_world.specs.Shows.{LeadsTo, StatesOweTruly}
 use Rattle.mon_rehearsal.specs.declared.script.ScriptStep.{ScriptStep}
 use Rattle.mon_rehearsal.specs.declared.script.ScriptStep.TheVariants.{StartPoll, AgentSays, Timeout, Share, Deliver, Save, Restart, Forge, Stop}
 use Rattle.mon_rehearsal.specs.Printed.{stations_text, step_lines}
@@ -38,40 +38,35 @@ IsStepOf (Restart s) made = made ≡ step.Restart s
 IsStepOf (Forge s octets) made = (lent : Bor (List ℕ)) × IsLent octets lent × (made ≡ step.Forge s lent)
 IsStepOf (Stop s calls keep) made = made ≡ step.Stop s (min calls 255) keep
 
--- the numbers of the datagrams between stations that were sent between two lists of moves
-pub record AreNumbers (past now : List Move) (sent : Sent) : Type 0 where
-  pub first : sent.first ≡ length (sent_in past) + 1
-  pub count : length (sent_in past) + sent.count ≡ length (sent_in now)
-
--- a step of a script, with this answer, led from moves to moves; it did not want memory
-pub record IsMade (settings : ℕ → Setting) (said : ScriptStep) (answer : Result Sent WorldFault) (past now : List Move) : Type 0 where
+-- of so many stations with these settings, a step of a script, with this answer, led from moves to moves; it did not want memory
+pub record IsMade (settings : ℕ → Setting) (stations : ℕ) (said : ScriptStep) (answer : Result Sent WorldFault) (past now : List Move) : Type 0 where
   pub made : Step
   pub is : IsStepOf said made
-  pub outcome : IsStepOutcome settings made answer past now
-  pub numbers : IfOk answer (AreNumbers past now)
+  pub leads : IsStepMade settings stations made answer past now
   pub ample : answer ≢ Err OutOfMemory
 
 -- the steps of a script, with these answers, the first first
-abbrev pub AreMade : (ℕ → Setting) → List ScriptStep → List (Result Sent WorldFault) → List Move → List Move → Type 0
-AreMade settings [] [] past now = now ≡ past
-AreMade settings (s ∷ steps) (a ∷ answers) past now = (middle : List Move) × IsMade settings s a past middle × AreMade settings steps answers middle now
-AreMade settings steps answers past now = ⊥
+abbrev pub AreMade : (settings : ℕ → Setting) → (stations : ℕ) → List ScriptStep → List (Result Sent WorldFault) → List Move → List Move → Type 0
+AreMade settings n [] [] past now = now ≡ past
+AreMade settings n (s ∷ steps) (a ∷ answers) past now = (middle : List Move) × IsMade settings n s a past middle × AreMade settings n steps answers middle now
+AreMade settings n steps answers past now = ⊥
 
 -- steps were made one after another, a line was written of each, and this is the world that they led to
-pub record HaveBeenMade {G : Ghosts MemoryDisk} (core : Core) (stations : List (Station MemoryDisk G)) (sent : List Datagram) (settings : ℕ → Setting) (steps : List ScriptStep) (past : List Move) (old new : List ℕ) : Type 0 where
+pub record HaveBeenMade {G : Ghosts MemoryDisk} (core : Core) (stations : List (Station MemoryDisk G)) (sent : List Datagram) (settings : ℕ → Setting) (count : ℕ) (steps : List ScriptStep) (past : List Move) (old new : List ℕ) : Type 0 where
   pub answers : List (Result Sent WorldFault)
   pub text : new ≡ old ++ step_lines 1 answers
-  pub leads : LeadsTo core stations sent (λ now. AreMade settings steps answers past now)
+  pub leads : LeadsTo core stations sent (λ now. AreMade settings count steps answers past now)
 
 -- The text of a rehearsal of these steps over so many stations: in a world whose stations began their first lives on empty disks the steps are made one after
--- another, and a line says the answer of each; then follow the stations as that left them.
+-- another, and a line says the answer of each; then follow the stations as that left them. Where no claim was forged, what these say of their debts is true.
 pub record IsRehearsed (core : Core) (count : ℕ) (steps : List ScriptStep) (text : List ℕ) : Type 0 where
   pub first : List State
   pub opened : length first ≡ count
   pub answers : List (Result Sent WorldFault)
   pub moves : List Move
   pub are : AreMoves (setting_at core count) moves
-  pub made : AreMade (setting_at core count) steps answers (first_lives (setting_at core count) 1 first) moves
+  pub made : AreMade (setting_at core count) count steps answers (first_lives (setting_at core count) 1 first) moves
+  pub square : AreUnforged moves → StatesOweTruly moves
   pub is : text ≡ step_lines 1 answers ++ stations_text count moves count
 
 -- the text of a rehearsal of what these lines say

@@ -1,5 +1,6 @@
 -- Why a script was not read.
 use Rattle.std.specs.Prelude.{ℕ, List}
+use Rattle.mon_world.specs.Fault.{IsFaultOfNew}
 use Rattle.mon_rehearsal.specs.declared.fault.ScriptFault.{ScriptFault}
 use Rattle.mon_rehearsal.specs.declared.fault.ScriptFault.TheVariants.{OutOfMemory, BadScript}
 use Rattle.mon_rehearsal.specs.declared.fault.RehearsalFault.{RehearsalFault}
@@ -16,8 +17,8 @@ abbrev pub IsFaultOfScript : (List ℕ → ScriptStep → Type 0) → List (List
 IsFaultOfScript says lines OutOfMemory = Unit {0}
 IsFaultOfScript says lines (BadScript number) = IsFirstBad says lines number
 
--- why a script of these lines, read in this way, was not rehearsed
-abbrev pub IsFaultOfRehearsal : (List ℕ → ScriptStep → Type 0) → List (List ℕ) → RehearsalFault → Type 0
-IsFaultOfRehearsal says lines rehearsal.OutOfMemory = Unit {0}
-IsFaultOfRehearsal says lines (rehearsal.BadScript number) = IsFirstBad says lines number
-IsFaultOfRehearsal says lines (rehearsal.World fault) = IsScript says lines
+-- why a script of these lines, read in this way, was not rehearsed over so many stations
+abbrev pub IsFaultOfRehearsal : (List ℕ → ScriptStep → Type 0) → ℕ → List (List ℕ) → RehearsalFault → Type 0
+IsFaultOfRehearsal says count lines rehearsal.OutOfMemory = Unit {0}
+IsFaultOfRehearsal says count lines (rehearsal.BadScript number) = IsFirstBad says lines number
+IsFaultOfRehearsal says count lines (rehearsal.World fault) = IsScript says lines × IsFaultOfNew count fault

@@ -32,12 +32,13 @@ pub fn rehearse(
     requires few { count ≤ 16 }
     requires some { 1 ≤ count }
     ensures printed { IfOk result (λ text. IsRehearsal core.now count (lines_of script.now) text.items) }
-    ensures fault { IfErr result (IsFaultOfRehearsal Says (lines_of script.now)) }
+    ensures fault { IfErr result (IsFaultOfRehearsal Says count (lines_of script.now)) }
 {
     let steps = read_script(alloc, script)?;
     let mut world = World::new(alloc, core, count)?;
     let mut text = Vec::new(alloc);
     make_steps(alloc, &mut world, steps.as_slice(), &mut text)?;
+    world.debts();
     put_stations(alloc, &mut text, &world, count)?;
     Ok(text)
 }
@@ -50,7 +51,7 @@ fn make_steps(
     text: &mut Vec<u8>,
 ) -> Result<(), RehearsalFault>
     ensures made { OnOk result ((past : List Move) → Shows world.old.core world.old.stations.items world.old.sent.items past
-        → HaveBeenMade world.new.core world.new.stations.items world.new.sent.items (setting_at world.old.core (length world.old.stations.items)) steps.now past text.old.items text.new.items) }
+        → HaveBeenMade world.new.core world.new.stations.items world.new.sent.items (setting_at world.old.core (length world.old.stations.items)) (length world.old.stations.items) steps.now past text.old.items text.new.items) }
     ensures core { world.new.core ≡ world.old.core }
     ensures stations { length world.new.stations.items ≡ length world.old.stations.items }
     ensures fault { IfErr result (λ f. f ≡ fault.OutOfMemory) }

@@ -53,7 +53,7 @@ peers_of y (c ∷ cs) = ap (λ (l : List Parcel). (y, claim_octets c) ∷ l) (pe
 
 no_resends : (verdict : TimedOut) → to_peers (resends verdict) ≡ []
 no_resends (Again target octets) = refl
-no_resends GivenUp = refl
+no_resends (GivenUp target) = refl
 no_resends NotOpen = refl
 
 sends_are : (s : State) (e : ReadEvent) → map parcel_of (to_peers (sends s e)) ≡ map parcel_with (map (letter (addressee e)) (claims_sent s e))
@@ -88,7 +88,7 @@ numbered watch own.Save e is = subst (IsNumberedIn watch) (sym is) tt
 pub torn : (old new : MemoryDisk) (P : List ℕ → Type 0) → LeavesSince (λ m. length m.calls.items) (λ m. leaves_since m.first.items m.calls.items) old new P → Leaves (memory_leaves new) P
 torn old new P since c left = since.each c (counts new.first.items new.calls.items (length old.calls.items) c since.later left)
 
-finds_as : (lives : List (Entry × State)) (c old : List ℕ) → IsAs c old → FindsOne lives old → FindsOne lives c
+pub finds_as : (lives : List (Entry × State)) (c old : List ℕ) → IsAs c old → FindsOne lives old → FindsOne lives c
 finds_as lives c old same one = record {
   later = one.later;
   state = one.state;
@@ -114,7 +114,7 @@ still lives e answer s c same saved one = record {
 
 module _ (lives : List (Entry × State)) (o s : State) (is : last_state lives ≡ Some o) where
   -- the save that was answered, or that met the disk's fault
-  pub this_save : (answer : Option StationFault) → MayFind ((Answered Save answer, s) ∷ lives) 0 → (c : List ℕ) → FindsState o c → FindsOne ((Answered Save answer, s) ∷ lives) c
+  unfoldable pub this_save : (answer : Option StationFault) → MayFind ((Answered Save answer, s) ∷ lives) 0 → (c : List ℕ) → FindsState o c → FindsOne ((Answered Save answer, s) ∷ lives) c
   this_save answer may c finds = record { later = 0; state = o; may = may; there = front (last_state lives) is; finds = finds }
     where
       front : (old : Option State) → old ≡ Some o → at_place 0 (Rattle.mon_station.specs.Lived.in_front old (saved_states lives)) ≡ Some o
@@ -122,7 +122,7 @@ module _ (lives : List (Entry × State)) (o s : State) (is : last_state lives �
       front (Some p) e = e
 
   -- an earlier one
-  pub earlier_save : (f : StationFault) (c : List ℕ) → FindsOne lives c → FindsOne ((Answered Save (Some f), s) ∷ lives) c
+  unfoldable pub earlier_save : (f : StationFault) (c : List ℕ) → FindsOne lives c → FindsOne ((Answered Save (Some f), s) ∷ lives) c
   earlier_save f c one = record { later = suc one.later; state = one.state; may = one.may; there = front (last_state lives) is; finds = one.finds }
     where
       front : (old : Option State) → old ≡ Some o → at_place (suc one.later) (Rattle.mon_station.specs.Lived.in_front old (saved_states lives)) ≡ Some one.state

@@ -4,7 +4,6 @@ mod Appended
 mod Begun
 mod Asked
 mod First
-mod Fused
 mod Heard
 mod Instances
 mod Kept
@@ -15,10 +14,13 @@ mod Offered
 mod Offers
 mod Others
 mod Outcomes
+pub mod Promised
 mod Reopened
 mod Results
 mod Squared
 mod Stations
+mod Stopped
 mod Strangers
 mod Tells
 mod Unforged
+mod Unopened

@@ -1,6 +1,6 @@
 -- A station that is opened again, from its disk or after a stop.
-use Rattle.std.proofs.Common.{ℕ, zero, suc, ◌≡◌, ◌+◌, inl, inr, Bool, true, false, List, [], ◌∷◌, ◌++◌, length, Option, Some, None, Result, Ok, Err, refl, sym, ◌∙◌, ap, subst, arith}
-use Rattle.std.specs.Prelude.{◌&&◌, OnErr, OnOk, slice_get, slice_set}
+use Rattle.std.proofs.Common.{ℕ, zero, suc, ◌≡◌, ◌+◌, Bool, true, false, List, [], ◌∷◌, ◌++◌, length, Option, Some, None, Result, Ok, Err, refl, sym, ◌∙◌, ap, subst, arith}
+use Rattle.std.specs.Prelude.{◌&&◌, OnErr, OnOk, nat_lt, slice_get, slice_set}
 use Rattle.std.proofs.lemmas.List.{append-nil, set-get_or}
 use Rattle.std.proofs.lemmas.Option.{get_or_from_slice_get}
 use Rattle.mon_board.specs.Board.{Board, MarksEntries, is_marked, window_of}
@@ -13,6 +13,7 @@ use Rattle.mon_disk.specs.declared.fault.KeeperFault.TheVariants as keeper
 use Rattle.mon_disk.specs.declared.memory.MemoryDisk.{MemoryDisk}
 use Rattle.mon_disk.specs.Disk.{Leaves}
 use Rattle.mon_disk.specs.Keeper.{found_body}
+use Rattle.mon_disk.specs.Kept.{device_of}
 use Rattle.mon_disk.specs.Memory.{memory_leaves, memory_octets}
 use Rattle.mon_disk.specs.Outcomes.{seen_left}
 use Rattle.mon_settings.specs.StationCore.{Core}
@@ -21,7 +22,7 @@ use Rattle.mon_station.specs.declared.fault.StationFault.TheVariants as station
 use Rattle.mon_station.specs.declared.station.Station.{Station}
 use Rattle.mon_station.specs.Lived.{IsLived, IsReopened, Reopens, in_front, last_state, saved_states}
 use Rattle.mon_station.specs.ReadEvent.{StartPoll, Timeout, FromAgent, FromPeer, Share, Save}
-use Rattle.mon_station.specs.Saved.{FindsRunning, FindsState, IsBegun}
+use Rattle.mon_station.specs.Saved.{FindsState, IsBegun}
 use Rattle.mon_station.specs.State.{State, IsHandled, setting_of}
 use Rattle.mon_station.specs.Taken.{Entry, Restart, Answered, Origin, Saved, at_place}
 use Rattle.mon_station.specs.Verdict.{Setting}
@@ -30,10 +31,10 @@ use Rattle.mon_world.specs.declared.sending.Datagram.{Datagram}
 use Rattle.mon_world.specs.declared.sending.Sent.{Sent}
 use Rattle.mon_world.specs.Fault.{refusal_in}
 use Rattle.mon_world.specs.Moves.{AreLives, MayBegin, MayFind, Move, letters_by, lives_of, sent_in}
-use Rattle.mon_world.specs.Outcome.{Does, DoesOr, Opens, StopsAndOpens, answers, life_begins}
+use Rattle.mon_world.specs.Outcome.{Does, DoesOr, IsStopOrigin, Opens, StopsAndOpens, answers, calls_of_save, life_begins}
 use Rattle.mon_world.specs.Places.{HasNumber, setting_at}
-use Rattle.mon_world.specs.Shows.{AreSent, AreShown, FindsOne, IsReplaced, LeadsTo, Shows, disk_leaves, state_in}
-use Rattle.mon_world.proofs.Asked.{earlier_save, finds_running, handled_lived, its_disk, its_state, moved, this_save}
+use Rattle.mon_world.specs.Shows.{AreSent, AreShown, FindsOne, FindsStopped, IsReplaced, LeadsTo, Shows, disk_leaves, state_in}
+use Rattle.mon_world.proofs.Asked.{earlier_save, finds_as, handled_lived, its_disk, its_state, moved, this_save}
 use Rattle.mon_world.proofs.Letters.{own_lives}
 use Rattle.mon_world.proofs.Lives.{before, not_some, setting_is, some_same}
 
@@ -125,9 +126,10 @@ module _ {G : Ghosts MemoryDisk} (core : Core) (stations : List (Station MemoryD
   no_letters past m o is none = ap (λ (q : Option State). sent_in past ++ letters_by q m.entry) is ∙ ap (λ l. sent_in past ++ l) none ∙ append-nil (sent_in past)
 
   -- a station that is opened from what may be found of its lives
-  pub opened_again : (was : AreShown core stations past) (file : List ℕ) → FindsOne (lives_of (place + 1) past) file → (new : List (Station MemoryDisk G)) → IsReplaced core place (found_body file) stations new
-      → (sent : List Datagram) → AreSent sent (sent_in past) → LeadsTo core new sent (λ now. Opens (setting_at core (length stations)) (place + 1) None past now)
-  opened_again was file one new replaced sent letters =
+  pub opened_from : (was : AreShown core stations past) (file : List ℕ) → (one : FindsOne (lives_of (place + 1) past) file) → (new : List (Station MemoryDisk G)) → IsReplaced core place (found_body file) stations new
+      → (sent : List Datagram) → AreSent sent (sent_in past)
+      → LeadsTo core new sent (λ now. (s : State) × (now ≡ life_begins (place + 1) (Saved one.later) (setting_at core (length stations) (place + 1)) s ∷ past))
+  opened_from was file one new replaced sent letters =
       let lives = lives_of (place + 1) past in
       let w = setting_at core (length stations) (place + 1) in
       let s = state_in replaced.station in
@@ -144,8 +146,14 @@ module _ {G : Ghosts MemoryDisk} (core : Core) (stations : List (Station MemoryD
           shown = subst (λ (l : List (Station MemoryDisk G)). AreShown core l (m ∷ past)) (sym replaced.is) shown;
           letters = subst (AreSent sent) (sym (no_letters past m (Some (state_in old)) state refl)) letters;
         };
-        is = (Saved one.later, s, refl);
+        is = (s, refl);
       }
+
+  pub opened_again : (was : AreShown core stations past) (file : List ℕ) → FindsOne (lives_of (place + 1) past) file → (new : List (Station MemoryDisk G)) → IsReplaced core place (found_body file) stations new
+      → (sent : List Datagram) → AreSent sent (sent_in past) → LeadsTo core new sent (λ now. Opens (setting_at core (length stations)) (place + 1) None past now)
+  opened_again was file one new replaced sent letters =
+      let leads = opened_from was file one new replaced sent letters in
+      record { now = leads.now; shows = leads.shows; is = (Saved one.later, leads.is.0, leads.is.1) }
 
   -- what an opening finds in what a crash leaves of its disk
   pub found_there : (was : AreShown core stations past) (file : List ℕ) → disk_leaves old file → FindsOne (lives_of (place + 1) past) file
@@ -171,27 +179,35 @@ module _ {G : Ghosts MemoryDisk} (core : Core) (stations : List (Station MemoryD
       (moved core stations past was place old old at (Answered Save (Some disk_fault)) (handled_lived core stations past was place old old at Save (Some disk_fault) handled) (tt, was.are.lives (place + 1))
       (λ c left. earlier_save lives (state_in old) (state_in old) (its_state core stations past was place old old at) disk_fault c (its_disk core stations past was place old old at c left)))
 
-  pub found_stopped : (was : AreShown core stations past) (file : List ℕ) → FindsRunning (disk_leaves old) (state_in old) file → FindsOne (lives_of (place + 1) (save_move ∷ past)) file
-  found_stopped was file found =
+  -- what an opening finds after these lives, and from where a life begins that does
+  abbrev FindsFrom : (early : Bool) → List ℕ → List (Entry × State) → Type 0
+  FindsFrom early file lives = (one : FindsOne lives file) × IsStopOrigin early (lives_of (place + 1) past) (Saved one.later)
+
+  pub found_stopped : (was : AreShown core stations past) (early : Bool) (file : List ℕ) → FindsStopped early (state_in old) (memory_octets (device_of old.keeper)) file → FindsFrom early file (lives_of (place + 1) (save_move ∷ past))
+  unfolding this_save earlier_save
+  found_stopped was true file found =
       let lives = lives_of (place + 1) past in
-      let state = its_state core stations past was place old old at in
-      subst (λ l. FindsOne l file) (sym (own_lives save_move past)) (elim (finds_running lives (state_in old) (disk_leaves old) (its_disk core stations past was place old old at) file found) [
-        | inl before ↦ earlier_save lives (state_in old) (state_in old) state disk_fault file before
-        | inr here ↦ this_save lives (state_in old) (state_in old) state (Some disk_fault) refl file here
-      ])
+      let seen = memory_octets (device_of old.keeper) in
+      let before = finds_as lives file seen found (found_there was seen (seen_is_left (device_of old.keeper))) in
+      subst (FindsFrom true file) (sym (own_lives save_move past)) (earlier_save lives (state_in old) (state_in old) (its_state core stations past was place old old at) disk_fault file before, before.may)
+  found_stopped was false file found =
+      let lives = lives_of (place + 1) past in
+      subst (FindsFrom false file) (sym (own_lives save_move past)) (this_save lives (state_in old) (state_in old) (its_state core stations past was place old old at) (Some disk_fault) refl file found, tt)
 
   pub save_letters : (was : AreShown core stations past) → sent_in (save_move ∷ past) ≡ sent_in past
   save_letters was = no_letters past save_move (Some (state_in old)) (its_state core stations past was place old old at) refl
 
 -- a station that is opened after a stop
 pub opened_stopped : {G : Ghosts MemoryDisk} (core : Core) (stations : List (Station MemoryDisk G)) (past : List Move) (place : ℕ) (old : Station MemoryDisk G) (at : HasNumber stations (place + 1) old)
-    → AreShown core stations past → IsHandled Save (Some (station.Keeper keeper.DiskFault)) (state_in old) (state_in old) → (file : List ℕ) → FindsRunning (disk_leaves old) (state_in old) file
+    → AreShown core stations past → IsHandled Save (Some (station.Keeper keeper.DiskFault)) (state_in old) (state_in old) → (calls : ℕ) (keep : Bool) (file : List ℕ)
+    → FindsStopped (nat_lt calls (calls_of_save keep)) (state_in old) (memory_octets (device_of old.keeper)) file
     → (new : List (Station MemoryDisk G)) → IsReplaced core place (found_body file) stations new → (sent : List Datagram) → AreSent sent (sent_in past)
-    → LeadsTo core new sent (λ now. StopsAndOpens (setting_at core (length stations)) (place + 1) None past now)
-opened_stopped core stations past place old at was handled file found new replaced sent letters =
-    let leads = opened_again core stations (save_move core stations past place old at ∷ past) place old at (save_shown core stations past place old at was handled) file
-    (found_stopped core stations past place old at was file found) new replaced sent (subst (AreSent sent) (sym (save_letters core stations past place old at was)) letters) in
-    record { now = leads.now; shows = leads.shows; is = (state_in old, leads.is) }
+    → LeadsTo core new sent (λ now. StopsAndOpens (setting_at core (length stations)) (place + 1) calls keep None past now)
+opened_stopped core stations past place old at was handled calls keep file found new replaced sent letters =
+    let from = found_stopped core stations past place old at was (nat_lt calls (calls_of_save keep)) file found in
+    let leads = opened_from core stations (save_move core stations past place old at ∷ past) place old at (save_shown core stations past place old at was handled) file
+    from.0 new replaced sent (subst (AreSent sent) (sym (save_letters core stations past place old at was)) letters) in
+    record { now = leads.now; shows = leads.shows; is = record { running = state_in old; origin = Saved from.0.later; after = leads.is.0; is = leads.is.1; from = from.1 } }
 
 -- ---- calls that open again
 module _ {G : Ghosts MemoryDisk} (core : Core) (stations new : List (Station MemoryDisk G)) (past : List Move) (place : ℕ) (sent : List Datagram) (was : Shows core stations sent past) where
@@ -212,13 +228,15 @@ module _ {G : Ghosts MemoryDisk} (core : Core) (stations new : List (Station Mem
       by (Err f) rep k = stays (Opens (setting_at core (length stations)) (place + 1)) (λ g. refl) (refusal_in f) k
 
   pub stop_leads : (number : ℕ) → number ≡ place + 1 → (old : Station MemoryDisk G) → HasNumber stations (place + 1) old → IsHandled Save (Some (station.Keeper keeper.DiskFault)) (state_in old) (state_in old)
-      → (file : List ℕ) → FindsRunning (disk_leaves old) (state_in old) file → (result : Result Sent WorldFault) → OnOk result (IsReplaced core place (found_body file) stations new) → OnErr result (new ≡ stations)
-      → LeadsTo core new sent (λ now. Does (StopsAndOpens (setting_at core (length stations)) number) result past now)
-  stop_leads number same old at handled file found result opened kept = subst (λ x. LeadsTo core new sent (λ now. Does (StopsAndOpens (setting_at core (length stations)) x) result past now)) (sym same) (by result opened kept)
+      → (calls : ℕ) (keep : Bool) (file : List ℕ) → FindsStopped (nat_lt calls (calls_of_save keep)) (state_in old) (memory_octets (device_of old.keeper)) file
+      → (result : Result Sent WorldFault) → OnOk result (IsReplaced core place (found_body file) stations new) → OnErr result (new ≡ stations)
+      → LeadsTo core new sent (λ now. Does (StopsAndOpens (setting_at core (length stations)) number calls keep) result past now)
+  stop_leads number same old at handled calls keep file found result opened kept =
+      subst (λ x. LeadsTo core new sent (λ now. Does (StopsAndOpens (setting_at core (length stations)) x calls keep) result past now)) (sym same) (by result opened kept)
     where
-      by : (r : Result Sent WorldFault) → OnOk r (IsReplaced core place (found_body file) stations new) → OnErr r (new ≡ stations) → LeadsTo core new sent (λ now. Does (StopsAndOpens (setting_at core (length stations)) (place + 1)) r past now)
-      by (Ok s) rep k = opened_stopped core stations past place old at was.shown handled file found new rep sent was.letters
-      by (Err f) rep k = stays (StopsAndOpens (setting_at core (length stations)) (place + 1)) (λ g. refl) (refusal_in f) k
+      by : (r : Result Sent WorldFault) → OnOk r (IsReplaced core place (found_body file) stations new) → OnErr r (new ≡ stations) → LeadsTo core new sent (λ now. Does (StopsAndOpens (setting_at core (length stations)) (place + 1) calls keep) r past now)
+      by (Ok s) rep k = opened_stopped core stations past place old at was.shown handled calls keep file found new rep sent was.letters
+      by (Err f) rep k = stays (StopsAndOpens (setting_at core (length stations)) (place + 1) calls keep) (λ g. refl) (refusal_in f) k
 
 -- what a copy of a disk reads, a crash may leave of the disk
 pub left_of_copy : (device disk copy : MemoryDisk) → disk ≡ device → memory_octets copy ≡ memory_octets disk → memory_leaves device (memory_octets copy)

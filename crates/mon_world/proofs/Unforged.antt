@@ -1,5 +1,5 @@
 -- Steps that forge nothing.
-use Rattle.std.proofs.Common.{ℕ, zero, suc, ◌≡◌, ◌+◌, List, [], ◌∷◌, ◌++◌, Option, Some, None, Result, Ok, Err, refl, sym, ap, subst, arith}
+use Rattle.std.proofs.Common.{ℕ, zero, suc, ◌≡◌, ◌+◌, Bool, List, [], ◌∷◌, ◌++◌, Option, Some, None, Result, Ok, Err, refl, sym, ap, subst, arith}
 use Rattle.std.specs.Prelude.{Contains, slice_get}
 use Rattle.std.specs.List.{AllByRecursion}
 use Rattle.mon_board.specs.Watch.{Watch}
@@ -78,9 +78,9 @@ module _ (meaning : (octets : List ℕ) (c d : Claim) → SpellsClaim octets c �
   opened x None past now o were = subst AreUnforged (sym o.2) (tt, were)
   opened x (Some f) past now o were = subst AreUnforged (sym o) were
 
-  stopped : (x : ℕ) (answer : Option StationFault) (past now : List Move) → StopsAndOpens settings x answer past now → AreUnforged past → AreUnforged now
-  stopped x None past now o were = opened x None (answers x Save (Some (fault.Keeper keeper.DiskFault)) o.0 ∷ past) now o.1 (tt, were)
-  stopped x (Some f) past now o were = subst AreUnforged (sym o) were
+  stopped : (x calls : ℕ) (keep : Bool) (answer : Option StationFault) (past now : List Move) → StopsAndOpens settings x calls keep answer past now → AreUnforged past → AreUnforged now
+  stopped x calls keep None past now o were = subst AreUnforged (sym o.is) (tt, (tt, were))
+  stopped x calls keep (Some f) past now o were = subst AreUnforged (sym o) were
 
   letter_sent : (d : ℕ) (l : Letter) (past : List Move) → HasNumber (sent_in past) d l → AreClaims past → IsClaim l.claim × Contains (claims_of (sent_in past)) l.claim
   letter_sent zero l past there all = absurd there
@@ -97,7 +97,7 @@ module _ (meaning : (octets : List ℕ) (c d : Claim) → SpellsClaim octets c �
   made (step.Save x) answer past now unforged all h were = handed (settings x) x own.Save answer past now (λ e reads. harmless (sent_in past) (settings x).watch own.Save e answer (λ octets is. cc) reads) h were
   made (step.Restart x) answer past now unforged all h were = opened x answer past now h were
   made (step.Forge x octets) answer past now unforged all h were = absurd unforged
-  made (step.Stop x calls keep) answer past now unforged all h were = stopped x answer past now h were
+  made (step.Stop x calls keep) answer past now unforged all h were = stopped x calls keep answer past now h were
 
   -- ---- moves go on from those before
   hands_claims : (w : Setting) (x : ℕ) (event : OwnedEvent) (answer : Option StationFault) (past now : List Move) → Hands w x event answer past now → AreClaims now → AreClaims past
@@ -107,9 +107,11 @@ module _ (meaning : (octets : List ℕ) (c d : Claim) → SpellsClaim octets c �
   opened_claims x None past now o all = claims_before (life_begins x o.0 (settings x) o.1) past (subst AreClaims o.2 all)
   opened_claims x (Some f) past now o all = subst AreClaims o all
 
-  stopped_claims : (x : ℕ) (answer : Option StationFault) (past now : List Move) → StopsAndOpens settings x answer past now → AreClaims now → AreClaims past
-  stopped_claims x None past now o all = claims_before (answers x Save (Some (fault.Keeper keeper.DiskFault)) o.0) past (opened_claims x None (answers x Save (Some (fault.Keeper keeper.DiskFault)) o.0 ∷ past) now o.1 all)
-  stopped_claims x (Some f) past now o all = subst AreClaims o all
+  stopped_claims : (x calls : ℕ) (keep : Bool) (answer : Option StationFault) (past now : List Move) → StopsAndOpens settings x calls keep answer past now → AreClaims now → AreClaims past
+  stopped_claims x calls keep None past now o all =
+      let save = answers x Save (Some (fault.Keeper keeper.DiskFault)) o.running in
+      claims_before save past (claims_before (life_begins x o.origin (settings x) o.after) (save ∷ past) (subst AreClaims o.is all))
+  stopped_claims x calls keep (Some f) past now o all = subst AreClaims o all
 
   made_claims : (s : Step) (answer : Option StationFault) (past now : List Move) → Makes settings s answer past now → AreClaims now → AreClaims past
   made_claims (step.StartPoll x t) answer past now h all = hands_claims (settings x) x _ answer past now h all
@@ -120,7 +122,7 @@ module _ (meaning : (octets : List ℕ) (c d : Claim) → SpellsClaim octets c �
   made_claims (step.Save x) answer past now h all = hands_claims (settings x) x _ answer past now h all
   made_claims (step.Restart x) answer past now h all = opened_claims x answer past now h all
   made_claims (step.Forge x octets) answer past now h all = hands_claims (settings x) x _ answer past now h all
-  made_claims (step.Stop x calls keep) answer past now h all = stopped_claims x answer past now h all
+  made_claims (step.Stop x calls keep) answer past now h all = stopped_claims x calls keep answer past now h all
 
   -- ---- steps and their results
   outcome_both : (s : Step) (r : Result Sent WorldFault) (past now : List Move) → IsUnforged s → AreClaims now → IsStepOutcome settings s r past now → AreClaims past × (AreUnforged past → AreUnforged now)
@@ -133,18 +135,18 @@ module _ (meaning : (octets : List ℕ) (c d : Claim) → SpellsClaim octets c �
       by None is = (subst AreClaims is all, subst AreUnforged (sym is))
       by (Some g) h = let before = made_claims s (Some g) past now h all in (before, made s (Some g) past now unforged before h)
 
-  outcomes_both : (steps : List Step) (results : List (Result Sent WorldFault)) (past now : List Move) → AllByRecursion IsUnforged steps → AreClaims now → AreStepOutcomes settings steps results past now → AreClaims past × (AreUnforged past → AreUnforged now)
-  outcomes_both [] [] past now unforged all is = (subst AreClaims is all, subst AreUnforged (sym is))
-  outcomes_both [] (r ∷ results) past now unforged all h = absurd h
-  outcomes_both (s ∷ steps) [] past now unforged all h = absurd h
-  outcomes_both (s ∷ steps) (r ∷ results) past now unforged all h =
-      let rest = outcomes_both steps results h.0 now unforged.1 all h.2 in
-      let first = outcome_both s r past h.0 unforged.0 rest.0 h.1 in
+  outcomes_both : (n : ℕ) (steps : List Step) (results : List (Result Sent WorldFault)) (past now : List Move) → AllByRecursion IsUnforged steps → AreClaims now → AreStepOutcomes settings n steps results past now → AreClaims past × (AreUnforged past → AreUnforged now)
+  outcomes_both n [] [] past now unforged all is = (subst AreClaims is all, subst AreUnforged (sym is))
+  outcomes_both n [] (r ∷ results) past now unforged all h = absurd h
+  outcomes_both n (s ∷ steps) [] past now unforged all h = absurd h
+  outcomes_both n (s ∷ steps) (r ∷ results) past now unforged all h =
+      let rest = outcomes_both n steps results h.0 now unforged.1 all h.2 in
+      let first = outcome_both s r past h.0 unforged.0 rest.0 h.1.outcome in
       (first.0, λ were. rest.1 (first.1 were))
 
   -- steps of which none forges a claim
-  pub unforged_outcomes : (steps : List Step) (results : List (Result Sent WorldFault)) (past now : List Move) → AllByRecursion IsUnforged steps → AreClaims now → AreStepOutcomes settings steps results past now → AreUnforged past → AreUnforged now
-  unforged_outcomes steps results past now unforged all h = (outcomes_both steps results past now unforged all h).1
+  pub unforged_outcomes : (n : ℕ) (steps : List Step) (results : List (Result Sent WorldFault)) (past now : List Move) → AllByRecursion IsUnforged steps → AreClaims now → AreStepOutcomes settings n steps results past now → AreUnforged past → AreUnforged now
+  unforged_outcomes n steps results past now unforged all h = (outcomes_both n steps results past now unforged all h).1
 
   pub unforged_outcome : (s : Step) (r : Result Sent WorldFault) (past now : List Move) → IsUnforged s → AreClaims now → IsStepOutcome settings s r past now → AreUnforged past → AreUnforged now
   unforged_outcome s r past now unforged all h = (outcome_both s r past now unforged all h).1

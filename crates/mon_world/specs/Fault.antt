@@ -1,12 +1,14 @@
 -- The faults of a world, and why a step has one.
 use Rattle.std.specs.Prelude.{ℕ, List, codes, ◌≤◌, ◌<◌, Option, Some, None}
+use Rattle.mon_disk.specs.declared.fault.KeeperFault.{KeeperFault}
+use Rattle.mon_disk.specs.declared.fault.KeeperFault.TheVariants as keeper
 use Rattle.mon_station.specs.declared.fault.StationFault.{StationFault}
 use Rattle.mon_station.specs.declared.fault.StationFault.TheVariants as station
 use Rattle.mon_world.specs.declared.fault.WorldFault.{WorldFault}
 use Rattle.mon_world.specs.declared.fault.WorldFault.TheVariants.{OutOfMemory, NoSuchStation, NoSuchDatagram, Refused, BadCount, BadStop}
 use Rattle.mon_world.specs.declared.step.Step.{Step}
 use Rattle.mon_world.specs.declared.step.Step.TheVariants as step
-use Rattle.mon_world.specs.Places.{IsNumberTo, IsNoNumberTo}
+use Rattle.mon_world.specs.Places.{IsNoCount, IsNumberTo, IsNoNumberTo}
 
 -- the number of a fault
 abbrev pub number_of : WorldFault → ℕ
@@ -31,10 +33,28 @@ abbrev pub station_refusal : StationFault → WorldFault
 station_refusal station.OutOfMemory = OutOfMemory
 station_refusal f = Refused f
 
+-- the fault of a keeper over a copy in memory: its disk fails only where memory is refused
+abbrev pub copy_fault : KeeperFault → StationFault
+copy_fault keeper.OutOfMemory = station.OutOfMemory
+copy_fault keeper.DiskFault = station.OutOfMemory
+copy_fault f = station.Keeper f
+
 -- the fault with which a station refused, where it was a station
 abbrev pub refusal_in : WorldFault → Option StationFault
 refusal_in (Refused f) = Some f
 refusal_in f = None
+
+-- why a station was not opened on an empty disk in memory: the disk failed, as it does where memory is refused
+abbrev pub IsFaultOfFirst : StationFault → Type 0
+IsFaultOfFirst (station.Keeper keeper.DiskFault) = Unit {0}
+IsFaultOfFirst f = ⊥
+
+-- why a world of so many stations was not opened
+abbrev pub IsFaultOfNew : ℕ → WorldFault → Type 0
+IsFaultOfNew count OutOfMemory = Unit {0}
+IsFaultOfNew count BadCount = IsNoCount count
+IsFaultOfNew count (Refused f) = IsFaultOfFirst f
+IsFaultOfNew count f = ⊥
 
 -- what a step names is there, of so many stations and datagrams
 abbrev pub IsThere : (stations datagrams : ℕ) → Step → Type 0

@@ -1,5 +1,5 @@
 -- What a step of a world does: the moves that it adds.
-use Rattle.std.specs.Prelude.{ℕ, ◌≡◌, ◌+◌, ◌-◌, nat_lt, ◌&&◌, if◌then◌else◌, List, [], ◌∷◌, Option, Some, None, Result, Ok, Err, All, length}
+use Rattle.std.specs.Prelude.{ℕ, zero, suc, ◌≡◌, ◌+◌, ◌-◌, Bool, true, false, nat_lt, ◌&&◌, if◌then◌else◌, List, [], ◌∷◌, Option, Some, None, Result, Ok, Err, All, IfErr, IfOk, OnErr, OnOk, length}
 use Rattle.mon_disk.specs.declared.fault.KeeperFault.TheVariants as keeper
 use Rattle.mon_exchange.specs.Claim.{claim_octets}
 use Rattle.mon_poller.specs.declared.addr.Addr.{Addr}
@@ -11,14 +11,14 @@ use Rattle.mon_station.specs.declared.fault.StationFault.{StationFault}
 use Rattle.mon_station.specs.declared.fault.StationFault.TheVariants as fault
 use Rattle.mon_station.specs.ReadEvent.{ReadEvent, Save, ReadsAs}
 use Rattle.mon_station.specs.State.{State}
-use Rattle.mon_station.specs.Taken.{Origin, Nothing, Restart, Answered}
+use Rattle.mon_station.specs.Taken.{Entry, Origin, Nothing, Saved, Restart, Answered}
 use Rattle.mon_station.specs.Verdict.{Setting}
 use Rattle.mon_world.specs.declared.fault.WorldFault.{WorldFault}
 use Rattle.mon_world.specs.declared.sending.Sent.{Sent}
 use Rattle.mon_world.specs.declared.step.Step.{Step}
 use Rattle.mon_world.specs.declared.step.Step.TheVariants as step
-use Rattle.mon_world.specs.Fault.{refusal_in}
-use Rattle.mon_world.specs.Moves.{Move, Letter, sent_in}
+use Rattle.mon_world.specs.Fault.{IsCause, IsThere, refusal_in}
+use Rattle.mon_world.specs.Moves.{MayFind, Move, Letter, lives_of, sent_in}
 use Rattle.mon_world.specs.Places.{HasNumber, IsNumberTo, IsNoNumberTo}
 
 -- ---- moves
@@ -57,10 +57,31 @@ abbrev pub Opens : (settings : ℕ → Setting) → ℕ → Option StationFault 
 Opens settings x None past now = (origin : Origin) × (s : State) × (now ≡ life_begins x origin (settings x) s ∷ past)
 Opens settings x (Some f) past now = now ≡ past
 
--- station x stops within a save, which met the disk's fault, and is opened again; or it runs on as it was
-abbrev pub StopsAndOpens : (settings : ℕ → Setting) → ℕ → Option StationFault → List Move → List Move → Type 0
-StopsAndOpens settings x None past now = (s : State) × Opens settings x None (answers x Save (Some (fault.Keeper keeper.DiskFault)) s ∷ past) now
-StopsAndOpens settings x (Some f) past now = now ≡ past
+-- the calls of a save after which an opening finds it: all but the last sync where what was written stays, and else all six
+abbrev pub calls_of_save : Bool → ℕ
+calls_of_save true = 5
+calls_of_save false = 6
+
+-- From where a life begins after these lives and a save that was stopped: where that was too early, from a save that an opening may find without it, and else from
+-- that save.
+abbrev pub IsStopOrigin : (early : Bool) → List (Entry × State) → Origin → Type 0
+IsStopOrigin true lives (Saved (suc later)) = MayFind lives later
+IsStopOrigin false lives (Saved zero) = Unit {0}
+IsStopOrigin early lives origin = ⊥
+
+-- station x stops within a save after so many calls of the disk, of which what was written since the last sync stays or is lost, and is opened again; the save met
+-- the disk's fault
+pub record Stops (w : Setting) (x calls : ℕ) (keep : Bool) (past now : List Move) : Type 0 where
+  pub running : State
+  pub origin : Origin
+  pub after : State
+  pub is : now ≡ life_begins x origin w after ∷ answers x Save (Some (fault.Keeper keeper.DiskFault)) running ∷ past
+  pub from : IsStopOrigin (nat_lt calls (calls_of_save keep)) (lives_of x past) origin
+
+-- station x stops within a save and is opened again, or it runs on as it was
+abbrev pub StopsAndOpens : (settings : ℕ → Setting) → (x calls : ℕ) → (keep : Bool) → Option StationFault → List Move → List Move → Type 0
+StopsAndOpens settings x calls keep None past now = Stops (settings x) x calls keep past now
+StopsAndOpens settings x calls keep (Some f) past now = now ≡ past
 
 -- station x hears octets from the address of the target of this number, or from a strange one
 pub record Hears (w : Setting) (x t : ℕ) (octets : List ℕ) (answer : Option StationFault) (past now : List Move) : Type 0 where
@@ -84,7 +105,7 @@ Makes settings (step.Deliver d) = Delivers settings d
 Makes settings (step.Save s) = Hands (settings s) s event.Save
 Makes settings (step.Restart s) = Opens settings s
 Makes settings (step.Forge s octets) = Hands (settings s) s (event.FromPeer octets.now)
-Makes settings (step.Stop s calls keep) = StopsAndOpens settings s
+Makes settings (step.Stop s calls keep) = StopsAndOpens settings s calls keep
 
 -- what follows of an answer: nothing where no station gave one
 abbrev pub DoesOr : (Option StationFault → List Move → List Move → Type 0) → Option StationFault → List Move → List Move → Type 0
@@ -105,8 +126,26 @@ IsUnforged step = Unit {0}
 abbrev pub IsStepOutcome : (ℕ → Setting) → Step → Result Sent WorldFault → List Move → List Move → Type 0
 IsStepOutcome settings step result past now = Does (Makes settings step) result past now
 
+-- the numbers of the datagrams between stations that were sent between two lists of moves
+pub record AreNumbers (past now : List Move) (sent : Sent) : Type 0 where
+  pub first : sent.first ≡ length (sent_in past) + 1
+  pub count : length (sent_in past) + sent.count ≡ length (sent_in now)
+
+-- Of so many stations, a step that led from moves to moves is answered so: what it names is there and its numbers are those of the datagrams that it sent, or its
+-- fault has its cause and it sent none.
+pub record IsStepAnswer (stations : ℕ) (past now : List Move) (step : Step) (result : Result Sent WorldFault) : Type 0 where
+  pub there : OnOk result (IsThere stations (length (sent_in past)) step)
+  pub cause : IfErr result (IsCause stations (length (sent_in past)) step)
+  pub numbers : IfOk result (AreNumbers past now)
+  pub none : OnErr result (length (sent_in now) ≡ length (sent_in past))
+
+-- of so many stations with these settings, a step with this result leads from moves to moves
+pub record IsStepMade (settings : ℕ → Setting) (stations : ℕ) (step : Step) (result : Result Sent WorldFault) (past now : List Move) : Type 0 where
+  pub outcome : IsStepOutcome settings step result past now
+  pub answer : IsStepAnswer stations past now step result
+
 -- what steps with these results do, the first first
-abbrev pub AreStepOutcomes : (ℕ → Setting) → List Step → List (Result Sent WorldFault) → List Move → List Move → Type 0
-AreStepOutcomes settings [] [] past now = now ≡ past
-AreStepOutcomes settings (s ∷ steps) (r ∷ results) past now = (middle : List Move) × IsStepOutcome settings s r past middle × AreStepOutcomes settings steps results middle now
-AreStepOutcomes settings steps results past now = ⊥
+abbrev pub AreStepOutcomes : (settings : ℕ → Setting) → (stations : ℕ) → List Step → List (Result Sent WorldFault) → List Move → List Move → Type 0
+AreStepOutcomes settings n [] [] past now = now ≡ past
+AreStepOutcomes settings n (s ∷ steps) (r ∷ results) past now = (middle : List Move) × IsStepMade settings n s r past middle × AreStepOutcomes settings n steps results middle now
+AreStepOutcomes settings n steps results past now = ⊥

@@ -1,9 +1,10 @@
 -- A world in memory against the moves that led to it.
-use Rattle.std.specs.Prelude.{ℕ, ◌≡◌, ◌+◌, List, [], ◌∷◌, Option, Some, None, map, length, slice_set}
+use Rattle.std.specs.Prelude.{ℕ, ◌≡◌, ◌+◌, Bool, true, false, List, [], ◌∷◌, Option, Some, None, map, length, slice_set}
 use Rattle.std.specs.List.{AllByRecursion}
 use Rattle.mon_board.specs.Board.{window_of}
 use Rattle.mon_board.specs.Windows.{Has}
 use Rattle.mon_disk.specs.Disk.{Leaves}
+use Rattle.mon_disk.specs.Keeper.{IsAs}
 use Rattle.mon_disk.specs.Kept.{device_of}
 use Rattle.mon_disk.specs.Memory.{memory_leaves}
 use Rattle.mon_disk.specs.declared.disk.Disk.{Ghosts}
@@ -53,6 +54,12 @@ pub record FindsOne (lives : List (Entry × State)) (file : List ℕ) : Type 0 w
   pub may : MayFind lives later
   pub there : at_place later (saved_states lives) ≡ Some state
   pub finds : FindsState state file
+
+-- An opening of this file finds what a stop within a save of this state left of the old file: where that was too early, what an opening of the old file finds,
+-- and else this state.
+abbrev pub FindsStopped : (early : Bool) → State → (old file : List ℕ) → Type 0
+FindsStopped true s old file = IsAs file old
+FindsStopped false s old file = FindsState s file
 
 -- the state of a station over a disk in memory
 abbrev pub state_in : {G : Ghosts MemoryDisk} → Station MemoryDisk G → State
@@ -126,3 +133,13 @@ pub record DebtsAreTrue {G : Ghosts MemoryDisk} (stations : List (Station Memory
   pub reports : (x y : ℕ) (s t : Station MemoryDisk G) → HasNumber stations x s → HasNumber stations y t → AreSquare x y (state_in s) (state_in t)
       → report (state_in s).board.watch (window_of (state_in s).board) ≡ report (state_in t).board.watch (window_of (state_in t).board)
   pub offered : (x : ℕ) (s : Station MemoryDisk G) → HasNumber stations x s → (i k : ℕ) → In k (window_of (state_in s).board i) → Has (offered_in moves) i k
+
+-- What the states that these moves left say of their debts is true. What x does not owe y, whose present incarnation it knows, y has taken; two stations that know
+-- each other's present incarnation and owe each other nothing hold equal windows and print equal reports; and every sample in a window was offered by an agent.
+pub record StatesOweTruly (moves : List Move) : Type 0 where
+  pub paid : (x y : ℕ) (s t : State) → last_state (lives_of x moves) ≡ Some s → last_state (lives_of y moves) ≡ Some t → known_of s y ≡ Some t.incarnation
+      → (i k : ℕ) → In k (window_of s.board i) → ¬ (In k (owed_by s (lives_of x moves) y i)) → In k (taken (entries_of (lives_of y moves)) i)
+  pub equal : (x y : ℕ) (s t : State) → last_state (lives_of x moves) ≡ Some s → last_state (lives_of y moves) ≡ Some t → AreSquare x y s t → (i : ℕ) → window_of s.board i ≡ window_of t.board i
+  pub reports : (x y : ℕ) (s t : State) → last_state (lives_of x moves) ≡ Some s → last_state (lives_of y moves) ≡ Some t → AreSquare x y s t
+      → report s.board.watch (window_of s.board) ≡ report t.board.watch (window_of t.board)
+  pub offered : (x : ℕ) (s : State) → last_state (lives_of x moves) ≡ Some s → (i k : ℕ) → In k (window_of s.board i) → Has (offered_in moves) i k

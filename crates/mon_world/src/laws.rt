@@ -55,8 +55,8 @@ pub fn debts()
 /// results, if what was sent are claims, as of every world.
 pub fn unforged()
     ensures first { (settings : ℕ → Setting) (x : ℕ) (states : List State) → AreUnforged (first_lives settings x states) }
-    ensures steps { (settings : ℕ → Setting) (steps : List Step) (results : List (Result Sent WorldFault)) (past now : List Move) → AllByRecursion IsUnforged steps
-        → AllByRecursion IsClaim (map (λ l. l.claim) (sent_in now)) → AreStepOutcomes settings steps results past now → AreUnforged past → AreUnforged now }
+    ensures steps { (settings : ℕ → Setting) (count : ℕ) (steps : List Step) (results : List (Result Sent WorldFault)) (past now : List Move) → AllByRecursion IsUnforged steps
+        → AllByRecursion IsClaim (map (λ l. l.claim) (sent_in now)) → AreStepOutcomes settings count steps results past now → AreUnforged past → AreUnforged now }
 {
     mon_exchange::laws::one_spelling();
 }

@@ -3,6 +3,7 @@
 ghost use Rattle.std.specs.Prelude.{◌≡◌, ◌≤◌, ◌<◌, ◌++◌, ◌∷◌, [], ◌==◌, ℕ, if◌then◌else◌, IfOk, IfErr, OnOk, None, length};
 ghost use Rattle.mon_station.specs.Opened.{setting_in};
 ghost use Rattle.mon_world.specs.declared.fault.WorldFault.TheVariants.{BadCount};
+ghost use Rattle.mon_world.specs.Fault.{IsFaultOfNew};
 ghost use Rattle.mon_world.specs.Places.{setting_at};
 ghost use Rattle.mon_world.specs.Shows.{AreFirst, IsFirst};
 
@@ -21,7 +22,8 @@ pub(crate) fn open_all(
     requires { count ≤ 16 }
     ensures first { IfOk result (λ stations. AreFirst core.now count stations.items) }
     ensures count { IfOk result (λ stations. length stations.items ≡ count) }
-    ensures fault { IfErr result (λ fault. fault ≡ BadCount → ⊥) }
+    ensures fault { IfErr result (IsFaultOfNew count) }
+    ensures counted { IfErr result (λ fault. fault ≡ BadCount → ⊥) }
 {
     let mut stations = Vec::new(alloc);
     for number in 1..count + 1 {
@@ -41,7 +43,8 @@ fn open_first(
     requires first { 1 ≤ number }
     requires last { number ≤ count }
     ensures opened { IfOk result (λ s. IsFirst core.now count number s) }
-    ensures fault { IfErr result (λ fault. fault ≡ BadCount → ⊥) }
+    ensures fault { IfErr result (IsFaultOfNew count) }
+    ensures counted { IfErr result (λ fault. fault ≡ BadCount → ⊥) }
 {
     mon_disk::laws::never_saved();
     let core = core_at(alloc, core, count, number)?;

@@ -5,13 +5,13 @@ ghost use Rattle.mon_disk.specs.Keeper.{found_body};
 ghost use Rattle.mon_disk.specs.Memory.{memory_octets};
 ghost use Rattle.mon_settings.specs.StationCore.{Core as AnyCore};
 ghost use Rattle.mon_station.specs.ReadEvent.{owned};
-ghost use Rattle.mon_world.specs.Fault.{IsCause, IsDeliveryCause, IsStationCause, IsStopCause, IsThere, refusal_in};
+ghost use Rattle.mon_world.specs.Fault.{IsCause, IsDeliveryCause, IsFaultOfNew, IsStationCause, IsStopCause, IsThere, refusal_in};
 ghost use Rattle.mon_world.specs.Kept.{AreKept};
 ghost use Rattle.mon_world.specs.Moves.{AreUnforged, Move};
 ghost use Rattle.mon_world.specs.Outcome.{AreStepOutcomes, Delivers, Does, Hands, Hears, IsStepOutcome, Opens, StopsAndOpens, first_lives, target_number};
 ghost use Rattle.mon_world.specs.Places.{HasNumber, IsNoCount, IsNoNumberTo, IsNumberTo, setting_at};
 ghost use Rattle.mon_world.specs.Sending.{to_peers};
-ghost use Rattle.mon_world.specs.Shows.{AreShown, DebtsAreTrue, IsStationAsked, IsStationRefused, IsReplaced, LeadsTo, Shows, state_in};
+ghost use Rattle.mon_world.specs.Shows.{AreShown, DebtsAreTrue, IsStationAsked, IsStationRefused, IsReplaced, LeadsTo, Shows, StatesOweTruly, state_in};
 
 use crate::fault::WorldFault;
 use crate::laws;
@@ -56,6 +56,8 @@ impl World {
         ensures core { IfOk result (λ world. world.core ≡ core.now) }
         ensures bad { IsNoCount count → result ≡ Err WorldFault.BadCount }
         ensures good { result ≡ Err WorldFault.BadCount → IsNoCount count }
+        // Each fault has its cause.
+        ensures fault { IfErr result (IsFaultOfNew count) }
     {
         if count == 0 || count > MOST {
             return Err(WorldFault::BadCount);
@@ -83,7 +85,8 @@ impl World {
     /// What stations say of their debts is true in every world to which moves led in which no claim was forged; restarts and stops may be
     /// among them. It does nothing.
     pub fn debts(&self)
-        ensures { (moves : List Move) → Shows self.now.core self.now.stations.items self.now.sent.items moves → AreUnforged moves → DebtsAreTrue self.now.stations.items moves }
+        ensures stations { (moves : List Move) → Shows self.now.core self.now.stations.items self.now.sent.items moves → AreUnforged moves → DebtsAreTrue self.now.stations.items moves }
+        ensures states { (moves : List Move) → Shows self.now.core self.now.stations.items self.now.sent.items moves → AreUnforged moves → StatesOweTruly moves }
     {
         laws::debts();
         let _ = self.core.watch();
@@ -215,7 +218,7 @@ impl World {
     /// Opens a station again from what a stop within a save leaves of a copy of its disk.
     fn stop(&mut self, number: u32, calls: u8, keep: bool) -> Result<Sent, WorldFault>
         ensures outcome { (past : List Move) → Shows self.old.core self.old.stations.items self.old.sent.items past
-            → LeadsTo self.new.core self.new.stations.items self.new.sent.items (λ now. Does (StopsAndOpens (setting_at self.old.core (length self.old.stations.items)) number) result past now) }
+            → LeadsTo self.new.core self.new.stations.items self.new.sent.items (λ now. Does (StopsAndOpens (setting_at self.old.core (length self.old.stations.items)) number calls keep) result past now) }
         ensures there { OnOk result (IsNumberTo (length self.old.stations.items) number × (calls ≤ 6)) }
         ensures cause { IfErr result (IsStopCause (length self.old.stations.items) number calls) }
         ensures refused { OnErr result (self.new.stations.items ≡ self.old.stations.items) }
@@ -270,12 +273,13 @@ impl World {
     }
 
     /// Makes these steps in order; a refused one does not end it. Room for their results is taken first.
+    /// Each result has the cause and the numbers that `step` gives it.
     ///
     /// # Errors
     /// `OutOfMemory` where there is no room for the results: no step was made.
     pub fn run(&mut self, steps: &[Step<'_>]) -> Result<Vec<Result<Sent, WorldFault>>, WorldFault>
         ensures outcomes { IfOk result (λ results. (past : List Move) → Shows self.old.core self.old.stations.items self.old.sent.items past
-            → LeadsTo self.new.core self.new.stations.items self.new.sent.items (λ now. AreStepOutcomes (setting_at self.old.core (length self.old.stations.items)) steps.now results.items past now)) }
+            → LeadsTo self.new.core self.new.stations.items self.new.sent.items (λ now. AreStepOutcomes (setting_at self.old.core (length self.old.stations.items)) (length self.old.stations.items) steps.now results.items past now)) }
         ensures count { IfOk result (λ results. length results.items ≡ length steps.now) }
         ensures fault { IfErr result (λ fault. fault ≡ WorldFault.OutOfMemory) }
         ensures same_stations { OnErr result (self.new.stations ≡ self.old.stations) }

@@ -91,4 +91,79 @@ BUGS = {
         "make_steps(alloc, &mut world, steps.as_slice(), &mut text)?;",
         "make_steps(alloc, &mut world, &steps.as_slice()[..0], &mut text)?;",
     ),
+    "rehearses_over_one_station": (
+        "src/rehearsing.rt",
+        "World::new(alloc, core, count)?",
+        "World::new(alloc, core, 1)?",
+    ),
+    "makes_another_step": (
+        "src/rehearsing.rt",
+        "let result = world.step(step.step());",
+        "let result = world.step(ScriptStep::Save(0).step());",
+    ),
+    "says_that_each_was_no_station": (
+        "src/rehearsing.rt",
+        "put_step(alloc, text, number, result)?;",
+        "put_step(alloc, text, number, result.map_err(|_| WorldFault::NoSuchStation))?;",
+    ),
+    "counts_steps_in_twos": (
+        "src/rehearsing.rt",
+        "        number += 1;",
+        "        number += 2;",
+    ),
+    "prints_no_first_station": (
+        "src/printed.rt",
+        "put_station(alloc, text, world, count, place + 1)?;",
+        "put_station(alloc, text, world, count, count)?;",
+    ),
+    "owes_as_the_first_does": (
+        "src/printed.rt",
+        "put_debts(&mut lines, station, count, number)?;",
+        "put_debts(&mut lines, station, count, 1)?;",
+    ),
+    "ends_lines_with_cr": (
+        "src/printed.rt",
+        'line.push_str("\\n")?;',
+        'line.push_str("\\r\\n")?;',
+    ),
+    "says_sent_of_none": (
+        "src/printed.rt",
+        'return line.push_str("ok");',
+        'return line.push_str("ok sent");',
+    ),
+    "names_the_world_for_its_station": (
+        "src/printed.rt",
+        'other => put_fault(line, "mon_world", other.number(), other.name()),',
+        'other => put_fault(line, "mon_station", other.number(), other.name()),',
+    ),
+    "names_the_saved_for_the_exchanged": (
+        "src/printed.rt",
+        'put_fault(line, "mon_exchange", part.number(), part.name())',
+        'put_fault(line, "mon_saved", part.number(), part.name())',
+    ),
+    "polls_at_a_timeout": (
+        "src/script.rt",
+        "        return Some(ScriptStep::Timeout(first, second));",
+        "        return Some(ScriptStep::StartPoll(first, second));",
+    ),
+    "loses_what_a_stop_keeps": (
+        "src/script.rt",
+        "return Some(ScriptStep::Stop(station, calls, true));",
+        "return Some(ScriptStep::Stop(station, calls, false));",
+    ),
+    "forges_at_the_next_station": (
+        "src/script.rt",
+        "Some(octets) => Ok(Some(ScriptStep::Forge(station, octets))),",
+        "Some(octets) => Ok(Some(ScriptStep::Forge(station.saturating_add(1), octets))),",
+    ),
+    "reads_a_line_behind_the_end": (
+        "src/script.rt",
+        "        None => (text, &[]),",
+        "        None => (text, text),",
+    ),
+    "says_memory_for_a_bad_script": (
+        "src/fault.rt",
+        "ScriptFault::BadScript(line) => RehearsalFault::BadScript(line),",
+        "ScriptFault::BadScript(line) => RehearsalFault::BadScript(line / 2),",
+    ),
 }

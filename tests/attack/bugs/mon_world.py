@@ -86,4 +86,114 @@ BUGS = {
         "let told = stations[place].step(alloc, event)?;",
         "let told = stations[place].step(alloc, Event::Timeout(0))?;",
     ),
+    "world_runs_nothing": (
+        "src/world.rt",
+        "let result = self.step(*step);",
+        "let result = self.step(Step::Save(0));",
+    ),
+    "says_of_a_run_that_nothing_was_sent": (
+        "src/world.rt",
+        "let result = self.step(*step);",
+        "let result = self.step(*step).map(|_| sent_between(0, 0));",
+    ),
+    "answers_with_another_cause": (
+        "src/world.rt",
+        "let result = self.step(*step);",
+        "let result = self.step(*step).map_err(|_| WorldFault::NoSuchStation);",
+    ),
+    "opens_no_seven_stations": (
+        "src/world.rt",
+        "        if count == 0 || count > MOST {",
+        "        if count == 7 {\n            return Err(WorldFault::NoSuchStation);\n        }\n        if count == 0 || count > MOST {",
+    ),
+    "refuses_to_open_for_a_bad_stop": (
+        "src/opening.rt",
+        "Err((fault, _)) => Err(WorldFault::from(fault)),",
+        "Err(_) => Err(WorldFault::BadStop),",
+    ),
+    "keeps_nothing_at_a_stop_of_the_second": (
+        "src/world.rt",
+        "let disk = stopped(self.alloc, &self.stations[place], calls, keep)?;",
+        "let disk = stopped(self.alloc, &self.stations[place], calls, keep && number != 2)?;",
+    ),
+    "makes_all_calls_of_a_save": (
+        "src/stop.rt",
+        "keeper.save_calls(octets.as_mut_slice(), calls)",
+        "keeper.save_calls(octets.as_mut_slice(), 6)",
+    ),
+    "makes_no_call_of_a_save": (
+        "src/stop.rt",
+        "keeper.save_calls(octets.as_mut_slice(), calls)",
+        "keeper.save_calls(octets.as_mut_slice(), 0)",
+    ),
+    "loses_what_a_stop_keeps": (
+        "src/stop.rt",
+        "keeper.into_disk().crash(keep)?",
+        "keeper.into_disk().crash(!keep)?",
+    ),
+    "stops_an_empty_save": (
+        "src/stop.rt",
+        "octets.extend_from_slice(image)?;",
+        "octets.extend_from_slice(&image[..image.len() / 2])?;",
+    ),
+    "takes_a_large_image_for_want_of_memory": (
+        "src/stop.rt",
+        "KeeperFault::DiskFault => StationFault::OutOfMemory,",
+        "KeeperFault::TooLarge => StationFault::OutOfMemory,",
+    ),
+    "stops_after_calls_of_another_station": (
+        "src/world.rt",
+        "Step::Stop(s, calls, keep) => self.stop(s, calls, keep),",
+        "Step::Stop(s, calls, keep) => self.stop(s, if s == 2 { 0 } else { calls }, keep),",
+    ),
+    "hands_events_to_the_first": (
+        "src/world.rt",
+        "        self.sent.reserve(ROOM)?;\n        let place = self.place_of(number)?;",
+        "        self.sent.reserve(ROOM)?;\n        let place = self.place_of(number)? / 2;",
+    ),
+    "gives_up_after_40_datagrams": (
+        "src/world.rt",
+        "if number == 0 || number > self.sent.len() as u64 {",
+        "if number == 0 || number > 40 || number > self.sent.len() as u64 {",
+    ),
+    "reopens_an_empty_disk": (
+        "src/world.rt",
+        "match Station::open(self.alloc, core, disk) {",
+        "let _ = disk;\n        match Station::open(self.alloc, core, MemoryDisk::new(self.alloc, &[])?) {",
+    ),
+    "opens_again_without_a_word": (
+        "src/world.rt",
+        "                self.stations[place] = station;\n",
+        "                let _ = station;\n",
+    ),
+    "numbers_a_restart_from_1": (
+        "src/world.rt",
+        "Ok(sent_between(self.sent.len(), self.sent.len()))",
+        "Ok(sent_between(0, 0))",
+    ),
+    "opens_all_as_the_first": (
+        "src/opening.rt",
+        "core.with(alloc, number, &peers)",
+        "core.with(alloc, 1, &peers)",
+    ),
+    "opens_a_station_less": (
+        "src/opening.rt",
+        "    for number in 1..count + 1 {",
+        "    for number in 1..count {",
+    ),
+    "hears_half_of_what_an_agent_says": (
+        "src/world.rt",
+        "self.handle(number, Event::FromAgent(from, octets))",
+        "self.handle(number, Event::FromAgent(from, &octets[..octets.len() / 2]))",
+    ),
+    "saves_nothing": (
+        "src/world.rt",
+        "Step::Save(s) => self.handle(s, Event::Save),",
+        "Step::Save(s) => self.handle(s, Event::Timeout(s)),",
+    ),
+    "shows_the_first_station": (
+        "src/world.rt",
+        "Ok(place) => Some(&self.stations[place]),",
+        "Ok(place) => Some(&self.stations[place / 2]),",
+    ),
 }

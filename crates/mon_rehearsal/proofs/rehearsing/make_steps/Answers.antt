@@ -2,6 +2,7 @@ use Rattle.std.proofs.Common.{rules, ◌≡◌, ◌≢◌, Err, ◌+◌, ◌++�
 use Rattle.std.proofs.lemmas.List.{length-take-le, take_more}
 use Rattle.mon_world.specs.declared.fault.WorldFault.TheVariants.{OutOfMemory}
 use Rattle.mon_world.specs.Places.{setting_at}
+use Rattle.mon_world.proofs.Promised.{step_made}
 use Rattle.mon_rehearsal.specs.declared.script.ScriptStep.{ScriptStep}
 use Rattle.mon_rehearsal.proofs.Made.{one_made}
 use Rattle.mon_rehearsal.proofs.rehearsing.make_steps.Goals as goal
@@ -17,10 +18,12 @@ loop-step-preserved c =
     let so_many : length (take i steps) ≡ i = length-take-le i steps (omega (arith, c.loop-step-test.true)) in
     let ample : c.step-result.result ≢ Err OutOfMemory = search rules in
     record {
-      made = λ past shows. one_made was.core now.core (setting_at c.args.world.now.core (length c.args.world.now.stations.items)) (setting_at was.core (length was.stations.items)) was.stations.items now.stations.items was.sent.items now.sent.items
+      made = λ past shows. one_made was.core now.core (setting_at c.args.world.now.core (length c.args.world.now.stations.items)) (setting_at was.core (length was.stations.items)) (length c.args.world.now.stations.items) (length was.stations.items) was.stations.items now.stations.items was.sent.items now.sent.items
           (take i steps) (take (i + 1) steps) said c.step.result c.step-result.result past c.args.text.now.items c.loop-step.text.items c.put_step.new.text.items (c.loop-step.number + 1)
-          more (omega (arith, so_many, c.loop-step.invariant.at)) (λ j. setting_at (c.loop-step.invariant.core j) (c.loop-step.invariant.stations j)) c.step.ensures c.in_ok-put_step.ensures
-          c.step-result.ensures.outcome ample c.step-result.ensures.first c.step-result.ensures.count (c.loop-step.invariant.made past shows);
+          more (omega (arith, so_many, c.loop-step.invariant.at)) (λ j. setting_at (c.loop-step.invariant.core j) (c.loop-step.invariant.stations j)) c.loop-step.invariant.stations c.step.ensures c.in_ok-put_step.ensures
+          (λ middle there. step_made was.core now.core (setting_at was.core (length was.stations.items)) (length was.stations.items) was.stations.items now.stations.items was.sent.items now.sent.items c.step.result c.step-result.result middle
+          there (c.step-result.ensures.outcome middle there) c.step-result.ensures.there (c.step-result.ensures.cause middle there) c.step-result.ensures.first c.step-result.ensures.count c.step-result.ensures.refused)
+          ample (c.loop-step.invariant.made past shows);
       core = c.step-result.ensures.core ∙ c.loop-step.invariant.core;
       stations = c.step-result.ensures.stations ∙ c.loop-step.invariant.stations;
       at = ap (λ n. n + 1) c.loop-step.invariant.at;

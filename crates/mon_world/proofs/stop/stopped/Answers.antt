@@ -1,31 +1,22 @@
-use Rattle.std.proofs.Common.{◌⊎◌, inl, inr, Some, List, ℕ, ◌∙◌, ap, subst}
-use Rattle.mon_disk.specs.Disk.{Leaves}
-use Rattle.mon_disk.specs.Keeper.{FindsAs, FindsBody}
+use Rattle.std.proofs.Common.{◌≡◌, drop, List, ℕ, ◌∙◌, ap, subst}
+use Rattle.mon_disk.specs.Keeper.{FindsBody}
 use Rattle.mon_disk.specs.Kept.{device_of}
-use Rattle.mon_disk.specs.Memory.{memory_leaves, memory_octets}
-use Rattle.mon_disk.specs.Wrapped.{under_fuse}
-use Rattle.mon_disk.proofs.Promised.{as_before}
+use Rattle.mon_disk.specs.Memory.{memory_octets, memory_synced}
+use Rattle.mon_station.specs.Saved.{saved_octets}
 use Rattle.mon_world.specs.Shows.{state_in}
-use Rattle.mon_world.proofs.Fused.{finds_written, fuse_end}
+use Rattle.mon_world.proofs.Reopened.{seen_is_left}
+use Rattle.mon_world.proofs.Stopped.{are_saved, stop_finds}
 use Rattle.mon_world.proofs.stop.stopped.Goals as goal
 
 pub returns-clause-found : goal.returns-clause-found
 returns-clause-found c =
-    let s = c.args.station.now in
-    let disk = device_of s.keeper in
+    let s = state_in c.args.station.now in
+    let disk = device_of c.args.station.now.keeper in
     let one = device_of c.in-Ok.keeper in
-    let two = device_of c.set.new.self in
-    let three = device_of c.save.new.self in
-    let octets = memory_octets c.in_ok-left.left in
-    let body = c.as_slice.result.now in
-    let opened : Leaves (memory_leaves (under_fuse one)) (FindsAs (memory_leaves (under_fuse c.new.result))) = fuse_end c.new.result one (FindsAs (memory_leaves (under_fuse c.new.result))) (c.in-Ok.ensures.opening tt).any_moment in
-    let copied : (f : List ℕ) → memory_leaves (under_fuse c.new.result) f → memory_leaves disk f =
-    λ f left. subst (λ m. memory_leaves m f) c.disk.ensures ((c.in_ok-copy.ensures.crash f).0 (subst (λ m. memory_leaves m f) c.new.ensures.disk left)) in
-    let set : Leaves (memory_leaves (under_fuse two)) (FindsAs (memory_leaves disk)) =
-    λ f left. let o = opened f (subst (λ m. memory_leaves m f) c.set.ensures.disk left) in (o.0, copied o.0 o.1, o.2) in
-    let saved = fuse_end two three (λ f. FindsAs (memory_leaves (under_fuse two)) f ⊎ FindsBody (Some body) f) (c.save.ensures.any_moment tt) in
-    let left : memory_leaves (under_fuse three) octets = subst (λ m. memory_leaves m octets) (c.into_disk-2.ensures ∙ ap under_fuse c.into_disk.ensures) c.in_ok-left.ensures.left in
-    elim (saved octets left) [
-      | inl found ↦ inl (as_before (memory_leaves (under_fuse two)) (memory_leaves disk) set octets found)
-      | inr new ↦ inr (finds_written (state_in s) c.board.result.now c.incarnation.result c.in_ok-image.image.items body octets c.board.ensures c.incarnation.ensures c.in_ok-image.ensures.written c.in_ok-image.ensures.spells c.as_slice.ensures.value new)
-    ]
+    let three = device_of c.save_calls.new.self in
+    let saved = are_saved s c.board.result.now c.incarnation.result c.in_ok-image.image.items c.board.ensures c.incarnation.ensures c.in_ok-image.ensures.written c.in_ok-image.ensures.spells in
+    let body : drop 16 c.as_mut_slice.result.now ≡ saved_octets s = ap (λ (l : List ℕ). drop 16 l) c.as_mut_slice.ensures.value ∙ c.in_ok-octets.ensures.image ∙ c.as_slice.ensures.value ∙ saved.0 in
+    stop_finds s (drop 16 c.as_mut_slice.result.now) body saved.1 _ (memory_octets disk) (memory_octets one)
+    (subst (FindsBody _) (c.in_ok-copy.ensures.octets ∙ ap memory_octets c.disk.ensures) (c.in-Ok.ensures.found tt)) (c.in-Ok.ensures.kept tt (memory_octets one) (seen_is_left one))
+    c.args.calls c.args.keep (memory_octets three) (memory_synced three) (memory_octets c.in_ok-left.left) (c.in_default.ensures.whole tt) (c.in_default.ensures.seen tt) (c.in_default.ensures.synced tt)
+    (λ keep. c.in_ok-left.ensures.kept keep ∙ ap memory_octets c.into_disk.ensures) (λ lose. c.in_ok-left.ensures.lost lose ∙ ap memory_synced c.into_disk.ensures)

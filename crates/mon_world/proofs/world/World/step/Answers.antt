@@ -1,6 +1,9 @@
-use Rattle.std.proofs.Common.{length, subst}
+use Rattle.std.proofs.Common.{length, subst, sym}
+use Rattle.std.specs.Prelude.{IfErr}
 use Rattle.mon_station.specs.declared.event.OwnedEvent.TheVariants as event
+use Rattle.mon_world.specs.declared.step.Step.{Step}
 use Rattle.mon_world.specs.declared.step.Step.TheVariants as step
+use Rattle.mon_world.specs.Fault.{IsCause}
 use Rattle.mon_world.specs.Outcome.{Does, Hands}
 use Rattle.mon_world.specs.Places.{setting_at}
 use Rattle.mon_world.specs.Shows.{LeadsTo}
@@ -68,3 +71,8 @@ returns-in-Restart-clause-kept c = kept_on c.restart.result c.args.self.now.stat
 
 pub returns-in-Stop-clause-kept : goal.returns-in-Stop-clause-kept
 returns-in-Stop-clause-kept c = kept_on c.stop.result c.args.self.now.stations.items c.stop.new.self.stations.items c.stop.ensures.refused
+
+pub returns-in-Stop-clause-cause : goal.returns-in-Stop-clause-cause
+returns-in-Stop-clause-cause c past was =
+    let self = c.args.self.now in
+    subst (λ (s : Step). IfErr c.stop.result (IsCause (length self.stations.items) (length self.sent.items) s)) (sym c.in-Stop.is) c.stop.ensures.cause

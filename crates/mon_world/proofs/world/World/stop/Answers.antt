@@ -1,8 +1,9 @@
 use Rattle.std.proofs.Common.{◌≡◌, Some, sym, subst, ◌∙◌}
-use Rattle.std.specs.Prelude.{slice_get}
+use Rattle.std.specs.Prelude.{nat_lt, slice_get}
 use Rattle.mon_disk.specs.Memory.{memory_octets}
-use Rattle.mon_station.specs.Saved.{FindsRunning}
-use Rattle.mon_world.specs.Shows.{disk_leaves, state_in}
+use Rattle.mon_disk.specs.Kept.{device_of}
+use Rattle.mon_world.specs.Outcome.{calls_of_save}
+use Rattle.mon_world.specs.Shows.{FindsStopped, state_in}
 use Rattle.mon_world.proofs.Leading.{leads_same}
 use Rattle.mon_world.proofs.Lives.{some_same}
 use Rattle.mon_world.proofs.Reopened.{stop_leads}
@@ -19,6 +20,6 @@ returns-clause-outcome c past was =
     let same : c.index-2.result.now ≡ old = some_same (sym again ∙ here) in
     leads_same self.core c.reopen.new.self.core c.reopen.new.self.stations.items self.sent.items c.reopen.new.self.sent.items _ c.reopen.ensures.core c.reopen.ensures.sent
     (stop_leads self.core self.stations.items c.reopen.new.self.stations.items past place self.sent.items was c.args.number c.in_ok-place.ensures.place old (number_at self.stations.items place old here)
-    c.unsaved.ensures (memory_octets c.in_ok-disk.disk)
-    (subst (λ s. FindsRunning (disk_leaves s) (state_in s) (memory_octets c.in_ok-disk.disk)) same c.in_ok-disk.ensures.found)
+    c.unsaved.ensures c.args.calls c.args.keep (memory_octets c.in_ok-disk.disk)
+    (subst (λ s. FindsStopped (nat_lt c.args.calls (calls_of_save c.args.keep)) (state_in s) (memory_octets (device_of s.keeper)) (memory_octets c.in_ok-disk.disk)) same c.in_ok-disk.ensures.found)
     c.reopen.result c.reopen.ensures.opened c.reopen.ensures.refused)
