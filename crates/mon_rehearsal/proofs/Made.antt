@@ -1,23 +1,27 @@
 -- Steps of a script that were made one after another, and the text of a rehearsal.
 use Rattle.std.proofs.Common.{ℕ, suc, ◌≡◌, ◌≢◌, ◌+◌, List, [], ◌∷◌, ◌++◌, Result, Err, length, map, refl, sym, ap, ◌∙◌, append_assoc, subst, arith}
 use Rattle.std.proofs.lemmas.List.{append-nil, length-map}
+use Rattle.std.specs.List.{AllByRecursion}
 use Rattle.mon_disk.specs.declared.disk.Disk.{Ghosts}
 use Rattle.mon_disk.specs.declared.memory.MemoryDisk.{MemoryDisk}
+use Rattle.mon_exchange.specs.Claim.{IsClaim}
 use Rattle.mon_settings.specs.StationCore.{Core}
 use Rattle.mon_station.specs.declared.station.Station.{Station}
+use Rattle.mon_station.specs.State.{State}
 use Rattle.mon_station.specs.Verdict.{Setting}
 use Rattle.mon_world.specs.declared.fault.WorldFault.{WorldFault}
 use Rattle.mon_world.specs.declared.fault.WorldFault.TheVariants.{OutOfMemory}
 use Rattle.mon_world.specs.declared.sending.Datagram.{Datagram}
 use Rattle.mon_world.specs.declared.sending.Sent.{Sent}
 use Rattle.mon_world.specs.declared.step.Step.{Step}
-use Rattle.mon_world.specs.Moves.{AreMoves, AreUnforged, Move}
-use Rattle.mon_world.specs.Outcome.{IsStepMade, first_lives}
+use Rattle.mon_world.specs.Moves.{AreMoves, AreUnforged, Move, sent_in}
+use Rattle.mon_world.specs.Outcome.{AreStepOutcomes, IsStepMade, IsUnforged, first_lives}
 use Rattle.mon_world.specs.Places.{setting_at}
 use Rattle.mon_world.specs.Shows.{LeadsTo, Shows, StatesOweTruly, state_in}
 use Rattle.mon_rehearsal.specs.declared.script.ScriptStep.{ScriptStep}
 use Rattle.mon_rehearsal.specs.Printed.{stations_text, step_line, step_lines}
-use Rattle.mon_rehearsal.specs.Rehearsed.{AreMade, HaveBeenMade, IsMade, IsRehearsal, IsStepOf}
+use Rattle.mon_rehearsal.specs.declared.script.ScriptStep.TheVariants.{StartPoll, AgentSays, Timeout, Share, Deliver, Save, Restart, Forge, Stop}
+use Rattle.mon_rehearsal.specs.Rehearsed.{AreMade, HaveBeenMade, IsMade, IsNoForge, IsRehearsal, IsStepOf}
 use Rattle.mon_rehearsal.specs.Script.{AreSteps, Says}
 use Rattle.mon_rehearsal.proofs.Texts.{lines_more}
 
@@ -35,6 +39,27 @@ answers_count settings n [] [] past now is = refl
 answers_count settings n [] (a ∷ answers) past now is = absurd is
 answers_count settings n (s ∷ steps) [] past now is = absurd is
 answers_count settings n (s ∷ steps) (a ∷ answers) past now is = ap suc (answers_count settings n steps answers is.0 now is.2)
+
+-- the steps of the world that were made, and none forges a claim where the script's do not
+unforged_step : (said : ScriptStep) (made : Step) → IsStepOf said made → IsNoForge said → IsUnforged made
+unforged_step (StartPoll s target) made is none = subst IsUnforged (sym is) tt
+unforged_step (AgentSays s target octets) made is none = subst IsUnforged (sym is.2) tt
+unforged_step (Timeout s id) made is none = subst IsUnforged (sym is) tt
+unforged_step (Share s peer) made is none = subst IsUnforged (sym is) tt
+unforged_step (Deliver d) made is none = subst IsUnforged (sym is) tt
+unforged_step (Save s) made is none = subst IsUnforged (sym is) tt
+unforged_step (Restart s) made is none = subst IsUnforged (sym is) tt
+unforged_step (Forge s octets) made is none = absurd none
+unforged_step (Stop s calls keep) made is none = subst IsUnforged (sym is) tt
+
+made_steps : (settings : ℕ → Setting) (n : ℕ) (steps : List ScriptStep) (answers : List (Result Sent WorldFault)) (past now : List Move) → AreMade settings n steps answers past now
+    → (made : List Step) × AreStepOutcomes settings n made answers past now × (AllByRecursion IsNoForge steps → AllByRecursion IsUnforged made)
+made_steps settings n [] [] past now is = ([], is, λ none. tt)
+made_steps settings n [] (a ∷ answers) past now is = absurd is
+made_steps settings n (s ∷ steps) [] past now is = absurd is
+made_steps settings n (s ∷ steps) (a ∷ answers) past now is =
+    let rest = made_steps settings n steps answers is.0 now is.2 in
+    (is.1.made ∷ rest.0, (is.0, is.1.leads, rest.1), λ none. (unforged_step s is.1.made is.1.is none.0, rest.2 none.1))
 
 -- before the first step
 pub none_made : {G : Ghosts MemoryDisk} (core : Core) (stations : List (Station MemoryDisk G)) (sent : List Datagram) (settings : ℕ → Setting) (n : ℕ) (past : List Move) (text : List ℕ) → Shows core stations sent past
@@ -67,19 +92,28 @@ one_made core now_core settings now_settings n now_n stations now_stations sent 
       };
     }
 
+-- the law of steps that forge nothing
+abbrev pub IsLawOfUnforged : Type 0
+IsLawOfUnforged = (settings : ℕ → Setting) (count : ℕ) (steps : List Step) (results : List (Result Sent WorldFault)) (past now : List Move) → AllByRecursion IsUnforged steps
+    → AllByRecursion IsClaim (map (λ l. l.claim) (sent_in now)) → AreStepOutcomes settings count steps results past now → AreUnforged past → AreUnforged now
+
 -- the whole text
 pub rehearsed : {G : Ghosts MemoryDisk} (core world_core now_core : Core) (count : ℕ) (stations now_stations : List (Station MemoryDisk G)) (sent now_sent : List Datagram) (lines : List (List ℕ)) (steps : List ScriptStep) (start text whole : List ℕ)
     → AreSteps Says lines steps → world_core ≡ core → length stations ≡ count → now_core ≡ world_core → length now_stations ≡ length stations → start ≡ []
     → Shows core stations sent (first_lives (setting_at core count) 1 (map state_in stations))
     → ((past : List Move) → Shows world_core stations sent past → HaveBeenMade now_core now_stations now_sent (setting_at world_core (length stations)) (length stations) steps past start text)
+    → ((settings : ℕ → Setting) (x : ℕ) (states : List State) → AreUnforged (first_lives settings x states)) → IsLawOfUnforged
     → ((moves : List Move) → Shows now_core now_stations now_sent moves → AreUnforged moves → StatesOweTruly moves)
     → ((moves : List Move) → Shows now_core now_stations now_sent moves → whole ≡ text ++ stations_text count moves count)
     → IsRehearsal core count lines whole
-rehearsed core world_core now_core count stations now_stations sent now_sent lines steps start text whole said same counted kept as_many empty opened made square written =
+rehearsed core world_core now_core count stations now_stations sent now_sent lines steps start text whole said same counted kept as_many empty opened made first_unforged law square written =
     let firsts = first_lives (setting_at core count) 1 (map state_in stations) in
     let have = made firsts (subst (λ (c : Core). Shows c stations sent firsts) (sym same) opened) in
     let now_same : now_core ≡ core = kept ∙ same in
-    let now_counted : length now_stations ≡ count = as_many ∙ counted in (
+    let now_counted : length now_stations ≡ count = as_many ∙ counted in
+    let all_made : AreMade (setting_at core count) count steps have.answers firsts have.leads.now = subst (λ m. AreMade (setting_at core count) m steps have.answers firsts have.leads.now) counted
+    (subst (λ (w : ℕ → Setting). AreMade w (length stations) steps have.answers firsts have.leads.now) (λ j. setting_at (same j) (counted j)) have.leads.is) in
+    let list = made_steps (setting_at core count) count steps have.answers firsts have.leads.now all_made in (
       steps,
       said,
       record {
@@ -88,8 +122,8 @@ rehearsed core world_core now_core count stations now_stations sent now_sent lin
         answers = have.answers;
         moves = have.leads.now;
         are = subst (λ (w : ℕ → Setting). AreMoves w have.leads.now) (λ j. setting_at (now_same j) (now_counted j)) have.leads.shows.shown.are;
-        made = subst (λ m. AreMade (setting_at core count) m steps have.answers firsts have.leads.now) counted
-            (subst (λ (w : ℕ → Setting). AreMade w (length stations) steps have.answers firsts have.leads.now) (λ j. setting_at (same j) (counted j)) have.leads.is);
+        made = all_made;
+        unforged = λ none. law (setting_at core count) count list.0 have.answers firsts have.leads.now (list.2 none) have.leads.shows.letters.claims list.1 (first_unforged (setting_at core count) 1 (map state_in stations));
         square = square have.leads.now have.leads.shows;
         is = written have.leads.now have.leads.shows ∙ ap (λ l. l ++ stations_text count have.leads.now count) (have.text ∙ ap (λ l. l ++ step_lines 1 have.answers) empty);
       },

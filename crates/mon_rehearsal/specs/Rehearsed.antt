@@ -1,6 +1,7 @@
 -- What a rehearsal is: the steps of its script, made one after another in a world, and what that prints.
 use Rattle.std.specs.Prelude.{ℕ, ◌≡◌, ◌≢◌, List, [], ◌∷◌, ◌++◌, Result, Err, length, min}
 use Rattle.std.specs.Borrow.{Bor}
+use Rattle.std.specs.List.{AllByRecursion}
 use Rattle.mon_disk.specs.declared.disk.Disk.{Ghosts}
 use Rattle.mon_disk.specs.declared.memory.MemoryDisk.{MemoryDisk}
 use Rattle.mon_settings.specs.StationCore.{Core}
@@ -38,6 +39,11 @@ IsStepOf (Restart s) made = made ≡ step.Restart s
 IsStepOf (Forge s octets) made = (lent : Bor (List ℕ)) × IsLent octets lent × (made ≡ step.Forge s lent)
 IsStepOf (Stop s calls keep) made = made ≡ step.Stop s (min calls 255) keep
 
+-- a step of a script forges no claim
+abbrev pub IsNoForge : ScriptStep → Type 0
+IsNoForge (Forge s octets) = ⊥
+IsNoForge said = Unit {0}
+
 -- of so many stations with these settings, a step of a script, with this answer, led from moves to moves; it did not want memory
 pub record IsMade (settings : ℕ → Setting) (stations : ℕ) (said : ScriptStep) (answer : Result Sent WorldFault) (past now : List Move) : Type 0 where
   pub made : Step
@@ -58,7 +64,8 @@ pub record HaveBeenMade {G : Ghosts MemoryDisk} (core : Core) (stations : List (
   pub leads : LeadsTo core stations sent (λ now. AreMade settings count steps answers past now)
 
 -- The text of a rehearsal of these steps over so many stations: in a world whose stations began their first lives on empty disks the steps are made one after
--- another, and a line says the answer of each; then follow the stations as that left them. Where no claim was forged, what these say of their debts is true.
+-- another, and a line says the answer of each; then follow the stations as that left them. Where no step forges a claim, none was
+-- forged, and then what the stations say of their debts is true.
 pub record IsRehearsed (core : Core) (count : ℕ) (steps : List ScriptStep) (text : List ℕ) : Type 0 where
   pub first : List State
   pub opened : length first ≡ count
@@ -66,6 +73,7 @@ pub record IsRehearsed (core : Core) (count : ℕ) (steps : List ScriptStep) (te
   pub moves : List Move
   pub are : AreMoves (setting_at core count) moves
   pub made : AreMade (setting_at core count) count steps answers (first_lives (setting_at core count) 1 first) moves
+  pub unforged : AllByRecursion IsNoForge steps → AreUnforged moves
   pub square : AreUnforged moves → StatesOweTruly moves
   pub is : text ≡ step_lines 1 answers ++ stations_text count moves count
 

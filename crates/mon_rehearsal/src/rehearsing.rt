@@ -18,7 +18,7 @@ use std::alloc::Global;
 
 /// Rehearses a script over a world of so many stations with this core's watch and targets, numbered from 1, on disks in memory. The whole
 /// script is read before the first step. A line says of each step what it sent, or why it was refused; then follows of each station its
-/// incarnation, what it owes each other station, and its report.
+/// incarnation, what it owes each other station, and its report. Where no step forges a claim, what they say of their debts is true.
 ///
 /// # Errors
 /// `BadScript` with the number of the first line that says no step; `World` where the stations were not opened; `OutOfMemory`, also where a
@@ -38,6 +38,7 @@ pub fn rehearse(
     let mut world = World::new(alloc, core, count)?;
     let mut text = Vec::new(alloc);
     make_steps(alloc, &mut world, steps.as_slice(), &mut text)?;
+    mon_world::laws::unforged();
     world.debts();
     put_stations(alloc, &mut text, &world, count)?;
     Ok(text)

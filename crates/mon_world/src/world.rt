@@ -241,7 +241,8 @@ impl World {
     ///
     /// # Errors
     /// `NoSuchStation`, `NoSuchDatagram` or `BadStop` where the step names what is not there; `Refused` where the station refused, and a
-    /// station that was not opened runs on as it was; `OutOfMemory`, and everything is as it was.
+    /// station that was not opened runs on as it was, as at a stop whose save has no generation left; `OutOfMemory`, and everything is as
+    /// it was.
     pub fn step(&mut self, step: Step<'_>) -> Result<Sent, WorldFault>
         // Whatever moves led here, the step adds its own: what the station does about its event.
         ensures outcome { (past : List Move) → Shows self.old.core self.old.stations.items self.old.sent.items past
