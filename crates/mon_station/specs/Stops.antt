@@ -95,8 +95,8 @@ begun_in ((Handled e answer s, disk) ∷ past) = begun_in past
 begun_in ((StoppedOpening w, disk) ∷ past) = begun_in past
 begun_in ((Stopped, disk) ∷ past) = begun_in past
 
--- each follows from the one before it, on honest disks
 module _ {D : Type 0} (is_honest : D → Type 0) (seen : D → List ℕ) (may_leave : D → List ℕ → Type 0) (moment : D → ℕ) (left_since : D → ℕ → List ℕ → Type 0) where
+  -- each happening follows from the one before it, on honest disks
   abbrev pub IsHistory : D → List (Happening × D) → Type 0
   IsHistory first [] = Unit {0}
   IsHistory first ((h, new) ∷ past) = is_honest new × Happens seen may_leave moment left_since (running past) h (last_disk first past) new × IsHistory first past
