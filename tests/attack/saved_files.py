@@ -96,12 +96,12 @@ def failed(fault, path):
 
 
 def report(octets, path):
-    """What `report` does about a file: its status, both its streams, and the file afterwards."""
+    """What `report` does about a file: its status, both its streams, and the file afterwards, as it was."""
     try:
         _, windows = opened(octets)
     except Fault as fault:
-        return 1, "", failed(fault, path), slots.laid_out(octets)
-    return 0, report_of(windows), "", slots.laid_out(octets)
+        return 1, "", failed(fault, path), octets
+    return 0, report_of(windows), "", octets
 
 
 def image_of(incarnation, windows):
@@ -119,13 +119,21 @@ def begun(octets):
         raise Fault("mon_disk", *fault.args) from None
 
 
+def short(octets, path):
+    """What a station says of a file that is too short and not empty, before it lays it out."""
+    if 0 < len(octets) < slots.SIZE:
+        return f"snmpmon: {path} has {len(octets)} octets, so it is no station's file yet: it is laid out as one\n"
+    return ""
+
+
 def station(octets, path, targets):
     """The same of a station's round in which none of its targets answers."""
     try:
         incarnation, windows, file = begun(octets)
     except Fault as fault:
         return 1, "", failed(fault, path), slots.laid_out(octets)
-    said = f"snmpmon: station 1 at HERE, incarnation {incarnation}, file {path}, targets: {len(targets)}, peers: 0\n"
+    said = short(octets, path)
+    said += f"snmpmon: station 1 at HERE, incarnation {incarnation}, file {path}, targets: {len(targets)}, peers: 0\n"
     said += "".join(f"snmpmon: round 1: target {number} at {address} gave up\n" for number, address in enumerate(targets, 1))
     try:
         file = slots.saved(file, image_of(incarnation, windows))

@@ -9,7 +9,7 @@ use Rattle.mon_disk.specs.declared.fault.KeeperFault.{KeeperFault}
 use Rattle.mon_disk.specs.declared.fault.KeeperFault.TheVariants as keeper
 use Rattle.mon_disk.specs.Fault.{is_of_opening}
 use Rattle.mon_disk.specs.Keeper.{FindsBody, is_undamaged}
-use Rattle.mon_rounds.specs.Found.{IsBoardOf, IsFaultOfFound, IsFaultOfImage, IsFindingFault}
+use Rattle.mon_rounds.specs.Found.{IsBoardOf, IsFaultOfFound, IsFaultOfImage, IsFaultOfOctets, IsFindingFault, in_memory}
 use Rattle.mon_saved.specs.declared.fault.ImageFault.{ImageFault}
 use Rattle.mon_saved.specs.declared.fault.ImageFault.TheVariants as image
 use Rattle.mon_saved.specs.declared.image.Image.{Image}
@@ -76,3 +76,18 @@ found_keeper watch file keeper.NoMoreGenerations of h = absurd (let no : false �
 found_keeper watch file keeper.TooLarge of h = absurd (let no : false ≡ true = of in cc)
 found_keeper watch file keeper.Damaged of h = h refl
 found_keeper watch file keeper.Reopen of h = absurd (let no : false ≡ true = of in cc)
+
+-- a fault over a disk in memory
+pub of_octets : (watch : Watch) (file : List ℕ) (f : StationFault) → IsFaultOfFound watch file f → IsFaultOfOctets watch file (in_memory f)
+of_octets watch file station.OutOfMemory h = h
+of_octets watch file (station.Keeper keeper.OutOfMemory) h = h
+of_octets watch file (station.Keeper keeper.DiskFault) h = tt
+of_octets watch file (station.Keeper keeper.NoMoreGenerations) h = h
+of_octets watch file (station.Keeper keeper.TooLarge) h = h
+of_octets watch file (station.Keeper keeper.Damaged) h = h
+of_octets watch file (station.Keeper keeper.Reopen) h = h
+of_octets watch file (station.Poll f) h = h
+of_octets watch file (station.Response f) h = h
+of_octets watch file (station.Exchange f) h = h
+of_octets watch file (station.Image f) h = h
+of_octets watch file station.NoMoreIncarnations h = h

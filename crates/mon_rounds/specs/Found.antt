@@ -40,6 +40,16 @@ IsFaultOfFound watch file (fault.Keeper keeper.Damaged) = is_undamaged file ≡ 
 IsFaultOfFound watch file (fault.Keeper f) = ⊥
 IsFaultOfFound watch file other = IsFaultOfImage watch (found_body file) other
 
+-- the same of a file that was read into memory, where no disk fails
+abbrev pub IsFaultOfOctets : Watch → List ℕ → StationFault → Type 0
+IsFaultOfOctets watch file (fault.Keeper keeper.DiskFault) = ⊥
+IsFaultOfOctets watch file other = IsFaultOfFound watch file other
+
+-- a fault over a disk in memory, which fails for want of memory alone
+abbrev pub in_memory : StationFault → StationFault
+in_memory (fault.Keeper keeper.DiskFault) = fault.OutOfMemory
+in_memory other = other
+
 -- one of the faults with which windows are not found, whatever the disk is
 abbrev pub IsFindingFault : StationFault → Type 0
 IsFindingFault fault.OutOfMemory = Unit {0}

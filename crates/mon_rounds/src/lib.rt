@@ -24,7 +24,7 @@ pub use receiver::{Arrival, Receiver, ReceiverFault, Wait};
 pub use reporting::{Notice, RoundReport};
 pub use round::{Phase, Round, RoundEvent};
 pub use running::{rest, run_round};
-pub use saved::saved_board;
+pub use saved::{board_in, saved_board};
 pub use socket::{Socket, SocketOutbox, SocketReceiver};
 pub use source::Rounds;
 pub use trial::{Trial, TrialFault, selftest};

@@ -1,12 +1,12 @@
 //! The windows that a disk holds.
 
-ghost use Rattle.std.specs.Prelude.{Some, option_map, IfErr, IfOk};
+ghost use Rattle.std.specs.Prelude.{◌≡◌, Some, option_map, IfErr, IfOk};
 ghost use Rattle.mon_disk.specs.Keeper.{IsOpening, found_body};
-ghost use Rattle.mon_rounds.specs.Found.{IsBoardOf, IsFaultOfFound, IsFaultOfImage, IsFindingFault};
+ghost use Rattle.mon_rounds.specs.Found.{IsBoardOf, IsFaultOfFound, IsFaultOfImage, IsFaultOfOctets, IsFindingFault, in_memory};
 ghost use Rattle.mon_station.specs.Saved.{IsCausedBy};
 
 use mon_board::{Board, Watch};
-use mon_disk::{Disk, Keeper};
+use mon_disk::{Disk, Keeper, KeeperFault, MemoryDisk};
 use mon_saved::read_image;
 use mon_station::StationFault;
 use std::alloc::Global;
@@ -38,6 +38,31 @@ pub fn saved_board<D: Disk + Drop>(
             Err(fault) => Err((fault, keeper.into_disk())),
         },
         Err(error) => Err((StationFault::from(error.fault), error.disk)),
+    }
+}
+
+/// The windows that an opening finds in a file of these octets, empty ones where nothing was saved. The file is not written: it is opened as a disk in memory.
+///
+/// # Errors
+/// `OutOfMemory`; `Keeper` with `Damaged` where the file is damaged; `Image` where the body that was found is no image of the watch's instances.
+pub fn board_in(alloc: Global, watch: &Watch, octets: &[u8]) -> Result<Board, StationFault>
+    ensures found { IfOk result (λ board. IsBoardOf watch.now (found_body octets.now) board) }
+    ensures fault { IfErr result (IsFaultOfOctets watch.now octets.now) }
+{
+    let disk = MemoryDisk::new(alloc, octets)?;
+    match saved_board(alloc, watch, disk) {
+        Ok((board, _)) => Ok(board),
+        Err((fault, _)) => Err(in_memory(fault)),
+    }
+}
+
+/// A fault over a disk in memory, which fails for want of memory alone.
+fn in_memory(fault: StationFault) -> StationFault
+    ensures { result ≡ in_memory fault }
+{
+    match fault {
+        StationFault::Keeper(KeeperFault::DiskFault) => StationFault::OutOfMemory,
+        other => other,
     }
 }
 

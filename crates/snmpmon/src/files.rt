@@ -6,6 +6,7 @@ use mon_app::{AppFault, Counted, read_all};
 use mon_report::write_octets;
 use std::alloc::Global;
 use std::fs::File;
+use std::io::Read;
 use std::rt::Files;
 use std::{fs, io};
 
@@ -68,6 +69,23 @@ pub fn read_text<R: Files + AllocGlobal>(rt: &R, path: &str) -> Result<String, F
     };
     match read_all(alloc, &mut file) {
         Ok(octets) => text_of(alloc, path, octets),
+        Err(fault) => Err(unread_file(rt, path, fault)),
+    }
+}
+
+/// The first so many octets of a file, or all of a shorter one.
+pub fn read_first<R: Files<File = File> + AllocGlobal>(
+    rt: &R,
+    path: &str,
+    limit: u64,
+) -> Result<Vec<u8>, Failure> {
+    let alloc = rt.alloc();
+    let file = match File::open(rt, path) {
+        Ok(file) => file,
+        Err(error) => return Err(Failure::stream(alloc, path, error)),
+    };
+    match read_all(alloc, &mut Counted::new(file.take(limit))) {
+        Ok(octets) => Ok(octets),
         Err(fault) => Err(unread_file(rt, path, fault)),
     }
 }

@@ -4,7 +4,7 @@ ghost use Rattle.std.specs.Prelude.{◌≤◌};
 
 use crate::failure::Failure;
 use crate::fault::Fault;
-use crate::files::{print, read_input, read_text};
+use crate::files::{print, read_first, read_input, read_text};
 use crate::naming::add_module;
 use crate::printing::Printing;
 use crate::settings::unset;
@@ -13,25 +13,25 @@ use clap::ArgMatches;
 use mon_alarms::AlarmState;
 use mon_app::AppFault;
 use mon_board::Board;
-use mon_disk::FileDisk;
+use mon_disk::{Disk, DiskError, FileDisk, SLOT_SIZE};
 use mon_formats::Figures;
 use mon_poller::Addr;
 use mon_rehearsal::rehearse;
 use mon_report::write_report;
 use mon_rounds::{
     Addresses, Receiver, RoundReport, Rounds, Socket, SocketOutbox, SocketReceiver, alarm_states,
-    rest, run_round, saved_board, selftest,
+    board_in, rest, run_round, selftest,
 };
 use mon_settings::{Kind, StationSettings, module_files, read_station};
 use mon_smi::Names;
 use mon_station::{Outbox, Run, Station, StationFault};
 use std::alloc::{AllocError, Global};
 use std::fs::File;
-use std::io;
 use std::io::{BufWriter, Write};
 use std::net::{Net, SocketAddr};
 use std::rt::{Clock, Files};
 use std::time::{Duration, Instant};
+use std::{fs, io};
 
 /// What a running station works with.
 #[derive(Drop)]
@@ -175,20 +175,29 @@ fn between<R: Clock + Print + Eprint + AllocGlobal, S: Receiver + Drop, O: Outbo
     pause(rt, running, number, began, timing.interval)
 }
 
-/// Prints the report of the windows in the file of the settings. The station is not started.
+/// Prints the report of the windows in the file of the settings. The station is not started, and the file is read alone.
 pub fn report<R: Files<File = File> + Print + AllocGlobal>(
     rt: &R,
     words: &ArgMatches<'_>,
 ) -> Result<(), Failure> {
     let (settings, printing) = settings_of(rt, words)?;
     let alloc = rt.alloc();
-    let disk = in_file(alloc, &settings.file, FileDisk::open(rt, &settings.file))?;
-    match saved_board(alloc, settings.core.watch(), disk) {
-        Ok((board, _)) => {
-            let text = printing.report(alloc, &board, None)?;
-            print(rt, text.as_slice())
-        }
-        Err((fault, _)) => Err(unkept(alloc, &settings.file, fault)),
+    let board = saved_in(rt, &settings)?;
+    let text = printing.report(alloc, &board, None)?;
+    print(rt, text.as_slice())
+}
+
+/// The windows in the file of the settings, which is read alone.
+fn saved_in<R: Files<File = File> + AllocGlobal>(
+    rt: &R,
+    settings: &StationSettings,
+) -> Result<Board, Failure> {
+    let alloc = rt.alloc();
+    // A file that is longer than a station's is damaged, whatever follows.
+    let octets = read_first(rt, &settings.file, 2 * SLOT_SIZE + 1)?;
+    match board_in(alloc, settings.core.watch(), octets.as_slice()) {
+        Ok(board) => Ok(board),
+        Err(fault) => Err(unkept(alloc, &settings.file, fault)),
     }
 }
 
@@ -263,25 +272,39 @@ fn timing_of(words: &ArgMatches<'_>) -> Timing {
     }
 }
 
-/// The file and the socket of the settings. The socket is taken first, so that of two processes with the same settings the second does not touch the file; yet the
-/// file's faults are told before the socket's.
-fn opened<R: Files<File = File> + Net + AllocGlobal>(
+/// The file and the socket of the settings. The socket is taken first, so that of two processes with the same settings the second neither makes the file nor writes
+/// it; yet the faults of a file that is there are told before the socket's.
+fn opened<R: Files<File = File> + Net + Eprint + AllocGlobal>(
     rt: &R,
     settings: &StationSettings,
 ) -> Result<(FileDisk, Socket), Failure> {
     let alloc = rt.alloc();
-    let socket = Socket::open(rt, settings.listen);
-    let disk = in_file(
+    let socket = match Socket::open(rt, settings.listen) {
+        Ok(socket) => socket,
+        Err(error) => {
+            if fs::exists(rt, settings.file.as_str()).unwrap_or(true) {
+                saved_in(rt, settings)?;
+            }
+            return Err(Failure::socket(alloc, shown(settings.listen), error));
+        }
+    };
+    let mut disk = in_file(
         alloc,
         &settings.file,
         FileDisk::open_or_create(rt, &settings.file),
     )?;
-    match socket {
-        Ok(socket) => Ok((disk, socket)),
-        Err(error) => match saved_board(alloc, settings.core.watch(), disk) {
-            Ok(_) => Err(Failure::socket(alloc, shown(settings.listen), error)),
-            Err((fault, _)) => Err(unkept(alloc, &settings.file, fault)),
-        },
+    warn_of_short(rt, &settings.file, disk.size());
+    Ok((disk, socket))
+}
+
+/// Says of a file that is shorter than a station's, and not empty, that it will be laid out.
+fn warn_of_short<R: Eprint>(rt: &R, path: &str, size: Result<u64, DiskError>) {
+    if let Ok(size) = size {
+        if size > 0 && size < 2 * SLOT_SIZE {
+            let _ = eprintln!(rt;
+                "snmpmon: {path} has {size} octets, so it is no station's file yet: it is laid out as one"
+            );
+        }
     }
 }
 
