@@ -5,6 +5,7 @@ pub mod Order
 pub mod Outcomes
 pub mod Readings
 pub mod Search
+pub mod Servings
 pub mod Windows
 pub mod Walks
 pub mod Meanings

@@ -12,7 +12,6 @@ use Rattle.mon_app.specs.Line.{Says}
 use Rattle.mon_app.specs.Offer.{Offer}
 use Rattle.mon_app.specs.Outcome.{Outcome, IsOutcome, taken_by, refused_in, IsReplay}
 use Rattle.mon_app.specs.Reported.{IsKept, kept_of, reported_row}
-use Rattle.mon_report.specs.Report.{report_of}
 use Rattle.mon_app.specs.Reading.{hex_reading, line_reading}
 use Rattle.mon_app.specs.Replay.{admitted, verdict, judged, offered, refused, accepted, refusals, refused_text, lines_of, replayed}
 use Rattle.mon_app.specs.Text.{row_text, end_line, samples_in}

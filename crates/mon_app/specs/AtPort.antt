@@ -1,30 +1,40 @@
 -- What happens at a port that an agent listens at.
-use Rattle.std.specs.Prelude.{ℕ, List, [], ◌∷◌, take, Result, Ok, Err}
-use Rattle.mon_agent.specs.declared.reply.Reply.{Reply}
-use Rattle.mon_agent.specs.declared.reply.Reply.TheVariants.{Send, Silent}
+use Rattle.std.specs.Prelude.{◌≡◌, ℕ, List, [], ◌∷◌, take, Option, Result, Ok, Err}
+use Rattle.mon_edge.specs.Counts.{next_count}
+use Rattle.mon_edge.specs.Told.{extended}
+use Rattle.mon_app.specs.declared.fault.SocketFault.{SocketFault}
 use Rattle.mon_app.specs.declared.port.Received.{Received as AnyReceived}
+use Rattle.mon_app.specs.declared.reason.SocketReason.{SocketReason}
 
--- a datagram came at a moment, in hundredths of a second of the agent's life; or one was sent to where the last one came from
+-- a datagram came at a moment, in hundredths of a second of the agent's life; or a wait failed for a reason; octets were sent to
+-- where the last datagram came from, or could not be sent there
 pub data AtPort : Type 0 where
   Received : List ℕ → ℕ → AtPort
+  Failed : SocketReason → AtPort
   Replied : List ℕ → AtPort
+  Unsent : List ℕ → AtPort
 
 -- what happens in a wait, where this then stands in the room
-abbrev pub receiving : {F : Type 0} → List ℕ → Result AnyReceived F → List AtPort
+abbrev pub receiving : List ℕ → Result AnyReceived SocketFault → List AtPort
 receiving room (Ok received) = Received (take received.len room) received.moment ∷ []
-receiving room (Err fault) = []
+receiving room (Err fault) = Failed fault.reason ∷ []
 
 -- what happens in a sending
 abbrev pub replying : {A F : Type 0} → List ℕ → Result A F → List AtPort
 replying octets (Ok done) = Replied octets ∷ []
-replying octets (Err fault) = []
+replying octets (Err fault) = Unsent octets ∷ []
 
--- what is sent for what the agent does: its reply, or nothing where it is silent
-abbrev pub sent_for : Reply → List AtPort
-sent_for (Send octets) = Replied octets.items ∷ []
-sent_for (Silent cause) = []
+-- a count of failures after what happened
+abbrev pub failures_in : List AtPort → ℕ → ℕ
+failures_in [] count = count
+failures_in (Received octets moment ∷ rest) count = failures_in rest count
+failures_in (Failed reason ∷ rest) count = failures_in rest (next_count count)
+failures_in (Replied octets ∷ rest) count = failures_in rest count
+failures_in (Unsent octets ∷ rest) count = failures_in rest (next_count count)
 
--- there is something to be sent
-abbrev pub IsToBeSent : Reply → Type 0
-IsToBeSent (Send octets) = Unit {0}
-IsToBeSent (Silent cause) = ⊥
+-- More happened, of which this holds: the port told it, where it tells anything, and counted what failed.
+pub record Happens (Holds : List AtPort → Type 0) (told_before told_after : Option (List AtPort)) (failures_before failures_after : ℕ) : Type 0 where
+  pub more : List AtPort
+  pub holds : Holds more
+  pub told : told_after ≡ extended told_before more
+  pub failures : failures_after ≡ failures_in more failures_before

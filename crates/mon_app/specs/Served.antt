@@ -1,6 +1,6 @@
--- What serving a datagram makes of an agent, and what it sends (RFC 3416 section 4.2).
-use Rattle.std.specs.Prelude.{◌≡◌, ℕ, List, [], ◌∷◌, Option}
-use Rattle.mon_edge.specs.Told.{extended}
+-- What serving makes of an agent, and what happens at its port meanwhile (RFC 3416 section 4.2).
+use Rattle.std.specs.Prelude.{◌≡◌, ◌⊎◌, ℕ, zero, suc, ◌<◌, List, [], ◌∷◌, ◌++◌, length, take, All, Result, Ok, Err}
+use Rattle.mon_edge.specs.Counts.{next_count}
 use Rattle.mon_vacm.specs.Tables.{Lists}
 use Rattle.mon_mib.specs.declared.change.Change.{Change}
 use Rattle.mon_mib.specs.declared.counters.Counters.{Counters}
@@ -9,44 +9,128 @@ use Rattle.mon_mib.specs.declared.settings.Settings.{Settings}
 use Rattle.mon_mib.specs.Counters.{counted}
 use Rattle.mon_mib.specs.Held.{Held}
 use Rattle.mon_mib.specs.Known.{known_of}
+use Rattle.mon_agent.specs.declared.agent.Agent.{Agent}
 use Rattle.mon_agent.specs.declared.reply.Reply.{Reply}
+use Rattle.mon_agent.specs.declared.reply.Reply.TheVariants.{Send, Silent}
 use Rattle.mon_agent.specs.Answer.{IsAnswer, raised_by}
+use Rattle.mon_agent.specs.State.{counters_of, device_of}
 use Rattle.mon_app.specs.declared.fault.AppFault.{AppFault}
 use Rattle.mon_app.specs.declared.fault.AppFault.TheVariants as faults
-use Rattle.mon_app.specs.AtPort.{AtPort, IsToBeSent, Received, sent_for}
+use Rattle.mon_app.specs.declared.fault.SocketFault.{SocketFault}
+use Rattle.mon_app.specs.declared.port.Received.{Received as AnyReceived}
+use Rattle.mon_app.specs.declared.reason.SocketReason.{SocketReason}
+use Rattle.mon_app.specs.AtPort.{AtPort, Received, Failed, Replied, Unsent}
 
--- A datagram came at a moment, and the agent answered it: this is what became of the counters and of the device, of which devices
--- of one kind hold, fail and refuse so.
+-- a wait that failed
+abbrev pub IsFailure : AtPort → Type 0
+IsFailure (Failed reason) = Unit {0}
+IsFailure (Received octets moment) = ⊥
+IsFailure (Replied octets) = ⊥
+IsFailure (Unsent octets) = ⊥
+
+-- this many waits that failed, and nothing else
+abbrev pub AreFailures : ℕ → List AtPort → Type 0
+AreFailures n log = All IsFailure log × (length log ≡ n)
+
+-- 16 waits in a row failed, the last one for this reason
+pub record IsEnd (reason : SocketReason) (log : List AtPort) : Type 0 where
+  pub failed : List AtPort
+  pub failures : AreFailures 15 failed
+  pub log_is : log ≡ failed ++ Failed reason ∷ []
+
+-- after fewer than 16 failed waits a datagram came, which stands in the room
+pub record IsNext (room : List ℕ) (received : AnyReceived) (log : List AtPort) : Type 0 where
+  pub count : ℕ
+  pub few : count < 16
+  pub failed : List AtPort
+  pub failures : AreFailures count failed
+  pub log_is : log ≡ failed ++ Received (take received.len room) received.moment ∷ []
+
+-- what waiting for a datagram comes to
+abbrev pub IsAwaited : List ℕ → List AtPort → Result AnyReceived SocketFault → Type 0
+IsAwaited room log (Ok received) = IsNext room received log
+IsAwaited room log (Err fault) = IsEnd fault.reason log
+
+-- An agent's counters and device, and how often it was told that memory ran out for a datagram.
+pub record Standing (D : Type 0) : Type 0 where
+  pub counts : Counters
+  pub device : D
+  pub untaken : ℕ
+
+-- how an agent stands, where that was told so often
+abbrev pub stands : {D : Type 0} → Agent D → ℕ → Standing D
+stands agent times = record { counts = counters_of agent; device = device_of agent; untaken = times }
+
+-- The agent's reply to a datagram that came at a moment, and what became of its counters and its device, of which devices of one
+-- kind hold, fail and refuse so.
 pub record AnswersIt {D : Type 0} (held : D → Held) (failed : D → ℕ) (refuses : D → Change → Type 0) (policy : Lists) (settings : Settings)
-    (counts_before counts_after : Counters) (before after : D) (datagram : List ℕ) (moment : ℕ) (reply : Reply) : Type 0 where
-  pub answer : IsAnswer held failed refuses policy (known_of settings (counted counts_before InPackets) (held before) moment) before after datagram reply
-  pub counters : counts_after ≡ raised_by reply (counted counts_before InPackets)
+    (before after : Standing D) (datagram : List ℕ) (moment : ℕ) (reply : Reply) : Type 0 where
+  pub answer : IsAnswer held failed refuses policy (known_of settings (counted before.counts InPackets) (held before.device) moment) before.device
+      after.device datagram reply
+  pub counters : after.counts ≡ raised_by reply (counted before.counts InPackets)
+  pub untaken : after.untaken ≡ before.untaken
 
--- The datagram that came was answered, and the reply was sent, or nothing where the agent is silent.
-pub record IsServed (Answers : List ℕ → ℕ → Reply → Type 0) (told_before told_after : Option (List AtPort)) : Type 0 where
-  pub datagram : List ℕ
-  pub moment : ℕ
+-- what happens for a reply: it is sent, or could not be sent; nothing happens where the agent is silent
+abbrev pub IsSent : Reply → List AtPort → Type 0
+IsSent (Send octets) sent = (sent ≡ Replied octets.items ∷ []) ⊎ (sent ≡ Unsent octets.items ∷ [])
+IsSent (Silent cause) sent = sent ≡ []
+
+-- a datagram that was answered
+pub record IsAnswered {S : Type 0} (Answers : S → S → List ℕ → ℕ → Reply → Type 0) (before after : S) (datagram : List ℕ) (moment : ℕ) (sent : List AtPort)
+    : Type 0 where
   pub reply : Reply
-  pub answer : Answers datagram moment reply
-  pub told : told_after ≡ extended told_before (Received datagram moment ∷ sent_for reply)
+  pub answer : Answers before after datagram moment reply
+  pub sent_for : IsSent reply sent
 
--- The datagram that came was answered, and the reply could not be sent.
-pub record IsLost (Answers : List ℕ → ℕ → Reply → Type 0) (told_before told_after : Option (List AtPort)) : Type 0 where
+-- a datagram for which memory ran out: that was told, nothing was sent, and the agent stands as it stood
+pub record IsUntaken {D : Type 0} (before after : Standing D) (sent : List AtPort) : Type 0 where
+  pub counts : after.counts ≡ before.counts
+  pub device : after.device ≡ before.device
+  pub untaken : after.untaken ≡ next_count before.untaken
+  pub nothing : sent ≡ []
+
+-- what becomes of an agent, and what happens at the port, when a datagram came at a moment
+abbrev pub Takes : {D : Type 0} → (Standing D → Standing D → List ℕ → ℕ → Reply → Type 0) → Standing D → Standing D → List ℕ → ℕ → List AtPort → Type 0
+Takes Answers before after datagram moment sent = IsAnswered Answers before after datagram moment sent ⊎ IsUntaken before after sent
+
+-- after fewer than 16 failed waits a datagram came, of which this holds with what happened then
+pub record IsTurn (Taken : List ℕ → ℕ → List AtPort → Type 0) (log : List AtPort) : Type 0 where
+  pub count : ℕ
+  pub few : count < 16
+  pub failed : List AtPort
+  pub failures : AreFailures count failed
   pub datagram : List ℕ
   pub moment : ℕ
-  pub reply : Reply
-  pub answer : Answers datagram moment reply
-  pub to_be_sent : IsToBeSent reply
-  pub told : told_after ≡ extended told_before (Received datagram moment ∷ [])
+  pub sent : List AtPort
+  pub taken : Taken datagram moment sent
+  pub log_is : log ≡ failed ++ Received datagram moment ∷ sent
 
--- A datagram came, and nothing was sent.
-pub record IsUnanswered (told_before told_after : Option (List AtPort)) : Type 0 where
-  pub datagram : List ℕ
-  pub moment : ℕ
-  pub told : told_after ≡ extended told_before (Received datagram moment ∷ [])
+-- what serving one datagram comes to
+abbrev pub IsServed : {S : Type 0} → (S → S → List ℕ → ℕ → List AtPort → Type 0) → S → S → List AtPort → Result Unit SocketFault → Type 0
+IsServed Taken before after log (Ok done) = IsTurn (Taken before after) log
+IsServed Taken before after log (Err fault) = (after ≡ before) × IsEnd fault.reason log
 
--- memory ran out, or a socket failed
-abbrev pub IsServingFault : AppFault → Type 0
-IsServingFault faults.OutOfMemory = Unit {0}
-IsServingFault (faults.SocketFault reason) = Unit {0}
-IsServingFault _ = ⊥
+-- this many datagrams came, one after another
+abbrev pub AreServed : {S : Type 0} → (S → S → List ℕ → ℕ → List AtPort → Type 0) → ℕ → S → S → List AtPort → Type 0
+AreServed Taken zero before after log = (after ≡ before) × (log ≡ [])
+AreServed {S = S} Taken (suc n) before after log = (between : S) × (earlier : List AtPort) × (last : List AtPort) × AreServed Taken n before between earlier
+    × IsTurn (Taken between after) last × (log ≡ earlier ++ last)
+
+-- fewer datagrams than this came; then 16 waits in a row failed
+pub record IsCutOff {S : Type 0} (Taken : S → S → List ℕ → ℕ → List AtPort → Type 0) (count : ℕ) (before after : S) (reason : SocketReason) (log : List AtPort)
+    : Type 0 where
+  pub taken : ℕ
+  pub fewer : taken < count
+  pub earlier : List AtPort
+  pub served : AreServed Taken taken before after earlier
+  pub last : List AtPort
+  pub end : IsEnd reason last
+  pub log_is : log ≡ earlier ++ last
+
+-- What serving this many datagrams comes to, and what happened at the port: all came; or the port failed too often; or nothing
+-- happened, since there was no memory to begin.
+abbrev pub IsServing : {S : Type 0} → (S → S → List ℕ → ℕ → List AtPort → Type 0) → ℕ → S → S → List AtPort → Result Unit AppFault → Type 0
+IsServing Taken count before after log (Ok done) = AreServed Taken count before after log
+IsServing Taken count before after log (Err (faults.SocketFault reason)) = IsCutOff Taken count before after reason log
+IsServing Taken count before after log (Err faults.OutOfMemory) = (after ≡ before) × (log ≡ [])
+IsServing Taken count before after log (Err other) = ⊥

@@ -23,7 +23,7 @@ const HEARINGS: u8 = 65;
 const GREATEST_DATAGRAM: usize = 65_507;
 
 /// Room for the greatest datagram that UDP carries over IPv4, 65507 octets.
-pub fn room(alloc: Global) -> Result<Vec<u8>, AllocError>
+pub(crate) fn room(alloc: Global) -> Result<Vec<u8>, AllocError>
     ensures { IfOk result (λ room. length room.items ≡ 65507) }
 {
     zeros(alloc, GREATEST_DATAGRAM)

@@ -1,49 +1,91 @@
 //! Serving an agent at a port.
 
-ghost use Rattle.std.specs.Prelude.{◌≡◌, ◌⊎◌, Err, OnOk, OnErr, IfErr};
-ghost use Rattle.mon_agent.specs.State.{policy_of, settings_of, counters_of, device_of};
-ghost use Rattle.mon_mib.specs.Counters.{one_more};
-ghost use Rattle.mon_app.specs.AtWire.{socket_failures};
-ghost use Rattle.mon_app.specs.Served.{AnswersIt, IsLost, IsServed, IsServingFault, IsUnanswered};
-ghost use Rattle.mon_app.specs.declared.reason.SocketReason.{SocketReason};
+ghost use Rattle.std.specs.Prelude.{◌≡◌, ◌≤◌, IfOk, length};
+ghost use Rattle.mon_agent.specs.State.{policy_of, settings_of};
+ghost use Rattle.mon_app.specs.AtPort.{Happens};
+ghost use Rattle.mon_app.specs.Served.{AnswersIt, IsAwaited, IsServed, IsServing, Takes, stands};
 
-use crate::fault::AppFault;
-use crate::port::Port;
+use crate::asking::room;
+use crate::fault::{AppFault, SocketFault};
+use crate::port::{Port, Received};
+use crate::untaken::Untaken;
 use mon_agent::{Agent, Reply};
 use mon_mib::Device;
 use std::alloc::Global;
 
-/// Waits for a datagram and answers it: sends the agent's reply to where it came from, or nothing where the agent is silent.
+/// How many failed waits in a row are passed over; the next one that fails ends the serving.
+const PASSED_OVER: u8 = 15;
+
+/// Serves this many datagrams: sends the agent's reply to where each came from, or nothing where the agent is silent. A reply that
+/// cannot be sent is lost. Where memory runs out for a datagram that is told, and the agent stays as it was.
 ///
 /// # Errors
-/// `OutOfMemory` where the agent could not answer, which then is as it was; `SocketFault` where nothing could be received, and the
-/// agent is as it was, or where the reply could not be sent, though the agent answered and a Set may have been assigned.
-pub fn serve_one<P: Port, D: Device + Drop>(
+/// `SocketFault` where 16 waits in a row failed, with the reason of the last; `OutOfMemory` where there was no room to begin.
+pub fn serve<P: Port, D: Device + Drop, U: Untaken>(
     alloc: Global,
     port: &mut P,
     agent: &mut Agent<D>,
-    room: &mut [u8],
+    count: u32,
+    untaken: &mut U,
 ) -> Result<(), AppFault>
-    // A served datagram counts as one message.
-    ensures counted { OnOk result ((counters_of agent.new).in_packets ≡ one_more (counters_of agent.old).in_packets) }
-    // The agent's answer to the datagram that came, at the moment when it came, and what was sent for it.
-    ensures served { OnOk result (IsServed (AnswersIt D.held D.failed D.refuses (policy_of agent.old) (settings_of agent.old)
-        (counters_of agent.old) (counters_of agent.new) (device_of agent.old) (device_of agent.new)) (P.told port.old) (P.told port.new)) }
-    // Where memory runs out nothing changes but that the datagram came.
-    ensures memory { result ≡ Err AppFault.OutOfMemory → (agent.new ≡ agent.old) × IsUnanswered (P.told port.old) (P.told port.new) }
-    // Where the port failed nothing came, or the reply was lost.
-    ensures socket { (reason : SocketReason) → result ≡ Err (AppFault.SocketFault reason) → ((agent.new ≡ agent.old) × (P.told port.new ≡ P.told port.old))
-        ⊎ IsLost (AnswersIt D.held D.failed D.refuses (policy_of agent.old) (settings_of agent.old)
-        (counters_of agent.old) (counters_of agent.new) (device_of agent.old) (device_of agent.new)) (P.told port.old) (P.told port.new) }
-    ensures fault { IfErr result IsServingFault }
-    ensures failures { P.failures port.new ≡ socket_failures result (P.failures port.old) }
+    // Each datagram is answered as the agent was then; what was sent, what failed and what was told is known.
+    ensures served { Happens (λ log. IsServing (Takes (AnswersIt D.held D.failed D.refuses (policy_of agent.old) (settings_of agent.old))) count
+        (stands agent.old (U.times untaken.old)) (stands agent.new (U.times untaken.new)) log result)
+        (P.told port.old) (P.told port.new) (P.failures port.old) (P.failures port.new) }
     // The agent's policy and settings stay.
     ensures policy { policy_of agent.new ≡ policy_of agent.old }
     ensures settings { settings_of agent.new ≡ settings_of agent.old }
 {
-    let received = port.receive(room)?;
-    match agent.answer(alloc, &room[..received.len], received.moment)? {
-        Reply::Send(octets) => Ok(port.reply(&octets)?),
-        Reply::Silent(_) => Ok(()),
+    let mut room = room(alloc)?;
+    for _ in 0..count {
+        serve_one(alloc, port, agent, room.as_mut_slice(), untaken)?;
     }
+    Ok(())
+}
+
+/// Serves the next datagram.
+///
+/// # Errors
+/// `SocketFault` where 16 waits in a row failed; the agent is as it was.
+fn serve_one<P: Port, D: Device + Drop, U: Untaken>(
+    alloc: Global,
+    port: &mut P,
+    agent: &mut Agent<D>,
+    room: &mut [u8],
+    untaken: &mut U,
+) -> Result<(), SocketFault>
+    ensures served { Happens (λ log. IsServed (Takes (AnswersIt D.held D.failed D.refuses (policy_of agent.old) (settings_of agent.old)))
+        (stands agent.old (U.times untaken.old)) (stands agent.new (U.times untaken.new)) log result)
+        (P.told port.old) (P.told port.new) (P.failures port.old) (P.failures port.new) }
+    ensures policy { policy_of agent.new ≡ policy_of agent.old }
+    ensures settings { settings_of agent.new ≡ settings_of agent.old }
+{
+    let received = next_datagram(port, room)?;
+    match agent.answer(alloc, &room[..received.len], received.moment) {
+        Ok(Reply::Send(octets)) => {
+            let _ = port.reply(&octets);
+            Ok(())
+        }
+        Ok(Reply::Silent(_)) => Ok(()),
+        Err(_) => {
+            untaken.tell();
+            Ok(())
+        }
+    }
+}
+
+/// Waits for the next datagram, which is put into the room. At most 15 waits in a row that fail are passed over.
+///
+/// # Errors
+/// `SocketFault` where 16 waits in a row failed, with the reason of the last.
+fn next_datagram<P: Port>(port: &mut P, room: &mut [u8]) -> Result<Received, SocketFault>
+    ensures awaited { Happens (λ log. IsAwaited room.new log result) (P.told port.old) (P.told port.new) (P.failures port.old) (P.failures port.new) }
+    ensures within { IfOk result (λ received. received.len ≤ length room.new) }
+{
+    for _ in 0..PASSED_OVER {
+        if let Ok(received) = port.receive(room) {
+            return Ok(received);
+        }
+    }
+    port.receive(room)
 }

@@ -106,9 +106,12 @@ impl<R: Clock> Port for SocketPort<'_, R> {
         received
     }
 
-    /// A datagram that cannot be sent is lost, as any may be on its way.
     fn reply(&mut self, octets: &[u8]) -> Result<(), SocketFault> {
-        let _ = self.socket.send_to(octets, self.from);
-        Ok(())
+        let sent = match self.socket.send_to(octets, self.from) {
+            Ok(_) => Ok(()),
+            Err(error) => Err(failed(error)),
+        };
+        self.failures = failed_after(self.failures, &sent);
+        sent
     }
 }

@@ -8,7 +8,7 @@ use crate::naming::names_of;
 use crate::settings::unset;
 use clap::ArgMatches;
 use mon_agent::Agent;
-use mon_app::{AppFault, SocketPort, room, serve_one};
+use mon_app::{AppFault, SocketPort, Untaken, serve};
 use mon_mib::{Device, FuseDevice, Moment, SimDevice};
 use mon_settings::{AgentSettings, Kind, read_agent};
 use mon_smi::{Labels, Names};
@@ -28,7 +28,7 @@ pub fn agent<R: Clock + Files + Net + Eprint + AllocGlobal>(
     let listen = SocketAddrV4::new(Ipv4Addr::from(told.listen.octets), told.listen.port);
     let device = SimDevice::new(told.interfaces, told.texts)?;
     let agent = Agent::new(told.policy, told.settings, device);
-    serve(
+    listened(
         rt,
         listen,
         agent,
@@ -36,25 +36,36 @@ pub fn agent<R: Clock + Files + Net + Eprint + AllocGlobal>(
     )
 }
 
-/// Listens at an address, says so, and serves so many datagrams. Where memory runs out for one of them that is told, and the agent stays as it was.
-fn serve<R: Clock + Net + Eprint + AllocGlobal>(
+/// Listens at an address, says so, and serves so many datagrams.
+fn listened<R: Clock + Net + Eprint + AllocGlobal>(
     rt: &R,
     listen: SocketAddrV4,
     agent: Agent<SimDevice>,
     count: u32,
 ) -> Result<(), Failure> {
     let mut agent = agent;
-    let mut room = room(rt.alloc())?;
     let mut port = opened(rt, listen)?;
     let at = port.address()?;
     let _ = eprintln!(rt; "snmpmon: agent at {at}");
-    for _ in 0..count {
-        match serve_one(rt.alloc(), &mut port, &mut agent, room.as_mut_slice()) {
-            Err(AppFault::OutOfMemory) => Failure::from(AppFault::OutOfMemory).tell(rt),
-            served => served?,
-        }
-    }
+    let mut telling = Telling { rt, times: 0 };
+    serve(rt.alloc(), &mut port, &mut agent, count, &mut telling)?;
     Ok(())
+}
+
+/// Tells on standard error of each datagram for which memory ran out.
+#[derive(Drop)]
+struct Telling<'a, R> {
+    rt: &'a R,
+    times: u64,
+}
+
+impl<R: Eprint> Untaken for Telling<'_, R> {
+    ghost times = { λ t. t.times };
+
+    fn tell(&mut self) {
+        Failure::from(AppFault::OutOfMemory).tell(self.rt);
+        self.times = self.times.saturating_add(1);
+    }
 }
 
 /// The port at an address.

@@ -1,32 +1,29 @@
-use Rattle.std.proofs.Common.{◌≡◌, [], ◌∷◌, ap, inr, subst, sym, take, ◌∙◌}
-use Rattle.mon_edge.specs.Told.{extended}
-use Rattle.mon_edge.proofs.Promised.{extended_by_none, extended_on}
+use Rattle.std.proofs.Common.{◌≡◌, [], ◌∷◌, List, ℕ, inl, refl, subst, sym}
+use Rattle.std.specs.Prelude.{◌⊎◌}
 use Rattle.mon_agent.specs.declared.reply.Reply.{Reply}
-use Rattle.mon_app.specs.AtPort.{IsToBeSent, Received, Replied, sent_for}
+use Rattle.mon_agent.specs.declared.reply.Reply.TheVariants.{Send}
+use Rattle.mon_agent.specs.State.{policy_of, settings_of}
+use Rattle.mon_app.specs.AtPort.{Happens, Replied, Unsent}
+use Rattle.mon_app.specs.Served.{AnswersIt, IsSent, Takes, stands}
+use Rattle.mon_app.proofs.Servings.{reply_happens, turned}
 use Rattle.mon_app.proofs.serving.serve_one.Goals as goal
 
-pub returns-in_err-reply-in-Send-clause-socket : goal.returns-in_err-reply-in-Send-clause-socket
-returns-in_err-reply-in-Send-clause-socket g c = λ reason is. inr (record {
-  datagram = take c.in_ok-received.received.len c.receive.new.room;
-  moment = c.in_ok-received.received.moment;
-  reply = c.in_ok-octets.field-0;
-  answer = record { answer = c.in_ok-octets.ensures.answer; counters = c.in_ok-octets.ensures.counters };
-  to_be_sent = subst (λ (r : Reply). IsToBeSent r) (sym c.in-Send.is) tt;
-  told = c.in_err-reply-in-Send.ensures.told ∙ (extended_by_none (g.P.Port.told c.receive.new.self) ∙ c.in_ok-received.ensures.told);
-})
-
-pub returns-in_ok-reply-in-Send-clause-served : goal.returns-in_ok-reply-in-Send-clause-served
-returns-in_ok-reply-in-Send-clause-served g c =
-    let between = g.P.Port.told c.receive.new.self in
-    let datagram = take c.in_ok-received.received.len c.receive.new.room in
-    let replied : g.P.Port.told c.reply.new.self ≡ extended between (sent_for c.in_ok-octets.field-0) =
-    c.in_ok-reply-in-Send.ensures.told ∙ (ap (λ o. extended between (Replied o ∷ [])) c.deref.ensures.value
-    ∙ ap (λ r. extended between (sent_for r)) (sym c.in-Send.is)) in
-    record {
-      datagram = datagram;
-      moment = c.in_ok-received.received.moment;
-      reply = c.in_ok-octets.field-0;
-      answer = record { answer = c.in_ok-octets.ensures.answer; counters = c.in_ok-octets.ensures.counters };
-      told = extended_on (g.P.Port.told c.args.port.now) between (g.P.Port.told c.reply.new.self) (Received datagram c.in_ok-received.received.moment ∷ [])
-          (sent_for c.in_ok-octets.field-0) c.in_ok-received.ensures.told replied;
-    }
+pub returns-in-Ok-Send-clause-served : goal.returns-in-Ok-Send-clause-served
+returns-in-Ok-Send-clause-served g c =
+    let told_0 = g.P.Port.told c.args.port.now in
+    let told_1 = g.P.Port.told c.next_datagram.new.port in
+    let told_2 = g.P.Port.told c.reply.new.self in
+    let count_0 = g.P.Port.failures c.args.port.now in
+    let count_1 = g.P.Port.failures c.next_datagram.new.port in
+    let count_2 = g.P.Port.failures c.reply.new.self in
+    let sent : Happens (IsSent (Send c.in-Ok-Send.octets)) told_1 told_2 count_1 count_2 =
+    subst (λ (o : List ℕ). Happens (λ log. (log ≡ Replied o ∷ []) ⊎ (log ≡ Unsent o ∷ [])) told_1 told_2 count_1 count_2) c.deref.ensures.value
+    (reply_happens c.deref.result.now c.reply.result told_1 told_2 count_1 count_2 c.reply.ensures.told c.reply.ensures.failures) in
+    let Answers = AnswersIt g.D.Device.held g.D.Device.failed g.D.Device.refuses (policy_of c.args.agent.now) (settings_of c.args.agent.now) in
+    turned (Takes Answers (stands c.args.agent.now (g.U.Untaken.times c.args.untaken.now)) (stands c.answer.new.self (g.U.Untaken.times c.args.untaken.now)))
+    (IsSent (Send c.in-Ok-Send.octets)) c.next_datagram.new.room c.in_ok-received.received told_0 told_1 told_2 count_0 count_1 count_2
+    c.in_ok-received.ensures.awaited sent (λ log is. inl (record {
+      reply = c.in-Ok-Send.field-0;
+      answer = record { answer = c.in-Ok-Send.ensures.answer; counters = c.in-Ok-Send.ensures.counters; untaken = refl };
+      sent_for = subst (λ (r : Reply). IsSent r log) (sym c.in-Ok-Send.field-0-is) is;
+    }))

@@ -1,4 +1,4 @@
-use Rattle.std.proofs.Common.{◌≡◌, ◌++◌, [], map, string_bytes, ap, sym, subst, ◌∙◌}
+use Rattle.std.proofs.Common.{◌++◌, [], map, ap, sym, subst, ◌∙◌}
 use Rattle.mon_app.specs.Replay.{accepted, refusals, refused_text, lines_of}
 use Rattle.mon_app.specs.Reported.{IsKept, reported_row}
 use Rattle.mon_app.specs.Windows.{rows_of}

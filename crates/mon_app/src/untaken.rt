@@ -1,0 +1,14 @@
+//! What is told where memory runs out for a datagram.
+
+/// What is told that memory ran out for a datagram.
+pub trait Untaken {
+    ghost use Rattle.std.specs.Prelude.{◌≡◌, ℕ};
+    ghost use Rattle.mon_edge.specs.Counts.{next_count};
+
+    // How often it was told, at most 2^64 - 1.
+    ghost times: { Self → ℕ };
+
+    /// Takes note that memory ran out for the datagram that came last.
+    fn tell(&mut self)
+        ensures times { times self.new ≡ next_count (times self.old) };
+}
