@@ -23,8 +23,8 @@ BUGS = {
     ),
     "answers_each_twice": (
         "src/serving.rt",
-        "    match agent.answer(alloc, &room[..received.len], received.moment)? {",
-        "    agent.answer(alloc, &room[..received.len], received.moment)?; match agent.answer(alloc, &room[..received.len], received.moment)? {",
+        "    match agent.answer(alloc, &room[..received.len], received.moment) {",
+        "    let _ = agent.answer(alloc, &room[..received.len], received.moment);\n    match agent.answer(alloc, &room[..received.len], received.moment) {",
     ),
     "ends_lines_at_carriage_returns": (
         "src/replaying.rt",
@@ -173,8 +173,8 @@ BUGS = {
     ),
     "answers_at_a_moment_that_stands": (
         "src/serving.rt",
-        "    match agent.answer(alloc, &room[..received.len], received.moment)? {",
-        "    let moment = mon_mib::Moment::new(0).unwrap_or(received.moment);\n    match agent.answer(alloc, &room[..received.len], moment)? {",
+        "    match agent.answer(alloc, &room[..received.len], received.moment) {",
+        "    let moment = mon_mib::Moment::new(0).unwrap_or(received.moment);\n    match agent.answer(alloc, &room[..received.len], moment) {",
     ),
     "asks_four_times": (
         "src/asking.rt",
@@ -208,18 +208,18 @@ BUGS = {
     ),
     "sends_where_it_is_silent": (
         "src/serving.rt",
-        "        Reply::Silent(_) => Ok(()),",
-        "        Reply::Silent(_) => Ok(port.reply(&[])?),",
+        "        Ok(Reply::Silent(_)) => Ok(()),",
+        "        Ok(Reply::Silent(_)) => {\n            let _ = port.reply(&[]);\n            Ok(())\n        }",
     ),
     "is_silent_where_it_sends": (
         "src/serving.rt",
-        "        Reply::Send(octets) => Ok(port.reply(&octets)?),",
-        "        Reply::Send(_) => Ok(()),",
+        "            let _ = port.reply(&octets);",
+        "            let _ = octets;",
     ),
     "sends_the_datagram_back": (
         "src/serving.rt",
-        "        Reply::Send(octets) => Ok(port.reply(&octets)?),",
-        "        Reply::Send(_) => Ok(port.reply(&room[..received.len])?),",
+        "            let _ = port.reply(&octets);",
+        "            let _ = port.reply(&room[..received.len]);",
     ),
     "prints_no_binding": (
         "src/client.rt",
@@ -358,13 +358,13 @@ BUGS = {
     ),
     "reads_what_was_left_in_the_room": (
         "src/serving.rt",
-        "    match agent.answer(alloc, &room[..received.len], received.moment)? {",
-        "    match agent.answer(alloc, &room[..], received.moment)? {",
+        "    match agent.answer(alloc, &room[..received.len], received.moment) {",
+        "    match agent.answer(alloc, &room[..], received.moment) {",
     ),
     "replies_twice": (
         "src/serving.rt",
-        "        Reply::Send(octets) => Ok(port.reply(&octets)?),",
-        "        Reply::Send(octets) => { port.reply(&octets)?; Ok(port.reply(&octets)?) }",
+        "            let _ = port.reply(&octets);",
+        "            let _ = port.reply(&octets);\n            let _ = port.reply(&octets);",
     ),
     "takes_what_is_no_reply": (
         "src/asking.rt",
@@ -380,5 +380,110 @@ BUGS = {
         "src/replaying.rt",
         "    Ok(text.into_bytes())",
         "    let _ = text.into_bytes(); Vec::from_slice(alloc, input)",
+    ),
+    "serves_nothing": (
+        "src/serving.rt",
+        "    for _ in 0..count {",
+        "    for _ in 0..count.min(0) {",
+    ),
+    "serves_one_fewer": (
+        "src/serving.rt",
+        "    for _ in 0..count {",
+        "    for _ in 1..count {",
+    ),
+    "serves_one_more": (
+        "src/serving.rt",
+        "    for _ in 0..count {",
+        "    for _ in 0..count.saturating_add(1) {",
+    ),
+    "serves_two_at_a_time": (
+        "src/serving.rt",
+        "        serve_one(alloc, port, agent, room.as_mut_slice(), untaken)?;",
+        "        serve_one(alloc, port, agent, room.as_mut_slice(), untaken)?;\n        serve_one(alloc, port, agent, room.as_mut_slice(), untaken)?;",
+    ),
+    "serves_on_whatever_fails": (
+        "src/serving.rt",
+        "        serve_one(alloc, port, agent, room.as_mut_slice(), untaken)?;",
+        "        let _ = serve_one(alloc, port, agent, room.as_mut_slice(), untaken);",
+    ),
+    "ends_well_where_the_port_fails": (
+        "src/serving.rt",
+        "        serve_one(alloc, port, agent, room.as_mut_slice(), untaken)?;",
+        "        if serve_one(alloc, port, agent, room.as_mut_slice(), untaken).is_err() {\n            return Ok(());\n        }",
+    ),
+    "fails_before_it_serves": (
+        "src/serving.rt",
+        "    let mut room = room(alloc)?;",
+        "    if count > 0 {\n        return Err(AppFault::SocketFault {\n            reason: crate::reason::SocketReason::Other,\n        });\n    }\n    let mut room = room(alloc)?;",
+    ),
+    "ends_out_of_memory": (
+        "src/serving.rt",
+        "    Ok(())\n}\n\n/// Serves the next datagram.",
+        "    Err(AppFault::OutOfMemory)\n}\n\n/// Serves the next datagram.",
+    ),
+    "ends_at_a_failed_wait": (
+        "src/serving.rt",
+        "const PASSED_OVER: u8 = 15;",
+        "const PASSED_OVER: u8 = 0;",
+    ),
+    "passes_over_16_failed_waits": (
+        "src/serving.rt",
+        "const PASSED_OVER: u8 = 15;",
+        "const PASSED_OVER: u8 = 16;",
+    ),
+    "gives_another_reason": (
+        "src/serving.rt",
+        "    port.receive(room)\n}",
+        "    match port.receive(room) {\n        Ok(received) => Ok(received),\n        Err(_) => Err(SocketFault {\n            reason: crate::reason::SocketReason::NetworkDown,\n        }),\n    }\n}",
+    ),
+    "waits_again_for_what_came": (
+        "src/serving.rt",
+        "            return Ok(received);",
+        "            let _ = received;\n            return port.receive(room);",
+    ),
+    "drops_each_second_datagram": (
+        "src/serving.rt",
+        "    let received = next_datagram(port, room)?;",
+        "    next_datagram(port, room)?;\n    let received = next_datagram(port, room)?;",
+    ),
+    "ends_where_a_reply_is_lost": (
+        "src/serving.rt",
+        "            let _ = port.reply(&octets);\n            Ok(())",
+        "            port.reply(&octets)",
+    ),
+    "sends_a_lost_reply_again": (
+        "src/serving.rt",
+        "            let _ = port.reply(&octets);",
+        "            if port.reply(&octets).is_err() {\n                let _ = port.reply(&octets);\n            }",
+    ),
+    "tells_nothing_of_memory": (
+        "src/serving.rt",
+        "            untaken.tell();\n",
+        "",
+    ),
+    "tells_twice_of_memory": (
+        "src/serving.rt",
+        "            untaken.tell();",
+        "            untaken.tell();\n            untaken.tell();",
+    ),
+    "tells_of_what_was_answered": (
+        "src/serving.rt",
+        "        Ok(Reply::Silent(_)) => Ok(()),",
+        "        Ok(Reply::Silent(_)) => {\n            untaken.tell();\n            Ok(())\n        }",
+    ),
+    "replies_where_memory_ran_out": (
+        "src/serving.rt",
+        "            untaken.tell();",
+        "            untaken.tell();\n            let _ = port.reply(&[]);",
+    ),
+    "counts_no_failed_wait": (
+        "src/socket_port.rt",
+        "        self.failures = failed_after(self.failures, &received);",
+        "        self.failures = failed_after(self.failures, &Ok::<(), ()>(()));",
+    ),
+    "counts_no_lost_reply": (
+        "src/socket_port.rt",
+        "        self.failures = failed_after(self.failures, &sent);",
+        "        self.failures = failed_after(self.failures, &Ok::<(), ()>(()));",
     ),
 }
