@@ -46,7 +46,9 @@ class Life:
 
     def timeout(self, request_id):
         told = self.poller.timeout(request_id)
-        return "ok" if isinstance(told, str) else f"ok target {told[0]} {told[1].hex()}"
+        if isinstance(told, str):
+            return told.replace("given up", "ok gave up").replace("not open", "ok")
+        return f"ok target {told[0]} {told[1].hex()}"
 
     def agent(self, octets):
         """What becomes of a datagram from the target's address."""
