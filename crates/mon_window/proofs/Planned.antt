@@ -1,13 +1,15 @@
 -- What an insertion by a plan makes of a window of rising samples.
-use Rattle.std.proofs.Common.{◌≡◌, ℕ, ◌-◌, ◌≤◌, ◌<◌, true, false, List, length, get_or, sym, ap, ◌∙◌, subst, Some, None}
+use Rattle.std.proofs.Common.{◌≡◌, ℕ, ◌-◌, ◌≤◌, ◌<◌, false, List, length, get_or, refl, sym, ap, ◌∙◌, subst, Some, None}
 use Rattle.std.specs.List.{insert, remove, slice_get}
+use Rattle.std.proofs.lemmas.Bool.{true≢false}
 use Rattle.std.specs.List.Sorted.{IsStrictlySortedBy}
 use Rattle.std.specs.FinSet as set
 use Rattle.std.specs.Ordering.{nat_cmp}
 use Rattle.std.specs.Cmp.{nat_cmp_total}
 use Rattle.std.specs.FinSet.{nat_cmp-IsAntisymmetric}
 use Rattle.mon_sample.specs.Key.{boots_of}
-use Rattle.mon_window.specs.Inserted.{IsAddition}
+use Rattle.mon_window.specs.declared.window.Inserted.TheVariants.{Added, Known, TooOld}
+use Rattle.mon_window.specs.Inserted.{IsAddition, IsInsertion}
 use Rattle.mon_window.specs.Keep.{keep}
 use Rattle.mon_window.specs.Leaving.{Fits, HasRoom, IsLeaving}
 use Rattle.mon_window.specs.Place.{IsPlace}
@@ -33,9 +35,19 @@ module _ (n m x : ℕ) (xs : List ℕ) (w : Window) (view : window n m xs ≡ w)
   became : (new : List ℕ) → set.from_list {R = nat_cmp} new ≡ keep boots_of n m (set.insert (set.from_list xs) x) → window n m new ≡ kept w x
   became new is = subst (λ v. window n m new ≡ kept v x) view (λ i. record { size = n; share = m; items = is i })
 
+  -- only the items are new
+  pub same-sizes : (new : List ℕ) → window n m new ≡ record { size = w.size; share = w.share; items = set.from_list new }
+  same-sizes new = subst (λ v. window n m new ≡ record { size = v.size; share = v.share; items = set.from_list new }) view refl
+
   -- ---- it was there
-  pub known-kept : In x w.items → w ≡ kept w x
-  known-kept there = subst (λ v. v ≡ kept v x) view (λ i. record { size = n; share = m; items = sym same i })
+  pub known-inserted : In x w.items → IsInsertion (keep boots_of w.size w.share) w.items w.items x Known
+  known-inserted there = record {
+    items = ap (λ (v : Window). v.items) (subst (λ v. v ≡ kept v x) view (λ i. record { size = n; share = m; items = sym same i }));
+    known = ((λ _. there), (λ _. refl));
+    too_old = ((λ e. cc), (λ h. absurd (true≢false (sym there ∙ h.0))));
+    added = tt;
+    same = refl;
+  }
     where
       here : In x (set.from_list xs)
       here = subst (λ (v : Window). In x v.items) (sym view) there
@@ -44,6 +56,15 @@ module _ (n m x : ℕ) (xs : List ℕ) (w : Window) (view : window n m xs ≡ w)
       same = ap (keep boots_of n m) (insert-known nat_cmp_total nat_cmp-IsAntisymmetric (set.from_list xs) x here) ∙ keep-fits nat_cmp_total nat_cmp-IsAntisymmetric boots_of n m xs s f
 
   -- ---- the sample itself would leave
+  pub too_old-inserted : IsTooOld w x → IsInsertion (keep boots_of w.size w.share) w.items w.items x TooOld
+  too_old-inserted old = record {
+    items = old.kept;
+    known = ((λ e. cc), (λ there. absurd (true≢false (sym there ∙ old.absent))));
+    too_old = ((λ _. (old.absent, old.absent)), (λ _. refl));
+    added = tt;
+    same = refl;
+  }
+
   pub plan-too_old : (at : ℕ) → IsPlace nat_cmp xs x at → IsLeaving boots_of n m (boots_of x) xs at at → IsTooOld w x
   plan-too_old at p leaving = subst (λ v. IsTooOld v x) view (record { absent = p.absent; kept = keep-old nat_cmp_total nat_cmp-IsAntisymmetric boots_of n m x xs at s p f leaving })
 
@@ -78,24 +99,30 @@ module _ (n m x : ℕ) (xs : List ℕ) (w : Window) (view : window n m xs ≡ w)
     joined-set : set.from_list {R = nat_cmp} new ≡ keep boots_of n m (set.insert (set.from_list xs) x)
     joined-set = ap set.from_list is ∙ keep-room nat_cmp_total nat_cmp-IsAntisymmetric boots_of n m x xs at s place f room
 
-    pub joined-items : window n m new ≡ kept w x
-    joined-items = became new joined-set
-
-    pub joined-absent : set.contains w.items x ≡ false
+    joined-absent : set.contains w.items x ≡ false
     joined-absent = subst (λ (v : Window). set.contains v.items x ≡ false) view place.absent
 
     list : rising (set.from_list {R = nat_cmp} new) ≡ insert xs at x
     list = rising-from_list nat_cmp_total nat_cmp-IsAntisymmetric new joined-sorted ∙ is
 
-    pub joined-kept : set.contains (keep boots_of w.size w.share (set.insert w.items x)) x ≡ true
+    joined-kept : In x (set.from_list new)
     joined-kept =
-        ap (λ (v : Window). set.contains v.items x) (sym joined-items) ∙ ap (λ ys. set.contains (set.from_list {R = nat_cmp} ys) x) is
+        ap (λ ys. set.contains (set.from_list {R = nat_cmp} ys) x) is
         ∙ in_from_place (insert xs at x) at x (place_of_placed nat_cmp_total nat_cmp-IsAntisymmetric x xs at s place)
 
-    pub joined-added : IsAddition w.items (set.from_list new) x at None
+    joined-added : IsAddition w.items (set.from_list new) x at None
     joined-added = record {
       place = ap (λ ys. slice_get ys at) list ∙ place_of_placed nat_cmp_total nat_cmp-IsAntisymmetric x xs at s place;
       displaced = ap set.from_list is ∙ from_list-placed nat_cmp_total nat_cmp-IsAntisymmetric x xs at s place ∙ ap (λ (v : Window). set.insert v.items x) view;
+    }
+
+    pub joined-inserted : IsInsertion (keep boots_of w.size w.share) w.items (set.from_list new) x (Added at None)
+    joined-inserted = record {
+      items = ap (λ (v : Window). v.items) (became new joined-set);
+      known = ((λ e. cc), (λ h. absurd (true≢false (sym h ∙ joined-absent))));
+      too_old = ((λ e. cc), (λ h. absurd (true≢false (sym joined-kept ∙ h.1))));
+      added = joined-added;
+      same = tt;
     }
 
     pub joined-done : rising (set.from_list {R = nat_cmp} new) ≡ insert (rising w.items) at x
@@ -131,22 +158,22 @@ module _ (n m x : ℕ) (xs : List ℕ) (w : Window) (view : window n m xs ≡ w)
       pub replaced-fits : Fits boots_of n m new
       replaced-fits = subst (Fits boots_of n m) (sym is) (fits-moved nat_cmp_total nat_cmp-IsAntisymmetric boots_of n m x xs at s stands f out leaves j.before)
 
-      pub replaced-items : window n m new ≡ kept w x
+      replaced-items : window n m new ≡ kept w x
       replaced-items = became new (ap set.from_list is ∙ keep-moved nat_cmp_total nat_cmp-IsAntisymmetric boots_of n m x xs at s stands f out leaves j.before)
 
-      pub replaced-absent : set.contains w.items x ≡ false
+      replaced-absent : set.contains w.items x ≡ false
       replaced-absent = subst (λ (v : Window). set.contains v.items x ≡ false) view stands.absent
 
       new_list : rising (set.from_list {R = nat_cmp} new) ≡ insert (remove xs out) (at - 1) x
       new_list = rising-from_list nat_cmp_total nat_cmp-IsAntisymmetric new replaced-sorted ∙ is
 
-      pub replaced-kept : set.contains (keep boots_of w.size w.share (set.insert w.items x)) x ≡ true
+      replaced-kept : In x (set.from_list new)
       replaced-kept =
-          ap (λ (v : Window). set.contains v.items x) (sym replaced-items) ∙ ap (λ ys. set.contains (set.from_list {R = nat_cmp} ys) x) is
+          ap (λ ys. set.contains (set.from_list {R = nat_cmp} ys) x) is
           ∙ in_from_place (insert (remove xs out) (at - 1) x) (at - 1) x (place-moved nat_cmp_total nat_cmp-IsAntisymmetric boots_of n m x xs at s stands f out leaves j.before)
 
       module _ (d : ℕ) (was : d ≡ get_or xs out d) where
-        pub replaced-added : IsAddition w.items (set.from_list new) x (at - 1) (Some d)
+        replaced-added : IsAddition w.items (set.from_list new) x (at - 1) (Some d)
         replaced-added = record {
           place = ap (λ ys. slice_get ys (at - 1)) new_list ∙ place-moved nat_cmp_total nat_cmp-IsAntisymmetric boots_of n m x xs at s stands f out leaves j.before;
           displaced = (
@@ -156,6 +183,15 @@ module _ (n m x : ℕ) (xs : List ℕ) (w : Window) (view : window n m xs ≡ w)
             ap (λ ys. set.contains (set.from_list {R = nat_cmp} ys) d) is
                 ∙ left-moved nat_cmp_total nat_cmp-IsAntisymmetric boots_of n m x xs at s stands f out leaves j.before d was,
           );
+        }
+
+        pub replaced-inserted : IsInsertion (keep boots_of w.size w.share) w.items (set.from_list new) x (Added (at - 1) (Some d))
+        replaced-inserted = record {
+          items = ap (λ (v : Window). v.items) replaced-items;
+          known = ((λ e. cc), (λ h. absurd (true≢false (sym h ∙ replaced-absent))));
+          too_old = ((λ e. cc), (λ h. absurd (true≢false (sym replaced-kept ∙ h.1))));
+          added = replaced-added;
+          same = tt;
         }
 
         pub replaced-done : (out ≤ length (rising (set.from_list {R = nat_cmp} new))) × (insert (rising (set.from_list {R = nat_cmp} new)) out d ≡ insert (rising w.items) at x)

@@ -113,14 +113,4 @@ BUGS = {
         "dropped: Some(dropped),",
         "dropped: None,",
     ),
-    "takes_the_newest_for_a_newer": (
-        "src/window.rt",
-        "items[items.len() - 1].compare(sample).is_lt()",
-        "items[items.len() - 1].compare(sample).is_le()",
-    ),
-    "puts_the_newest_first": (
-        "src/window.rt",
-        "return Err(items.len());",
-        "return Err(0);",
-    ),
 }

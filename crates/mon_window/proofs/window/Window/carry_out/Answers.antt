@@ -2,17 +2,21 @@ use Rattle.std.proofs.Common.{◌≡◌, ◌-◌, cond, is_ok, refl, sym, ap, �
 use Rattle.std.specs.List.{insert, remove}
 use Rattle.std.specs.FinSet as set
 use Rattle.std.specs.Ordering.{nat_cmp}
-use Rattle.std.proofs.lemmas.Bool.{true≢false}
 use Rattle.mon_window.specs.Plan.{IsPlan, IsDone, IsJoining, IsReplacing}
 use Rattle.mon_window.specs.Top.{rising}
 use Rattle.mon_window.specs.declared.window.Inserted.TheVariants.{Added, Known, TooOld}
-use Rattle.mon_window.proofs.Planned.{known-kept, joined-within, joined-few, joined-sorted, joined-fits, joined-items, joined-absent, joined-kept, joined-added, joined-done, replaced-within, replaced-sorted, replaced-fits, replaced-items, replaced-absent, replaced-kept, replaced-added, replaced-done}
+use Rattle.mon_window.proofs.Planned.{same-sizes, known-inserted, too_old-inserted, joined-within, joined-few, joined-sorted, joined-fits, joined-inserted, joined-done, replaced-within, replaced-sorted, replaced-fits, replaced-inserted, replaced-done}
 use Rattle.mon_window.proofs.window.Window.carry_out.Goals as goal
 
 -- ---- it was there
-pub returns-in-Known-clause-items : goal.returns-in-Known-clause-items
-returns-in-Known-clause-items c =
-    known-kept c.self.inside.size c.self.inside.share c.args.sample c.self.inside.items.items c.args.self.now c.self.view_is c.self.invariant.rising c.self.invariant.fits (subst (IsPlan c.args.self.now c.args.sample) c.in-Known.is c.requires)
+pub returns-in-Known-clause-inserted : goal.returns-in-Known-clause-inserted
+returns-in-Known-clause-inserted c =
+    known-inserted c.self.inside.size c.self.inside.share c.args.sample c.self.inside.items.items c.args.self.now c.self.view_is c.self.invariant.rising c.self.invariant.fits (subst (IsPlan c.args.self.now c.args.sample) c.in-Known.is c.requires)
+
+-- ---- it would leave
+pub returns-in-TooOld-clause-inserted : goal.returns-in-TooOld-clause-inserted
+returns-in-TooOld-clause-inserted c =
+    too_old-inserted c.self.inside.size c.self.inside.share c.args.sample c.self.inside.items.items c.args.self.now c.self.view_is c.self.invariant.rising c.self.invariant.fits (subst (IsPlan c.args.self.now c.args.sample) c.in-TooOld.is c.requires)
 
 -- ---- there is room
 pub insert-requires : goal.insert-requires
@@ -39,33 +43,12 @@ invariant_of-self c =
       room = omega (arith, c.insert.ensures.capacity, c.self.invariant.room);
     }
 
-pub returns-in-Joins-clause-items : goal.returns-in-Joins-clause-items
-returns-in-Joins-clause-items c =
+pub returns-in-Joins-clause-inserted : goal.returns-in-Joins-clause-inserted
+returns-in-Joins-clause-inserted c =
     let j : IsJoining c.args.self.now c.args.sample c.in-Joins.at = subst (IsPlan c.args.self.now c.args.sample) c.in-Joins.is c.requires in
     let xs = c.self.inside.items.items in
     let is : c.insert.new.self.items ≡ insert xs c.in-Joins.at c.args.sample = c.insert.ensures.items ∙ ap (λ r. cond (is_ok r) (insert xs c.in-Joins.at c.args.sample) xs) c.unwrap.ensures in
-    joined-items c.self.inside.size c.self.inside.share c.args.sample c.self.inside.items.items c.args.self.now c.self.view_is c.self.invariant.rising c.self.invariant.fits c.in-Joins.at j c.insert.new.self.items is
-
-pub returns-in-Joins-clause-known : goal.returns-in-Joins-clause-known
-returns-in-Joins-clause-known c =
-    let j : IsJoining c.args.self.now c.args.sample c.in-Joins.at = subst (IsPlan c.args.self.now c.args.sample) c.in-Joins.is c.requires in
-    let xs = c.self.inside.items.items in
-    let is : c.insert.new.self.items ≡ insert xs c.in-Joins.at c.args.sample = c.insert.ensures.items ∙ ap (λ r. cond (is_ok r) (insert xs c.in-Joins.at c.args.sample) xs) c.unwrap.ensures in
-    ((λ e. cc), (λ h. absurd (true≢false (sym h ∙ joined-absent c.self.inside.size c.self.inside.share c.args.sample c.self.inside.items.items c.args.self.now c.self.view_is c.self.invariant.rising c.self.invariant.fits c.in-Joins.at j c.insert.new.self.items is))))
-
-pub returns-in-Joins-clause-too_old : goal.returns-in-Joins-clause-too_old
-returns-in-Joins-clause-too_old c =
-    let j : IsJoining c.args.self.now c.args.sample c.in-Joins.at = subst (IsPlan c.args.self.now c.args.sample) c.in-Joins.is c.requires in
-    let xs = c.self.inside.items.items in
-    let is : c.insert.new.self.items ≡ insert xs c.in-Joins.at c.args.sample = c.insert.ensures.items ∙ ap (λ r. cond (is_ok r) (insert xs c.in-Joins.at c.args.sample) xs) c.unwrap.ensures in
-    ((λ e. cc), (λ h. absurd (true≢false (sym (joined-kept c.self.inside.size c.self.inside.share c.args.sample c.self.inside.items.items c.args.self.now c.self.view_is c.self.invariant.rising c.self.invariant.fits c.in-Joins.at j c.insert.new.self.items is) ∙ h.1))))
-
-pub returns-in-Joins-clause-added : goal.returns-in-Joins-clause-added
-returns-in-Joins-clause-added c =
-    let j : IsJoining c.args.self.now c.args.sample c.in-Joins.at = subst (IsPlan c.args.self.now c.args.sample) c.in-Joins.is c.requires in
-    let xs = c.self.inside.items.items in
-    let is : c.insert.new.self.items ≡ insert xs c.in-Joins.at c.args.sample = c.insert.ensures.items ∙ ap (λ r. cond (is_ok r) (insert xs c.in-Joins.at c.args.sample) xs) c.unwrap.ensures in
-    joined-added c.self.inside.size c.self.inside.share c.args.sample c.self.inside.items.items c.args.self.now c.self.view_is c.self.invariant.rising c.self.invariant.fits c.in-Joins.at j c.insert.new.self.items is
+    joined-inserted c.self.inside.size c.self.inside.share c.args.sample c.self.inside.items.items c.args.self.now c.self.view_is c.self.invariant.rising c.self.invariant.fits c.in-Joins.at j c.insert.new.self.items is
 
 pub returns-in-Joins-clause-done : goal.returns-in-Joins-clause-done
 returns-in-Joins-clause-done c =
@@ -73,6 +56,9 @@ returns-in-Joins-clause-done c =
     let xs = c.self.inside.items.items in
     let is : c.insert.new.self.items ≡ insert xs c.in-Joins.at c.args.sample = c.insert.ensures.items ∙ ap (λ r. cond (is_ok r) (insert xs c.in-Joins.at c.args.sample) xs) c.unwrap.ensures in
     subst (λ p. IsDone c.args.sample p (Added c.in-Joins.at None) (rising c.args.self.now.items) (rising (set.from_list {R = nat_cmp} c.insert.new.self.items))) (sym c.in-Joins.is) (record { place = tt; items = joined-done c.self.inside.size c.self.inside.share c.args.sample c.self.inside.items.items c.args.self.now c.self.view_is c.self.invariant.rising c.self.invariant.fits c.in-Joins.at j c.insert.new.self.items is })
+
+pub returns-in-Joins-clause-sizes : goal.returns-in-Joins-clause-sizes
+returns-in-Joins-clause-sizes c = same-sizes c.self.inside.size c.self.inside.share c.args.sample c.self.inside.items.items c.args.self.now c.self.view_is c.self.invariant.rising c.self.invariant.fits c.insert.new.self.items
 
 -- ---- another leaves
 pub remove-dropped-requires : goal.remove-dropped-requires
@@ -103,41 +89,14 @@ invariant_of-self-in-Replaces c =
       room = omega (arith, c.insert-in-Replaces.ensures.capacity, c.remove-dropped.ensures.capacity, c.self.invariant.room);
     }
 
-pub returns-in-Replaces-clause-items : goal.returns-in-Replaces-clause-items
-returns-in-Replaces-clause-items c =
+pub returns-in-Replaces-clause-inserted : goal.returns-in-Replaces-clause-inserted
+returns-in-Replaces-clause-inserted c =
     let j : IsReplacing c.args.self.now c.args.sample c.in-Replaces.at c.in-Replaces.out = subst (IsPlan c.args.self.now c.args.sample) c.in-Replaces.is c.requires in
     let removed = c.remove-dropped.new.self.items in
     let is : c.insert-in-Replaces.new.self.items ≡ insert (remove c.self.inside.items.items c.in-Replaces.out) (c.in-Replaces.at - 1) c.args.sample =
     c.insert-in-Replaces.ensures.items ∙ ap (λ r. cond (is_ok r) (insert removed (c.in-Replaces.at - 1) c.args.sample) removed) c.unwrap-in-Replaces.ensures
     ∙ ap (λ ys. insert ys (c.in-Replaces.at - 1) c.args.sample) c.remove-dropped.ensures.items in
-    replaced-items c.self.inside.size c.self.inside.share c.args.sample c.self.inside.items.items c.args.self.now c.self.view_is c.self.invariant.rising c.self.invariant.fits c.in-Replaces.at c.in-Replaces.out j c.insert-in-Replaces.new.self.items is
-
-pub returns-in-Replaces-clause-known : goal.returns-in-Replaces-clause-known
-returns-in-Replaces-clause-known c =
-    let j : IsReplacing c.args.self.now c.args.sample c.in-Replaces.at c.in-Replaces.out = subst (IsPlan c.args.self.now c.args.sample) c.in-Replaces.is c.requires in
-    let removed = c.remove-dropped.new.self.items in
-    let is : c.insert-in-Replaces.new.self.items ≡ insert (remove c.self.inside.items.items c.in-Replaces.out) (c.in-Replaces.at - 1) c.args.sample =
-    c.insert-in-Replaces.ensures.items ∙ ap (λ r. cond (is_ok r) (insert removed (c.in-Replaces.at - 1) c.args.sample) removed) c.unwrap-in-Replaces.ensures
-    ∙ ap (λ ys. insert ys (c.in-Replaces.at - 1) c.args.sample) c.remove-dropped.ensures.items in
-    ((λ e. cc), (λ h. absurd (true≢false (sym h ∙ replaced-absent c.self.inside.size c.self.inside.share c.args.sample c.self.inside.items.items c.args.self.now c.self.view_is c.self.invariant.rising c.self.invariant.fits c.in-Replaces.at c.in-Replaces.out j c.insert-in-Replaces.new.self.items is))))
-
-pub returns-in-Replaces-clause-too_old : goal.returns-in-Replaces-clause-too_old
-returns-in-Replaces-clause-too_old c =
-    let j : IsReplacing c.args.self.now c.args.sample c.in-Replaces.at c.in-Replaces.out = subst (IsPlan c.args.self.now c.args.sample) c.in-Replaces.is c.requires in
-    let removed = c.remove-dropped.new.self.items in
-    let is : c.insert-in-Replaces.new.self.items ≡ insert (remove c.self.inside.items.items c.in-Replaces.out) (c.in-Replaces.at - 1) c.args.sample =
-    c.insert-in-Replaces.ensures.items ∙ ap (λ r. cond (is_ok r) (insert removed (c.in-Replaces.at - 1) c.args.sample) removed) c.unwrap-in-Replaces.ensures
-    ∙ ap (λ ys. insert ys (c.in-Replaces.at - 1) c.args.sample) c.remove-dropped.ensures.items in
-    ((λ e. cc), (λ h. absurd (true≢false (sym (replaced-kept c.self.inside.size c.self.inside.share c.args.sample c.self.inside.items.items c.args.self.now c.self.view_is c.self.invariant.rising c.self.invariant.fits c.in-Replaces.at c.in-Replaces.out j c.insert-in-Replaces.new.self.items is) ∙ h.1))))
-
-pub returns-in-Replaces-clause-added : goal.returns-in-Replaces-clause-added
-returns-in-Replaces-clause-added c =
-    let j : IsReplacing c.args.self.now c.args.sample c.in-Replaces.at c.in-Replaces.out = subst (IsPlan c.args.self.now c.args.sample) c.in-Replaces.is c.requires in
-    let removed = c.remove-dropped.new.self.items in
-    let is : c.insert-in-Replaces.new.self.items ≡ insert (remove c.self.inside.items.items c.in-Replaces.out) (c.in-Replaces.at - 1) c.args.sample =
-    c.insert-in-Replaces.ensures.items ∙ ap (λ r. cond (is_ok r) (insert removed (c.in-Replaces.at - 1) c.args.sample) removed) c.unwrap-in-Replaces.ensures
-    ∙ ap (λ ys. insert ys (c.in-Replaces.at - 1) c.args.sample) c.remove-dropped.ensures.items in
-    replaced-added c.self.inside.size c.self.inside.share c.args.sample c.self.inside.items.items c.args.self.now c.self.view_is c.self.invariant.rising c.self.invariant.fits c.in-Replaces.at c.in-Replaces.out j c.insert-in-Replaces.new.self.items is c.remove-dropped.result c.remove-dropped.ensures.value
+    replaced-inserted c.self.inside.size c.self.inside.share c.args.sample c.self.inside.items.items c.args.self.now c.self.view_is c.self.invariant.rising c.self.invariant.fits c.in-Replaces.at c.in-Replaces.out j c.insert-in-Replaces.new.self.items is c.remove-dropped.result c.remove-dropped.ensures.value
 
 pub returns-in-Replaces-clause-done : goal.returns-in-Replaces-clause-done
 returns-in-Replaces-clause-done c =
@@ -155,3 +114,6 @@ returns-in-Known-clause-done c =
 pub returns-in-TooOld-clause-done : goal.returns-in-TooOld-clause-done
 returns-in-TooOld-clause-done c =
     subst (λ p. IsDone c.args.sample p TooOld (rising c.args.self.now.items) (rising c.args.self.now.items)) (sym c.in-TooOld.is) (record { place = tt; items = refl })
+
+pub returns-in-Replaces-clause-sizes : goal.returns-in-Replaces-clause-sizes
+returns-in-Replaces-clause-sizes c = same-sizes c.self.inside.size c.self.inside.share c.args.sample c.self.inside.items.items c.args.self.now c.self.view_is c.self.invariant.rising c.self.invariant.fits c.insert-in-Replaces.new.self.items
