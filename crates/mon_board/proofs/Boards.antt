@@ -7,26 +7,20 @@ use Rattle.std.specs.FinSet.{nat_cmp-IsAntisymmetric}
 use Rattle.std.specs.Ordering.{nat_cmp}
 use Rattle.std.proofs.lemmas.Bool.{cases_eq, cases_lt}
 use Rattle.std.proofs.lemmas.List.{get_or-map, length-map, map-set, get_or-set_same, get_or-set_other, get_or_past}
-use Rattle.mon_window.specs.Choice.{IsChoice}
 use Rattle.mon_sample.specs.Key.{boots_of}
 use Rattle.mon_window.specs.Keep.{keep}
-use Rattle.mon_window.specs.Window.{Samples, Window, In}
-use Rattle.mon_window.proofs.Promised.{keep_is_choice, chosen_none, chosen_union, union_none}
-use Rattle.mon_board.specs.Board.{sets_of, AreWindows, IsInsertion}
+use Rattle.mon_window.specs.Window.{Samples, Window}
+use Rattle.mon_window.proofs.Promised.{kept_none, kept_twice, union_none}
+use Rattle.mon_board.specs.Board.{sets_of, AreWindows}
 use Rattle.mon_board.specs.Each.{AreChanged}
 use Rattle.mon_board.specs.Empty.{empty_window_of}
 use Rattle.mon_board.specs.declared.instance.Watched.{Watched}
 use Rattle.mon_board.specs.Instance.{named}
 use Rattle.mon_board.specs.Marks.{Marks, AreKept}
-use Rattle.mon_board.specs.Rules.{rule_of}
 use Rattle.mon_board.specs.Watch.{Watch, size_of, share_of}
-use Rattle.mon_board.specs.Windows.{IsTaken}
+use Rattle.mon_board.specs.Windows.{IsTaken, kept_by}
 use Rattle.mon_window.specs.declared.window.Inserted.{Inserted}
-use Rattle.mon_window.specs.declared.window.Inserted.TheVariants.{Known, TooOld}
-use Rattle.mon_window.specs.Inserted.{IsAddition, IfAdded}
-
-abbrev chooses : (n m : ℕ) → IsChoice {R = nat_cmp} (keep boots_of n m)
-chooses n m = keep_is_choice nat_cmp_total nat_cmp-IsAntisymmetric boots_of n m
+use Rattle.mon_window.specs.Inserted.{IsInsertion}
 
 -- the set at a place of the windows
 abbrev pub set_at : List Window → ℕ → Samples
@@ -37,9 +31,6 @@ set_at_is ws i d lt = get_or-map (λ (w : Window). w.items) ws i d finset.empty 
 
 pub set_past : (ws : List Window) (i : ℕ) → length ws ≤ i → set_at ws i ≡ finset.empty
 set_past ws i le = let past : length (sets_of ws) ≤ i = omega (arith, length-map ws (λ (w : Window). w.items)) in get_or_past (sets_of ws) i finset.empty past
-
-top_empty : (n m : ℕ) → keep boots_of n m (finset.empty {R = nat_cmp}) ≡ finset.empty
-top_empty n m = chosen_none (keep boots_of n m) (chooses n m)
 
 -- ---- the sizes of an instance
 abbrev pub nobody : Watched
@@ -67,7 +58,7 @@ module _ (watch : Watch) (ws : List Window) (is : ws ≡ map empty_window_of wat
     sized = λ i d lt. ap (λ (w : Window). w.size) (empty_here i d lt) ∙ sym (size_at watch i lt);
     shared = λ i d lt. ap (λ (w : Window). w.share) (empty_here i d lt) ∙ sym (share_at watch i lt);
     whole = λ i. subst (λ (s : Samples). keep boots_of (size_of watch i) (share_of watch i) s ≡ s)
-        (sym (ap (λ (l : List Window). set_at l i) is ∙ empty_at watch.instances i)) (top_empty (size_of watch i) (share_of watch i));
+        (sym (ap (λ (l : List Window). set_at l i) is ∙ empty_at watch.instances i)) (kept_none (size_of watch i) (share_of watch i));
   }
 
 -- ---- one window changed
@@ -108,14 +99,10 @@ module _ (n m : ℕ → ℕ) (k : ℕ) (ws : List Window) (are : AreWindows n m 
     ];
   }
 
--- what is kept of what was kept is all of it
-pub kept_twice : (n m : ℕ) (s : Samples) → keep boots_of n m (keep boots_of n m s) ≡ keep boots_of n m s
-kept_twice n m s =
-    ap (keep boots_of n m) (sym (union_none (keep boots_of n m s))) ∙ chosen_union (keep boots_of n m) (chooses n m) s (finset.from_list []) ∙ ap (keep boots_of n m) (union_none s)
-
 -- ---- a sample taken
 module _ (watch : Watch) (ws : List Window) (are : AreWindows (size_of watch) (share_of watch) (length watch.instances) ws) (i : ℕ) (lt : i < length ws)
-    (w v : Window) (was : w ≡ get_or ws i w) (s : ℕ) (is : v ≡ record { size = w.size; share = w.share; items = keep boots_of w.size w.share (finset.insert w.items s) }) where
+    (w v : Window) (was : w ≡ get_or ws i w) (s : ℕ) (how : Inserted) (sizes : v ≡ record { size = w.size; share = w.share; items = v.items })
+    (is : IsInsertion (keep boots_of w.size w.share) w.items v.items s how) where
   numbered : i < length watch.instances
   numbered = omega (arith, are.number)
 
@@ -128,36 +115,24 @@ module _ (watch : Watch) (ws : List Window) (are : AreWindows (size_of watch) (s
   items_were : w.items ≡ set_at ws i
   items_were = ap (λ (u : Window). u.items) was ∙ sym (set_at_is ws i w lt)
 
-  items_are : v.items ≡ keep boots_of (size_of watch i) (share_of watch i) (finset.insert (set_at ws i) s)
-  items_are = ap (λ (u : Window). u.items) is ∙ (λ j. keep boots_of (size_was j) (share_was j) (finset.insert (items_were j) s))
-
-  pub windows_after : AreWindows (size_of watch) (share_of watch) (length watch.instances) (set ws i v)
-  windows_after = still_windows (size_of watch) (share_of watch) (length watch.instances) ws are i numbered v (ap (λ (u : Window). u.size) is ∙ size_was) (ap (λ (u : Window). u.share) is ∙ share_was)
-      (subst (λ (a : Samples). keep boots_of (size_of watch i) (share_of watch i) a ≡ a) (sym items_are) (kept_twice (size_of watch i) (share_of watch i) _))
-
   changed_is : set_at (set ws i v) i ≡ v.items
   changed_is = changed_at (size_of watch) (share_of watch) (length watch.instances) ws are i numbered v
 
-  pub taken_is : IsTaken (rule_of watch) (set_at ws) (set_at (set ws i v)) i s
+  pub insertion_is : IsInsertion (kept_by watch i) (set_at ws i) (set_at (set ws i v) i) s how
+  insertion_is =
+      subst (λ (a : Samples). IsInsertion (kept_by watch i) (set_at ws i) a s how) (sym changed_is)
+      (subst (λ (a : Samples). IsInsertion (kept_by watch i) a v.items s how) items_were
+      (subst (λ (k : Samples → Samples). IsInsertion k w.items v.items s how) (λ j. keep boots_of (size_was j) (share_was j)) is))
+
+  pub windows_after : AreWindows (size_of watch) (share_of watch) (length watch.instances) (set ws i v)
+  windows_after = still_windows (size_of watch) (share_of watch) (length watch.instances) ws are i numbered v (ap (λ (u : Window). u.size) sizes ∙ size_was) (ap (λ (u : Window). u.share) sizes ∙ share_was)
+      (subst (λ (a : Samples). kept_by watch i a ≡ a) (sym insertion_is.items ∙ changed_is) (kept_twice (size_of watch i) (share_of watch i) _))
+
+  pub taken_is : IsTaken watch (set_at ws) (set_at (set ws i v)) i s
   taken_is = record {
-    changed = changed_is ∙ items_are;
+    changed = insertion_is.items;
     others = others_stay (size_of watch) (share_of watch) (length watch.instances) ws are i numbered v;
   }
-
-  module _ (how : Inserted) where
-    -- the sample is too old for a window of n samples, of which m may have one boots number
-    abbrev IsRefused : ℕ → ℕ → Samples → Type 0
-    IsRefused n m a = (how ≡ TooOld) ↔ ((finset.contains a s ≡ false) × (finset.contains (keep boots_of n m (finset.insert a s)) s ≡ false))
-
-    pub insertion_is : (how ≡ Known) ↔ In s w.items → IsRefused w.size w.share w.items → IfAdded how (IsAddition w.items v.items s)
-        → IsInsertion (rule_of watch) i (set_at ws i) (set_at (set ws i v) i) s how
-    insertion_is known too_old added = record {
-      known = subst (λ (a : Samples). (how ≡ Known) ↔ In s a) items_were known;
-      too_old = subst (IsRefused (size_of watch i) (share_of watch i)) items_were
-          (subst (λ (q : ℕ). IsRefused q (share_of watch i) w.items) size_was (subst (λ (q : ℕ). IsRefused w.size q w.items) share_was too_old));
-      added = subst (λ (a : Samples). IfAdded how (IsAddition a (set_at (set ws i v) i) s)) items_were
-          (subst (λ (a : Samples). IfAdded how (IsAddition w.items a s)) (sym changed_is) added);
-    }
 
 -- ---- windows joined
 -- a window with all samples of another one put in
@@ -184,7 +159,7 @@ module _ (n m : ℕ → ℕ) (k : ℕ) (old theirs ours : List Window) (are : Ar
         let none : set_at old i ≡ finset.empty = set_past old i above in
         let none_there : set_at theirs i ≡ finset.empty = set_past theirs i (omega (arith, other, are.number)) in
         set_past ours i (omega (arith, changed.number))
-        ∙ sym ((λ j. keep boots_of (n i) (m i) (finset.union (none j) (none_there j))) ∙ ap (keep boots_of (n i) (m i)) (union_none finset.empty) ∙ top_empty (n i) (m i))
+        ∙ sym ((λ j. keep boots_of (n i) (m i) (finset.union (none j) (none_there j))) ∙ ap (keep boots_of (n i) (m i)) (union_none finset.empty) ∙ kept_none (n i) (m i))
   ]
 
   pub windows_joined : AreWindows n m k ours

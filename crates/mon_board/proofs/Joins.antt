@@ -6,9 +6,11 @@ use Rattle.std.specs.FinSet.{nat_cmp-IsAntisymmetric, contains, insert, union, f
 use Rattle.std.specs.Ordering.{nat_cmp}
 use Rattle.std.proofs.lemmas.Bool.{cases_eq, eq-eqb, ne_eqb}
 use Rattle.mon_window.specs.Window.{Samples}
-use Rattle.mon_window.proofs.Promised.{chosen_union, chosen_insert, union_none}
-use Rattle.mon_board.specs.Windows.{set_of, KeepingRule, window, joined, of_both, IsWhole, IsTaken}
+use Rattle.mon_window.proofs.Promised.{union_none}
+use Rattle.mon_board.specs.Watch.{Watch}
+use Rattle.mon_board.specs.Windows.{set_of, kept_by, window, joined, of_both, IsWhole, IsTaken}
 use Rattle.mon_board.proofs.ByInstance.{set_of-append}
+use Rattle.mon_board.proofs.Promised.{kept_union, kept_insert}
 
 or_turned : (a b : Bool) → (a || b) ≡ (b || a)
 or_turned true true = refl
@@ -48,42 +50,42 @@ own_set pair i test = ap (λ (t : Bool). from_list {R = nat_cmp} (cond t (pair.1
 other_set : (pair : ℕ × ℕ) (i : ℕ) → (pair.0 == i) ≡ false → set_of i (pair ∷ []) ≡ from_list []
 other_set pair i test = ap (λ (t : Bool). from_list {R = nat_cmp} (cond t (pair.1 ∷ []) [])) test
 
-module _ (rule : KeepingRule) where
+module _ (watch : Watch) where
   -- what is chosen of one side may be chosen before, on either side
-  on_left : (i : ℕ) (a b : Samples) → rule.choice i (union (rule.choice i a) b) ≡ rule.choice i (union a b)
-  on_left i a b = chosen_union (rule.choice i) (rule.is_choice i) a b
+  on_left : (i : ℕ) (a b : Samples) → kept_by watch i (union (kept_by watch i a) b) ≡ kept_by watch i (union a b)
+  on_left i a b = kept_union watch i a b
 
-  on_right : (i : ℕ) (a b : Samples) → rule.choice i (union a (rule.choice i b)) ≡ rule.choice i (union a b)
-  on_right i a b = ap (rule.choice i) (union_turned a (rule.choice i b)) ∙ on_left i b a ∙ ap (rule.choice i) (union_turned b a)
+  on_right : (i : ℕ) (a b : Samples) → kept_by watch i (union a (kept_by watch i b)) ≡ kept_by watch i (union a b)
+  on_right i a b = ap (kept_by watch i) (union_turned a (kept_by watch i b)) ∙ on_left i b a ∙ ap (kept_by watch i) (union_turned b a)
 
-  pub commutative : (a b : ℕ → Samples) (i : ℕ) → of_both rule a b i ≡ of_both rule b a i
-  commutative a b i = ap (rule.choice i) (union_turned (a i) (b i))
+  pub commutative : (a b : ℕ → Samples) (i : ℕ) → of_both watch a b i ≡ of_both watch b a i
+  commutative a b i = ap (kept_by watch i) (union_turned (a i) (b i))
 
-  pub associative : (a b c : ℕ → Samples) (i : ℕ) → of_both rule (of_both rule a b) c i ≡ of_both rule a (of_both rule b c) i
-  associative a b c i = on_left i (union (a i) (b i)) (c i) ∙ ap (rule.choice i) (union_grouped (a i) (b i) (c i)) ∙ sym (on_right i (a i) (union (b i) (c i)))
+  pub associative : (a b c : ℕ → Samples) (i : ℕ) → of_both watch (of_both watch a b) c i ≡ of_both watch a (of_both watch b c) i
+  associative a b c i = on_left i (union (a i) (b i)) (c i) ∙ ap (kept_by watch i) (union_grouped (a i) (b i) (c i)) ∙ sym (on_right i (a i) (union (b i) (c i)))
 
-  pub idempotent : (a : ℕ → Samples) (i : ℕ) → IsWhole rule a i → of_both rule a a i ≡ a i
-  idempotent a i whole = ap (rule.choice i) (union_same (a i)) ∙ whole
+  pub idempotent : (a : ℕ → Samples) (i : ℕ) → IsWhole watch a i → of_both watch a a i ≡ a i
+  idempotent a i whole = ap (kept_by watch i) (union_same (a i)) ∙ whole
 
-  pub both_taken : (some others : List (ℕ × ℕ)) (i : ℕ) → of_both rule (window rule some) (window rule others) i ≡ window rule (some ++ others) i
-  both_taken some others i = on_left i (set_of i some) (rule.choice i (set_of i others)) ∙ on_right i (set_of i some) (set_of i others) ∙ ap (rule.choice i) (sym (set_of-append i some others))
+  pub both_taken : (some others : List (ℕ × ℕ)) (i : ℕ) → of_both watch (window watch some) (window watch others) i ≡ window watch (some ++ others) i
+  both_taken some others i = on_left i (set_of i some) (kept_by watch i (set_of i others)) ∙ on_right i (set_of i some) (set_of i others) ∙ ap (kept_by watch i) (sym (set_of-append i some others))
 
-  pub none_put : (windows : ℕ → Samples) (i : ℕ) → IsWhole rule windows i → joined rule windows [] i ≡ windows i
-  none_put windows i whole = ap (rule.choice i) (union_none (windows i)) ∙ whole
+  pub none_put : (windows : ℕ → Samples) (i : ℕ) → IsWhole watch windows i → joined watch windows [] i ≡ windows i
+  none_put windows i whole = ap (kept_by watch i) (union_none (windows i)) ∙ whole
 
-  pub one_put : (old new : ℕ → Samples) (pair : ℕ × ℕ) → ((i : ℕ) → IsWhole rule old i) → IsTaken rule old new pair.0 pair.1 → (i : ℕ) → new i ≡ joined rule old (pair ∷ []) i
+  pub one_put : (old new : ℕ → Samples) (pair : ℕ × ℕ) → ((i : ℕ) → IsWhole watch old i) → IsTaken watch old new pair.0 pair.1 → (i : ℕ) → new i ≡ joined watch old (pair ∷ []) i
   one_put old new pair whole taken i = elim (cases_eq i pair.0) [
     | inl e ↦
         let test : (pair.0 == i) ≡ true = eq-eqb pair.0 i (sym e) in
-        let put : rule.choice i (union (old i) (from_list (pair.1 ∷ []))) ≡ rule.choice i (insert (old i) pair.1) =
-        chosen_insert (rule.choice i) (rule.is_choice i) (old i) pair.1 ∙ ap (λ a. rule.choice i (insert a pair.1)) (whole i) in
-        ap new e ∙ taken.changed ∙ (λ j. rule.choice (sym e j) (insert (old (sym e j)) pair.1)) ∙ sym put ∙ ap (λ a. rule.choice i (union (old i) a)) (sym (own_set pair i test))
+        let put : kept_by watch i (union (old i) (from_list (pair.1 ∷ []))) ≡ kept_by watch i (insert (old i) pair.1) =
+        kept_insert watch i (old i) pair.1 ∙ ap (λ a. kept_by watch i (insert a pair.1)) (whole i) in
+        ap new e ∙ taken.changed ∙ (λ j. kept_by watch (sym e j) (insert (old (sym e j)) pair.1)) ∙ sym put ∙ ap (λ a. kept_by watch i (union (old i) a)) (sym (own_set pair i test))
     | inr ne ↦
         let test : (pair.0 == i) ≡ false = ne_eqb pair.0 i (λ e. ne (sym e)) in
-        taken.others i ne ∙ sym (none_put old i (whole i)) ∙ ap (λ a. rule.choice i (union (old i) a)) (sym (other_set pair i test))
+        taken.others i ne ∙ sym (none_put old i (whole i)) ∙ ap (λ a. kept_by watch i (union (old i) a)) (sym (other_set pair i test))
   ]
 
-  pub more_put : (windows : ℕ → Samples) (pairs more : List (ℕ × ℕ)) (i : ℕ) → joined rule (joined rule windows pairs) more i ≡ joined rule windows (pairs ++ more) i
+  pub more_put : (windows : ℕ → Samples) (pairs more : List (ℕ × ℕ)) (i : ℕ) → joined watch (joined watch windows pairs) more i ≡ joined watch windows (pairs ++ more) i
   more_put windows pairs more i =
-      on_left i (union (windows i) (set_of i pairs)) (set_of i more) ∙ ap (rule.choice i) (union_grouped (windows i) (set_of i pairs) (set_of i more))
-      ∙ ap (λ a. rule.choice i (union (windows i) a)) (sym (set_of-append i pairs more))
+      on_left i (union (windows i) (set_of i pairs)) (set_of i more) ∙ ap (kept_by watch i) (union_grouped (windows i) (set_of i pairs) (set_of i more))
+      ∙ ap (λ a. kept_by watch i (union (windows i) a)) (sym (set_of-append i pairs more))

@@ -8,9 +8,11 @@ use Rattle.mon_window.specs.Window.{Samples, In}
 use Rattle.mon_window.proofs.Promised.{in_left, in_right, in_either}
 use Rattle.mon_board.specs.Board.{Board, KeepsMarks, MarksEntries, is_marked, window_of}
 use Rattle.mon_board.specs.Owed.{kept_marks}
-use Rattle.mon_board.specs.Windows.{KeepingRule, IsTaken, IsWhole, joined, paired, set_of}
-use Rattle.mon_board.specs.declared.board.UnknownInstance.{UnknownInstance}
+use Rattle.mon_board.specs.Watch.{Watch}
+use Rattle.mon_board.specs.Windows.{IsTaken, IsWhole, joined, kept_by, paired, set_of}
+use Rattle.mon_board.specs.declared.fault.UnknownInstance.{UnknownInstance}
 use Rattle.mon_board.proofs.ByInstance.{set_of-append}
+use Rattle.mon_board.proofs.Promised.{kept_stays}
 use Rattle.mon_board.proofs.Joins.{one_put, more_put}
 
 pub paired_more : (k : ℕ) (samples : List ℕ) (place s : ℕ) → place < length samples → s ≡ get_or samples place s → paired k (take (place + 1) samples) ≡ paired k (take place samples) ++ (k, s) ∷ []
@@ -19,23 +21,23 @@ paired_more k samples place s lt is =
     ap (map pair) (take_more samples place s lt) ∙ map-append pair (take place samples) (get_or samples place s ∷ [])
     ∙ ap (λ (t : ℕ). map pair (take place samples) ++ (k, t) ∷ []) (sym is)
 
-module _ (rule : KeepingRule) (start old new : ℕ → Samples) (before after : List (ℕ × ℕ)) (pair : ℕ × ℕ) (longer : after ≡ before ++ pair ∷ [])
-    (so_far : (i : ℕ) → old i ≡ joined rule start before i) (whole : (i : ℕ) → IsWhole rule old i) (taken : IsTaken rule old new pair.0 pair.1) where
+module _ (watch : Watch) (start old new : ℕ → Samples) (before after : List (ℕ × ℕ)) (pair : ℕ × ℕ) (longer : after ≡ before ++ pair ∷ [])
+    (so_far : (i : ℕ) → old i ≡ joined watch start before i) (whole : (i : ℕ) → IsWhole watch old i) (taken : IsTaken watch old new pair.0 pair.1) where
   -- one sample more
-  pub one_taken : (i : ℕ) → new i ≡ joined rule start after i
+  pub one_taken : (i : ℕ) → new i ≡ joined watch start after i
   one_taken i =
-      one_put rule old new pair whole taken i
-      ∙ ap (λ (a : Samples). rule.choice i (set.union a (set_of i (pair ∷ [])))) (so_far i)
-      ∙ more_put rule start before (pair ∷ []) i
-      ∙ ap (λ (ps : List (ℕ × ℕ)). joined rule start ps i) (sym longer)
+      one_put watch old new pair whole taken i
+      ∙ ap (λ (a : Samples). kept_by watch i (set.union a (set_of i (pair ∷ [])))) (so_far i)
+      ∙ more_put watch start before (pair ∷ []) i
+      ∙ ap (λ (ps : List (ℕ × ℕ)). joined watch start ps i) (sym longer)
 
   -- what fell out does not come back
   pub stayed : (i q : ℕ) → In q (start i) → In q (new i) → In q (old i)
   stayed i q first last =
       let a : Samples = set.union (start i) (set_of i before) in
       let b : Samples = set.union (start i) (set_of i (before ++ pair ∷ [])) in
-      let all : new i ≡ rule.choice i b = one_taken i ∙ ap (λ (ps : List (ℕ × ℕ)). joined rule start ps i) longer in
-      subst (In q) (sym (so_far i)) ((rule.is_choice i).stays a b q (in_left q (start i) (set_of i before) first) (more i before (pair ∷ [])) (subst (In q) all last))
+      let all : new i ≡ kept_by watch i b = one_taken i ∙ ap (λ (ps : List (ℕ × ℕ)). joined watch start ps i) longer in
+      subst (In q) (sym (so_far i)) (kept_stays watch i a b q (in_left q (start i) (set_of i before) first) (more i before (pair ∷ [])) (subst (In q) all last))
     where
       more : (i : ℕ) (ps qs : List (ℕ × ℕ)) (x : ℕ) → In x (set.union (start i) (set_of i ps)) → In x (set.union (start i) (set_of i (ps ++ qs)))
       more i ps qs x h = elim (in_either x (start i) (set_of i ps) h) [

@@ -1,11 +1,8 @@
 -- What a board holds.
-use Rattle.std.specs.Prelude.{◌≡◌, false, ℕ, ◌<◌, ◌↔◌, List, [], Bool, length, map, slice_index_or, IsTrue, refl}
+use Rattle.std.specs.Prelude.{◌≡◌, ℕ, ◌<◌, List, [], Bool, length, map, slice_index_or, IsTrue, refl}
 use Rattle.std.specs.FinSet as set
 use Rattle.std.specs.Coded.{Coded, code_by, coded×, coded_ℕ, coded_list}
 use Rattle.mon_sample.specs.contracts.sample.Sample as sample
-use Rattle.mon_window.specs.declared.window.Inserted.{Inserted}
-use Rattle.mon_window.specs.declared.window.Inserted.TheVariants.{Known, TooOld}
-use Rattle.mon_window.specs.Inserted.{IsAddition, IfAdded}
 use Rattle.mon_sample.specs.Key.{boots_of}
 use Rattle.mon_window.specs.Keep.{keep}
 use Rattle.mon_window.specs.Window.{Samples, Window, In}
@@ -13,7 +10,6 @@ use Rattle.mon_board.specs.contracts.watch.Watch as watch
 use Rattle.mon_board.specs.Marks.{Marks, AreMarks, marked_in}
 use Rattle.mon_board.specs.Owed.{kept_marks}
 use Rattle.mon_board.specs.Watch.{Watch}
-use Rattle.mon_board.specs.Windows.{KeepingRule}
 
 -- the watch, and of each of its instances the window and the marked samples with their bits
 pub record Board : Type 0 where
@@ -63,9 +59,3 @@ pub record AreWindows (n m : ℕ → ℕ) (many : ℕ) (windows : List Window) :
   pub sized : (i : ℕ) (d : Window) → i < many → (slice_index_or windows i d).size ≡ n i
   pub shared : (i : ℕ) (d : Window) → i < many → (slice_index_or windows i d).share ≡ m i
   pub whole : (i : ℕ) → keep boots_of (n i) (m i) (slice_index_or (sets_of windows) i set.empty) ≡ slice_index_or (sets_of windows) i set.empty
-
--- what became of a sample that was put into the window of an instance
-pub record IsInsertion (rule : KeepingRule) (i : ℕ) (old new : Samples) (s : ℕ) (how : Inserted) : Type 0 where
-  pub known : (how ≡ Known) ↔ IsTrue (set.contains old s)
-  pub too_old : (how ≡ TooOld) ↔ ((set.contains old s ≡ false) × (set.contains (rule.choice i (set.insert old s)) s ≡ false))
-  pub added : IfAdded how (IsAddition old new s)

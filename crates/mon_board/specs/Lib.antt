@@ -5,7 +5,6 @@ pub mod Instance
 pub mod Marks
 pub mod Owed
 pub mod RuleOrder
-pub mod Rules
 pub mod Watch
 pub mod WatchFault
 pub mod Windows

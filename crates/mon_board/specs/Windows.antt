@@ -1,9 +1,10 @@
 -- Windows of pairs: an instance is its number in the watch, a sample its number.
 use Rattle.std.specs.Prelude.{◌≡◌, ◌≢◌, ℕ, List, [], ◌∷◌, ◌==◌, if◌then◌else◌, map}
-use Rattle.std.specs.Ordering.{nat_cmp}
 use Rattle.std.specs.FinSet as set
-use Rattle.mon_window.specs.Choice.{IsChoice}
+use Rattle.mon_sample.specs.Key.{boots_of}
+use Rattle.mon_window.specs.Keep.{keep}
 use Rattle.mon_window.specs.Window.{Samples, In}
+use Rattle.mon_board.specs.Watch.{Watch, size_of, share_of}
 
 -- the samples of an instance
 abbrev pub samples_of : ℕ → List (ℕ × ℕ) → List ℕ
@@ -26,28 +27,27 @@ Has pairs i s = In s (set_of i pairs)
 abbrev pub IsPartOf : List (ℕ × ℕ) → List (ℕ × ℕ) → Type 0
 IsPartOf some all = (i s : ℕ) → Has some i s → Has all i s
 
--- what is kept of each instance's samples
-pub record KeepingRule : Type 0 where
-  pub choice : ℕ → Samples → Samples
-  pub is_choice : (i : ℕ) → IsChoice {R = nat_cmp} (choice i)
+-- what a watch keeps of an instance's samples: at most an epoch's share of each boots number, and of these the newest that its window holds
+abbrev pub kept_by : Watch → ℕ → Samples → Samples
+kept_by watch i = keep boots_of (size_of watch i) (share_of watch i)
 
 -- the window that a list of pairs leaves of an instance
-abbrev pub window : KeepingRule → List (ℕ × ℕ) → ℕ → Samples
-window rule pairs i = rule.choice i (set_of i pairs)
+abbrev pub window : Watch → List (ℕ × ℕ) → ℕ → Samples
+window watch pairs i = kept_by watch i (set_of i pairs)
 
 -- windows, by instance, with these pairs put in: what `Board::take` of each pair leaves
-abbrev pub joined : KeepingRule → (ℕ → Samples) → List (ℕ × ℕ) → ℕ → Samples
-joined rule windows pairs i = rule.choice i (set.union (windows i) (set_of i pairs))
+abbrev pub joined : Watch → (ℕ → Samples) → List (ℕ × ℕ) → ℕ → Samples
+joined watch windows pairs i = kept_by watch i (set.union (windows i) (set_of i pairs))
 
 -- the windows of two boards together, by instance: what `Board::join` leaves
-abbrev pub of_both : KeepingRule → (ℕ → Samples) → (ℕ → Samples) → ℕ → Samples
-of_both rule some others i = rule.choice i (set.union (some i) (others i))
+abbrev pub of_both : Watch → (ℕ → Samples) → (ℕ → Samples) → ℕ → Samples
+of_both watch some others i = kept_by watch i (set.union (some i) (others i))
 
 -- a window of an instance that holds no more than is kept of it
-abbrev pub IsWhole : KeepingRule → (ℕ → Samples) → ℕ → Type 0
-IsWhole rule windows i = rule.choice i (windows i) ≡ windows i
+abbrev pub IsWhole : Watch → (ℕ → Samples) → ℕ → Type 0
+IsWhole watch windows i = kept_by watch i (windows i) ≡ windows i
 
 -- the sample was put into the window of this instance, and every other window stayed
-pub record IsTaken (rule : KeepingRule) (old new : ℕ → Samples) (i s : ℕ) : Type 0 where
-  pub changed : new i ≡ rule.choice i (set.insert (old i) s)
+pub record IsTaken (watch : Watch) (old new : ℕ → Samples) (i s : ℕ) : Type 0 where
+  pub changed : new i ≡ kept_by watch i (set.insert (old i) s)
   pub others : (j : ℕ) → j ≢ i → new j ≡ old j

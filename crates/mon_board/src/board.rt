@@ -1,16 +1,17 @@
 ghost use Rattle.std.specs.Prelude.{◌≡◌, ◌≤◌, ◌<◌, ◌*◌, ◌^◌, ◌↔◌, ℕ, All, Contains, IfOk, IfSome, IfNone, IsErr, OnErr, OnOk, Some, false, not, ◌==◌, ◌&&◌, ◌||◌, length, map, slice_get};
 ghost use Rattle.std.specs.FinSet as set;
+ghost use Rattle.mon_window.specs.Inserted.{IsInsertion};
 ghost use Rattle.mon_window.specs.Top.{rising};
 ghost use Rattle.mon_board.specs.Owed.{next_above, owed_in};
 ghost use Rattle.std.specs.List.Sorted.{IsStrictlySortedBy};
 ghost use Rattle.mon_board.specs.Instance.{instance_cmp, instances_of, named};
-ghost use Rattle.mon_board.specs.Rules.{rule_of};
 ghost use Rattle.mon_board.specs.Watch.{size_of};
 ghost use Rattle.mon_board.specs.Empty.{empty_window_of, no_marks_of};
-ghost use Rattle.mon_board.specs.Windows.{IsTaken, IsWhole, joined, of_both, paired};
+ghost use Rattle.mon_board.specs.Windows.{IsTaken, IsWhole, joined, kept_by, of_both, paired};
 ghost use Rattle.mon_rates.specs.Totals as sums;
 
 use crate::each::{clear_each, join_each, keep_each};
+use crate::fault::UnknownInstance;
 use crate::instance::Watched;
 use crate::laws;
 use crate::marks::{Marks, first_unmarked, stands_in};
@@ -21,12 +22,6 @@ use mon_sample::Sample;
 use mon_window::Inserted;
 use std::alloc::{AllocError, Global};
 use std::marker::Model;
-use thiserror::Error;
-
-/// A number at which the watch has no instance.
-#[derive(Clone, Copy, Debug, PartialEq, Eq, Error)]
-#[error("the watch has no instance of this number")]
-pub struct UnknownInstance;
 
 /// The windows of a watch's instances, with their totals and marks. It takes all its memory when it is made; no other call
 /// takes any. Contracts see the watch, and of each instance the set of its samples and the marks on them.
@@ -52,7 +47,7 @@ impl Model for Board {
 }
 
 impl Board {
-    ghost use Rattle.mon_board.specs.Board.{window_of, is_marked, KeepsMarks, MarksEntries, IsInsertion};
+    ghost use Rattle.mon_board.specs.Board.{window_of, is_marked, KeepsMarks, MarksEntries};
 
     /// A board of the watch, with empty windows.
     pub fn new(alloc: Global, watch: Watch) -> Result<Self, AllocError>
@@ -72,8 +67,8 @@ impl Board {
     /// The watch.
     pub fn watch(&self) -> &Watch
         ensures watch { result.now ≡ self.now.watch }
-        // A window holds no more than its rule keeps.
-        ensures whole { (i : ℕ) → IsWhole (rule_of self.now.watch) (window_of self.now) i }
+        // A window holds no more than the watch keeps of it.
+        ensures whole { (i : ℕ) → IsWhole self.now.watch (window_of self.now) i }
         ensures entries { MarksEntries self.now }
     {
         &self.watch
@@ -97,9 +92,9 @@ impl Board {
         ensures watch { self.new.watch ≡ self.old.watch }
         ensures unknown { IsErr result ↔ (length self.old.watch.instances ≤ instance) }
         ensures refused { OnErr result (self.new ≡ self.old) }
-        ensures taken { OnOk result (IsTaken (rule_of self.old.watch) (window_of self.old) (window_of self.new) instance sample) }
+        ensures taken { OnOk result (IsTaken self.old.watch (window_of self.old) (window_of self.new) instance sample) }
         ensures marks { KeepsMarks self.old self.new }
-        ensures inserted { IfOk result (IsInsertion (rule_of self.old.watch) instance (window_of self.old instance) (window_of self.new instance) sample) }
+        ensures inserted { IfOk result (IsInsertion (kept_by self.old.watch instance) (window_of self.old instance) (window_of self.new instance) sample) }
     {
         let place = usize::from(instance);
         if place >= self.windows.len() {
@@ -116,7 +111,7 @@ impl Board {
     pub fn take_all(&mut self, instance: u16, samples: &[Sample])
         requires { instance < length self.old.watch.instances }
         ensures watch { self.new.watch ≡ self.old.watch }
-        ensures windows { (i : ℕ) → window_of self.new i ≡ joined (rule_of self.old.watch) (window_of self.old) (paired instance samples.now) i }
+        ensures windows { (i : ℕ) → window_of self.new i ≡ joined self.old.watch (window_of self.old) (paired instance samples.now) i }
         ensures marks { KeepsMarks self.old self.new }
     {
         laws::taken_in_turn();
@@ -131,7 +126,7 @@ impl Board {
     pub fn take_pairs(&mut self, pairs: &[(u16, Sample)])
         requires { All (λ pair. pair.0 < length self.old.watch.instances) pairs.now }
         ensures watch { self.new.watch ≡ self.old.watch }
-        ensures windows { (i : ℕ) → window_of self.new i ≡ joined (rule_of self.old.watch) (window_of self.old) pairs.now i }
+        ensures windows { (i : ℕ) → window_of self.new i ≡ joined self.old.watch (window_of self.old) pairs.now i }
         ensures marks { KeepsMarks self.old self.new }
     {
         laws::taken_in_turn();
@@ -164,7 +159,7 @@ impl Board {
     pub fn join(&mut self, other: &Board)
         requires { other.now.watch ≡ self.old.watch }
         ensures watch { self.new.watch ≡ self.old.watch }
-        ensures windows { (i : ℕ) → window_of self.new i ≡ of_both (rule_of self.old.watch) (window_of self.old) (window_of other.now) i }
+        ensures windows { (i : ℕ) → window_of self.new i ≡ of_both self.old.watch (window_of self.old) (window_of other.now) i }
         ensures marks { KeepsMarks self.old self.new }
     {
         join_each(&mut self.windows, &other.windows);

@@ -28,7 +28,7 @@ impl Instance {
     }
 
     /// Whether the engine id has 5 to 32 octets.
-    pub fn has_engine(&self) -> bool
+    pub(crate) fn has_engine(&self) -> bool
         ensures { IsTrue result ↔ IsEngine self.now.engine }
     {
         let len = self.engine.as_slice().len();
@@ -36,7 +36,7 @@ impl Instance {
     }
 
     /// An equal instance.
-    pub fn try_clone(&self, alloc: Global) -> Result<Self, AllocError>
+    pub(crate) fn try_clone(&self, alloc: Global) -> Result<Self, AllocError>
         ensures { IfOk result (λ i. i ≡ self.now) }
     {
         Ok(Instance {
@@ -61,7 +61,7 @@ pub struct Watched {
 
 impl Watched {
     /// An equal value.
-    pub fn try_clone(&self, alloc: Global) -> Result<Self, AllocError>
+    pub(crate) fn try_clone(&self, alloc: Global) -> Result<Self, AllocError>
         ensures { IfOk result (λ w. w ≡ self.now) }
     {
         let mark = match &self.mark {

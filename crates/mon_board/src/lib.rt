@@ -1,7 +1,7 @@
 //! Boards: of each watched instance, a window of its samples with their totals, and marks on them for up to 15 peers.
 //! An instance is a managed object at an agent, which its engine id names (RFC 3411 section 5, snmpEngineID).
 //! Contract: a sample that is taken changes its own instance's window alone, and `join` leaves what the samples of both
-//! boards leave; `laws` say the same of lists of samples, for every rule of what is kept.
+//! boards leave; `laws` say the same of lists of samples.
 #![tactic(auto)]
 
 mod board;
@@ -13,8 +13,8 @@ mod marks;
 mod pairs;
 mod watch;
 
-pub use board::{Board, UnknownInstance};
-pub use fault::WatchFault;
+pub use board::Board;
+pub use fault::{UnknownInstance, WatchFault};
 pub use instance::{Instance, Watched};
 pub use pairs::Pairs;
 pub use watch::Watch;

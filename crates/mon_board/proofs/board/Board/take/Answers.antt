@@ -1,8 +1,8 @@
 use Rattle.std.proofs.Common.{◌<◌, ℕ, length, set, subst, arith, length-set}
-use Rattle.mon_board.specs.Board.{Board, IsInsertion, KeepsMarks, sets_of, marks_of, window_of}
+use Rattle.mon_window.specs.Inserted.{IsInsertion}
+use Rattle.mon_board.specs.Board.{Board, KeepsMarks, sets_of, marks_of, window_of}
 use Rattle.mon_board.specs.Marks.{AreKept, marked_in}
-use Rattle.mon_board.specs.Windows.{IsTaken}
-use Rattle.mon_board.specs.Rules.{rule_of}
+use Rattle.mon_board.specs.Windows.{IsTaken, kept_by}
 use Rattle.mon_board.specs.Watch.{size_of, share_of}
 use Rattle.mon_board.proofs.Boards.{set_at, windows_after, taken_is, insertion_is, kept_changed, others_stay}
 use Rattle.mon_board.proofs.Marked.{marks_at, marks_after, marks_taken, kept_same, as_kept}
@@ -21,7 +21,7 @@ invariant_of-self c =
     let lt : i < length ws = omega (arith, c.if-place-len.false, c.len.ensures) in
     let below : i < k = omega (arith, lt, are.number) in
     let kept : AreKept (set_at (set ws i v) i) c.index_mut-marks.result.now c.keep.new.self = kept_changed n m k ws are i below v _ _ c.keep.ensures in (
-      windows_after c.self.inside.watch ws are i lt c.index_mut-window.result.now v c.index_mut-window.ensures.value c.args.sample c.insert-inserted.ensures.items,
+      windows_after c.self.inside.watch ws are i lt c.index_mut-window.result.now v c.index_mut-window.ensures.value c.args.sample c.insert-inserted.result c.insert-inserted.ensures.sizes c.insert-inserted.ensures.inserted,
       marks_after n ws (set ws i v) ms c.self.invariant.1 (length-set ws i v) i lt (others_stay n m k ws are i below v) c.index_mut-marks.result.now c.keep.new.self c.index_mut-marks.ensures.value kept,
     )
 
@@ -30,20 +30,19 @@ returns-clause-taken c =
     let ws = c.self.inside.windows.items in
     let v = c.insert-inserted.new.self in
     let lt : c.from-place.result < length ws = omega (arith, c.if-place-len.false, c.len.ensures) in
-    let taken = taken_is c.self.inside.watch ws c.self.invariant.0 c.from-place.result lt c.index_mut-window.result.now v c.index_mut-window.ensures.value c.args.sample c.insert-inserted.ensures.items in
-    subst (λ (b : Board). IsTaken (rule_of b.watch) (window_of b) (set_at (set ws c.from-place.result v)) c.args.instance c.args.sample) c.self.view_is
-    (subst (λ (i : ℕ). IsTaken (rule_of c.self.inside.watch) (set_at ws) (set_at (set ws c.from-place.result v)) i c.args.sample) c.from-place.ensures taken)
+    let taken = taken_is c.self.inside.watch ws c.self.invariant.0 c.from-place.result lt c.index_mut-window.result.now v c.index_mut-window.ensures.value c.args.sample c.insert-inserted.result c.insert-inserted.ensures.sizes c.insert-inserted.ensures.inserted in
+    subst (λ (b : Board). IsTaken b.watch (window_of b) (set_at (set ws c.from-place.result v)) c.args.instance c.args.sample) c.self.view_is
+    (subst (λ (i : ℕ). IsTaken c.self.inside.watch (set_at ws) (set_at (set ws c.from-place.result v)) i c.args.sample) c.from-place.ensures taken)
 
 pub returns-clause-inserted : goal.returns-clause-inserted
 returns-clause-inserted c =
     let ws = c.self.inside.windows.items in
     let v = c.insert-inserted.new.self in
     let w = c.index_mut-window.result.now in
-    let how = c.insert-inserted.ensures in
     let lt : c.from-place.result < length ws = omega (arith, c.if-place-len.false, c.len.ensures) in
-    let inserted = insertion_is c.self.inside.watch ws c.self.invariant.0 c.from-place.result lt w v c.index_mut-window.ensures.value c.args.sample how.items c.insert-inserted.result how.known how.too_old how.added in
-    subst (λ (b : Board). IsInsertion (rule_of b.watch) c.args.instance (window_of b c.args.instance) (set_at (set ws c.from-place.result v) c.args.instance) c.args.sample c.insert-inserted.result) c.self.view_is
-    (subst (λ (i : ℕ). IsInsertion (rule_of c.self.inside.watch) i (set_at ws i) (set_at (set ws c.from-place.result v) i) c.args.sample c.insert-inserted.result) c.from-place.ensures inserted)
+    let inserted = insertion_is c.self.inside.watch ws c.self.invariant.0 c.from-place.result lt w v c.index_mut-window.ensures.value c.args.sample c.insert-inserted.result c.insert-inserted.ensures.sizes c.insert-inserted.ensures.inserted in
+    subst (λ (b : Board). IsInsertion (kept_by b.watch c.args.instance) (window_of b c.args.instance) (set_at (set ws c.from-place.result v) c.args.instance) c.args.sample c.insert-inserted.result) c.self.view_is
+    (subst (λ (i : ℕ). IsInsertion (kept_by c.self.inside.watch i) (set_at ws i) (set_at (set ws c.from-place.result v) i) c.args.sample c.insert-inserted.result) c.from-place.ensures inserted)
 
 pub returns-then-place-len-clause-marks : goal.returns-then-place-len-clause-marks
 returns-then-place-len-clause-marks c =

@@ -1,6 +1,5 @@
 use Rattle.std.proofs.Common.{◌≡◌, ◌<◌, ℕ, length, refl, sym, subst, ◌∙◌, arith}
 use Rattle.mon_board.specs.Board.{window_of}
-use Rattle.mon_board.specs.Rules.{rule_of}
 use Rattle.mon_board.specs.Watch.{Watch}
 use Rattle.mon_board.specs.Windows.{IsTaken, IsWhole}
 use Rattle.mon_board.proofs.Turns.{keeps_own, keeps_more, one_taken, pairs_more, stayed, was_taken}
@@ -9,7 +8,7 @@ use Rattle.mon_board.proofs.board.Board.take_pairs.Goals as goal
 pub loop-instance-init : goal.loop-instance-init
 loop-instance-init c = record {
   watch = refl;
-  windows = λ i. sym (c.taken_in_turn.ensures.none (rule_of c.args.self.now.watch) (window_of c.args.self.now) i (c.watch.ensures.whole i));
+  windows = λ i. sym (c.taken_in_turn.ensures.none c.args.self.now.watch (window_of c.args.self.now) i (c.watch.ensures.whole i));
   marks = keeps_own c.args.self.now c.watch.ensures.entries;
 }
 
@@ -19,20 +18,20 @@ loop-instance-preserved c =
     let old = c.loop-instance.self in
     let new = c.take.new.self in
     let so_far = c.loop-instance.invariant in
-    let rule = rule_of start.watch in
+    let watch = start.watch in
     let k = c.loop-instance.instance-index in
     let pair = c.loop-instance-item.result in
     let below : pair.0 < length start.watch.instances =
     subst (λ (p : ℕ × ℕ). p.0 < length start.watch.instances) (sym c.loop-instance-item.is) (c.requires k pair c.loop-instance-test.true) in
     let taken = was_taken c.take.result _ _ c.take.ensures.unknown (λ none. omega (arith, none, below, few so_far.watch)) c.take.ensures.taken in
-    let whole : (i : ℕ) → IsWhole rule (window_of old) i = λ i. subst (λ (w : Watch). IsWhole (rule_of w) (window_of old) i) so_far.watch (c.watch-in-loop-instance.ensures.whole i) in
-    let put = subst (λ (w : Watch). IsTaken (rule_of w) (window_of old) (window_of new) pair.0 pair.1) so_far.watch taken in
+    let whole : (i : ℕ) → IsWhole watch (window_of old) i = λ i. subst (λ (w : Watch). IsWhole w (window_of old) i) so_far.watch (c.watch-in-loop-instance.ensures.whole i) in
+    let put = subst (λ (w : Watch). IsTaken w (window_of old) (window_of new) pair.0 pair.1) so_far.watch taken in
     let longer = pairs_more c.args.pairs.now k pair c.loop-instance-test.true c.loop-instance-item.is in
     record {
       watch = c.take.ensures.watch ∙ so_far.watch;
-      windows = one_taken rule (window_of start) (window_of old) (window_of new) _ _ pair longer so_far.windows whole put;
+      windows = one_taken watch (window_of start) (window_of old) (window_of new) _ _ pair longer so_far.windows whole put;
       marks = keeps_more start old new so_far.marks c.take.ensures.marks
-          (stayed rule (window_of start) (window_of old) (window_of new) _ _ pair longer so_far.windows whole put);
+          (stayed watch (window_of start) (window_of old) (window_of new) _ _ pair longer so_far.windows whole put);
     }
   where
     few : {v w : Watch} → v ≡ w → length v.instances ≡ length w.instances

@@ -1,6 +1,5 @@
 use Rattle.std.proofs.Common.{◌≡◌, ℕ, take}
 use Rattle.mon_board.specs.Board.{KeepsMarks, window_of}
-use Rattle.mon_board.specs.Rules.{rule_of}
 use Rattle.mon_board.specs.Windows.{joined}
 use Rattle.mon_board.proofs.board.Board.take_pairs.Given as goal
 
@@ -8,6 +7,6 @@ use Rattle.mon_board.proofs.board.Board.take_pairs.Given as goal
 abbrev pub invariant-loop-instance : goal.invariant-loop-instance
 invariant-loop-instance l = record {
   watch : l.self.watch ≡ l.initial.self.watch;
-  windows : (i : ℕ) → window_of l.self i ≡ joined (rule_of l.initial.self.watch) (window_of l.initial.self) (take l.instance-index l.pairs) i;
+  windows : (i : ℕ) → window_of l.self i ≡ joined l.initial.self.watch (window_of l.initial.self) (take l.instance-index l.pairs) i;
   marks : KeepsMarks l.initial.self l.self;
 }
