@@ -1,23 +1,13 @@
 -- Claims noted on a board: their marks.
-use Rattle.std.proofs.Common.{◌≡◌, ℕ, ◌+◌, ◌<◌, Bool, true, false, ◌||◌, ◌&&◌, List, [], ◌∷◌, ◌++◌, length, get_or, take, Option, Some, None, refl, sym, ap, subst, ◌∙◌, inl, inr}
-use Rattle.std.specs.Prelude.{◌==◌, if◌then◌else◌, slice_get, Contains, IfSome, IfNone, not}
-use Rattle.std.specs.Cmp.{nat_cmp_total, unsigned_tied, IsTotalOrder}
-use Rattle.std.specs.Cmp.Lexicographic.{nat_list_cmp_total}
+use Rattle.std.proofs.Common.{◌≡◌, ℕ, ◌+◌, ◌<◌, Bool, true, false, ◌||◌, ◌&&◌, List, [], ◌∷◌, ◌++◌, length, get_or, take, refl, sym, ap, ◌∙◌}
+use Rattle.std.specs.Prelude.{◌==◌, if◌then◌else◌, not}
+use Rattle.std.specs.Cmp.{nat_cmp_total, unsigned_tied}
 use Rattle.std.specs.FinSet.{contains, contains-from_list, contains-union, from_list}
-use Rattle.std.specs.List.Sorted.{IsStrictlySortedBy}
-use Rattle.std.specs.Ordering.{nat_cmp, ordering_reverse}
-use Rattle.std.specs.declared.cmp.Ordering.TheVariants.{Less, Greater}
-use Rattle.std.proofs.lemmas.Bool.{cases_order}
-use Rattle.std.proofs.lemmas.Cmp.{then_total, on_total}
+use Rattle.std.specs.Ordering.{nat_cmp}
 use Rattle.std.proofs.lemmas.List.{take_more}
-use Rattle.std.proofs.lemmas.List.Elements.{Contains-get_or}
-use Rattle.std.proofs.lemmas.Map.Keys.{Less-from_sorted}
-use Rattle.std.proofs.lemmas.Option.{get_or_from_slice_get, slice_get_within}
 use Rattle.mon_window.specs.Window.{Samples}
 use Rattle.mon_window.proofs.Promised.{from_list-append}
-use Rattle.mon_board.specs.Instance.{instance_cmp}
 use Rattle.mon_board.specs.Owed.{kept_marks}
-use Rattle.mon_board.specs.declared.instance.Instance.{Instance}
 use Rattle.mon_exchange.specs.Peers.{is_claimed, marks_after, marks_noted}
 use Rattle.mon_exchange.specs.declared.noted.Noted.{Noted}
 

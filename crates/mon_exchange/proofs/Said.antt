@@ -7,7 +7,9 @@ use Rattle.std.proofs.lemmas.Bool.{cases_Bool, cases_order, eqb-true, eq-eqb, ne
 use Rattle.mon_window.specs.Window.{Samples, In}
 use Rattle.mon_window.proofs.Promised.{retain_agrees}
 use Rattle.mon_board.specs.Owed.{kept_marks, owed_in}
-use Rattle.mon_board.specs.Windows.{Has, IsPartOf, KeepingRule, window}
+use Rattle.mon_board.specs.Windows.{Has, IsPartOf, window}
+use Rattle.mon_board.proofs.Promised.{kept_stays}
+use Rattle.mon_board.specs.Watch.{Watch}
 use Rattle.mon_exchange.specs.Debts.{Heard, TellsDebts, WereTaken, has_said, is_owed, is_owed_at, latest_heard, said_of}
 use Rattle.mon_exchange.specs.Peers.{is_claimed, latest, marked_by, noted_as}
 use Rattle.mon_exchange.specs.declared.noted.Noted.{Noted}
@@ -92,25 +94,25 @@ told : (y j i s : ℕ) (claims : List Heard) → latest_heard y claims ≡ Some 
 told y j i s claims is = ap (λ (k : Option ℕ). not (is_owed_at y claims i s k)) is ∙ twice_not (list_any (has_said y j i s) claims)
 
 -- ---- samples taken
-pub still_told : (rule : KeepingRule) (y : ℕ) (old new : List (ℕ × ℕ)) (claims : List Heard) (known : Option ℕ) (marked : ℕ → ℕ → Bool) → IsPartOf old new → WereTaken old claims
-    → TellsDebts y (window rule old) claims known marked → TellsDebts y (window rule new) claims known (kept_marks (window rule old) (window rule new) marked)
-still_told rule y old new claims known marked more all was = record {
+pub still_told : (watch : Watch) (y : ℕ) (old new : List (ℕ × ℕ)) (claims : List Heard) (known : Option ℕ) (marked : ℕ → ℕ → Bool) → IsPartOf old new → WereTaken old claims
+    → TellsDebts y (window watch old) claims known marked → TellsDebts y (window watch new) claims known (kept_marks (window watch old) (window watch new) marked)
+still_told watch y old new claims known marked more all was = record {
   known_is = was.known_is;
-  marked_is = λ i s h. ap (λ (b : Bool). (marked i s && contains (window rule old i) s) && b) h ∙ true_right _ ∙ at i s h;
+  marked_is = λ i s h. ap (λ (b : Bool). (marked i s && contains (window watch old i) s) && b) h ∙ true_right _ ∙ at i s h;
 }
   where
     -- what is new in the window was not said
-    unsaid : (i s : ℕ) (k : Option ℕ) → In s (window rule new i) → contains (window rule old i) s ≡ false → not (is_owed_at y claims i s k) ≡ false
+    unsaid : (i s : ℕ) (k : Option ℕ) → In s (window watch new i) → contains (window watch old i) s ≡ false → not (is_owed_at y claims i s k) ≡ false
     unsaid i s None h gone = refl
     unsaid i s (Some j) h gone = elim (cases_Bool (list_any (has_said y j i s) claims)) [
       | inl said ↦ absurd (
-          let back : contains (window rule old i) s ≡ true = (rule.is_choice i).stays _ _ s (said_was_taken old claims y j i s all said) (more i) h in
+          let back : contains (window watch old i) s ≡ true = kept_stays watch i _ _ s (said_was_taken old claims y j i s all said) (more i) h in
           let both : true ≡ false = sym back ∙ gone in cc)
       | inr silent ↦ rw silent refl
     ]
 
-    at : (i s : ℕ) → In s (window rule new i) → (marked i s && contains (window rule old i) s) ≡ not (is_owed y claims i s)
-    at i s h = elim (cases_Bool (contains (window rule old i) s)) [
+    at : (i s : ℕ) → In s (window watch new i) → (marked i s && contains (window watch old i) s) ≡ not (is_owed y claims i s)
+    at i s h = elim (cases_Bool (contains (window watch old i) s)) [
       | inl here ↦ rw here (true_right (marked i s) ∙ was.marked_is i s here)
       | inr gone ↦ and_right (marked i s) _ gone ∙ sym (unsaid i s (latest_heard y claims) h gone)
     ]

@@ -4,7 +4,8 @@ ghost use Rattle.std.specs.Prelude.{◌≡◌, ◌≢◌, ◌≤◌, ◌<◌, �
 ghost use Rattle.std.specs.FinSet as set;
 ghost use Rattle.std.specs.List.{AllByRecursion, flat_map};
 ghost use Rattle.mon_board.specs.Owed.{kept_marks, owed_in};
-ghost use Rattle.mon_board.specs.Windows.{IsPartOf, KeepingRule, window};
+ghost use Rattle.mon_board.specs.Windows.{IsPartOf, window};
+ghost use Rattle.mon_board.specs.Watch.{Watch};
 ghost use Rattle.mon_exchange.specs.declared.claim.Claim.{Claim};
 ghost use Rattle.mon_exchange.specs.Claim.{SpellsClaim};
 ghost use Rattle.mon_exchange.specs.Debts.{Heard, TellsDebts, WereTaken, is_owed};
@@ -23,9 +24,9 @@ pub fn one_spelling()
 /// Marks that tell what a station's claims have said still tell it after more samples were taken, where they stay with their
 /// entries: what fell out of a window does not come back, and what is new there was not said.
 pub fn taking()
-    ensures { (rule : KeepingRule) (y : ℕ) (old new : List (ℕ × ℕ)) (claims : List Heard) (known : Option ℕ) (marked : ℕ → ℕ → Bool)
-        → IsPartOf old new → WereTaken old claims → TellsDebts y (window rule old) claims known marked
-        → TellsDebts y (window rule new) claims known (kept_marks (window rule old) (window rule new) marked) }
+    ensures { (watch : Watch) (y : ℕ) (old new : List (ℕ × ℕ)) (claims : List Heard) (known : Option ℕ) (marked : ℕ → ℕ → Bool)
+        → IsPartOf old new → WereTaken old claims → TellsDebts y (window watch old) claims known marked
+        → TellsDebts y (window watch new) claims known (kept_marks (window watch old) (window watch new) marked) }
 {}
 
 /// They tell it with one claim more, marked as it was noted; a claim of another station changes nothing of them.

@@ -1,6 +1,5 @@
 ghost use Rattle.std.specs.Prelude.{◌≡◌, ◌≢◌, ◌≤◌, ◌<◌, ◌==◌, ◌↔◌, ◌⊎◌, ℕ, IfOk, IfErr, IfSome, OnOk, OnErr, None, Some, if◌then◌else◌, length, map, position};
 ghost use Rattle.mon_board.specs.Board.{is_marked, window_of};
-ghost use Rattle.mon_board.specs.Rules.{rule_of};
 ghost use Rattle.mon_board.specs.Windows.{joined, paired};
 ghost use Rattle.mon_exchange.specs.Peers as specs;
 
@@ -112,7 +111,7 @@ impl Peers {
         // The claim's samples are taken, and then marked.
         ensures watch { board.new.watch ≡ board.old.watch }
         ensures windows { OnOk result ((number : ℕ) → IsWatchedAs board.old.watch claim.now.engine claim.now.name number
-            → (i : ℕ) → window_of board.new i ≡ joined (rule_of board.old.watch) (window_of board.old) (paired number claim.now.samples) i) }
+            → (i : ℕ) → window_of board.new i ≡ joined board.old.watch (window_of board.old) (paired number claim.now.samples) i) }
         ensures marks { OnOk result ((slot number : ℕ) → peer_slot self.old.peers claim.now.station ≡ Some slot → IsWatchedAs board.old.watch claim.now.engine claim.now.name number
             → (k i s : ℕ) → is_marked board.new k i s
             ≡ marks_after (noted_of (known_incarnation self.old.peers claim.now.station) claim.now.incarnation) slot number claim.now.samples (window_of board.old) (window_of board.new) (is_marked board.old) k i s) }

@@ -2,7 +2,6 @@
 
 ghost use Rattle.std.specs.Prelude.{◌≡◌, ◌<◌, ◌^◌, List, ℕ, All, Option, length};
 ghost use Rattle.mon_oid.specs.Oid.{dotted};
-ghost use Rattle.mon_board.specs.Rules.{rule_of};
 ghost use Rattle.mon_board.specs.Watch.{Watch};
 ghost use Rattle.mon_board.specs.Windows.{IsPartOf, window};
 ghost use Rattle.mon_window.specs.Window.{Samples};
@@ -27,7 +26,7 @@ pub fn equal_windows()
 /// Equal watches that took the same samples, in whatever order and however often, have equal reports in each format.
 pub fn equal_samples()
     ensures { (format : Format) (shown : List ℕ → List ℕ) (watch : Watch) (some others : List (ℕ × ℕ)) (station : Option Figures) → IsPartOf some others → IsPartOf others some
-        → report_in format shown watch (window (rule_of watch) some) station ≡ report_in format shown watch (window (rule_of watch) others) station }
+        → report_in format shown watch (window watch some) station ≡ report_in format shown watch (window watch others) station }
 {
     mon_board::laws::windows_meet();
 }

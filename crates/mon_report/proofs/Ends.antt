@@ -1,5 +1,5 @@
 -- The first and the last of some samples.
-use Rattle.std.proofs.Common.{◌≡◌, ℕ, ◌-◌, ◌≤◌, List, [], ◌∷◌, ◌++◌, length, take, drop, get_or, sym, ap, ◌∙◌, arith, codes, decimal}
+use Rattle.std.proofs.Common.{◌≡◌, ℕ, ◌-◌, ◌≤◌, List, [], ◌∷◌, ◌++◌, length, take, drop, get_or, ap, ◌∙◌, arith, codes, decimal}
 use Rattle.std.proofs.lemmas.List.{get_or_default}
 use Rattle.mon_rates.specs.Totals.{totals}
 use Rattle.mon_report.proofs.Loops.{others-are}

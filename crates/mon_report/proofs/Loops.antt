@@ -1,11 +1,11 @@
 -- Texts of the elements of a list, one after another.
-use Rattle.std.proofs.Common.{◌≡◌, ℕ, Bool, true, false, cond, ◌+◌, ◌-◌, ◌<◌, ◌≤◌, List, [], ◌∷◌, ◌++◌, length, take, drop, get_or, ◌==◌, sym, ap, refl, ◌∙◌, arith, append_assoc, append-nil, Option, length-take}
+use Rattle.std.proofs.Common.{◌≡◌, ℕ, Bool, true, false, cond, ◌+◌, ◌-◌, ◌<◌, ◌≤◌, List, [], ◌∷◌, ◌++◌, length, take, drop, get_or, ◌==◌, sym, ap, refl, ◌∙◌, arith, append-nil, Option}
 use Rattle.std.proofs.lemmas.Bool.Decides.{nat_tests}
 use Rattle.std.specs.Prelude.{decimal, filter}
 use Rattle.std.specs.List.{flat_map}
 use Rattle.std.proofs.lemmas.List.{take_more, take_all}
 use Rattle.std.proofs.lemmas.Grind.{flat_map-append}
-use Rattle.hex.specs.Hex.{encode_with, encode_lower, lower_digits}
+use Rattle.hex.specs.Hex.{encode_with, encode_lower}
 use Rattle.mon_oid.specs.Oid.{dotted}
 use Rattle.mon_report.specs.Report.{dot_text}
 use Rattle.mon_report.specs.Written.{AppendsIf}

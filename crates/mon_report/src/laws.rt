@@ -1,7 +1,6 @@
 //! Laws of reports. Each is a function that does nothing.
 
 ghost use Rattle.std.specs.Prelude.{◌≡◌, ◌++◌, [], List, ℕ, Bool, Option};
-ghost use Rattle.mon_board.specs.Rules.{rule_of};
 ghost use Rattle.mon_board.specs.Watch.{Watch};
 ghost use Rattle.mon_board.specs.Windows.{IsPartOf, window};
 ghost use Rattle.mon_window.specs.Window.{Samples};
@@ -16,7 +15,7 @@ pub fn equal_windows()
 /// Equal watches that took the same samples, in whatever order and however often, have equal reports.
 pub fn equal_samples()
     ensures { (watch : Watch) (some others : List (ℕ × ℕ)) → IsPartOf some others → IsPartOf others some
-        → report watch (window (rule_of watch) some) ≡ report watch (window (rule_of watch) others) }
+        → report watch (window watch some) ≡ report watch (window watch others) }
 {
     mon_board::laws::windows_meet();
 }

@@ -3,7 +3,6 @@ use Rattle.std.specs.Prelude.{ℕ, ◌≡◌, false, List, Option, Some, None}
 use Rattle.std.specs.FinSet as set
 use Rattle.mon_board.specs.Board.{Board, window_of}
 use Rattle.mon_board.specs.Instance.{instances_of}
-use Rattle.mon_board.specs.Rules.{rule_of}
 use Rattle.mon_board.specs.Watch.{Watch}
 use Rattle.mon_board.specs.Windows.{window}
 use Rattle.mon_disk.specs.declared.fault.KeeperFault.TheVariants as keeper
@@ -20,7 +19,7 @@ use Rattle.mon_station.specs.Saved.{IsFaultOfBody}
 abbrev pub FindsWindows : Watch → Option (List ℕ) → (ℕ → Samples) → Type 0
 FindsWindows watch None windows = (i : ℕ) → windows i ≡ set.empty
 FindsWindows watch (Some octets) windows =
-    (image : Image) × SpellsImage octets (instances_of watch.instances) image × ((i : ℕ) → windows i ≡ window (rule_of watch) (saved_pairs image) i)
+    (image : Image) × SpellsImage octets (instances_of watch.instances) image × ((i : ℕ) → windows i ≡ window watch (saved_pairs image) i)
 
 -- a board has the watch and the windows of a body
 pub record IsBoardOf (watch : Watch) (body : Option (List ℕ)) (board : Board) : Type 0 where

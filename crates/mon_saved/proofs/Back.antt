@@ -13,9 +13,8 @@ use Rattle.mon_window.specs.Window.{Samples}
 use Rattle.mon_window.proofs.Promised.{from_list-rising, len-keep, len-rising}
 use Rattle.mon_board.specs.Board.{Board, window_of}
 use Rattle.mon_board.specs.Instance.{instances_of}
-use Rattle.mon_board.specs.Rules.{rule_of}
 use Rattle.mon_board.specs.Watch.{Watch, size_of, share_of}
-use Rattle.mon_board.specs.Windows.{IsWhole, paired, samples_of, set_of, window}
+use Rattle.mon_board.specs.Windows.{IsWhole, paired, samples_of, set_of, window, kept_by}
 use Rattle.mon_board.specs.declared.instance.Instance.{Instance}
 use Rattle.mon_board.specs.declared.instance.Watched.{Watched}
 use Rattle.mon_saved.specs.declared.image.Entry.{Entry}
@@ -66,7 +65,7 @@ nothing_left [] le = refl
 nothing_left (x ∷ xs) le = absurd (omega (arith, le))
 
 -- beyond the last instance there is no sample
-empty_beyond : (board : Board) (i : ℕ) → length board.watch.instances ≤ i → IsWhole (rule_of board.watch) (window_of board) i → set.from_list [] ≡ window_of board i
+empty_beyond : (board : Board) (i : ℕ) → length board.watch.instances ≤ i → IsWhole board.watch (window_of board) i → set.from_list [] ≡ window_of board i
 empty_beyond board i le whole =
     let none : size_of board.watch i ≡ 0 = get_or-eq_default (map (λ (w : Watched). w.window) board.watch.instances) 0 (omega (arith, le, length-map board.watch.instances (λ (w : Watched). w.window))) in
     let few = len-keep nat_cmp_total nat_cmp-IsAntisymmetric boots_of (size_of board.watch i) (share_of board.watch i) (window_of board i) in
@@ -74,7 +73,7 @@ empty_beyond board i le whole =
     let count = len-rising nat_cmp_total nat_cmp-IsAntisymmetric (window_of board i) in
     ap (λ (v : List ℕ). set.from_list {R = nat_cmp} v) (sym (nothing_left (rising (window_of board i)) (omega (arith, none, few, kept, count)))) ∙ from_list-rising nat_cmp_total nat_cmp-IsAntisymmetric (window_of board i)
 
-pub saved_sets : (board : Board) (incarnation : ℕ) → ((i : ℕ) → IsWhole (rule_of board.watch) (window_of board) i) → (i : ℕ) → set_of i (saved_pairs (image_of board incarnation)) ≡ window_of board i
+pub saved_sets : (board : Board) (incarnation : ℕ) → ((i : ℕ) → IsWhole board.watch (window_of board) i) → (i : ℕ) → set_of i (saved_pairs (image_of board incarnation)) ≡ window_of board i
 saved_sets board incarnation whole i = elim (cases_lt i (length board.watch.instances)) [
   | inl lt ↦ ap (λ (v : List ℕ). set.from_list {R = nat_cmp} v) (among_all (window_of board) i 0 board.watch.instances (omega arith) (omega (arith, lt)))
       ∙ from_list-rising nat_cmp_total nat_cmp-IsAntisymmetric (window_of board i)
@@ -82,20 +81,20 @@ saved_sets board incarnation whole i = elim (cases_lt i (length board.watch.inst
 ]
 
 module _ (one_image : (octets : List ℕ) (instances : List Instance) (a b : Image) → SpellsImage octets instances a → SpellsImage octets instances b → a ≡ b) where
-  pub kept_back : (watch : Watch) (board again : Board) (incarnation read : ℕ) → ((i : ℕ) → IsWhole (rule_of board.watch) (window_of board) i)
+  pub kept_back : (watch : Watch) (board again : Board) (incarnation read : ℕ) → ((i : ℕ) → IsWhole board.watch (window_of board) i)
       → instances_of watch.instances ≡ instances_of board.watch.instances
       → SpellsImage (written_image board incarnation) (instances_of board.watch.instances) (image_of board incarnation)
       → IsRestored watch (written_image board incarnation) again read
-      → (read ≡ incarnation) × ((i : ℕ) → window_of again i ≡ (rule_of watch).choice i (window_of board i))
+      → (read ≡ incarnation) × ((i : ℕ) → window_of again i ≡ kept_by watch i (window_of board i))
   kept_back watch board again incarnation read whole same spelled restored =
       let found = subst (λ (v : List Instance). SpellsImage (written_image board incarnation) v restored.image) same restored.spelled in
       let is = one_image (written_image board incarnation) (instances_of board.watch.instances) restored.image (image_of board incarnation) found spelled in (
         restored.incarnation_is ∙ ap (λ (v : Image). v.incarnation) is,
-        λ i. restored.windows i ∙ ap (λ (v : Image). window (rule_of watch) (saved_pairs v) i) is
-            ∙ ap (λ (s : Samples). (rule_of watch).choice i s) (saved_sets board incarnation whole i),
+        λ i. restored.windows i ∙ ap (λ (v : Image). window watch (saved_pairs v) i) is
+            ∙ ap (λ (s : Samples). kept_by watch i s) (saved_sets board incarnation whole i),
       )
 
-  pub same_back : (board again : Board) (incarnation read : ℕ) → ((i : ℕ) → IsWhole (rule_of board.watch) (window_of board) i)
+  pub same_back : (board again : Board) (incarnation read : ℕ) → ((i : ℕ) → IsWhole board.watch (window_of board) i)
       → SpellsImage (written_image board incarnation) (instances_of board.watch.instances) (image_of board incarnation)
       → IsRestored board.watch (written_image board incarnation) again read
       → (read ≡ incarnation) × ((i : ℕ) → window_of again i ≡ window_of board i)

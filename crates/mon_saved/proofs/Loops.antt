@@ -22,7 +22,6 @@ use Rattle.mon_window.proofs.Promised.{rising-retain, len-rising}
 use Rattle.mon_board.specs.declared.instance.Instance.{Instance}
 use Rattle.mon_board.specs.declared.instance.Watched.{Watched}
 use Rattle.mon_board.specs.Instance.{instances_of}
-use Rattle.mon_board.specs.Rules.{rule_of}
 use Rattle.mon_board.specs.Watch.{Watch, IsWatch, size_of}
 use Rattle.mon_board.specs.Windows.{IsWhole}
 use Rattle.mon_layout.specs.Layout.{instance_octets, samples_octets}
@@ -189,7 +188,7 @@ entry_valid w samples sizes few each sorted shared = record {
 }
 
 pub written_valid : (keep_share : (epoch : ℕ → ℕ) (n m : ℕ) (a : Samples) (e : ℕ) → set.len (of_epoch epoch e (keep epoch n m a)) ≤ m)
-    (watch : Watch) (windows : ℕ → Samples) (i : ℕ) (w : Watched) → IsWatch watch → i < length watch.instances → w ≡ get_or watch.instances i w → IsWhole (rule_of watch) windows i
+    (watch : Watch) (windows : ℕ → Samples) (i : ℕ) (w : Watched) → IsWatch watch → i < length watch.instances → w ≡ get_or watch.instances i w → IsWhole watch windows i
     → length (rising (windows i)) ≤ size_of watch i → AllByRecursion IsSample (rising (windows i)) → IsStrictlySortedBy nat_cmp (rising (windows i)) → IsEntry (entry_of w (rising (windows i)))
 written_valid keep_share watch windows i w is_watch lt is whole few each sorted =
     let size = size_is watch.instances i w lt is in

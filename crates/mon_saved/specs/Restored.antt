@@ -2,7 +2,6 @@
 use Rattle.std.specs.Prelude.{ℕ, ◌≡◌, ◌+◌, false, List, [], ◌++◌, ◌∷◌}
 use Rattle.mon_board.specs.Board.{Board, window_of, is_marked}
 use Rattle.mon_board.specs.Instance.{instances_of}
-use Rattle.mon_board.specs.Rules.{rule_of}
 use Rattle.mon_board.specs.Watch.{Watch}
 use Rattle.mon_saved.specs.declared.image.Entry.{Entry}
 use Rattle.mon_saved.specs.declared.image.Image.{Image}
@@ -28,5 +27,5 @@ pub record IsRestored (watch : Watch) (octets : List ℕ) (board : Board) (incar
   pub spelled : SpellsImage octets (instances_of watch.instances) image
   pub incarnation_is : incarnation ≡ image.incarnation
   pub watch_is : board.watch ≡ watch
-  pub windows : (i : ℕ) → window_of board i ≡ window (rule_of watch) (saved_pairs image) i
+  pub windows : (i : ℕ) → window_of board i ≡ window watch (saved_pairs image) i
   pub unmarked : IsUnmarked board

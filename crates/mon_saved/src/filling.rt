@@ -3,7 +3,6 @@
 ghost use Rattle.std.specs.Prelude.{◌≡◌, ℕ, IfOk, IfErr, length};
 ghost use Rattle.mon_board.specs.Board.{window_of};
 ghost use Rattle.mon_board.specs.Instance.{instances_of};
-ghost use Rattle.mon_board.specs.Rules.{rule_of};
 ghost use Rattle.mon_board.specs.Windows.{joined};
 ghost use Rattle.mon_saved.specs.declared.fault.ImageFault.TheVariants.{OutOfMemory};
 ghost use Rattle.mon_saved.specs.declared.image.Image.{Image as AnyImage};
@@ -37,7 +36,7 @@ pub fn read_image(alloc: Global, watch: &Watch, octets: &[u8]) -> Result<(Board,
 fn fill(board: &mut Board, entries: &[Entry])
     requires { length entries.now ≡ length board.old.watch.instances }
     ensures watch { board.new.watch ≡ board.old.watch }
-    ensures windows { (i : ℕ) → window_of board.new i ≡ joined (rule_of board.old.watch) (window_of board.old) (pairs_from 0 entries.now) i }
+    ensures windows { (i : ℕ) → window_of board.new i ≡ joined board.old.watch (window_of board.old) (pairs_from 0 entries.now) i }
     ensures unmarked { IsUnmarked board.old → IsUnmarked board.new }
 {
     laws::taken_in_turn();

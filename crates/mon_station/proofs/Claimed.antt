@@ -3,7 +3,6 @@ use Rattle.std.proofs.Common.{◌≡◌, ◌≢◌, ◌⊎◌, inl, inr, ℕ, Op
 use Rattle.std.specs.Prelude.{◌==◌, if◌then◌else◌}
 use Rattle.std.specs.List.{AllByRecursion}
 use Rattle.mon_board.specs.Board.{Board, is_marked, window_of}
-use Rattle.mon_board.specs.Rules.{rule_of}
 use Rattle.mon_board.specs.Windows.{joined, paired}
 use Rattle.mon_exchange.specs.declared.claim.Claim.{Claim}
 use Rattle.mon_exchange.specs.declared.fault.ExchangeFault.{ExchangeFault}
@@ -41,7 +40,7 @@ module _ (s : State) (settled : IsSettled s) (c : Claim) where
 
   -- ---- accepted
   module _ (b : Board) (p : Peers) (there : slot ≢ None) (watched : ¬ ((slot ≢ None) × Absent)) (watch : b.watch ≡ s.board.watch)
-      (windows : (number : ℕ) → IsWatchedAs s.board.watch c.engine c.name number → (i : ℕ) → window_of b i ≡ joined (rule_of s.board.watch) (window_of s.board) (paired number c.samples) i)
+      (windows : (number : ℕ) → IsWatchedAs s.board.watch c.engine c.name number → (i : ℕ) → window_of b i ≡ joined s.board.watch (window_of s.board) (paired number c.samples) i)
       (own : p.own ≡ s.peers.own) (numbers : peer_numbers p.peers ≡ peer_numbers s.peers.peers)
       (known : (y : ℕ) → known_incarnation p.peers y ≡ (if y == c.station then Some (latest (known_incarnation s.peers.peers y) c.incarnation) else known_incarnation s.peers.peers y))
       (marks : (k number : ℕ) → slot ≡ Some k → IsWatchedAs s.board.watch c.engine c.name number
@@ -51,7 +50,7 @@ module _ (s : State) (settled : IsSettled s) (c : Claim) where
     lawful (Some k) None is numbered = absurd (watched (there, numbered))
     lawful (Some k) (Some number) is numbered = refl
 
-    put : (n : Option ℕ) → IsNumbered s.board.watch c n → (i : ℕ) → window_of b i ≡ joined (rule_of s.board.watch) (window_of s.board) (claim_pairs n c.samples) i
+    put : (n : Option ℕ) → IsNumbered s.board.watch c n → (i : ℕ) → window_of b i ≡ joined s.board.watch (window_of s.board) (claim_pairs n c.samples) i
     put None numbered = absurd (watched (there, numbered))
     put (Some number) numbered = windows number numbered
 

@@ -14,7 +14,6 @@ use Rattle.mon_window.proofs.Promised.{rising-retain}
 use Rattle.mon_board.specs.declared.instance.Watched.{Watched}
 use Rattle.mon_board.specs.Board.{Board, is_marked, window_of}
 use Rattle.mon_board.specs.Instance.{AreSized}
-use Rattle.mon_board.specs.Rules.{rule_of}
 use Rattle.mon_board.specs.Watch.{IsWatch, size_of, share_of}
 use Rattle.mon_board.specs.Windows.{IsWhole}
 use Rattle.mon_exchange.specs.declared.sharing.Portion.{Portion}
@@ -33,7 +32,7 @@ size_few (x ∷ ws) sized i = at (cases_lt i (length (x ∷ ws)))
     at (inl lt) = subst (λ n. n ≤ 64) (sym (get_or-map (λ (w : Watched). w.window) (x ∷ ws) i x 0 lt)) (sized i x lt).small
     at (inr ge) = subst (λ n. n ≤ 64) (sym (get_or_past (map (λ (w : Watched). w.window) (x ∷ ws)) i 0 (omega (arith, ge, length-map (x ∷ ws) (λ (w : Watched). w.window))))) (omega arith)
 
-pub window_few : (b : Board) → IsWatch b.watch → ((i : ℕ) → IsWhole (rule_of b.watch) (window_of b) i) → ((epoch : ℕ → ℕ) (n m : ℕ) (a : Samples) → set.len (keep epoch n m a) ≤ n) → ((a : Samples) → set.len a ≡ length (rising a))
+pub window_few : (b : Board) → IsWatch b.watch → ((i : ℕ) → IsWhole b.watch (window_of b) i) → ((epoch : ℕ → ℕ) (n m : ℕ) (a : Samples) → set.len (keep epoch n m a) ≤ n) → ((a : Samples) → set.len a ≡ length (rising a))
     → (i : ℕ) → length (rising (window_of b i)) ≤ 64
 window_few b watch whole few count i =
     omega (arith, count (window_of b i), ap set.len (whole i), few boots_of (size_of b.watch i) (share_of b.watch i) (window_of b i), size_few b.watch.instances watch.sized i)

@@ -2,7 +2,6 @@
 use Rattle.std.proofs.Common.{◌≡◌, ◌+◌, ℕ, Bool, true, List, [], ◌∷◌, Option, Some, None, Result, Ok, Err, refl, sym, ap, subst, ◌∙◌}
 use Rattle.std.specs.Result.{IsErrAnd}
 use Rattle.mon_board.specs.Board.{Board, KeepsMarks, window_of}
-use Rattle.mon_board.specs.Rules.{rule_of}
 use Rattle.mon_board.specs.Windows.{joined}
 use Rattle.mon_pdu.specs.declared.message.Message.{Message}
 use Rattle.mon_poller.specs.declared.addr.Addr.{Addr}
@@ -104,7 +103,7 @@ module _ (s : State) (settled : IsSettled s) where
 
   pub response_taken : (a : Addr) (r : Option Message) (o : Offered) (n : Poller) (b : Board) (told : Told) (pairs : List (ℕ × ℕ))
       → response_verdict s.poller.targets s.poller.polls.open_polls a r ≡ Ok o → n ≡ with_polls s.poller (after_response true r s.poller.polls) → pairs ≡ o.pairs
-      → b.watch ≡ s.board.watch → ((i : ℕ) → window_of b i ≡ joined (rule_of s.board.watch) (window_of s.board) pairs i) → KeepsMarks s.board b
+      → b.watch ≡ s.board.watch → ((i : ℕ) → window_of b i ≡ joined s.board.watch (window_of s.board) pairs i) → KeepsMarks s.board b
       → told.taken ≡ o.pairs → told.sends.items ≡ [] → told.noted ≡ None → told.given_up ≡ None
       → IsHandled (FromAgent a r) None s (record { board = b; poller = n; peers = s.peers; incarnation = s.incarnation; serial = s.serial }) × IsTold s (FromAgent a r) told
   response_taken a r o n b told pairs ok is same watch windows marks taken sends noted given_up =
@@ -113,7 +112,7 @@ module _ (s : State) (settled : IsSettled s) where
           lawful = ap (fault_in station.Response) ok;
           after = record {
             setting = λ j. record { watch = watch j; targets = (is j).targets; own = s.peers.own; peers = (setting_of s).peers };
-            windows = λ i. windows i ∙ ap (λ ps. joined (rule_of s.board.watch) (window_of s.board) ps i) (same ∙ offered);
+            windows = λ i. windows i ∙ ap (λ ps. joined s.board.watch (window_of s.board) ps i) (same ∙ offered);
             polls = ap (λ (p : Poller). p.polls) is;
             incarnation = refl;
             serial = refl;

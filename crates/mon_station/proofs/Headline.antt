@@ -4,8 +4,8 @@ use Rattle.std.specs.Prelude.{◌&&◌}
 use Rattle.std.specs.FinSet as set
 use Rattle.mon_board.specs.Board.{is_marked, window_of}
 use Rattle.mon_board.specs.Instance.{instances_of}
-use Rattle.mon_board.specs.Rules.{rule_of}
 use Rattle.mon_board.specs.Watch.{Watch}
+use Rattle.mon_board.specs.Windows.{kept_by}
 use Rattle.mon_disk.specs.Disk.{Leaves, LeavesSince}
 use Rattle.mon_saved.specs.Image.{SpellsImage}
 use Rattle.mon_saved.specs.Written.{image_of}
@@ -25,17 +25,17 @@ use Rattle.mon_station.specs.Told.{IsAnswered}
 use Rattle.mon_station.specs.Verdict.{IsSave, Setting}
 use Rattle.mon_window.specs.Window.{In, Samples}
 use Rattle.mon_window.proofs.Promised.{union_none}
-use Rattle.mon_station.proofs.Taken.{chosen_twice}
+use Rattle.mon_board.proofs.Promised.{kept_twice}
 
 -- ---- a refusal
 -- windows that are what is kept of something keep all of it
-module _ (windows : (history : List (Entry × State)) (s : State) → IsLived history → last_state history ≡ Some s → (i : ℕ) → window_of s.board i ≡ (rule_of s.board.watch).choice i (taken (entries_of history) i)) where
+module _ (windows : (history : List (Entry × State)) (s : State) → IsLived history → last_state history ≡ Some s → (i : ℕ) → window_of s.board i ≡ kept_by s.board.watch i (taken (entries_of history) i)) where
   same_windows : (past : List (Entry × State)) (old new : State) (e : ReadEvent) (f : StationFault) → IsLived past → last_state past ≡ Some old → IsHandled e (Some f) old new
       → (i : ℕ) → window_of new.board i ≡ window_of old.board i
   same_windows past old new e f lived is h i =
-      let rule = rule_of old.board.watch in
+      let watch = old.board.watch in
       let kept = windows past old lived is i in
-      h.after.windows i ∙ ap (rule.choice i) (union_none (window_of old.board i)) ∙ ap (rule.choice i) kept ∙ chosen_twice rule i _ ∙ sym kept
+      h.after.windows i ∙ ap (kept_by watch i) (union_none (window_of old.board i)) ∙ ap (kept_by watch i) kept ∙ kept_twice watch i _ ∙ sym kept
 
   -- a mark on what stands in a window that stays
   and_true : (m a b : Bool) → a ≡ true → b ≡ true → ((m && a) && b) ≡ m

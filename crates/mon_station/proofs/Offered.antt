@@ -4,7 +4,6 @@ use Rattle.std.specs.List.{AllByRecursion}
 use Rattle.std.proofs.lemmas.List.{get_or-map, take_more}
 use Rattle.std.specs.FinSet as set
 use Rattle.mon_board.specs.Board.{is_marked, window_of}
-use Rattle.mon_board.specs.Rules.{rule_of}
 use Rattle.mon_board.specs.declared.instance.Watched.{Watched}
 use Rattle.mon_board.specs.Instance.{named}
 use Rattle.mon_board.specs.Watch.{Watch}
@@ -72,7 +71,7 @@ shared s settled y k serial told slot next taken sends noted given_up claims =
         lawful = ap share_fault (sym slot);
         after = record {
           setting = refl;
-          windows = λ i. nothing_joined (rule_of s.board.watch) (window_of s.board) i (settled.whole i);
+          windows = λ i. nothing_joined s.board.watch (window_of s.board) i (settled.whole i);
           polls = refl;
           incarnation = refl;
           serial = next ∙ ap (serial_past s.serial) same;

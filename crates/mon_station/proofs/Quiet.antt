@@ -6,8 +6,8 @@ use Rattle.mon_window.specs.Window.{Samples}
 use Rattle.mon_window.proofs.Promised.{union_none}
 use Rattle.mon_board.specs.Board.{is_marked, window_of}
 use Rattle.mon_board.specs.Owed.{kept_marks}
-use Rattle.mon_board.specs.Rules.{rule_of}
-use Rattle.mon_board.specs.Windows.{IsWhole, KeepingRule, joined}
+use Rattle.mon_board.specs.Windows.{IsWhole, joined, kept_by}
+use Rattle.mon_board.specs.Watch.{Watch}
 use Rattle.mon_poller.specs.Polls.{Polls}
 use Rattle.mon_station.specs.declared.fault.StationFault.{StationFault}
 use Rattle.mon_station.specs.ReadEvent.{ReadEvent, StartPoll, Timeout, FromAgent, FromPeer, Share, Save}
@@ -24,8 +24,8 @@ kept_own true a h = sym (h refl) ∙ twice a
 kept_own false a h = refl
 
 -- windows to which nothing is added
-pub nothing_joined : (rule : KeepingRule) (windows : ℕ → Samples) (i : ℕ) → IsWhole rule windows i → windows i ≡ joined rule windows [] i
-nothing_joined rule windows i whole = sym whole ∙ ap (rule.choice i) (sym (union_none (windows i)))
+pub nothing_joined : (watch : Watch) (windows : ℕ → Samples) (i : ℕ) → IsWhole watch windows i → windows i ≡ joined watch windows [] i
+nothing_joined watch windows i whole = sym whole ∙ ap (kept_by watch i) (sym (union_none (windows i)))
 
 -- an event with this answer adds no samples, and changes no serial, known incarnation or mark
 pub record IsQuiet (s : State) (e : ReadEvent) (answer : Option StationFault) : Type 0 where
@@ -47,7 +47,7 @@ quiet_fault s Save f = record { nothing = refl; serial = refl; known = λ y. ref
 pub quiet_after : (s : State) → IsSettled s → (e : ReadEvent) (answer : Option StationFault) → IsQuiet s e answer → (polls : Polls) → polls ≡ polls_after (setting_of s) e answer s.poller.polls → IsAfter e answer s (left_polls s polls)
 quiet_after s settled e answer quiet polls is = record {
   setting = refl;
-  windows = λ i. nothing_joined (rule_of s.board.watch) (window_of s.board) i (settled.whole i) ∙ ap (λ ps. joined (rule_of s.board.watch) (window_of s.board) ps i) (sym quiet.nothing);
+  windows = λ i. nothing_joined s.board.watch (window_of s.board) i (settled.whole i) ∙ ap (λ ps. joined s.board.watch (window_of s.board) ps i) (sym quiet.nothing);
   polls = is;
   incarnation = refl;
   serial = quiet.serial;

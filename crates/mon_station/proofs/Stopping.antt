@@ -5,14 +5,13 @@ use Rattle.std.specs.List.{AllByRecursion}
 use Rattle.std.proofs.lemmas.List.{take_at}
 use Rattle.std.proofs.lemmas.Nat.{from_be_bytes-to_be_bytes_4}
 use Rattle.mon_window.specs.Window.{Samples}
-use Rattle.mon_window.proofs.Promised.{chosen_none}
 use Rattle.std.specs.FinSet as set
 use Rattle.mon_board.specs.declared.instance.Instance.{Instance}
 use Rattle.mon_board.specs.Board.{Board, window_of}
 use Rattle.mon_board.specs.Instance.{instances_of}
-use Rattle.mon_board.specs.Rules.{rule_of}
 use Rattle.mon_board.specs.Watch.{Watch}
-use Rattle.mon_board.specs.Windows.{IsWhole, set_of}
+use Rattle.mon_board.specs.Windows.{IsWhole, set_of, kept_by}
+use Rattle.mon_board.proofs.Promised.{kept_none, kept_twice}
 use Rattle.mon_disk.specs.Disk.{Leaves}
 use Rattle.mon_disk.specs.Keeper.{FindsAs, FindsBody, IsAs, found_body, is_undamaged}
 use Rattle.mon_disk.proofs.Promised.{as_body_of, at_end}
@@ -27,7 +26,6 @@ use Rattle.mon_station.specs.Saved.{FindsBegun, FindsRunning, IsBegun, saved_oct
 use Rattle.mon_station.specs.State.{State, IsHandled, setting_of}
 use Rattle.mon_station.specs.Stops.{FindsOneOf, FindsRunningIn, FindsSave, FoundAfter, GoesOn, Happening, IsDiskAfterIn, IsHistory, IsRaised, IsRunning, MayFind, Opened, Unopened, Handled, StoppedOpening, Stopped, begun_in, last_disk, running}
 use Rattle.mon_station.specs.Verdict.{Setting, added}
-use Rattle.mon_station.proofs.Taken.{chosen_twice}
 
 -- ---- the incarnation of an image stands in its octets, whatever the instances are
 incarnation_octets : (v : ImageVersion) (instances : List Instance) (image : Image) → take 4 (drop 3 (image_octets v instances image)) ≡ to_be_bytes w32 image.incarnation
@@ -43,14 +41,14 @@ one_incarnation octets some others a b one two =
 
 -- ---- windows hold no more than their watch keeps
 abbrev AreWhole : State → Type 0
-AreWhole s = (i : ℕ) → IsWhole (rule_of s.board.watch) (window_of s.board) i
+AreWhole s = (i : ℕ) → IsWhole s.board.watch (window_of s.board) i
 
-kept_whole : (watch : Watch) (board : Board) (i : ℕ) (a : Samples) → board.watch ≡ watch → window_of board i ≡ (rule_of watch).choice i a → IsWhole (rule_of board.watch) (window_of board) i
-kept_whole watch board i a same is = (λ k. (rule_of (same k)).choice i (is k)) ∙ chosen_twice (rule_of watch) i a ∙ sym is
+kept_whole : (watch : Watch) (board : Board) (i : ℕ) (a : Samples) → board.watch ≡ watch → window_of board i ≡ kept_by watch i a → IsWhole board.watch (window_of board) i
+kept_whole watch board i a same is = (λ k. kept_by (same k) i (is k)) ∙ kept_twice watch i a ∙ sym is
 
 begun_whole : (w : Setting) (body : Option (List ℕ)) (s : State) → IsBegun w body s → AreWhole s
 begun_whole w None s begun i =
-    kept_whole w.watch s.board i set.empty (ap (λ (v : Setting). v.watch) begun.setting) (begun.restored.0 i ∙ sym (chosen_none ((rule_of w.watch).choice i) ((rule_of w.watch).is_choice i)))
+    kept_whole w.watch s.board i set.empty (ap (λ (v : Setting). v.watch) begun.setting) (begun.restored.0 i ∙ sym (kept_none w.watch i))
 begun_whole w (Some octets) s begun i =
     kept_whole w.watch s.board i (set_of i (saved_pairs begun.restored.1.image)) (ap (λ (v : Setting). v.watch) begun.setting) (begun.restored.1.windows i)
 
@@ -117,11 +115,11 @@ running_either May outcomes None has file finds = either_of May (IsRunning None)
 running_either May outcomes (Some s) has file finds =
     ⊎_elim (λ old. either_of May (IsRunning (Some s)) file (as_one_of May outcomes has file old)) (λ new. (Some s, inr (s, refl, refl), new)) finds
 
-module _ (read_back : (watch : Watch) (board again : Board) (incarnation read : ℕ) → ((i : ℕ) → IsWhole (rule_of board.watch) (window_of board) i)
+module _ (read_back : (watch : Watch) (board again : Board) (incarnation read : ℕ) → ((i : ℕ) → IsWhole board.watch (window_of board) i)
     → instances_of watch.instances ≡ instances_of board.watch.instances
     → SpellsImage (written_image board incarnation) (instances_of board.watch.instances) (image_of board incarnation)
     → IsRestored watch (written_image board incarnation) again read
-    → (read ≡ incarnation) × ((i : ℕ) → window_of again i ≡ (rule_of watch).choice i (window_of board i))) where
+    → (read ≡ incarnation) × ((i : ℕ) → window_of again i ≡ kept_by watch i (window_of board i))) where
   -- a life that begins from a save that is found goes on from it
   goes_on : (lives : List State) (w : Setting) (save : Option State) (s : State) (file : List ℕ) → Bounds lives save → FindsSave save file → IsBegun w (found_body file) s → GoesOn w save s
   goes_on lives w None s file bound finds begun = (subst (λ (b : Option (List ℕ)). IsBegun w b s) finds.body_is begun).restored

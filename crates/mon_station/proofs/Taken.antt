@@ -6,12 +6,12 @@ use Rattle.std.proofs.lemmas.Bool.{eqb-true}
 use Rattle.mon_sample.specs.Key.{boots_of}
 use Rattle.mon_window.specs.Keep.{keep}
 use Rattle.mon_window.specs.Window.{Samples}
-use Rattle.mon_window.proofs.Promised.{chosen_none, chosen_union, union_none}
+use Rattle.mon_window.proofs.Promised.{union_none}
 use Rattle.mon_board.specs.Board.{Board, window_of}
 use Rattle.mon_board.specs.Instance.{instances_of}
-use Rattle.mon_board.specs.Rules.{rule_of}
 use Rattle.mon_board.specs.Watch.{Watch, size_of, share_of}
-use Rattle.mon_board.specs.Windows.{IsWhole, KeepingRule, set_of}
+use Rattle.mon_board.specs.Windows.{IsWhole, set_of, kept_by}
+use Rattle.mon_board.proofs.Promised.{kept_none, kept_twice, kept_union}
 use Rattle.mon_poller.specs.Polls.{no_polls}
 use Rattle.mon_saved.specs.declared.image.Image.{Image}
 use Rattle.mon_saved.specs.Image.{SpellsImage}
@@ -24,21 +24,16 @@ use Rattle.mon_station.specs.State.{State, IsHandled, setting_of}
 use Rattle.mon_station.specs.Taken.{Entry, Restart, Answered, Origin, Nothing, Saved, Other, Past, SavedTaken, at_place, begun_with, from_save, has_sizes, past_after, past_of, taken}
 use Rattle.mon_station.specs.Verdict.{Setting, added, polls_after}
 
--- what is chosen of what is chosen
-pub chosen_twice : (rule : KeepingRule) (i : ℕ) (a : Samples) → rule.choice i (rule.choice i a) ≡ rule.choice i a
-chosen_twice rule i a =
-    ap (rule.choice i) (sym (union_none (rule.choice i a))) ∙ chosen_union (rule.choice i) (rule.is_choice i) a (set.from_list []) ∙ ap (rule.choice i) (union_none a)
-
 -- a state as a past leaves it
 pub record IsAsTaken (s : State) (p : Past) : Type 0 where
   pub setting : setting_of s ≡ p.setting
   pub polls : s.poller.polls ≡ p.polls
-  pub windows : (i : ℕ) → window_of s.board i ≡ (rule_of p.setting.watch).choice i (p.taken i)
+  pub windows : (i : ℕ) → window_of s.board i ≡ kept_by p.setting.watch i (p.taken i)
 
 -- a saved state as what stood in the save
 pub record IsAsSaved (s : State) (t : SavedTaken) : Type 0 where
   pub watch : s.board.watch ≡ t.watch
-  pub windows : (i : ℕ) → window_of s.board i ≡ (rule_of t.watch).choice i (t.taken i)
+  pub windows : (i : ℕ) → window_of s.board i ≡ kept_by t.watch i (t.taken i)
 
 abbrev pub AreAsSaved : List State → List SavedTaken → Type 0
 AreAsSaved [] [] = Unit {0}
@@ -62,42 +57,42 @@ both false b h = absurd cc
 handled : (e : ReadEvent) (answer : Option StationFault) (old new : State) (p : Past) → IsAsTaken old p → IsHandled e answer old new → IsAsTaken new (past_after (Answered e answer) p)
 handled e answer old new p is h =
     let more = added p.setting p.polls e answer in
-    let rule = rule_of p.setting.watch in
+    let watch = p.setting.watch in
     let added_as : added (setting_of old) old.poller.polls e answer ≡ more = λ k. added (is.setting k) (is.polls k) e answer in
     record {
       setting = h.after.setting ∙ is.setting;
       polls = h.after.polls ∙ (λ k. polls_after (is.setting k) e answer (is.polls k));
       windows = λ i. h.after.windows i
-          ∙ (λ k. (rule_of (is.setting k).watch).choice i (set.union (is.windows i k) (set_of i (added_as k))))
-          ∙ chosen_union (rule.choice i) (rule.is_choice i) (p.taken i) (set_of i more);
+          ∙ (λ k. kept_by (is.setting k).watch i (set.union (is.windows i k) (set_of i (added_as k))))
+          ∙ kept_union watch i (p.taken i) (set_of i more);
     }
 
-module _ (read_back : (watch : Watch) (board again : Board) (incarnation read : ℕ) → ((i : ℕ) → IsWhole (rule_of board.watch) (window_of board) i)
+module _ (read_back : (watch : Watch) (board again : Board) (incarnation read : ℕ) → ((i : ℕ) → IsWhole board.watch (window_of board) i)
     → instances_of watch.instances ≡ instances_of board.watch.instances
     → SpellsImage (written_image board incarnation) (instances_of board.watch.instances) (image_of board incarnation)
     → IsRestored watch (written_image board incarnation) again read
-    → (read ≡ incarnation) × ((i : ℕ) → window_of again i ≡ (rule_of watch).choice i (window_of board i)))
+    → (read ≡ incarnation) × ((i : ℕ) → window_of again i ≡ kept_by watch i (window_of board i)))
     (one_image : (octets : List ℕ) (w : Setting) (a b : Image) → SpellsImage octets (instances_of w.watch.instances) a → SpellsImage octets (instances_of w.watch.instances) b → a ≡ b) where
   -- windows that were read back, under the sizes of their save or under others
   from_window : (watch : Watch) (t : SavedTaken) (i : ℕ) (test : Bool) → has_sizes watch t.watch i ≡ test
-      → (rule_of watch).choice i ((rule_of t.watch).choice i (t.taken i)) ≡ (rule_of watch).choice i (if test then t.taken i else (rule_of t.watch).choice i (t.taken i))
+      → kept_by watch i (kept_by t.watch i (t.taken i)) ≡ kept_by watch i (if test then t.taken i else kept_by t.watch i (t.taken i))
   from_window watch t i false is = refl
   from_window watch t i true is =
       let sizes = both (size_of watch i == size_of t.watch i) (share_of watch i == share_of t.watch i) is in
       let n : size_of watch i ≡ size_of t.watch i = eqb-true _ _ sizes.0 in
       let m : share_of watch i ≡ share_of t.watch i = eqb-true _ _ sizes.1 in
-      (λ k. (rule_of watch).choice i (keep boots_of (sym n k) (sym m k) (t.taken i))) ∙ chosen_twice (rule_of watch) i (t.taken i)
+      (λ k. kept_by watch i (keep boots_of (sym n k) (sym m k) (t.taken i))) ∙ kept_twice watch i (t.taken i)
 
-  reopened : (w : Setting) (old new : State) (t : SavedTaken) → IsAsSaved old t → IsReopened w old new → (i : ℕ) → window_of new.board i ≡ (rule_of w.watch).choice i (from_save w.watch (Some t) i)
+  reopened : (w : Setting) (old new : State) (t : SavedTaken) → IsAsSaved old t → IsReopened w old new → (i : ℕ) → window_of new.board i ≡ kept_by w.watch i (from_save w.watch (Some t) i)
   reopened w old new t is r i =
       let restored = r.begun.restored in
-      let whole : (j : ℕ) → IsWhole (rule_of old.board.watch) (window_of old.board) j =
-      λ j. (λ k. (rule_of (is.watch k)).choice j (is.windows j k)) ∙ chosen_twice (rule_of t.watch) j (t.taken j) ∙ sym (is.windows j) in
+      let whole : (j : ℕ) → IsWhole old.board.watch (window_of old.board) j =
+      λ j. (λ k. kept_by (is.watch k) j (is.windows j k)) ∙ kept_twice t.watch j (t.taken j) ∙ sym (is.windows j) in
       let back = read_back w.watch old.board new.board old.incarnation restored.0 whole r.instances r.spells restored.1 in
-      back.1 i ∙ ap ((rule_of w.watch).choice i) (is.windows i) ∙ from_window w.watch t i (has_sizes w.watch t.watch i) refl
+      back.1 i ∙ ap (kept_by w.watch i) (is.windows i) ∙ from_window w.watch t i (has_sizes w.watch t.watch i) refl
 
   found_as : (w : Setting) (later : ℕ) (states : List State) (saves : List SavedTaken) (new : State) → AreAsSaved states saves → Reopens w (at_place later states) new
-      → (i : ℕ) → window_of new.board i ≡ (rule_of w.watch).choice i (from_save w.watch (at_place later saves) i)
+      → (i : ℕ) → window_of new.board i ≡ kept_by w.watch i (from_save w.watch (at_place later saves) i)
   found_as w zero [] saves new are r = absurd r
   found_as w (suc later) [] saves new are r = absurd r
   found_as w zero (s ∷ states) [] new are r = absurd are
@@ -105,16 +100,16 @@ module _ (read_back : (watch : Watch) (board again : Board) (incarnation read : 
   found_as w zero (s ∷ states) (t ∷ saves) new are r = reopened w s new t are.0 r
   found_as w (suc later) (s ∷ states) (t ∷ saves) new are r = found_as w later states saves new are.1 r
 
-  nothing_begun : (watch : Watch) (i : ℕ) (a : Samples) → a ≡ set.empty → a ≡ (rule_of watch).choice i set.empty
-  nothing_begun watch i a is = is ∙ sym (chosen_none ((rule_of watch).choice i) ((rule_of watch).is_choice i))
+  nothing_begun : (watch : Watch) (i : ℕ) (a : Samples) → a ≡ set.empty → a ≡ kept_by watch i set.empty
+  nothing_begun watch i a is = is ∙ sym (kept_none watch i)
 
   began : (w : Setting) (states : List State) (saves : List SavedTaken) (origin : Origin) (s : State) → AreAsSaved states saves → BeginsFrom states origin w s
-      → (i : ℕ) → window_of s.board i ≡ (rule_of w.watch).choice i (begun_with w.watch saves origin i)
+      → (i : ℕ) → window_of s.board i ≡ kept_by w.watch i (begun_with w.watch saves origin i)
   began w states saves Nothing s are h i = nothing_begun w.watch i _ (h.restored.0 i)
   began w states saves (Saved later) s are h i = found_as w later states saves s are h i
   began w states saves (Other image) s are h i =
       let r = h.2.restored.1 in
-      r.windows i ∙ ap (λ (m : Image). (rule_of w.watch).choice i (set_of i (saved_pairs m))) (one_image h.0 w r.image image r.spelled h.1)
+      r.windows i ∙ ap (λ (m : Image). kept_by w.watch i (set_of i (saved_pairs m))) (one_image h.0 w r.image image r.spelled h.1)
 
   -- ---- a whole history
   begun_so : (origin : Origin) (states : List State) (w : Setting) (s : State) → BeginsFrom states origin w s → (setting_of s ≡ w) × (s.poller.polls ≡ no_polls)
@@ -158,12 +153,12 @@ module _ (read_back : (watch : Watch) (board again : Board) (incarnation read : 
       )
 
   pub windows_taken : (history : List (Entry × State)) (s : State) → IsLived history → last_state history ≡ Some s
-      → (i : ℕ) → window_of s.board i ≡ (rule_of s.board.watch).choice i (taken (entries_of history) i)
+      → (i : ℕ) → window_of s.board i ≡ kept_by s.board.watch i (taken (entries_of history) i)
   windows_taken history s lived is i =
       let as_is : IsAsTaken s (past_of (entries_of history)) = subst (λ (o : Option State). IsAsIn o (past_of (entries_of history))) is (taken_as history lived).0 in
-      as_is.windows i ∙ (λ k. (rule_of (sym as_is.setting k).watch).choice i (taken (entries_of history) i))
+      as_is.windows i ∙ (λ k. kept_by (sym as_is.setting k).watch i (taken (entries_of history) i))
 
   pub equal_windows : (some others : List (Entry × State)) (s t : State) → IsLived some → IsLived others → last_state some ≡ Some s → last_state others ≡ Some t
       → s.board.watch ≡ t.board.watch → ((i : ℕ) → taken (entries_of some) i ≡ taken (entries_of others) i) → (i : ℕ) → window_of s.board i ≡ window_of t.board i
   equal_windows some others s t lived lives is as_well watch same i =
-      windows_taken some s lived is i ∙ (λ k. (rule_of (watch k)).choice i (same i k)) ∙ sym (windows_taken others t lives as_well i)
+      windows_taken some s lived is i ∙ (λ k. kept_by (watch k) i (same i k)) ∙ sym (windows_taken others t lives as_well i)

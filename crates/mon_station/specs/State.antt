@@ -2,7 +2,6 @@
 use Rattle.std.specs.Prelude.{ℕ, zero, suc, ◌≡◌, ◌+◌, Bool, List, [], ◌∷◌, ◌==◌, if◌then◌else◌, Option, Some, None, Ok, length}
 use Rattle.mon_board.specs.Board.{Board, window_of, is_marked}
 use Rattle.mon_board.specs.Owed.{kept_marks, owed_in}
-use Rattle.mon_board.specs.Rules.{rule_of}
 use Rattle.mon_board.specs.Windows.{joined}
 use Rattle.mon_window.specs.Top.{rising}
 use Rattle.mon_window.specs.Window.{Samples}
@@ -100,7 +99,7 @@ marks_after w known e answer old new marked = λ k. kept_marks old new (marked k
 -- what an event with this answer leaves
 pub record IsAfter (e : ReadEvent) (answer : Option StationFault) (old new : State) : Type 0 where
   pub setting : setting_of new ≡ setting_of old
-  pub windows : (i : ℕ) → window_of new.board i ≡ joined (rule_of old.board.watch) (window_of old.board) (added (setting_of old) old.poller.polls e answer) i
+  pub windows : (i : ℕ) → window_of new.board i ≡ joined old.board.watch (window_of old.board) (added (setting_of old) old.poller.polls e answer) i
   pub polls : new.poller.polls ≡ polls_after (setting_of old) e answer old.poller.polls
   pub incarnation : new.incarnation ≡ old.incarnation
   pub serial : new.serial ≡ next_serial old e answer

@@ -2,7 +2,6 @@
 use Rattle.std.specs.Prelude.{ℕ, ◌≡◌, ◌≤◌, length, Result, Ok, Err}
 use Rattle.mon_window.specs.Top.{rising}
 use Rattle.mon_board.specs.Board.{MarksEntries, window_of}
-use Rattle.mon_board.specs.Rules.{rule_of}
 use Rattle.mon_board.specs.Windows.{IsWhole}
 use Rattle.mon_board.specs.Watch.{Watch}
 use Rattle.mon_poller.specs.Polls.{Polls}
@@ -25,7 +24,7 @@ left_polls s polls = record { board = s.board; poller = record { targets = s.pol
 -- what holds of every state: windows hold no more than their rule keeps, only what stands in them is marked, no window has more than 64 samples, and at most 256
 -- instances are watched
 pub record IsSettled (s : State) : Type 0 where
-  pub whole : (i : ℕ) → IsWhole (rule_of s.board.watch) (window_of s.board) i
+  pub whole : (i : ℕ) → IsWhole s.board.watch (window_of s.board) i
   pub entries : MarksEntries s.board
   pub few : (i : ℕ) → length (rising (window_of s.board i)) ≤ 64
   pub most : length s.board.watch.instances ≤ 256

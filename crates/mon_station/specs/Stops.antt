@@ -3,7 +3,7 @@ use Rattle.std.specs.Prelude.{ℕ, ◌≡◌, ◌+◌, ◌⊎◌, List, [], ◌�
 use Rattle.std.specs.FinSet as set
 use Rattle.mon_board.specs.Board.{window_of}
 use Rattle.mon_board.specs.Instance.{instances_of}
-use Rattle.mon_board.specs.Rules.{rule_of}
+use Rattle.mon_board.specs.Windows.{kept_by}
 use Rattle.mon_disk.specs.Disk.{Leaves, LeavesSince, Only}
 use Rattle.mon_disk.specs.Keeper.{FindsAs, FindsBody, found_body}
 use Rattle.mon_station.specs.declared.fault.StationFault.{StationFault}
@@ -140,4 +140,4 @@ FindsOneOf May file = (save : Option State) × May save × FindsSave save file
 abbrev pub GoesOn : Setting → Option State → State → Type 0
 GoesOn w None s = ((i : ℕ) → window_of s.board i ≡ set.empty) × (s.incarnation ≡ 1)
 GoesOn w (Some old) s = (s.incarnation ≡ old.incarnation + 1)
-    × (instances_of w.watch.instances ≡ instances_of old.board.watch.instances → (i : ℕ) → window_of s.board i ≡ (rule_of w.watch).choice i (window_of old.board i))
+    × (instances_of w.watch.instances ≡ instances_of old.board.watch.instances → (i : ℕ) → window_of s.board i ≡ kept_by w.watch i (window_of old.board i))

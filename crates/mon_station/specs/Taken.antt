@@ -2,9 +2,8 @@
 use Rattle.std.specs.Prelude.{ℕ, zero, suc, Bool, List, [], ◌∷◌, ◌==◌, ◌&&◌, if◌then◌else◌, Option, Some, None}
 use Rattle.std.specs.FinSet as set
 use Rattle.mon_window.specs.Window.{Samples}
-use Rattle.mon_board.specs.Rules.{rule_of}
 use Rattle.mon_board.specs.Watch.{Watch, size_of, share_of}
-use Rattle.mon_board.specs.Windows.{set_of}
+use Rattle.mon_board.specs.Windows.{set_of, kept_by}
 use Rattle.mon_poller.specs.Polls.{Polls, no_polls}
 use Rattle.mon_saved.specs.declared.image.Image.{Image}
 use Rattle.mon_saved.specs.Restored.{saved_pairs}
@@ -57,7 +56,7 @@ has_sizes a b i = (size_of a i == size_of b i) && (share_of a i == share_of b i)
 -- what a life of this watch has from a save: of an instance whose sizes are the same all that was taken, else what stood in its window
 abbrev pub from_save : Watch → Option SavedTaken → ℕ → Samples
 from_save watch None i = set.empty
-from_save watch (Some save) i = if has_sizes watch save.watch i then save.taken i else (rule_of save.watch).choice i (save.taken i)
+from_save watch (Some save) i = if has_sizes watch save.watch i then save.taken i else kept_by save.watch i (save.taken i)
 
 -- what a life of this watch begins with
 abbrev pub begun_with : Watch → List SavedTaken → Origin → ℕ → Samples

@@ -3,9 +3,8 @@
 ghost use Rattle.std.specs.Prelude.{◌≡◌, ◌<◌, ◌∷◌, true, List, None, Option, Some, ℕ};
 ghost use Rattle.std.specs.List.{AllByRecursion};
 ghost use Rattle.mon_board.specs.Board.{window_of};
-ghost use Rattle.mon_board.specs.Rules.{rule_of};
 ghost use Rattle.mon_board.specs.Watch.{Watch as AnyWatch};
-ghost use Rattle.mon_board.specs.Windows.{IsWhole, of_both};
+ghost use Rattle.mon_board.specs.Windows.{IsWhole, of_both, kept_by};
 ghost use Rattle.mon_disk.specs.Disk.{Leaves};
 ghost use Rattle.mon_disk.specs.Keeper.{FindsBody, is_undamaged};
 ghost use Rattle.mon_report.specs.Report.{report};
@@ -26,7 +25,7 @@ use mon_disk::Disk;
 /// equal windows and print equal reports.
 pub fn taken()
     ensures windows { (history : List (Entry × State)) (s : State) → IsLived history → last_state history ≡ Some s
-        → (i : ℕ) → window_of s.board i ≡ (rule_of s.board.watch).choice i (lives.taken (entries_of history) i) }
+        → (i : ℕ) → window_of s.board i ≡ kept_by s.board.watch i (lives.taken (entries_of history) i) }
     ensures equal { (some others : List (Entry × State)) (s t : State) → IsLived some → IsLived others → last_state some ≡ Some s → last_state others ≡ Some t
         → s.board.watch ≡ t.board.watch → ((i : ℕ) → lives.taken (entries_of some) i ≡ lives.taken (entries_of others) i)
         → (i : ℕ) → window_of s.board i ≡ window_of t.board i }
@@ -45,16 +44,16 @@ pub fn taken()
 /// `Station::open`, `step` and `run` extend such a list by what they answered (`lived`), so it holds of every station.
 pub fn headline()
     ensures windows { (history : List (Entry × State)) (s : State) → IsLived history → last_state history ≡ Some s
-        → (i : ℕ) → window_of s.board i ≡ (rule_of s.board.watch).choice i (lives.taken (entries_of history) i) }
+        → (i : ℕ) → window_of s.board i ≡ kept_by s.board.watch i (lives.taken (entries_of history) i) }
     ensures equal { (some others : List (Entry × State)) (s t : State) → IsLived some → IsLived others → last_state some ≡ Some s → last_state others ≡ Some t
         → s.board.watch ≡ t.board.watch → ((i : ℕ) → lives.taken (entries_of some) i ≡ lives.taken (entries_of others) i)
         → (i : ℕ) → window_of s.board i ≡ window_of t.board i }
     ensures reports { (some others : List (Entry × State)) (s t : State) → IsLived some → IsLived others → last_state some ≡ Some s → last_state others ≡ Some t
         → s.board.watch ≡ t.board.watch → ((i : ℕ) → lives.taken (entries_of some) i ≡ lives.taken (entries_of others) i)
         → report s.board.watch (window_of s.board) ≡ report t.board.watch (window_of t.board) }
-    ensures commutative { (watch : AnyWatch) (a b : ℕ → Samples) (i : ℕ) → of_both (rule_of watch) a b i ≡ of_both (rule_of watch) b a i }
-    ensures associative { (watch : AnyWatch) (a b c : ℕ → Samples) (i : ℕ) → of_both (rule_of watch) (of_both (rule_of watch) a b) c i ≡ of_both (rule_of watch) a (of_both (rule_of watch) b c) i }
-    ensures idempotent { (watch : AnyWatch) (a : ℕ → Samples) (i : ℕ) → IsWhole (rule_of watch) a i → of_both (rule_of watch) a a i ≡ a i }
+    ensures commutative { (watch : AnyWatch) (a b : ℕ → Samples) (i : ℕ) → of_both watch a b i ≡ of_both watch b a i }
+    ensures associative { (watch : AnyWatch) (a b c : ℕ → Samples) (i : ℕ) → of_both watch (of_both watch a b) c i ≡ of_both watch a (of_both watch b c) i }
+    ensures idempotent { (watch : AnyWatch) (a : ℕ → Samples) (i : ℕ) → IsWhole watch a i → of_both watch a a i ≡ a i }
     ensures refused { (past : List (Entry × State)) (old new : State) (e : ReadEvent) (fault : StationFault) → IsLived ((Answered e (Some fault), new) ∷ past) → last_state past ≡ Some old
         → IsLeftAlone old new }
     ensures untaken { (past : List (Entry × State)) (new : State) (e : ReadEvent) (fault : StationFault) (i : ℕ)

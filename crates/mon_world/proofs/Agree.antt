@@ -11,10 +11,11 @@ use Rattle.mon_sample.specs.Key.{boots_of}
 use Rattle.mon_window.specs.Keep.{keep}
 use Rattle.mon_window.specs.Top.{rising}
 use Rattle.mon_window.specs.Window.{Samples, In}
-use Rattle.mon_window.proofs.Promised.{chosen_meet, from_list-rising, in_none}
+use Rattle.mon_window.proofs.Promised.{from_list-rising, in_none}
 use Rattle.mon_board.specs.declared.instance.Watched.{Watched}
-use Rattle.mon_board.specs.Rules.{rule_of}
 use Rattle.mon_board.specs.Watch.{Watch, share_of, size_of}
+use Rattle.mon_board.specs.Windows.{kept_by}
+use Rattle.mon_board.proofs.Promised.{kept_meet}
 use Rattle.mon_exchange.specs.Peers.{incarnation_in}
 use Rattle.mon_station.specs.State.{State, known_of, owed_below, owed_count, owed_to, setting_of}
 use Rattle.mon_station.specs.Verdict.{slot_of}
@@ -53,14 +54,14 @@ beyond (x ∷ xs) (suc i) le = beyond xs i (omega (arith, le))
 
 module _ (keep_few : (epoch : ℕ → ℕ) (n m : ℕ) (a : Samples) → set.len (keep epoch n m a) ≤ n) (count : (a : Samples) → set.len a ≡ length (rising a)) where
   -- an instance that is not watched has an empty window
-  pub no_window : (watch : Watch) (i k : ℕ) (a : Samples) → length watch.instances ≤ i → In k ((rule_of watch).choice i a) → ⊥
+  pub no_window : (watch : Watch) (i k : ℕ) (a : Samples) → length watch.instances ≤ i → In k (kept_by watch i a) → ⊥
   no_window watch i k a le =
       let none : size_of watch i ≡ 0 = beyond (map (λ (w : Watched). w.window) watch.instances) i (omega (arith, le, length-map watch.instances (λ (w : Watched). w.window))) in
-      no_members ((rule_of watch).choice i a) k (omega (arith, none, count ((rule_of watch).choice i a), keep_few boots_of (size_of watch i) (share_of watch i) a))
+      no_members (kept_by watch i a) k (omega (arith, none, count (kept_by watch i a), keep_few boots_of (size_of watch i) (share_of watch i) a))
 
 -- windows that keep of what each other took
-pub windows_meet : (watch : Watch) (i : ℕ) (one two a b : Samples) → one ≡ (rule_of watch).choice i a → two ≡ (rule_of watch).choice i b → ((k : ℕ) → In k one → In k b) → ((k : ℕ) → In k two → In k a) → one ≡ two
+pub windows_meet : (watch : Watch) (i : ℕ) (one two a b : Samples) → one ≡ kept_by watch i a → two ≡ kept_by watch i b → ((k : ℕ) → In k one → In k b) → ((k : ℕ) → In k two → In k a) → one ≡ two
 windows_meet watch i one two a b is as_well ab ba =
     is
-    ∙ chosen_meet ((rule_of watch).choice i) ((rule_of watch).is_choice i) a b (λ k there. ab k (subst (λ (c : Samples). In k c) (sym is) there)) (λ k there. ba k (subst (λ (c : Samples). In k c) (sym as_well) there))
+    ∙ kept_meet watch i a b (λ k there. ab k (subst (λ (c : Samples). In k c) (sym is) there)) (λ k there. ba k (subst (λ (c : Samples). In k c) (sym as_well) there))
     ∙ sym as_well

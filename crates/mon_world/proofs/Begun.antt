@@ -4,9 +4,9 @@ use Rattle.mon_window.specs.Window.{Samples}
 use Rattle.mon_board.specs.Board.{Board, window_of}
 use Rattle.mon_board.specs.Instance.{instances_of}
 use Rattle.mon_board.specs.declared.instance.Instance.{Instance}
-use Rattle.mon_board.specs.Rules.{rule_of}
 use Rattle.mon_board.specs.Watch.{Watch}
-use Rattle.mon_board.specs.Windows.{IsWhole, KeepingRule}
+use Rattle.mon_board.specs.Windows.{IsWhole, kept_by}
+use Rattle.mon_board.proofs.Promised.{kept_twice}
 use Rattle.mon_saved.specs.declared.image.Image.{Image}
 use Rattle.mon_saved.specs.Image.{SpellsImage}
 use Rattle.mon_saved.specs.Restored.{IsRestored}
@@ -22,23 +22,23 @@ use Rattle.mon_world.specs.Moves.{AreLives, MayBegin}
 use Rattle.mon_world.proofs.Lives.{next_life, not_some, setting_is}
 
 -- what is kept of a set is kept of it again
-kept_whole : (rule : KeepingRule) (i : ℕ) (window a : Samples) → window ≡ rule.choice i a → rule.choice i window ≡ window
-kept_whole rule i window a is = ap (rule.choice i) is ∙ (rule.is_choice i).outcast (rule.choice i a) a ((rule.is_choice i).within a) (λ q there. there) ∙ sym is
+kept_whole : (watch : Watch) (i : ℕ) (window a : Samples) → window ≡ kept_by watch i a → kept_by watch i window ≡ window
+kept_whole watch i window a is = ap (kept_by watch i) is ∙ kept_twice watch i a ∙ sym is
 
 -- a state of this watch whose windows hold no more than it keeps
 record IsSound (watch : Watch) (s : State) : Type 0 where
-  pub whole : (i : ℕ) → IsWhole (rule_of s.board.watch) (window_of s.board) i
+  pub whole : (i : ℕ) → IsWhole s.board.watch (window_of s.board) i
   pub same : s.board.watch ≡ watch
 
 module _ (one_image : (octets : List ℕ) (instances : List Instance) (a b : Image) → SpellsImage octets instances a → SpellsImage octets instances b → a ≡ b)
-    (read_back : (board again : Board) (incarnation read : ℕ) → ((i : ℕ) → IsWhole (rule_of board.watch) (window_of board) i)
+    (read_back : (board again : Board) (incarnation read : ℕ) → ((i : ℕ) → IsWhole board.watch (window_of board) i)
     → SpellsImage (written_image board incarnation) (instances_of board.watch.instances) (image_of board incarnation)
     → IsRestored board.watch (written_image board incarnation) again read → (read ≡ incarnation) × ((i : ℕ) → window_of again i ≡ window_of board i))
-    (are_taken : (history : List (Entry × State)) (s : State) → IsLived history → last_state history ≡ Some s → (i : ℕ) → window_of s.board i ≡ (rule_of s.board.watch).choice i (taken (entries_of history) i))
+    (are_taken : (history : List (Entry × State)) (s : State) → IsLived history → last_state history ≡ Some s → (i : ℕ) → window_of s.board i ≡ kept_by s.board.watch i (taken (entries_of history) i))
     (w : Setting) where
   last_sound : (h : List (Entry × State)) → IsLived h → AreLives w h → (s : State) → last_state h ≡ Some s → IsSound w.watch s
   last_sound h lived are s is = record {
-    whole = λ i. kept_whole (rule_of s.board.watch) i (window_of s.board i) (taken (entries_of h) i) (are_taken h s lived is i);
+    whole = λ i. kept_whole s.board.watch i (window_of s.board i) (taken (entries_of h) i) (are_taken h s lived is i);
     same = ap (λ (v : Setting). v.watch) (setting_is w h lived are s is);
   }
 

@@ -5,9 +5,9 @@ use Rattle.std.specs.List.{AllByRecursion, list_any}
 use Rattle.std.proofs.lemmas.Bool.{and_parts, cases_Bool, eqb-true, or_cases}
 use Rattle.mon_window.specs.Window.{In}
 use Rattle.mon_board.specs.Board.{window_of}
-use Rattle.mon_board.specs.Rules.{rule_of}
 use Rattle.mon_board.specs.Watch.{IsWatch}
 use Rattle.mon_board.specs.declared.instance.Instance.{Instance}
+use Rattle.mon_board.specs.Windows.{kept_by}
 use Rattle.mon_exchange.specs.Debts.{Heard, has_said, is_owed, is_owed_at, latest_heard}
 use Rattle.mon_saved.specs.declared.image.Image.{Image}
 use Rattle.mon_saved.specs.Image.{SpellsImage}
@@ -39,7 +39,7 @@ one_passes P test (d ∷ claims) all is = elim (or_cases (test d) (list_any test
 ]
 
 module _ (one_image : (octets : List ℕ) (instances : List Instance) (a b : Image) → SpellsImage octets instances a → SpellsImage octets instances b → a ≡ b)
-    (windows_taken : (h : List (Entry × State)) (s : State) → IsLived h → last_state h ≡ Some s → (i : ℕ) → window_of s.board i ≡ (rule_of s.board.watch).choice i (taken (entries_of h) i))
+    (windows_taken : (h : List (Entry × State)) (s : State) → IsLived h → last_state h ≡ Some s → (i : ℕ) → window_of s.board i ≡ kept_by s.board.watch i (taken (entries_of h) i))
     (core : Core) (count : ℕ) (are_watch : IsWatch core.watch) where
   -- what was heard is true of who said it
   abbrev pub IsTrueOf : List Move → Heard → Type 0

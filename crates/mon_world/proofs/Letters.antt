@@ -6,9 +6,10 @@ use Rattle.std.proofs.lemmas.Bool.{cases_Bool, eq-eqb}
 use Rattle.mon_window.specs.Window.{In}
 use Rattle.mon_window.proofs.Promised.{in_left, in_right}
 use Rattle.mon_board.specs.Board.{window_of}
-use Rattle.mon_board.specs.Rules.{rule_of}
 use Rattle.mon_board.specs.Watch.{IsWatch}
 use Rattle.mon_board.specs.declared.instance.Instance.{Instance}
+use Rattle.mon_board.specs.Windows.{kept_by}
+use Rattle.mon_board.proofs.Promised.{kept_within}
 use Rattle.mon_exchange.specs.declared.claim.Claim.{Claim}
 use Rattle.mon_exchange.specs.Debts.{Heard}
 use Rattle.mon_exchange.specs.Peers.{IsWatchedAs}
@@ -82,7 +83,7 @@ claims_to y [] = refl
 claims_to y (c ∷ cs) = ap (λ (l : List Claim). c ∷ l) (claims_to y cs)
 
 module _ (one_image : (octets : List ℕ) (instances : List Instance) (a b : Image) → SpellsImage octets instances a → SpellsImage octets instances b → a ≡ b)
-    (windows_taken : (h : List (Entry × State)) (s : State) → IsLived h → last_state h ≡ Some s → (i : ℕ) → window_of s.board i ≡ (rule_of s.board.watch).choice i (taken (entries_of h) i))
+    (windows_taken : (h : List (Entry × State)) (s : State) → IsLived h → last_state h ≡ Some s → (i : ℕ) → window_of s.board i ≡ kept_by s.board.watch i (taken (entries_of h) i))
     (core : Core) (count : ℕ) (are_watch : IsWatch core.watch) where
   -- ---- what stays true
   pub true_move : (m : Move) (moves : List Move) → AreMoves (setting_at core count) (m ∷ moves) → (d : Heard) → IsTrue one_image (lives_of d.station moves) d → IsTrue one_image (lives_of d.station (m ∷ moves)) d
@@ -105,7 +106,7 @@ module _ (one_image : (octets : List ℕ) (instances : List Instance) (a b : Ima
   -- what stands in a window was taken
   window_was_taken : (h : List (Entry × State)) (s : State) → IsLived h → last_state h ≡ Some s → (i k : ℕ) → In k (window_of s.board i) → In k (taken (entries_of h) i)
   window_was_taken h s lived is i k there =
-      ((rule_of s.board.watch).is_choice i).within (taken (entries_of h) i) k (subst (λ a. In k a) (windows_taken h s lived is i) there)
+      kept_within s.board.watch i (taken (entries_of h) i) k (subst (λ a. In k a) (windows_taken h s lived is i) there)
 
   -- the claims that an accepted event sends: of this station in this incarnation, and it has taken what they say
   module _ (x : ℕ) (h : List (Entry × State)) (o s : State) (is : last_state h ≡ Some o) where

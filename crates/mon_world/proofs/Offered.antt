@@ -8,10 +8,10 @@ use Rattle.std.proofs.lemmas.Bool.{cases_Bool, eqb-true}
 use Rattle.mon_window.specs.Window.{Samples, In}
 use Rattle.mon_window.proofs.Promised.{in_cons, in_either, in_empty, in_head, in_none, in_tail}
 use Rattle.mon_board.specs.Board.{window_of}
-use Rattle.mon_board.specs.Rules.{rule_of}
 use Rattle.mon_board.specs.Watch.{Watch, IsWatch}
-use Rattle.mon_board.specs.Windows.{Has, paired, samples_of, set_of}
+use Rattle.mon_board.specs.Windows.{Has, paired, samples_of, set_of, kept_by}
 use Rattle.mon_board.specs.declared.instance.Instance.{Instance}
+use Rattle.mon_board.proofs.Promised.{kept_within}
 use Rattle.mon_exchange.specs.declared.claim.Claim.{Claim}
 use Rattle.mon_exchange.specs.Peers.{IsWatchedAs}
 use Rattle.mon_saved.specs.declared.image.Image.{Image}
@@ -56,9 +56,9 @@ from_within : (P : ℕ → ℕ → Type 0) (watch : Watch) (save : Option SavedT
 from_within P watch None were i k there = absurd (in_empty k there)
 from_within P watch (Some t) were i k there = by (has_sizes watch t.watch i) there
   where
-    by : (b : Bool) → In k (if b then t.taken i else (rule_of t.watch).choice i (t.taken i)) → P i k
+    by : (b : Bool) → In k (if b then t.taken i else kept_by t.watch i (t.taken i)) → P i k
     by true h = were t refl i k h
-    by false h = were t refl i k (((rule_of t.watch).is_choice i).within (t.taken i) k h)
+    by false h = were t refl i k (kept_within t.watch i (t.taken i) k h)
 
 one_save : (P : ℕ → ℕ → Type 0) (saves : List SavedTaken) (later : ℕ) (t : SavedTaken) → AllByRecursion (SaveWithin P) saves → at_place later saves ≡ Some t → SaveWithin P t
 one_save P [] zero t all is = cc
@@ -107,7 +107,7 @@ handled_within P e answer p new was = record { taken_so = taken_now; saves_so = 
     saves_now Save = (was.taken_so, was.saves_so)
 
 module _ (one_image : (octets : List ℕ) (instances : List Instance) (a b : Image) → SpellsImage octets instances a → SpellsImage octets instances b → a ≡ b)
-    (windows_taken : (h : List (Entry × State)) (s : State) → IsLived h → last_state h ≡ Some s → (i : ℕ) → window_of s.board i ≡ (rule_of s.board.watch).choice i (taken (entries_of h) i))
+    (windows_taken : (h : List (Entry × State)) (s : State) → IsLived h → last_state h ≡ Some s → (i : ℕ) → window_of s.board i ≡ kept_by s.board.watch i (taken (entries_of h) i))
     (core : Core) (count : ℕ) (are_watch : IsWatch core.watch) where
   abbrev Offered : List Move → ℕ → ℕ → Type 0
   Offered moves i k = Has (offered_in moves) i k

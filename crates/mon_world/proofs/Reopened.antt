@@ -5,7 +5,6 @@ use Rattle.std.proofs.lemmas.List.{append-nil, set-get_or}
 use Rattle.std.proofs.lemmas.Option.{get_or_from_slice_get}
 use Rattle.mon_board.specs.Board.{Board, MarksEntries, is_marked, window_of}
 use Rattle.mon_board.specs.Instance.{instances_of}
-use Rattle.mon_board.specs.Rules.{rule_of}
 use Rattle.mon_board.specs.Windows.{joined}
 use Rattle.std.specs.FinSet as set
 use Rattle.mon_disk.specs.declared.disk.Disk.{Ghosts}
@@ -103,7 +102,7 @@ kept_own true a h = sym (h refl) ∙ twice a
     twice false = refl
 kept_own false a h = refl
 
-pub stopped_save : (s : State) → ((i : ℕ) → joined (rule_of s.board.watch) (window_of s.board) [] i ≡ window_of s.board i) → MarksEntries s.board → IsHandled Save (Some (station.Keeper keeper.DiskFault)) s s
+pub stopped_save : (s : State) → ((i : ℕ) → joined s.board.watch (window_of s.board) [] i ≡ window_of s.board i) → MarksEntries s.board → IsHandled Save (Some (station.Keeper keeper.DiskFault)) s s
 stopped_save s whole entries = record {
   lawful = tt;
   after = record {
@@ -117,8 +116,8 @@ stopped_save s whole entries = record {
   };
 }
 
-pub stopped_as : (s : State) (b : Board) → b ≡ s.board → ((i : ℕ) → joined (rule_of b.watch) (window_of b) [] i ≡ window_of b i) → MarksEntries b → IsHandled Save (Some (station.Keeper keeper.DiskFault)) s s
-stopped_as s b same whole entries = stopped_save s (subst (λ (d : Board). (i : ℕ) → joined (rule_of d.watch) (window_of d) [] i ≡ window_of d i) same whole) (subst MarksEntries same entries)
+pub stopped_as : (s : State) (b : Board) → b ≡ s.board → ((i : ℕ) → joined b.watch (window_of b) [] i ≡ window_of b i) → MarksEntries b → IsHandled Save (Some (station.Keeper keeper.DiskFault)) s s
+stopped_as s b same whole entries = stopped_save s (subst (λ (d : Board). (i : ℕ) → joined d.watch (window_of d) [] i ≡ window_of d i) same whole) (subst MarksEntries same entries)
 
 -- ---- moves
 module _ {G : Ghosts MemoryDisk} (core : Core) (stations : List (Station MemoryDisk G)) (past : List Move) (place : ℕ) (old : Station MemoryDisk G) (at : HasNumber stations (place + 1) old) where

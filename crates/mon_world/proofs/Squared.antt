@@ -9,9 +9,8 @@ use Rattle.mon_window.specs.Window.{Samples, In}
 use Rattle.mon_window.proofs.Promised.{to_retain}
 use Rattle.mon_board.specs.Board.{is_marked, window_of}
 use Rattle.mon_board.specs.Owed.{kept_marks, owed_in}
-use Rattle.mon_board.specs.Rules.{rule_of}
-use Rattle.mon_board.specs.Watch.{IsWatch}
-use Rattle.mon_board.specs.Windows.{IsPartOf, KeepingRule, joined, window}
+use Rattle.mon_board.specs.Watch.{IsWatch, Watch}
+use Rattle.mon_board.specs.Windows.{IsPartOf, joined, window, kept_by}
 use Rattle.mon_board.specs.declared.instance.Instance.{Instance}
 use Rattle.mon_exchange.specs.Debts.{Heard, TellsDebts, WereTaken, is_owed}
 use Rattle.mon_exchange.specs.Peers.{is_claimed, latest, marked_by, noted_as}
@@ -30,16 +29,16 @@ use Rattle.mon_world.proofs.Heard.{paid}
 use Rattle.mon_world.proofs.Lives.{setting_is}
 use Rattle.mon_world.proofs.Tells.{Knows, knows}
 
-module _ (taking : (rule : KeepingRule) (y : ℕ) (old new : List (ℕ × ℕ)) (claims : List Heard) (known : Option ℕ) (marked : ℕ → ℕ → Bool) → IsPartOf old new → WereTaken old claims
-    → TellsDebts y (window rule old) claims known marked → TellsDebts y (window rule new) claims known (kept_marks (window rule old) (window rule new) marked))
+module _ (taking : (watch : Watch) (y : ℕ) (old new : List (ℕ × ℕ)) (claims : List Heard) (known : Option ℕ) (marked : ℕ → ℕ → Bool) → IsPartOf old new → WereTaken old claims
+    → TellsDebts y (window watch old) claims known marked → TellsDebts y (window watch new) claims known (kept_marks (window watch old) (window watch new) marked))
     (noting_own : (y : ℕ) (windows : ℕ → Samples) (claims : List Heard) (known : Option ℕ) (marked : ℕ → ℕ → Bool) (c : Heard) → c.station ≡ y → TellsDebts y windows claims known marked
     → TellsDebts y windows (c ∷ claims) (Some (latest known c.incarnation)) (λ i s. marked_by (noted_as known c.incarnation) (is_claimed c.instance c.samples windows i s) (marked i s)))
     (noting_other : (y : ℕ) (windows : ℕ → Samples) (claims : List Heard) (known : Option ℕ) (marked : ℕ → ℕ → Bool) (c : Heard) → c.station ≢ y → TellsDebts y windows claims known marked → TellsDebts y windows (c ∷ claims) known marked)
     (owing : (y : ℕ) (windows : ℕ → Samples) (claims : List Heard) (known : Option ℕ) (marked : ℕ → ℕ → Bool) → TellsDebts y windows claims known marked
     → (i : ℕ) → owed_in windows marked i ≡ set.retain (windows i) (λ s. is_owed y claims i s))
-    (joined_windows : (rule : KeepingRule) (taken pairs : List (ℕ × ℕ)) (i : ℕ) → joined rule (window rule taken) pairs i ≡ window rule (taken ++ pairs) i)
+    (joined_windows : (watch : Watch) (taken pairs : List (ℕ × ℕ)) (i : ℕ) → joined watch (window watch taken) pairs i ≡ window watch (taken ++ pairs) i)
     (one_image : (octets : List ℕ) (instances : List Instance) (a b : Image) → SpellsImage octets instances a → SpellsImage octets instances b → a ≡ b)
-    (windows_taken : (h : List (Entry × State)) (s : State) → IsLived h → last_state h ≡ Some s → (i : ℕ) → window_of s.board i ≡ (rule_of s.board.watch).choice i (taken (entries_of h) i))
+    (windows_taken : (h : List (Entry × State)) (s : State) → IsLived h → last_state h ≡ Some s → (i : ℕ) → window_of s.board i ≡ kept_by s.board.watch i (taken (entries_of h) i))
     (keep_few : (epoch : ℕ → ℕ) (n m : ℕ) (a : Samples) → set.len (keep epoch n m a) ≤ n) (member_count : (a : Samples) → set.len a ≡ length (rising a))
     (core : Core) (count : ℕ) (moves : List Move) (are : AreMoves (setting_at core count) moves) where
   module _ (x y slot : ℕ) (s : State) (is : last_state (lives_of x moves) ≡ Some s) (has : slot_of (setting_of s).peers y ≡ Some slot) where
@@ -56,7 +55,7 @@ module _ (taking : (rule : KeepingRule) (y : ℕ) (old new : List (ℕ × ℕ)) 
     pub owed_is : (i : ℕ) → owed_to s slot i ≡ owed_by s (lives_of x moves) y i
     owed_is i =
         (λ j. set.retain (known_debts.windows i j) (λ k. not (is_marked s.board slot i k)))
-        ∙ owing y (window (rule_of core.watch) known_debts.pairs) (heard_in (lives_of x moves)) (known_of s y) (is_marked s.board slot) known_debts.tells i
+        ∙ owing y (window core.watch known_debts.pairs) (heard_in (lives_of x moves)) (known_of s y) (is_marked s.board slot) known_debts.tells i
         ∙ (λ j. set.retain (sym (known_debts.windows i) j) (λ k. is_owed y (heard_in (lives_of x moves)) i k))
 
   module _ (are_watch : IsWatch core.watch) (unforged : AreUnforged moves) where
@@ -87,6 +86,6 @@ module _ (taking : (rule : KeepingRule) (y : ℕ) (old new : List (ℕ × ℕ)) 
         → owed_count s (slot_of (setting_of s).peers y) ≡ 0 → owed_count t (slot_of (setting_of t).peers x) ≡ 0 → (i : ℕ) → window_of s.board i ≡ window_of t.board i
     agree x y s t is as_well known known_too nothing nothing_too i =
         windows_meet core.watch i (window_of s.board i) (window_of t.board i) (taken (entries_of (lives_of x moves)) i) (taken (entries_of (lives_of y moves)) i)
-        (windows_taken (lives_of x moves) s (are.lived x) is i ∙ (λ j. (rule_of (setting_is (setting_at core count x) (lives_of x moves) (are.lived x) (are.lives x) s is j).watch).choice i (taken (entries_of (lives_of x moves)) i)))
-        (windows_taken (lives_of y moves) t (are.lived y) as_well i ∙ (λ j. (rule_of (setting_is (setting_at core count y) (lives_of y moves) (are.lived y) (are.lives y) t as_well j).watch).choice i (taken (entries_of (lives_of y moves)) i)))
+        (windows_taken (lives_of x moves) s (are.lived x) is i ∙ (λ j. kept_by (setting_is (setting_at core count x) (lives_of x moves) (are.lived x) (are.lives x) s is j).watch i (taken (entries_of (lives_of x moves)) i)))
+        (windows_taken (lives_of y moves) t (are.lived y) as_well i ∙ (λ j. kept_by (setting_is (setting_at core count y) (lives_of y moves) (are.lived y) (are.lives y) t as_well j).watch i (taken (entries_of (lives_of y moves)) i)))
         (all_paid x y s t is as_well known nothing i) (all_paid y x t s as_well is known_too nothing_too i)

@@ -6,11 +6,12 @@ use Rattle.std.specs.Ordering.{nat_cmp}
 use Rattle.std.proofs.lemmas.Bool.{cases_Bool, eq-eqb, eqb-true, ne_eqb}
 use Rattle.std.proofs.lemmas.List.Quantifiers.{position-Some}
 use Rattle.mon_window.specs.Window.{Samples, In}
-use Rattle.mon_window.proofs.Promised.{chosen_none, from_list-append, in_left, in_right}
+use Rattle.mon_window.proofs.Promised.{from_list-append, in_left, in_right}
 use Rattle.mon_board.specs.Board.{is_marked, window_of}
 use Rattle.mon_board.specs.Owed.{kept_marks}
-use Rattle.mon_board.specs.Rules.{rule_of}
-use Rattle.mon_board.specs.Windows.{Has, IsPartOf, KeepingRule, joined, paired, samples_of, set_of, window}
+use Rattle.mon_board.specs.Windows.{Has, IsPartOf, joined, paired, samples_of, set_of, window, kept_by}
+use Rattle.mon_board.proofs.Promised.{kept_none}
+use Rattle.mon_board.specs.Watch.{Watch}
 use Rattle.mon_exchange.specs.declared.noted.Noted.{Noted}
 use Rattle.mon_exchange.specs.Debts.{Heard, TellsDebts, WereTaken, said_of}
 use Rattle.mon_exchange.specs.Peers.{is_claimed, latest, marked_by, noted_as}
@@ -56,22 +57,22 @@ slot_there None number h = absurd (cc)
 slot_there (Some k) None h = absurd (cc)
 slot_there (Some k) (Some n) h = (k, n, refl, refl)
 
-module _ (taking : (rule : KeepingRule) (y : ℕ) (old new : List (ℕ × ℕ)) (claims : List Heard) (known : Option ℕ) (marked : ℕ → ℕ → Bool) → IsPartOf old new → WereTaken old claims
-    → TellsDebts y (window rule old) claims known marked → TellsDebts y (window rule new) claims known (kept_marks (window rule old) (window rule new) marked))
+module _ (taking : (watch : Watch) (y : ℕ) (old new : List (ℕ × ℕ)) (claims : List Heard) (known : Option ℕ) (marked : ℕ → ℕ → Bool) → IsPartOf old new → WereTaken old claims
+    → TellsDebts y (window watch old) claims known marked → TellsDebts y (window watch new) claims known (kept_marks (window watch old) (window watch new) marked))
     (noting_own : (y : ℕ) (windows : ℕ → Samples) (claims : List Heard) (known : Option ℕ) (marked : ℕ → ℕ → Bool) (c : Heard) → c.station ≡ y → TellsDebts y windows claims known marked
     → TellsDebts y windows (c ∷ claims) (Some (latest known c.incarnation)) (λ i s. marked_by (noted_as known c.incarnation) (is_claimed c.instance c.samples windows i s) (marked i s)))
     (noting_other : (y : ℕ) (windows : ℕ → Samples) (claims : List Heard) (known : Option ℕ) (marked : ℕ → ℕ → Bool) (c : Heard) → c.station ≢ y → TellsDebts y windows claims known marked → TellsDebts y windows (c ∷ claims) known marked)
-    (joined_windows : (rule : KeepingRule) (taken pairs : List (ℕ × ℕ)) (i : ℕ) → joined rule (window rule taken) pairs i ≡ window rule (taken ++ pairs) i)
+    (joined_windows : (watch : Watch) (taken pairs : List (ℕ × ℕ)) (i : ℕ) → joined watch (window watch taken) pairs i ≡ window watch (taken ++ pairs) i)
     (w : Setting) (y slot : ℕ) (has_slot : slot_of w.peers y ≡ Some slot) where
-  abbrev rule : KeepingRule
-  rule = rule_of w.watch
+  abbrev watch : Watch
+  watch = w.watch
 
   -- a state whose windows hold what is kept of some pairs, of which its marks for the peer tell the debts
   pub record Knows (s : State) (claims : List Heard) : Type 0 where
     pub pairs : List (ℕ × ℕ)
-    pub windows : (i : ℕ) → window_of s.board i ≡ window rule pairs i
+    pub windows : (i : ℕ) → window_of s.board i ≡ window watch pairs i
     pub said : WereTaken pairs claims
-    pub tells : TellsDebts y (window rule pairs) claims (known_of s y) (is_marked s.board slot)
+    pub tells : TellsDebts y (window watch pairs) claims (known_of s y) (is_marked s.board slot)
 
   tells_as : (windows : ℕ → Samples) (claims : List Heard) (known known' : Option ℕ) (marked marked' : ℕ → ℕ → Bool) → known' ≡ known → ((i k : ℕ) → marked' i k ≡ marked i k)
       → TellsDebts y windows claims known marked → TellsDebts y windows claims known' marked'
@@ -87,7 +88,7 @@ module _ (taking : (rule : KeepingRule) (y : ℕ) (old new : List (ℕ × ℕ)) 
   begun : (body : Option (List ℕ)) (s : State) → IsBegun w body s → Knows s []
   begun None s b = record {
     pairs = [];
-    windows = λ i. b.restored.0 i ∙ sym (chosen_none (rule.choice i) (rule.is_choice i));
+    windows = λ i. b.restored.0 i ∙ sym (kept_none watch i);
     said = tt;
     tells = record { known_is = b.known y; marked_is = λ i k there. b.unmarked slot i k };
   }
@@ -113,19 +114,19 @@ module _ (taking : (rule : KeepingRule) (y : ℕ) (old new : List (ℕ × ℕ)) 
     abbrev more : ReadEvent → Option StationFault → List (ℕ × ℕ)
     more e answer = added (setting_of o) o.poller.polls e answer
 
-    windows_then : (e : ReadEvent) (answer : Option StationFault) → IsAfter e answer o s → (i : ℕ) → window_of s.board i ≡ window rule (was.pairs ++ more e answer) i
+    windows_then : (e : ReadEvent) (answer : Option StationFault) → IsAfter e answer o s → (i : ℕ) → window_of s.board i ≡ window watch (was.pairs ++ more e answer) i
     windows_then e answer after i =
         after.windows i
-        ∙ (λ j. (rule_of (setting j).watch).choice i (set.union (was.windows i j) (set_of i (more e answer))))
-        ∙ joined_windows rule was.pairs (more e answer) i
+        ∙ (λ j. kept_by (setting j).watch i (set.union (was.windows i j) (set_of i (more e answer))))
+        ∙ joined_windows watch was.pairs (more e answer) i
 
-    kept_then : (e : ReadEvent) (answer : Option StationFault) → IsAfter e answer o s → TellsDebts y (window rule (was.pairs ++ more e answer)) claims (known_of o y)
-        (kept_marks (window rule was.pairs) (window rule (was.pairs ++ more e answer)) (is_marked o.board slot))
-    kept_then e answer after = taking rule y was.pairs (was.pairs ++ more e answer) claims (known_of o y) (is_marked o.board slot) (part_left was.pairs (more e answer)) was.said was.tells
+    kept_then : (e : ReadEvent) (answer : Option StationFault) → IsAfter e answer o s → TellsDebts y (window watch (was.pairs ++ more e answer)) claims (known_of o y)
+        (kept_marks (window watch was.pairs) (window watch (was.pairs ++ more e answer)) (is_marked o.board slot))
+    kept_then e answer after = taking watch y was.pairs (was.pairs ++ more e answer) claims (known_of o y) (is_marked o.board slot) (part_left was.pairs (more e answer)) was.said was.tells
 
     -- marks that are kept, by these windows or by those of the pairs
     kept_same : (e : ReadEvent) (answer : Option StationFault) → IsAfter e answer o s → (i k : ℕ)
-        → kept_marks (window_of o.board) (window_of s.board) (is_marked o.board slot) i k ≡ kept_marks (window rule was.pairs) (window rule (was.pairs ++ more e answer)) (is_marked o.board slot) i k
+        → kept_marks (window_of o.board) (window_of s.board) (is_marked o.board slot) i k ≡ kept_marks (window watch was.pairs) (window watch (was.pairs ++ more e answer)) (is_marked o.board slot) i k
     kept_same e answer after i k = λ j. (is_marked o.board slot i k && set.contains (was.windows i j) k) && set.contains (windows_then e answer after i j) k
 
     -- an event that is no accepted claim
@@ -136,7 +137,7 @@ module _ (taking : (rule : KeepingRule) (y : ℕ) (old new : List (ℕ × ℕ)) 
       pairs = was.pairs ++ more e answer;
       windows = windows_then e answer after;
       said = wider was.pairs (more e answer) claims was.said;
-      tells = tells_as (window rule (was.pairs ++ more e answer)) claims (known_of o y) (known_of s y) _ (is_marked s.board slot)
+      tells = tells_as (window watch (was.pairs ++ more e answer)) claims (known_of o y) (known_of s y) _ (is_marked s.board slot)
           (after.known y ∙ same_known)
           (λ i k. after.marks slot i k ∙ kept i k ∙ kept_same e answer after i k)
           (kept_then e answer after);
@@ -171,7 +172,7 @@ module _ (taking : (rule : KeepingRule) (y : ℕ) (old new : List (ℕ × ℕ)) 
       known_are : known_of s y ≡ (if y == said.claim.station then Some (latest (known_of o y) said.claim.incarnation) else known_of o y)
       known_are = h.after.known y
 
-      claimed_same : (i q : ℕ) → is_claimed n said.claim.samples (window_of s.board) i q ≡ is_claimed n said.claim.samples (window rule pairs_then) i q
+      claimed_same : (i q : ℕ) → is_claimed n said.claim.samples (window_of s.board) i q ≡ is_claimed n said.claim.samples (window watch pairs_then) i q
       claimed_same i q = λ j. (i == n) && (set.contains (said_of c) q && set.contains (windows_then (FromPeer (Ok said)) None h.after i j) q)
 
       own : said.claim.station ≡ y → Knows s (c ∷ claims)
@@ -184,12 +185,12 @@ module _ (taking : (rule : KeepingRule) (y : ℕ) (old new : List (ℕ × ℕ)) 
             pairs = pairs_then;
             windows = windows_then (FromPeer (Ok said)) None h.after;
             said = said_then;
-            tells = tells_as (window rule pairs_then) (c ∷ claims) (Some (latest (known_of o y) said.claim.incarnation)) (known_of s y) _ (is_marked s.board slot)
+            tells = tells_as (window watch pairs_then) (c ∷ claims) (Some (latest (known_of o y) said.claim.incarnation)) (known_of s y) _ (is_marked s.board slot)
                 (known_are ∙ ap (λ b. if b then Some (latest (known_of o y) said.claim.incarnation) else known_of o y) same_station)
                 (λ i q. marks_are i q ∙ ap (λ b. if b then marked_by noted (is_claimed n said.claim.samples (window_of s.board) i q) (kept_marks (window_of o.board) (window_of s.board) (is_marked o.board slot) i q)
                 else kept_marks (window_of o.board) (window_of s.board) (is_marked o.board slot) i q) test
                 ∙ (λ j. marked_by (same_noted j) (claimed_same i q j) (kept_same (FromPeer (Ok said)) None h.after i q j)))
-                (noting_own y (window rule pairs_then) claims (known_of o y) (kept_marks (window rule was.pairs) (window rule pairs_then) (is_marked o.board slot)) c is (kept_then (FromPeer (Ok said)) None h.after));
+                (noting_own y (window watch pairs_then) claims (known_of o y) (kept_marks (window watch was.pairs) (window watch pairs_then) (is_marked o.board slot)) c is (kept_then (FromPeer (Ok said)) None h.after));
           }
 
       other : said.claim.station ≢ y → Knows s (c ∷ claims)
@@ -200,12 +201,12 @@ module _ (taking : (rule : KeepingRule) (y : ℕ) (old new : List (ℕ × ℕ)) 
             pairs = pairs_then;
             windows = windows_then (FromPeer (Ok said)) None h.after;
             said = said_then;
-            tells = tells_as (window rule pairs_then) (c ∷ claims) (known_of o y) (known_of s y) _ (is_marked s.board slot)
+            tells = tells_as (window watch pairs_then) (c ∷ claims) (known_of o y) (known_of s y) _ (is_marked s.board slot)
                 (known_are ∙ ap (λ b. if b then Some (latest (known_of o y) said.claim.incarnation) else known_of o y) same_station)
                 (λ i q. marks_are i q ∙ ap (λ b. if b then marked_by noted (is_claimed n said.claim.samples (window_of s.board) i q) (kept_marks (window_of o.board) (window_of s.board) (is_marked o.board slot) i q)
                 else kept_marks (window_of o.board) (window_of s.board) (is_marked o.board slot) i q) test
                 ∙ kept_same (FromPeer (Ok said)) None h.after i q)
-                (noting_other y (window rule pairs_then) claims (known_of o y) (kept_marks (window rule was.pairs) (window rule pairs_then) (is_marked o.board slot)) c not (kept_then (FromPeer (Ok said)) None h.after));
+                (noting_other y (window watch pairs_then) claims (known_of o y) (kept_marks (window watch was.pairs) (window watch pairs_then) (is_marked o.board slot)) c not (kept_then (FromPeer (Ok said)) None h.after));
           }
 
       claimed : Knows s (heard_of_claim said.claim said.number ++ claims)

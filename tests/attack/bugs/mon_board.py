@@ -181,4 +181,24 @@ BUGS = {
         "        if !are_sized(&instances) {",
         "        if !are_sized(&instances) && are_instances(&instances) {",
     ),
+    "tells_each_sample_as_known": (
+        "src/board.rt",
+        "        Ok(inserted)",
+        "        let _ = inserted;\n        Ok(Inserted::Known)",
+    ),
+    "takes_the_last_for_all": (
+        "src/board.rt",
+        "            let _ = self.take(instance, *sample);",
+        "            let _ = self.take(instance, samples[samples.len() - 1]);\n            let _ = sample;",
+    ),
+    "numbers_it_as_bad_rules": (
+        "src/fault.rt",
+        "        5\n    }",
+        "        WatchFault::BadRules as u8\n    }",
+    ),
+    "names_it_as_bad_instances": (
+        "src/fault.rt",
+        "        \"UnknownInstance\"",
+        "        \"BadInstances\"",
+    ),
 }

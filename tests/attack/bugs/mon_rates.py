@@ -81,4 +81,9 @@ BUGS = {
         "_ => apart % (1 << 32),",
         "_ => apart,",
     ),
+    "tells_each_sample_as_known": (
+        "src/track.rt",
+        "        inserted\n    }",
+        "        if self.totals.pairs == 9 { Inserted::Known } else { inserted }\n    }",
+    ),
 }

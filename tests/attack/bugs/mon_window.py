@@ -113,4 +113,19 @@ BUGS = {
         "dropped: Some(dropped),",
         "dropped: None,",
     ),
+    "tells_a_late_sample_as_known": (
+        "src/window.rt",
+        "            Plan::TooOld => Inserted::TooOld,",
+        "            Plan::TooOld => Inserted::Known,",
+    ),
+    "shrinks_as_it_joins": (
+        "src/window.rt",
+        "        let _ = &self.items;\n",
+        "        self.size = other.items.len().max(self.share);\n",
+    ),
+    "finds_every_sample": (
+        "src/window.rt",
+        "    items.binary_search_by(|kept| kept.compare(sample))",
+        "    items.binary_search_by(|kept| kept.compare(sample)).or(Ok(0))",
+    ),
 }

@@ -1,8 +1,7 @@
-use Rattle.std.proofs.Common.{◌≡◌, ◌≤◌, ◌<◌, ◌+◌, ◌∙◌, ap, [], subst, length, get_or, arith}
+use Rattle.std.proofs.Common.{◌≤◌, ◌<◌, ◌∙◌, ap, [], subst, length, arith}
 use Rattle.std.proofs.lemmas.List.{take_all}
-use Rattle.mon_window.specs.Top.{rising}
 use Rattle.mon_board.specs.Board.{window_of}
-use Rattle.mon_board.specs.Watch.{IsWatch, size_of}
+use Rattle.mon_board.specs.Watch.{IsWatch}
 use Rattle.mon_report.specs.Report.{Entry, samples_in, entries_from}
 use Rattle.mon_report.proofs.Entries.{length-entries, items-first, samples-more, size-small}
 use Rattle.mon_report.proofs.report.count_samples.Goals as goal

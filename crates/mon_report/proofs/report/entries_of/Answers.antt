@@ -1,7 +1,7 @@
 use Rattle.std.proofs.Common.{◌≡◌, ◌<◌, ◌∙◌, ap, [], ◌∷◌, ◌++◌, sym, length, get_or, take, arith}
 use Rattle.std.proofs.lemmas.List.{take_all, take_more}
 use Rattle.mon_board.specs.Board.{window_of}
-use Rattle.mon_report.specs.Report.{Entry, entry_of, entries_from}
+use Rattle.mon_report.specs.Report.{entry_of, entries_from}
 use Rattle.mon_report.proofs.Entries.{length-entries, get_or-first}
 use Rattle.mon_report.proofs.report.entries_of.Goals as goal
 

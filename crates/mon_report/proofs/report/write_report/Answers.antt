@@ -1,6 +1,6 @@
-use Rattle.std.proofs.Common.{◌≡◌, ◌∙◌, ap, sym, subst, length, true}
+use Rattle.std.proofs.Common.{◌∙◌, ap, sym, subst, length, true}
 use Rattle.mon_board.specs.Board.{window_of}
-use Rattle.mon_report.specs.Report.{end_line, entries_from, report, report_of}
+use Rattle.mon_report.specs.Report.{end_line, report, report_of}
 use Rattle.mon_report.specs.Written.{AppendsIf}
 use Rattle.mon_report.proofs.Written.{text-then, text-as}
 use Rattle.mon_report.proofs.Entries.{length-entries}

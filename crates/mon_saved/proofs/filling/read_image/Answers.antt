@@ -1,7 +1,6 @@
 use Rattle.std.proofs.Common.{◌≡◌, ◌∙◌, List, refl, ap}
 use Rattle.std.proofs.lemmas.Result.{err_from_is_err_and}
 use Rattle.mon_board.specs.Board.{window_of}
-use Rattle.mon_board.specs.Rules.{rule_of}
 use Rattle.mon_board.specs.Watch.{Watch}
 use Rattle.mon_board.specs.Windows.{window}
 use Rattle.mon_saved.specs.declared.image.Entry.{Entry}
@@ -24,8 +23,8 @@ returns-clause-found c =
       incarnation_is = refl;
       watch_is = c.fill.ensures.watch ∙ watch;
       windows = λ i. c.fill.ensures.windows i
-          ∙ from_empty (rule_of c.in_ok-board.board.watch) (window_of c.in_ok-board.board) (pairs_from 0 c.as_slice.result.now) c.in_ok-board.ensures.empty i
-          ∙ ap (λ (w : Watch). window (rule_of w) (pairs_from 0 c.as_slice.result.now) i) watch
-          ∙ ap (λ (v : List Entry). window (rule_of c.args.watch.now) (pairs_from 0 v) i) c.as_slice.ensures;
+          ∙ from_empty c.in_ok-board.board.watch (window_of c.in_ok-board.board) (pairs_from 0 c.as_slice.result.now) c.in_ok-board.ensures.empty i
+          ∙ ap (λ (w : Watch). window w (pairs_from 0 c.as_slice.result.now) i) watch
+          ∙ ap (λ (v : List Entry). window c.args.watch.now (pairs_from 0 v) i) c.as_slice.ensures;
       unmarked = c.fill.ensures.unmarked c.in_ok-board.ensures.unmarked;
     }

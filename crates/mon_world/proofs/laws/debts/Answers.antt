@@ -1,5 +1,4 @@
 use Rattle.std.proofs.Common.{◌≡◌, ◌∙◌, ap, sym, subst}
-use Rattle.mon_board.specs.Rules.{rule_of}
 use Rattle.mon_report.specs.Report.{report}
 use Rattle.mon_station.specs.Lived.{entries_of}
 use Rattle.mon_station.specs.Taken.{taken}
@@ -11,6 +10,7 @@ use Rattle.mon_world.proofs.Lives.{setting_is}
 use Rattle.mon_world.proofs.Offered.{all_offered}
 use Rattle.mon_world.proofs.Squared.{agree, owed_is, paid_for}
 use Rattle.mon_world.proofs.laws.debts.Goals as goal
+use Rattle.mon_board.proofs.Promised.{kept_within}
 
 pub returns-clause-owed : goal.returns-clause-owed
 returns-clause-owed c core count x y slot moves s watch are is has =
@@ -38,5 +38,5 @@ returns-clause-reports c core count x y moves s t watch are unforged is as_well 
 pub returns-clause-offered : goal.returns-clause-offered
 returns-clause-offered c core count x moves s watch are unforged is i k there =
     let all = all_offered c.one_image.ensures c.taken.ensures.windows core count watch moves are unforged in
-    (all.pasts x).taken_so i k (((rule_of s.board.watch).is_choice i).within (taken (entries_of (lives_of x moves)) i) k
+    (all.pasts x).taken_so i k (kept_within s.board.watch i (taken (entries_of (lives_of x moves)) i) k
     (subst (λ a. In k a) (c.taken.ensures.windows (lives_of x moves) s (are.lived x) is i) there))

@@ -1,4 +1,5 @@
 use Rattle.std.proofs.Common.{◌≡◌, ◌<◌, length, subst, ◌∙◌, ap, arith, Ok, Err}
+use Rattle.mon_window.specs.Window.{Samples}
 use Rattle.mon_app.specs.Find.{StandsAt, instances_of}
 use Rattle.mon_app.specs.Instance.{named}
 use Rattle.mon_app.specs.Offer.{Offer}
@@ -15,7 +16,8 @@ returns-in-Ok-clause-rows c = λ taken is.
     let lt : c.in-Ok.at < length rows = omega (arith, c.in-Ok.ensures.within, ap length seen) in
     let found : StandsAt (instances_of c.as_slice.result.now) i (Ok c.in-Ok.at) = c.in-Ok.ensures.found (sorted_rows n taken c.as_slice.result.now (seen ∙ is)) in
     took_known n taken rows is x c.in-Ok.at c.index_mut-row.result.now c.insert.new.self lt
-    (subst (λ rs. StandsAt (instances_of rs) i (Ok c.in-Ok.at)) seen found) c.index_mut-row.ensures.value c.insert.ensures.items
+    (subst (λ rs. StandsAt (instances_of rs) i (Ok c.in-Ok.at)) seen found) c.index_mut-row.ensures.value
+    (c.insert.ensures.sizes ∙ ap (λ (s : Samples). record { size = _; share = _; items = s }) c.insert.ensures.inserted.items)
 
 pub returns-in_ok-insert-in-Err-clause-rows : goal.returns-in_ok-insert-in-Err-clause-rows
 returns-in_ok-insert-in-Err-clause-rows c = λ taken is.
