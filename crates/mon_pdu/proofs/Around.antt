@@ -8,10 +8,10 @@ use Rattle.mon_pdu.specs.declared.message.Binding.{Binding}
 use Rattle.mon_pdu.specs.declared.message.Body.{Body}
 use Rattle.mon_pdu.specs.declared.message.Body.TheVariants.{Pdu, Bulk}
 use Rattle.mon_pdu.specs.declared.message.Message.{Message}
-use Rattle.mon_pdu.specs.Grammar.{tag_of}
+use Rattle.mon_pdu.specs.Grammar.{bindings_of, tag_of}
 use Rattle.mon_pdu.specs.Around.{contents_of_body, body_around, contents_of_message, message_around}
 use Rattle.mon_pdu.specs.Sizes.{body_with, with_bindings}
-use Rattle.mon_pdu.specs.Writing.{leading_integers, list_contents, message_contents, written_body, written_list, written_message}
+use Rattle.mon_pdu.specs.Writing.{body_contents, leading_integers, list_contents, message_contents, written_body, written_list, written_message}
 
 pub body_total : (body : Body) (list : List ℕ) → length (contents_of_body body list) ≡ length (leading_integers body) + size_for (length list)
 body_total body list = omega (arith, length-append (leading_integers body) (element 0x30 list), length-element 0x30 list)
@@ -52,3 +52,26 @@ contents_are m bindings = ap (λ text. written (Integer (pos 1)) ++ (written (Oc
 pub message_is : (m : Message) (bindings : List Binding) → written_message (with_bindings m bindings) ≡ message_around m (list_contents bindings)
 unfolding written_message message_around
 message_is m bindings = ap (element 0x30) (contents_are m bindings)
+
+-- and so does the body with its own
+pub own_inside_is : (body : Body) → body_contents body ≡ contents_of_body body (list_contents (bindings_of body))
+unfolding written_list
+own_inside_is body = refl
+
+pub own_body_is : (body : Body) → written_body body ≡ body_around body (list_contents (bindings_of body))
+unfolding written_body written_list body_around
+own_body_is (Pdu p) = refl
+own_body_is (Bulk p) = refl
+
+pub own_contents_are : (m : Message) → message_contents m ≡ contents_of_message m (list_contents (bindings_of m.body))
+own_contents_are m = ap (λ text. written (Integer (pos 1)) ++ (written (Octets m.community) ++ text)) (own_body_is m.body)
+
+pub own_message_is : (m : Message) → written_message m ≡ message_around m (list_contents (bindings_of m.body))
+unfolding written_message message_around
+own_message_is m = ap (element 0x30) (own_contents_are m)
+
+pub list_length : (octets : List ℕ) → length (element 0x30 octets) ≡ size_for (length octets)
+list_length octets = length-element 0x30 octets
+
+pub list_fits : (body : Body) (list : List ℕ) → length (contents_of_body body list) < 2 ^ 32 → length list < 2 ^ 32
+list_fits body list h = omega (arith, body_total body list, size_longer (length list), h)

@@ -5,7 +5,14 @@ use Rattle.mon_ber.specs.Writing.{written, element}
 use Rattle.mon_pdu.specs.declared.message.Body.{Body}
 use Rattle.mon_pdu.specs.declared.message.Message.{Message}
 use Rattle.mon_pdu.specs.Grammar.{tag_of}
-use Rattle.mon_pdu.specs.Writing.{leading_integers}
+use Rattle.mon_pdu.specs.declared.writing.Listed.{Listed}
+use Rattle.mon_pdu.specs.declared.writing.Listed.TheVariants.{Bindings, Written}
+use Rattle.mon_pdu.specs.Writing.{leading_integers, list_contents}
+
+-- the octets of variable bindings, also of those that were written before
+abbrev pub octets_of : Listed → List ℕ
+octets_of (Bindings bindings) = list_contents bindings.now
+octets_of (Written octets) = octets.now
 
 -- the contents of the PDU
 abbrev pub contents_of_body : Body → List ℕ → List ℕ

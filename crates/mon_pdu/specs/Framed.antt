@@ -1,7 +1,9 @@
 -- Messages by their frames.
-use Rattle.std.specs.Prelude.{ℕ, ℤ, List, [], ◌∷◌, length, Some, None, Result, Ok, Err, ◌==◌, if◌then◌else◌}
+use Rattle.std.specs.Prelude.{◌≡◌, ℕ, ℤ, pos, List, [], ◌∷◌, ◌++◌, length, Some, None, Result, Ok, Err, ◌==◌, if◌then◌else◌}
 use Rattle.mon_ber.specs.declared.fault.BerFault.{BerFault}
 use Rattle.mon_ber.specs.declared.fault.BerFault.TheVariants.{Truncated, BadTag, BadLength, OutOfRange}
+use Rattle.mon_ber.specs.declared.value.Value.TheVariants.{Integer, Octets}
+use Rattle.mon_ber.specs.Grammar.{IsElement, Spells}
 use Rattle.mon_oid.specs.Steps.{◌>>=◌}
 use Rattle.mon_ber.specs.Reading.{contents_at, element_at, integer_at}
 use Rattle.mon_pdu.specs.declared.frame.Frame.{Frame}
@@ -9,7 +11,7 @@ use Rattle.mon_pdu.specs.declared.message.Binding.{Binding}
 use Rattle.mon_pdu.specs.declared.message.Body.TheVariants.{Pdu}
 use Rattle.mon_pdu.specs.declared.message.Message.{Message}
 use Rattle.mon_pdu.specs.declared.message.PduKind.{PduKind}
-use Rattle.mon_pdu.specs.Kinds.{kind_of}
+use Rattle.mon_pdu.specs.Kinds.{octet_of, kind_of}
 use Rattle.mon_pdu.specs.Reading.{is_one}
 
 -- the message of this frame and these variable bindings
@@ -26,6 +28,36 @@ Held = List ℕ × PduKind × ℤ × ℤ × ℤ × List ℕ
 -- what this frame holds
 abbrev pub held : Frame → Held
 held f = (f.community.now, f.kind, f.request_id, f.error_status, f.error_index, f.list.now)
+
+-- A PDU but for its variable bindings: an element with its tag, of the three INTEGERs and a SEQUENCE of the octets that are held, whatever these spell,
+-- and of nothing else (RFC 3416 section 3).
+pub record IsPduFrame (bytes : List ℕ) (h : Held) : Type 0 where
+  pub first : List ℕ
+  pub second : List ℕ
+  pub third : List ℕ
+  pub list : List ℕ
+  pub element : IsElement (octet_of h.1) (first ++ (second ++ (third ++ list))) bytes
+  pub spelled_first : Spells first (Integer h.2)
+  pub spelled_second : Spells second (Integer h.3)
+  pub spelled_third : Spells third (Integer h.4)
+  pub spelled_list : IsElement 0x30 h.5 list
+
+-- A message but for its variable bindings: a SEQUENCE of the version 1, the community and such a PDU, and of nothing else (RFC 1901 section 3).
+pub record IsFrame (bytes : List ℕ) (h : Held) : Type 0 where
+  pub version : List ℕ
+  pub community : List ℕ
+  pub pdu : List ℕ
+  pub element : IsElement 0x30 (version ++ (community ++ pdu)) bytes
+  pub spelled_version : Spells version (Integer (pos 1))
+  pub spelled_community : Spells community (Octets h.0)
+  pub spelled_pdu : IsPduFrame pdu h
+
+-- The octets begin with a message but for its variable bindings, which holds this; what follows it is passed over.
+pub record BeginsWithFrame (bytes : List ℕ) (h : Held) : Type 0 where
+  pub text : List ℕ
+  pub rest : List ℕ
+  pub whole : bytes ≡ text ++ rest
+  pub spelled : IsFrame text h
 
 -- The numbers of a PDU and the octets of its variable bindings, from its contents.
 unfoldable pub fields_of : List ℕ → Result (ℤ × ℤ × ℤ × List ℕ) BerFault

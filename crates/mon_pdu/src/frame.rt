@@ -1,6 +1,6 @@
 //! Reading a message in place: its frame, and then variable bindings whose names are known. No octets are copied but those of values.
 
-ghost use Rattle.std.specs.Prelude.{◌≡◌, ◌≢◌, ◌++◌, ℕ, List, IfSome, IsSome, Err};
+ghost use Rattle.std.specs.Prelude.{◌≡◌, ◌≢◌, ◌++◌, ℕ, List, IfNone, IfSome, IsSome, Err};
 ghost use Rattle.mon_ber.specs.declared.value.Value.{Value as AnyValue};
 ghost use Rattle.mon_ber.specs.declared.value.Value.TheVariants.{Name};
 ghost use Rattle.mon_ber.specs.Grammar.{IsElement, Spells};
@@ -11,7 +11,7 @@ ghost use Rattle.mon_pdu.specs.declared.message.Body.TheVariants as bodies;
 ghost use Rattle.mon_pdu.specs.declared.message.Message.{Message as AnyMessage};
 ghost use Rattle.mon_pdu.specs.declared.message.Pdu.{Pdu as AnyPdu};
 ghost use Rattle.mon_ber.specs.Reading.{Gives};
-ghost use Rattle.mon_pdu.specs.Framed.{framed, held, frame_at, frame_of, kind_at, fields_of};
+ghost use Rattle.mon_pdu.specs.Framed.{BeginsWithFrame, Held, framed, held, frame_at, frame_of, kind_at, fields_of};
 ghost use Rattle.mon_pdu.specs.Grammar.{BeginsWithMessage, IsBinding};
 
 use crate::message::PduKind;
@@ -40,6 +40,9 @@ pub struct Frame<'a> {
 /// The frame of the message that the octets begin with; what follows it is passed over. None where they begin with no message, or with a GetBulk, or where
 /// only the variable bindings are to blame that they begin with none: those are not looked at.
 pub fn read_frame(bytes: &[u8]) -> Option<Frame<'_>>
+    // What it holds stands there, whatever the octets of its list are; where none does, no frame is given.
+    ensures framed { IfSome result (λ f. BeginsWithFrame bytes.now (held f)) }
+    ensures none { IfNone result ((h : Held) → BeginsWithFrame bytes.now h → ⊥) }
     // With the variable bindings that its list spells it is the message.
     ensures found { IfSome result (λ f. (bindings : List AnyBinding) → AreSpelled IsBinding f.list.now bindings → BeginsWithMessage bytes.now (framed f bindings)) }
     // Each message with another PDU than a GetBulk has a frame.

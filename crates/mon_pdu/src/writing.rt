@@ -8,7 +8,7 @@ ghost use Rattle.mon_ber.specs.Writing.{written, element, size_counted, IsValid 
 ghost use Rattle.mon_pdu.specs.declared.fault.PduFault.TheVariants.{OutOfMemory, BadLength};
 ghost use Rattle.mon_pdu.specs.declared.message.Binding.{Binding as AnyBinding};
 ghost use Rattle.mon_pdu.specs.Grammar.{tag_of, first_of, second_of, third_of, bindings_of, IsMessage};
-ghost use Rattle.mon_pdu.specs.Around.{body_around, contents_of_body, contents_of_message, message_around};
+ghost use Rattle.mon_pdu.specs.Around.{body_around, contents_of_body, contents_of_message, message_around, octets_of};
 ghost use Rattle.mon_pdu.specs.Sizes.{with_bindings};
 ghost use Rattle.mon_pdu.specs.Writing.{HasLength, binding_contents, written_binding, list_contents, written_list, leading_integers, body_contents, written_body, message_contents, written_message, IsValidBinding, IsValid};
 
@@ -127,24 +127,6 @@ fn put_numbers(out: &mut Vec<u8>, body: &Body)
     }
 }
 
-#[tactic(auto, using(crate::proofs::Lengths::body_total, crate::proofs::Lengths::counted_twice))]
-fn body_len(body: &Body, list: usize) -> usize
-    requires { list ≡ size_counted (length (list_contents (bindings_of body.now))) }
-    ensures len { result ≡ size_counted (length (body_contents body.now)) }
-    ensures fits { FitsSigned w32 (first_of body.now) × FitsSigned w32 (second_of body.now) × FitsSigned w32 (third_of body.now) }
-{
-    (numbers_len(body) + element_size(list)).min(LIMIT)
-}
-
-#[tactic(auto, using(crate::proofs::Lengths::message_total, crate::proofs::Lengths::counted_twice))]
-fn message_len(message: &Message, body: usize) -> usize
-    requires { body ≡ size_counted (length (body_contents message.now.body)) }
-    ensures { result ≡ size_counted (length (message_contents message.now)) }
-{
-    let community = element_size(message.community.as_slice().len());
-    (integer_size(1) + community + element_size(body)).min(LIMIT)
-}
-
 /// How many octets of contents a message and its parts have, counted up to the limit.
 #[derive(Clone, Copy)]
 struct Lengths {
@@ -153,21 +135,31 @@ struct Lengths {
     message: usize,
 }
 
-/// Measures the message from the inside out, each part once.
+/// Measures a message from the inside out around its variable bindings, which take `list` octets, counted up to the limit.
+fn lengths_around(message: &Message, list: usize) -> Lengths
+    ensures list { result.list ≡ list }
+    ensures body { (octets : List ℕ) → list ≡ size_counted (length octets) → result.body ≡ size_counted (length (contents_of_body message.now.body octets)) }
+    ensures message { (octets : List ℕ) → list ≡ size_counted (length octets) → result.message ≡ size_counted (length (contents_of_message message.now octets)) }
+    ensures fits { FitsSigned w32 (first_of message.now.body) × FitsSigned w32 (second_of message.now.body) × FitsSigned w32 (third_of message.now.body) }
+{
+    let body = (numbers_len(&message.body) + element_size(list)).min(LIMIT);
+    let community = element_size(message.community.as_slice().len());
+    let contents = (integer_size(1) + community + element_size(body)).min(LIMIT);
+    Lengths {
+        list,
+        body,
+        message: contents,
+    }
+}
+
+/// Measures a message, each of its variable bindings once.
 fn lengths_of(message: &Message) -> Lengths
     ensures list { result.list ≡ size_counted (length (list_contents (bindings_of message.now.body))) }
     ensures body { result.body ≡ size_counted (length (body_contents message.now.body)) }
     ensures message { result.message ≡ size_counted (length (message_contents message.now)) }
     ensures valid { IsValid message.now }
 {
-    let list = list_len(message.body.bindings());
-    let body = body_len(&message.body, list);
-    let message = message_len(message, body);
-    Lengths {
-        list,
-        body,
-        message,
-    }
+    lengths_around(message, list_len(message.body.bindings()))
 }
 
 /// How many octets `write_message` writes. Takes no memory and time linear in the message.
@@ -191,27 +183,6 @@ pub fn binding_size(binding: &Binding) -> usize
     ensures { result ≡ size_counted (length (written_binding binding.now)) }
 {
     element_size(binding_len(binding))
-}
-
-/// How many octets of contents a message and its PDU have, counted up to the limit, around the octets of their variable bindings.
-#[derive(Clone, Copy)]
-struct LengthsAround {
-    body: usize,
-    message: usize,
-}
-
-/// Measures the message from the inside out around its variable bindings, which take `list` octets, counted up to the limit.
-fn lengths_around(message: &Message, list: usize) -> LengthsAround
-    ensures body { (octets : List ℕ) → list ≡ size_counted (length octets) → result.body ≡ size_counted (length (contents_of_body message.now.body octets)) }
-    ensures message { (octets : List ℕ) → list ≡ size_counted (length octets) → result.message ≡ size_counted (length (contents_of_message message.now octets)) }
-{
-    let body = (numbers_len(&message.body) + element_size(list)).min(LIMIT);
-    let community = element_size(message.community.as_slice().len());
-    let contents = (integer_size(1) + community + element_size(body)).min(LIMIT);
-    LengthsAround {
-        body,
-        message: contents,
-    }
 }
 
 /// How many octets `write_message` would write for this message with other variable bindings, which take `list` octets
@@ -248,36 +219,86 @@ fn put_bindings(out: &mut Vec<u8>, bindings: &[Binding])
     }
 }
 
-#[tactic(auto, unfolding(crate::specs::Writing::written_list, mon_ber::specs::Writing::element))]
-fn put_list(out: &mut Vec<u8>, bindings: &[Binding], len: usize)
-    requires fits { len < 2 ^ 32 }
-    requires len { len ≡ length (list_contents bindings.now) }
-    requires room { vec_len out.old + length (written_list bindings.now) ≤ vec_capacity out.old }
-    ensures items { out.new.items ≡ out.old.items ++ written_list bindings.now }
-    ensures len { vec_len out.new ≡ vec_len out.old + length (written_list bindings.now) }
+/// Writes octets that were written before, where there is room for them.
+fn put_written(out: &mut Vec<u8>, octets: &[u8])
+    requires room { vec_len out.old + length octets.now ≤ vec_capacity out.old }
+    ensures items { out.new.items ≡ out.old.items ++ octets.now }
+    ensures len { vec_len out.new ≡ vec_len out.old + length octets.now }
+    ensures capacity { vec_capacity out.old ≤ vec_capacity out.new }
+{
+    out.extend_from_slice(octets).unwrap();
+}
+
+/// The variable bindings of a message that is written.
+#[derive(Clone, Copy)]
+enum Listed<'a> {
+    /// These are to be written.
+    Bindings(&'a [Binding]),
+    /// They were written before, as these octets.
+    Written(&'a [u8]),
+}
+
+fn put_contents(out: &mut Vec<u8>, list: &Listed<'_>)
+    requires fits { length (octets_of list.now) < 2 ^ 32 }
+    requires room { vec_len out.old + length (octets_of list.now) ≤ vec_capacity out.old }
+    ensures items { out.new.items ≡ out.old.items ++ octets_of list.now }
+    ensures len { vec_len out.new ≡ vec_len out.old + length (octets_of list.now) }
+    ensures capacity { vec_capacity out.old ≤ vec_capacity out.new }
+{
+    match list {
+        Listed::Bindings(bindings) => put_bindings(out, bindings),
+        Listed::Written(octets) => put_written(out, octets),
+    }
+}
+
+#[tactic(auto, using(crate::proofs::Around::list_length), unfolding(mon_ber::specs::Writing::element))]
+fn put_list(out: &mut Vec<u8>, list: &Listed<'_>, len: usize)
+    requires fits { length (octets_of list.now) < 2 ^ 32 }
+    requires len { len ≡ length (octets_of list.now) }
+    requires room { vec_len out.old + length (element 0x30 (octets_of list.now)) ≤ vec_capacity out.old }
+    ensures items { out.new.items ≡ out.old.items ++ element 0x30 (octets_of list.now) }
+    ensures len { vec_len out.new ≡ vec_len out.old + length (element 0x30 (octets_of list.now)) }
     ensures capacity { vec_capacity out.old ≤ vec_capacity out.new }
 {
     put_header(out, SEQUENCE, len);
-    put_bindings(out, bindings);
+    put_contents(out, list);
 }
 
-#[tactic(auto, using(crate::proofs::Lengths::list_fits), unfolding(crate::specs::Writing::written_body, mon_ber::specs::Writing::element))]
-fn put_body(out: &mut Vec<u8>, body: &Body, lengths: Lengths)
-    requires fits { length (body_contents body.now) < 2 ^ 32 }
-    requires body { lengths.body ≡ size_counted (length (body_contents body.now)) }
-    requires list { lengths.list ≡ size_counted (length (list_contents (bindings_of body.now))) }
-    requires room { vec_len out.old + length (written_body body.now) ≤ vec_capacity out.old }
-    ensures items { out.new.items ≡ out.old.items ++ written_body body.now }
-    ensures len { vec_len out.new ≡ vec_len out.old + length (written_body body.now) }
+#[tactic(auto, using(crate::proofs::Around::list_fits), unfolding(crate::specs::Around::body_around, mon_ber::specs::Writing::element))]
+fn put_body(out: &mut Vec<u8>, body: &Body, lengths: Lengths, list: &Listed<'_>)
+    requires fits { length (contents_of_body body.now (octets_of list.now)) < 2 ^ 32 }
+    requires body { lengths.body ≡ size_counted (length (contents_of_body body.now (octets_of list.now))) }
+    requires list { lengths.list ≡ size_counted (length (octets_of list.now)) }
+    requires room { vec_len out.old + length (body_around body.now (octets_of list.now)) ≤ vec_capacity out.old }
+    ensures items { out.new.items ≡ out.old.items ++ body_around body.now (octets_of list.now) }
+    ensures len { vec_len out.new ≡ vec_len out.old + length (body_around body.now (octets_of list.now)) }
     ensures capacity { vec_capacity out.old ≤ vec_capacity out.new }
 {
     put_header(out, body.octet(), lengths.body);
     put_numbers(out, body);
-    put_list(out, body.bindings(), lengths.list);
+    put_list(out, list, lengths.list);
 }
 
-#[tactic(auto, using(crate::proofs::Lengths::body_fits), unfolding(crate::specs::Writing::written_message, mon_ber::specs::Writing::element))]
-fn put_message(out: &mut Vec<u8>, message: &Message, lengths: Lengths)
+/// Writes a message around its variable bindings.
+#[tactic(auto, using(crate::proofs::Around::inside_fits), unfolding(crate::specs::Around::message_around, mon_ber::specs::Writing::element))]
+fn put_message(out: &mut Vec<u8>, message: &Message, lengths: Lengths, list: &Listed<'_>)
+    requires fits { length (contents_of_message message.now (octets_of list.now)) < 2 ^ 32 }
+    requires message { lengths.message ≡ size_counted (length (contents_of_message message.now (octets_of list.now))) }
+    requires body { lengths.body ≡ size_counted (length (contents_of_body message.now.body (octets_of list.now))) }
+    requires list { lengths.list ≡ size_counted (length (octets_of list.now)) }
+    requires room { vec_len out.old + length (message_around message.now (octets_of list.now)) ≤ vec_capacity out.old }
+    ensures items { out.new.items ≡ out.old.items ++ message_around message.now (octets_of list.now) }
+    ensures len { vec_len out.new ≡ vec_len out.old + length (message_around message.now (octets_of list.now)) }
+    ensures capacity { vec_capacity out.old ≤ vec_capacity out.new }
+{
+    put_header(out, SEQUENCE, lengths.message);
+    put_integer(out, 1);
+    put_octets(out, message.community.as_slice());
+    put_body(out, &message.body, lengths, list);
+}
+
+/// Writes a message with its own variable bindings.
+fn put_whole(out: &mut Vec<u8>, message: &Message, lengths: Lengths)
     requires fits { HasLength message.now }
     requires message { lengths.message ≡ size_counted (length (message_contents message.now)) }
     requires body { lengths.body ≡ size_counted (length (body_contents message.now.body)) }
@@ -287,10 +308,12 @@ fn put_message(out: &mut Vec<u8>, message: &Message, lengths: Lengths)
     ensures len { vec_len out.new ≡ vec_len out.old + length (written_message message.now) }
     ensures capacity { vec_capacity out.old ≤ vec_capacity out.new }
 {
-    put_header(out, SEQUENCE, lengths.message);
-    put_integer(out, 1);
-    put_octets(out, message.community.as_slice());
-    put_body(out, &message.body, lengths);
+    put_message(
+        out,
+        message,
+        lengths,
+        &Listed::Bindings(message.body.bindings()),
+    );
 }
 
 /// Writes the shortest spelling of the message after what `out` holds, where there is room for it: `message_size` octets.
@@ -306,7 +329,7 @@ pub fn write_within(out: &mut Vec<u8>, message: &Message)
     ensures len { vec_len out.new ≡ vec_len out.old + length (written_message message.now) }
     ensures capacity { vec_capacity out.old ≤ vec_capacity out.new }
 {
-    put_message(out, message, lengths_of(message));
+    put_whole(out, message, lengths_of(message));
 }
 
 /// The shortest spelling of the message, in a vector of just its size, which is the one allocation.
@@ -325,48 +348,8 @@ pub fn write_message(alloc: Global, message: &Message) -> Result<Vec<u8>, PduFau
         return Err(PduFault::BadLength);
     }
     let mut out = Vec::with_capacity(alloc, element_len(lengths.message))?;
-    put_message(&mut out, message, lengths);
+    put_whole(&mut out, message, lengths);
     Ok(out)
-}
-
-/// Writes octets that were written before, where there is room for them.
-fn put_written(out: &mut Vec<u8>, octets: &[u8])
-    requires room { vec_len out.old + length octets.now ≤ vec_capacity out.old }
-    ensures items { out.new.items ≡ out.old.items ++ octets.now }
-    ensures len { vec_len out.new ≡ vec_len out.old + length octets.now }
-    ensures capacity { vec_capacity out.old ≤ vec_capacity out.new }
-{
-    out.extend_from_slice(octets).unwrap();
-}
-
-#[tactic(auto, using(crate::proofs::Around::body_total), unfolding(crate::specs::Around::body_around, mon_ber::specs::Writing::element))]
-fn put_body_around(out: &mut Vec<u8>, body: &Body, len: usize, list: &[u8])
-    requires fits { length (contents_of_body body.now list.now) < 2 ^ 32 }
-    requires list { length list.now < 2 ^ 32 }
-    requires len { len ≡ length (contents_of_body body.now list.now) }
-    requires room { vec_len out.old + length (body_around body.now list.now) ≤ vec_capacity out.old }
-    ensures items { out.new.items ≡ out.old.items ++ body_around body.now list.now }
-    ensures len { vec_len out.new ≡ vec_len out.old + length (body_around body.now list.now) }
-    ensures capacity { vec_capacity out.old ≤ vec_capacity out.new }
-{
-    put_header(out, body.octet(), len);
-    put_numbers(out, body);
-    put_header(out, SEQUENCE, list.len());
-    put_written(out, list);
-}
-
-#[tactic(auto, using(crate::proofs::Around::inside_fits), unfolding(crate::specs::Around::message_around, mon_ber::specs::Writing::element))]
-fn put_around(out: &mut Vec<u8>, message: &Message, lengths: LengthsAround, list: &[u8])
-    requires fits { length (contents_of_message message.now list.now) < 2 ^ 32 }
-    requires message { lengths.message ≡ size_counted (length (contents_of_message message.now list.now)) }
-    requires body { lengths.body ≡ size_counted (length (contents_of_body message.now.body list.now)) }
-    requires room { vec_len out.old + length (message_around message.now list.now) ≤ vec_capacity out.old }
-    ensures items { out.new.items ≡ out.old.items ++ message_around message.now list.now }
-{
-    put_header(out, SEQUENCE, lengths.message);
-    put_integer(out, 1);
-    put_octets(out, message.community.as_slice());
-    put_body_around(out, &message.body, lengths.body, list);
 }
 
 /// Variable bindings as they stand in a message, one after the other, in one allocation. A request that is sent again and again under other request-ids has
@@ -398,6 +381,6 @@ pub fn write_with(alloc: Global, message: &Message, list: &[u8]) -> Result<Vec<u
         return Err(PduFault::BadLength);
     }
     let mut out = Vec::with_capacity(alloc, element_len(lengths.message))?;
-    put_around(&mut out, message, lengths, list);
+    put_message(&mut out, message, lengths, &Listed::Written(list));
     Ok(out)
 }

@@ -23,11 +23,11 @@ returns-clause-ok c = λ bindings is.
     let same : length (message_contents (with_bindings m bindings)) ≡ length (contents_of_message m c.args.list.now) =
     ap length (contents_are m bindings) ∙ ap (λ list. length (contents_of_message m list)) (sym is) in
     let fits : length (message_contents (with_bindings m bindings)) < 2 ^ 32 = omega (arith, same, message, c.if-lengths-ge-LIMIT.false) in
-    let put : c.put_around.new.out.items ≡ message_around m c.args.list.now = search rules in
+    let put : c.put_message.new.out.items ≡ message_around m c.args.list.now = search rules in
     (fits, put ∙ ap (message_around m) is ∙ sym (message_is m bindings))
 
-pub put_around-requires-clause-room : goal.put_around-requires-clause-room
-put_around-requires-clause-room c =
+pub put_message-requires-clause-room : goal.put_message-requires-clause-room
+put_message-requires-clause-room c =
     let m = c.args.message.now in
     let octets = c.args.list.now in
     let counted : c.min.result ≡ size_counted (length octets) = search rules in
