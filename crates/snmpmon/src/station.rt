@@ -3,7 +3,6 @@
 ghost use Rattle.std.specs.Prelude.{◌≤◌};
 
 use crate::failure::Failure;
-use crate::fault::Fault;
 use crate::files::{print, read_first, read_input, read_text};
 use crate::naming::add_module;
 use crate::printing::Printing;
@@ -14,6 +13,7 @@ use mon_alarms::AlarmState;
 use mon_app::AppFault;
 use mon_board::Board;
 use mon_disk::{Disk, DiskError, FileDisk, SLOT_SIZE};
+use mon_faults::Fault;
 use mon_formats::Figures;
 use mon_poller::Addr;
 use mon_rehearsal::rehearse;
