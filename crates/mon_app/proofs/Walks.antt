@@ -98,7 +98,7 @@ pub fault_of_turn : (show : List ℕ → List ℕ) (q : Asked) (start last text 
 fault_of_turn show q start last text before after fault next = record { more = next.more; holds = by_cases fault next.more next.holds; told = next.told }
   where
     by_cases : (fault : AppFault) (log : List AtWire) → IsNextAsked q log (Err fault) → IsTurn show q start last text text log (Err fault)
-    by_cases faults.OutOfMemory log next = (Err faults.OutOfMemory, next)
+    by_cases faults.OutOfMemory log next = (Err faults.OutOfMemory, next, refl)
     by_cases faults.NotIncreasing log next = absurd (not_of_asking q log next)
     by_cases (faults.SocketFault reason) log next = (next, refl)
     by_cases faults.Timeout log next = (next, refl)
@@ -163,9 +163,9 @@ all_turns show community start said text last before after result at fine = reco
 }
 
 -- no memory for the first turn
-pub no_turn : {A : Type 0} → (show : List ℕ → List ℕ) (community start said text : List ℕ) (told : Log) (result : Result A AppFault) → result ≡ Err faults.OutOfMemory
-    → GoesOnBy (λ log. IsWalk show community start said text log result) told told
-no_turn show community start said text told result is = record {
+pub no_turn : {A : Type 0} → (show : List ℕ → List ℕ) (community start said : List ℕ) (told : Log) (result : Result A AppFault) → result ≡ Err faults.OutOfMemory
+    → GoesOnBy (λ log. IsWalk show community start said said log result) told told
+no_turn show community start said told result is = record {
   more = [];
   holds = record {
     turns = 0;
@@ -175,7 +175,7 @@ no_turn show community start said text told result is = record {
     walked = (refl, refl, refl);
     others = [];
     log_is = refl;
-    ended = inr (inr (refl, is));
+    ended = inr (inr (refl, refl, is));
   };
   told = sym (extended_by_none told);
 }

@@ -43,12 +43,12 @@ IsWalkStep start last b Past = IsPast start b
 IsWalkStep start last b Back = IsUnderStart start b × ¬ (Exceeds last b)
 
 -- A turn of a walk, with the text before and after it: the line of one more variable, whose name is given; none at the walk's
--- end; or a fault. Where memory runs out nothing is said of the text.
+-- end; or a fault, which leaves the text as it was.
 abbrev pub IsTurn : (List ℕ → List ℕ) → Asked → List ℕ → List ℕ → List ℕ → List ℕ → List AtWire → Result (Option (List ℕ)) AppFault → Type 0
 IsTurn show q start last before after log (Ok (Some name)) =
     (b : Binding) × IsNextAsked q log (Ok b) × IsWalkStep start last b On × (name ≡ b.name) × (after ≡ before ++ binding_line show b)
 IsTurn show q start last before after log (Ok None) = (b : Binding) × IsNextAsked q log (Ok b) × IsWalkStep start last b Past × (after ≡ before)
-IsTurn show q start last before after log (Err OutOfMemory) = (answer : Result Binding AppFault) × IsNextAsked q log answer
+IsTurn show q start last before after log (Err OutOfMemory) = (answer : Result Binding AppFault) × IsNextAsked q log answer × (after ≡ before)
 IsTurn show q start last before after log (Err NotIncreasing) = (b : Binding) × IsNextAsked q log (Ok b) × IsWalkStep start last b Back × (after ≡ before)
 IsTurn show q start last before after log (Err other) = IsNextAsked q log (Err other) × (after ≡ before)
 
@@ -76,4 +76,4 @@ pub record IsWalk {A : Type 0} (show : List ℕ → List ℕ) (community start b
   pub log_is : log ≡ earlier ++ others
   pub ended : ((turns < 65536) × IsTurn show (question_after community turns last) start last text after others (last_answer result))
       ⊎ (((turns ≡ 65536) × (others ≡ []) × (after ≡ text) × IsOk result)
-      ⊎ ((log ≡ []) × (result ≡ Err OutOfMemory)))
+      ⊎ ((log ≡ []) × (after ≡ before) × (result ≡ Err OutOfMemory)))

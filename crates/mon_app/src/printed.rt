@@ -36,7 +36,8 @@ pub(crate) fn put_binding<S: NameTexts>(
 ) -> Result<(), AllocError>
     ensures { OnOk result (string_bytes text.new ≡ string_bytes text.old ++ binding_line (S.shown names.now) binding.now) }
 {
-    names.put(alloc, text, &binding.name)?;
+    let name = names.text(alloc, &binding.name)?;
+    text.push_str(name.as_str())?;
     text.push_str(" = ")?;
     put_value(alloc, text, &binding.value, names)?;
     text.push_str("\n")
@@ -103,8 +104,8 @@ fn put_name<S: NameTexts>(
 ) -> Result<(), AllocError>
     ensures { OnOk result (string_bytes text.new ≡ string_bytes text.old ++ kind_text (codes "Oid") (S.shown names.now name.now)) }
 {
-    text.push_str("Oid: ")?;
-    names.put(alloc, text, name)
+    let name = names.text(alloc, name)?;
+    put_text(text, "Oid", name.as_str())
 }
 
 fn put_address(alloc: Global, text: &mut String, address: &[u8]) -> Result<(), AllocError>

@@ -25,8 +25,7 @@ const REQUESTS: u32 = 65_536;
 /// `names` has it, also those that are values.
 ///
 /// # Errors
-/// `NotIncreasing` where the agent answers with a name that does not increase; else as `answer_text`. The lines before stay,
-/// but for `OutOfMemory`, where the text is not told.
+/// `NotIncreasing` where the agent answers with a name that does not increase; else as `answer_text`. The lines before stay.
 pub fn walk<W: Wire, S: NameTexts>(
     alloc: Global,
     wire: &mut W,
@@ -71,7 +70,9 @@ fn walk_on<W: Wire, S: NameTexts>(
         Step::Past => Ok(None),
         Step::Back => Err(AppFault::NotIncreasing),
         Step::On => {
-            put_binding(alloc, text, &found, names)?;
+            let mut line = String::new(alloc);
+            put_binding(alloc, &mut line, &found, names)?;
+            text.push_str(line.as_str())?;
             Ok(Some(found.name))
         }
     }

@@ -116,7 +116,8 @@ fn put_row<S: NameTexts>(
     ensures { OnOk result (string_bytes text.new ≡ string_bytes text.old ++ row_line widths (S.shown names.now) entry.now) }
 {
     put_cells(alloc, text, widths, entry)?;
-    names.put(alloc, text, entry.name())?;
+    let name = names.text(alloc, entry.name())?;
+    text.push_str(name.as_str())?;
     text.push_str("\n")
 }
 

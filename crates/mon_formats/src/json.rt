@@ -75,8 +75,7 @@ fn entry_value<S: NameTexts>(alloc: Global, names: &S, entry: &Entry) -> Result<
     ensures { IfOk result (λ v. view v ≡ entry_data (S.shown names.now) entry.now) }
 {
     let engine = hex::encode(alloc, entry.engine())?;
-    let mut name = String::new(alloc);
-    names.put(alloc, &mut name, entry.name())?;
+    let name = names.text(alloc, entry.name())?;
     let alarms = alarms_value(alloc, entry)?;
     let rate = rate_value(alloc, entry)?;
     let samples = samples_value(alloc, entry.samples())?;

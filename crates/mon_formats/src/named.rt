@@ -37,10 +37,11 @@ fn put_line<S: NameTexts>(
 ) -> Result<(), AllocError>
     ensures { OnOk result (text.new.items ≡ text.old.items ++ named_line (S.shown names.now) entry.now) }
 {
-    let mut head = hex::encode(alloc, entry.engine())?;
-    head.push(' ')?;
-    names.put(alloc, &mut head, entry.name())?;
-    text.extend_from_slice(head.as_bytes())?;
+    let engine = hex::encode(alloc, entry.engine())?;
+    let name = names.text(alloc, entry.name())?;
+    text.extend_from_slice(engine.as_bytes())?;
+    text.extend_from_slice(b" ")?;
+    text.extend_from_slice(name.as_bytes())?;
     if !write_rest(text, true, entry) {
         return Err(AllocError);
     }

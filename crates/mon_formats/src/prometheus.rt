@@ -95,8 +95,7 @@ fn labels_of<S: NameTexts>(alloc: Global, names: &S, entry: &Entry) -> Result<Ve
     ensures { IfOk result (λ labels. labels.items ≡ instance_labels (S.shown names.now) entry.now) }
 {
     let engine = hex::encode(alloc, entry.engine())?;
-    let mut name = String::new(alloc);
-    names.put(alloc, &mut name, entry.name())?;
+    let name = names.text(alloc, entry.name())?;
     let mut labels = Vec::new(alloc);
     put_label(&mut labels, "engine", engine.as_bytes())?;
     labels.extend_from_slice(b",")?;

@@ -6,14 +6,14 @@ use std::alloc::{AllocError, Global};
 
 /// How the names of variables are printed, and the identifiers among their values.
 pub trait NameTexts {
-    ghost use Rattle.std.specs.Prelude.{◌≡◌, ◌++◌, ℕ, List, OnOk, string_bytes};
+    ghost use Rattle.std.specs.Prelude.{◌≡◌, ℕ, List, IfOk, string_bytes};
 
     // The text of an identifier.
     ghost shown: { Self → List ℕ → List ℕ };
 
-    /// Adds the text of the identifier.
-    fn put(&self, alloc: Global, text: &mut String, oid: &Oid) -> Result<(), AllocError>
-        ensures { OnOk result (string_bytes text.new ≡ string_bytes text.old ++ shown self.now oid.now) };
+    /// The text of the identifier.
+    fn text(&self, alloc: Global, oid: &Oid) -> Result<String, AllocError>
+        ensures { IfOk result (λ text. string_bytes text ≡ shown self.now oid.now) };
 }
 
 /// In decimal numbers with dots between them, as `1.3.6.1.2.1.1.5.0`.
@@ -25,9 +25,8 @@ impl NameTexts for InNumbers {
 
     ghost shown = { λ _ oid. dotted oid };
 
-    fn put(&self, alloc: Global, text: &mut String, oid: &Oid) -> Result<(), AllocError> {
-        let numbers = oid.text(alloc)?;
-        text.push_str(numbers.as_str())
+    fn text(&self, alloc: Global, oid: &Oid) -> Result<String, AllocError> {
+        oid.text(alloc)
     }
 }
 
@@ -37,7 +36,7 @@ impl NameTexts for Labels<'_> {
 
     ghost shown = { λ labels oid. name_text labels oid };
 
-    fn put(&self, _alloc: Global, text: &mut String, oid: &Oid) -> Result<(), AllocError> {
-        self.put_name(text, oid)
+    fn text(&self, alloc: Global, oid: &Oid) -> Result<String, AllocError> {
+        self.name_of(alloc, oid)
     }
 }

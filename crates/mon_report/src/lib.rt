@@ -12,4 +12,3 @@ mod writing;
 pub use fault::ReportFault;
 pub use line::write_end;
 pub use report::{Entry, entries_of, write_entry, write_report, write_rest};
-pub use writing::write_octets;

@@ -87,7 +87,7 @@ impl<'a> Labels<'a> {
     }
 
     /// Adds the name, as `name_of` gives it, to the text.
-    pub fn put_name(&self, text: &mut String, oid: &Oid) -> Result<(), AllocError>
+    fn put_name(&self, text: &mut String, oid: &Oid) -> Result<(), AllocError>
         ensures text { OnOk result (string_bytes text.new ≡ string_bytes text.old ++ name_text self.now oid.now) }
         ensures name { IsNameOf self.now oid.now (name_text self.now oid.now) }
     {

@@ -3,10 +3,9 @@
 use crate::failure::Failure;
 use mon_app::{AppFault, Counted, read_all};
 use mon_faults::Fault;
-use mon_report::write_octets;
 use std::alloc::Global;
 use std::fs::File;
-use std::io::Read;
+use std::io::{Read, Write};
 use std::rt::Files;
 use std::{fs, io};
 
@@ -17,7 +16,7 @@ const OUTPUT: &str = "standard output";
 
 /// Prints octets.
 pub fn print<R: Print + AllocGlobal>(rt: &R, octets: &[u8]) -> Result<(), Failure> {
-    match write_octets(&mut io::writer(rt), octets) {
+    match io::writer(rt).write_all(octets) {
         Ok(()) => Ok(()),
         Err(error) => Err(Failure::stream(rt.alloc(), OUTPUT, error)),
     }
@@ -44,7 +43,7 @@ pub fn replace_file<R: Files<File = File> + AllocGlobal>(
 /// Writes a new file.
 fn write_file<R: Files<File = File>>(rt: &R, path: &str, octets: &[u8]) -> io::Result<()> {
     let mut file = File::create(rt, path)?;
-    write_octets(&mut file, octets)
+    file.write_all(octets)
 }
 
 /// All octets of standard input.

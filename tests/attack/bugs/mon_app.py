@@ -303,17 +303,17 @@ BUGS = {
     ),
     "walks_in_numbers": (
         "src/walking.rt",
-        "put_binding(alloc, text, &found, names)?;",
-        "put_binding(alloc, text, &found, &crate::names::InNumbers)?;",
+        "put_binding(alloc, &mut line, &found, names)?;",
+        "put_binding(alloc, &mut line, &found, &mon_names::InNumbers)?;",
     ),
     "prints_values_in_numbers": (
         "src/printed.rt",
-        "    names.put(alloc, text, name)",
-        "    crate::names::InNumbers.put(alloc, text, name)",
+        "    let name = names.text(alloc, name)?;",
+        "    let name = mon_names::InNumbers.text(alloc, name)?;",
     ),
     "leaves_out_the_name": (
         "src/printed.rt",
-        "    names.put(alloc, text, &binding.name)?;\n",
+        "    let name = names.text(alloc, &binding.name)?;\n    text.push_str(name.as_str())?;\n",
         "",
     ),
     "names_statuses_from_one": (

@@ -10,7 +10,7 @@ use Rattle.mon_app.proofs.walking.walk.Goals as goal
 
 pub returns-in_err-last-clause-walk : goal.returns-in_err-last-clause-walk
 returns-in_err-last-clause-walk g c =
-    no_turn (g.S.NameTexts.shown c.args.names.now) c.args.community.now c.args.start.now (string_bytes c.args.text.now) (string_bytes c.args.text.now) (g.W.Wire.told c.args.wire.now) c.from_residual.result
+    no_turn (g.S.NameTexts.shown c.args.names.now) c.args.community.now c.args.start.now (string_bytes c.args.text.now) (g.W.Wire.told c.args.wire.now) c.from_residual.result
     (fault_is c.from_residual.result OutOfMemory c.from_residual.ensures.1)
 
 pub returns-in_err-name-clause-walk : goal.returns-in_err-name-clause-walk
