@@ -373,8 +373,8 @@ BUGS = {
     ),
     "walks_and_prints_nothing": (
         "src/walking.rt",
-        "            put_binding(alloc, text, &found, names)?;",
-        "            put_binding(alloc, &mut String::new(alloc), &found, names)?;",
+        "            text.push_str(line.as_str())?;",
+        "            text.push_str(&line.as_str()[..0])?;",
     ),
     "writes_back_its_input": (
         "src/replaying.rt",
