@@ -77,8 +77,16 @@ impl StationFault {
     {
         match self {
             StationFault::Poll(part) => Innermost::new("mon_poller", part.number(), part.name()),
-            StationFault::Response(part) => Innermost::new("mon_poller", part.number(), part.name()),
-            StationFault::Exchange(part) => Innermost::new("mon_exchange", part.number(), part.name()),
+            StationFault::Response(part) => Innermost::new(
+                "mon_poller",
+                part.number(),
+                part.name(),
+            ),
+            StationFault::Exchange(part) => Innermost::new(
+                "mon_exchange",
+                part.number(),
+                part.name(),
+            ),
             StationFault::Keeper(part) => Innermost::new("mon_disk", part.number(), part.name()),
             StationFault::Image(part) => Innermost::new("mon_saved", part.number(), part.name()),
             StationFault::OutOfMemory | StationFault::NoMoreIncarnations => {
