@@ -3,6 +3,7 @@
 use Rattle.std.specs.Prelude.{ℕ, ℤ, List, [], ◌∷◌, ◌++◌, Option, Some, None, codes, decimal, length, ◌==◌, if◌then◌else◌}
 use Rattle.std.specs.Fmt.{signed_decimal}
 use Rattle.std.specs.List.{flat_map}
+use Rattle.std.specs.Option.{option_map}
 use Rattle.hex.specs.Hex.{encode_lower}
 use Rattle.mon_sample.specs.Key.{kind_of}
 use Rattle.mon_rates.specs.Part.{is_counter}
@@ -21,6 +22,16 @@ use Rattle.mon_formats.specs.Cells.{newest_of, value_of, rate_of}
 -- a character of a label's value: a backslash, a quote and a line feed have a backslash before them
 abbrev pub escaped : ℕ → List ℕ
 escaped c = if c == 92 then 92 ∷ 92 ∷ [] else if c == 34 then 92 ∷ 34 ∷ [] else if c == 10 then 92 ∷ 110 ∷ [] else c ∷ []
+
+-- A label's value as a reader of the format takes it, from behind its opening quote up to its closing one, and what follows that: a backslash
+-- stands before a backslash, a quote, and the n that stands for a line feed; none where it isn't closed.
+abbrev pub read_value : List ℕ → Option (List ℕ × List ℕ)
+read_value [] = None
+read_value (c ∷ []) = if c == 34 then Some ([], []) else None
+read_value (c ∷ d ∷ rest) =
+    if c == 34 then Some ([], d ∷ rest) else
+    (if c == 92 then option_map (λ r. ((if d == 110 then 10 else d) ∷ r.0, r.1)) (read_value rest) else
+    option_map (λ r. (c ∷ r.0, r.1)) (read_value (d ∷ rest)))
 
 -- a label with its value
 unfoldable pub label_text : List ℕ → List ℕ → List ℕ

@@ -8,7 +8,7 @@ ghost use Rattle.mon_formats.specs.Columns.{to_right, to_left, value_cell, rate_
 use crate::cells::count_samples;
 use mon_alarms::{AlarmState, Rule, state};
 use mon_names::NameTexts;
-use mon_report::Entry;
+use mon_report::{Entry, write_rate};
 use mon_sample::Sample;
 use std::alloc::{AllocError, Global};
 
@@ -180,13 +180,15 @@ fn rate_cell(alloc: Global, rate: Option<u128>) -> Result<String, AllocError>
 fn rate_text(alloc: Global, rate: u128) -> Result<String, AllocError>
     ensures { IfOk result (λ text. string_bytes text ≡ rate_cell (Some rate)) }
 {
-    let whole = rate / 1000;
-    let tenths = rate / 100 % 10;
-    let hundredths = rate / 10 % 10;
-    let thousandths = rate % 10;
-    let mut text = String::new(alloc);
-    write!(text, "{whole}.{tenths}{hundredths}{thousandths}/s")?;
-    Ok(text)
+    let mut octets = Vec::new(alloc);
+    if !write_rate(&mut octets, true, rate) {
+        return Err(AllocError);
+    }
+    octets.extend_from_slice(b"/s")?;
+    match String::from_utf8(octets) {
+        Ok(text) => Ok(text),
+        Err(_) => unreachable!(),
+    }
 }
 
 /// Whether an alarm is raised, of those of the rules on an instance; a dash where there are none.

@@ -1,7 +1,8 @@
 //! A report as JSON.
 
-ghost use Rattle.std.specs.Prelude.{◌≡◌, IfOk, map};
+ghost use Rattle.std.specs.Prelude.{◌≡◌, ◌++◌, ℕ, IfOk, List, Some, codes, map};
 ghost use Rattle.serde_json.specs.Data.{array};
+ghost use Rattle.serde_json.specs.Read.{read};
 ghost use Rattle.serde_json.specs.View.{view, items_of};
 ghost use Rattle.mon_report.specs.Report.{samples_in};
 ghost use Rattle.mon_formats.specs.Cells.{rate_of};
@@ -23,7 +24,9 @@ pub(crate) fn json_report<S: NameTexts>(
     names: &S,
     entries: &[Entry],
 ) -> Result<Vec<u8>, AllocError>
-    ensures { IfOk result (λ text. text.items ≡ json_report (S.shown names.now) entries.now) }
+    ensures text { IfOk result (λ text. text.items ≡ json_report (S.shown names.now) entries.now) }
+    // It is a line that reads as JSON as the report's value (RFC 8259), and a line feed.
+    ensures read_back { IfOk result (λ text. (line : List ℕ) × (text.items ≡ line ++ codes "\n") × (read line ≡ Some (report_data (S.shown names.now) entries.now))) }
 {
     let report = report_value(alloc, names, entries)?;
     let mut text = report.to_string(alloc)?;

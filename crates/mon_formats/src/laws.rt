@@ -1,6 +1,7 @@
 //! Laws of the formats. Each is a function that does nothing.
 
-ghost use Rattle.std.specs.Prelude.{◌≡◌, ◌<◌, ◌^◌, List, ℕ, All, Option, length};
+ghost use Rattle.std.specs.Prelude.{◌≡◌, ◌<◌, ◌^◌, ◌∷◌, ◌++◌, List, ℕ, All, Option, Some, length};
+ghost use Rattle.std.specs.List.{flat_map};
 ghost use Rattle.mon_oid.specs.Oid.{dotted};
 ghost use Rattle.mon_board.specs.Watch.{Watch};
 ghost use Rattle.mon_board.specs.Windows.{IsPartOf, window};
@@ -11,6 +12,7 @@ ghost use Rattle.mon_formats.specs.declared.format.Format.{Format};
 ghost use Rattle.mon_formats.specs.Columns.{row_cells, title_cells, widths_of};
 ghost use Rattle.mon_formats.specs.Formats.{report_in};
 ghost use Rattle.mon_formats.specs.Named.{named_report};
+ghost use Rattle.mon_formats.specs.Prometheus.{escaped, read_value};
 
 /// The lines of text in which names stand in numbers are those of `mon_report`.
 pub fn names_in_numbers()
@@ -30,6 +32,11 @@ pub fn equal_samples()
 {
     mon_board::laws::windows_meet();
 }
+
+/// The value of a label, read as Prometheus reads it up to its closing quote, is the text that was escaped.
+pub fn label_read_back()
+    ensures { (value rest : List ℕ) → read_value (flat_map escaped value ++ 34 ∷ rest) ≡ Some (value, rest) }
+{}
 
 /// In a table the names begin in one column, that of their title, where no instance has ten million samples.
 pub fn names_in_one_column()

@@ -16,11 +16,11 @@ use metric::Metric;
 use mon_alarms::{AlarmState, Rule, state};
 use mon_names::NameTexts;
 use mon_rates::is_counter;
-use mon_report::Entry;
+use mon_report::{Entry, write_rate};
 use mon_sample::Sample;
 use station::put_station;
 use std::alloc::{AllocError, Global};
-use text::{put_head, put_label, put_line, put_thousandths};
+use text::{put_head, put_label, put_line};
 
 /// The report in Prometheus' text exposition format.
 #[tactic(auto, unfolding(crate::specs::Prometheus::prometheus_report))]
@@ -184,7 +184,9 @@ fn put_rate(
         return Ok(());
     };
     let mut rate = Vec::new(alloc);
-    put_thousandths(&mut rate, thousandths)?;
+    if !write_rate(&mut rate, true, thousandths) {
+        return Err(AllocError);
+    }
     put_line(text, Metric::Rate.name(), labels, rate.as_slice())
 }
 

@@ -1,25 +1,15 @@
 -- What is printed, one piece after another.
 use Rattle.std.proofs.Common.{ℕ, suc, ◌≡◌, ◌+◌, List, [], ◌∷◌, ◌++◌, Result, Ok, Err, length, refl, sym, ap, ◌∙◌, append_assoc, subst, arith}
-use Rattle.std.specs.Prelude.{OnOk, codes, decimal, ◌==◌, if◌then◌else◌, Bool, true, false}
+use Rattle.std.specs.Prelude.{codes, decimal, ◌==◌, if◌then◌else◌, Bool, true, false}
 use Rattle.std.specs.List.{flat_map}
 use Rattle.std.proofs.lemmas.Grind.{flat_map-append}
 use Rattle.std.proofs.lemmas.List.{append-nil}
-use Rattle.mon_disk.specs.declared.fault.KeeperFault.{KeeperFault}
-use Rattle.mon_exchange.specs.declared.fault.ExchangeFault.{ExchangeFault}
-use Rattle.mon_poller.specs.declared.fault.PollFault.{PollFault}
-use Rattle.mon_poller.specs.declared.fault.ResponseFault.{ResponseFault}
-use Rattle.mon_saved.specs.declared.fault.ImageFault.{ImageFault}
-use Rattle.mon_station.specs.declared.fault.StationFault.{StationFault}
-use Rattle.mon_station.specs.declared.fault.StationFault.TheVariants as fault
-use Rattle.mon_station.specs.Fault as station
 use Rattle.mon_station.specs.Lived.{last_state}
 use Rattle.mon_world.specs.declared.fault.WorldFault.{WorldFault}
-use Rattle.mon_world.specs.declared.fault.WorldFault.TheVariants as world_fault
 use Rattle.mon_world.specs.declared.sending.Sent.{Sent}
-use Rattle.mon_world.specs.Fault as world
 use Rattle.mon_world.specs.Moves.{Move, lives_of}
 use Rattle.mon_world.specs.Places.{others_to}
-use Rattle.mon_rehearsal.specs.Printed.{numbers_from, refusal_text, refused_text, station_refusal_text, stations_text, step_line, step_lines, text_at}
+use Rattle.mon_rehearsal.specs.Printed.{numbers_from, stations_text, step_line, step_lines, text_at}
 
 -- one number more
 pub numbers_more : (first i : ℕ) (start now new : List ℕ) → now ≡ start ++ numbers_from first i → new ≡ now ++ (codes " " ++ decimal (first + i)) → new ≡ start ++ numbers_from first (i + 1)
@@ -63,28 +53,3 @@ lines_more number (a ∷ answers) answer =
     ap (λ l. step_line number a ++ l) (lines_more (number + 1) answers answer)
     ∙ ap (λ n. step_line number a ++ (step_lines (number + 1) answers ++ step_line n answer)) same
     ∙ sym (append_assoc (step_line number a) (step_lines (number + 1) answers) (step_line (number + length (a ∷ answers)) answer))
-
--- what is refused by no station is the world's
-pub by_world : (f : WorldFault) → ((g : StationFault) → f ≡ world_fault.Refused g → ⊥) → refusal_text f ≡ refused_text (codes "mon_world") (world.number_of f) (world.name_of f)
-by_world world_fault.OutOfMemory other = refl
-by_world world_fault.NoSuchStation other = refl
-by_world world_fault.NoSuchDatagram other = refl
-by_world (world_fault.Refused g) other = absurd (other g refl)
-by_world world_fault.BadCount other = refl
-by_world world_fault.BadStop other = refl
-
--- what is refused by no part of it is the station's
-pub by_station : (f : StationFault) → ((g : PollFault) → f ≡ fault.Poll g → ⊥) → ((g : ResponseFault) → f ≡ fault.Response g → ⊥) → ((g : ExchangeFault) → f ≡ fault.Exchange g → ⊥) → ((g : KeeperFault) → f ≡ fault.Keeper g → ⊥)
-    → ((g : ImageFault) → f ≡ fault.Image g → ⊥) → station_refusal_text f ≡ refused_text (codes "mon_station") (station.number_of f) (station.name_of f)
-by_station fault.OutOfMemory poll response exchange keeper image = refl
-by_station (fault.Poll g) poll response exchange keeper image = absurd (poll g refl)
-by_station (fault.Response g) poll response exchange keeper image = absurd (response g refl)
-by_station (fault.Exchange g) poll response exchange keeper image = absurd (exchange g refl)
-by_station (fault.Keeper g) poll response exchange keeper image = absurd (keeper g refl)
-by_station (fault.Image g) poll response exchange keeper image = absurd (image g refl)
-by_station fault.NoMoreIncarnations poll response exchange keeper image = refl
-
--- a piece may be said otherwise
-pub written_as : {A E : Type 0} (r : Result A E) (old new text other : List ℕ) → text ≡ other → OnOk r (new ≡ old ++ text) → OnOk r (new ≡ old ++ other)
-written_as (Ok x) old new text other same is = is ∙ ap (λ l. old ++ l) same
-written_as (Err e) old new text other same is = tt

@@ -1,5 +1,6 @@
 -- The faults of a script and of a rehearsal.
 use Rattle.std.specs.Prelude.{ℕ, List, codes}
+use Rattle.mon_station.specs.Fault.{Told}
 use Rattle.mon_world.specs.Fault as world
 use Rattle.mon_world.specs.declared.fault.WorldFault.{WorldFault}
 use Rattle.mon_world.specs.declared.fault.WorldFault.TheVariants as world_fault
@@ -18,17 +19,11 @@ abbrev pub name_of : ScriptFault → List ℕ
 name_of script.OutOfMemory = codes "OutOfMemory"
 name_of (script.BadScript line) = codes "BadScript"
 
--- the number of a rehearsal's fault
-abbrev pub number_of_rehearsal : RehearsalFault → ℕ
-number_of_rehearsal rehearsal.OutOfMemory = 1
-number_of_rehearsal (rehearsal.BadScript line) = 7
-number_of_rehearsal (rehearsal.World fault) = world.number_of fault
-
--- the name of a rehearsal's fault
-abbrev pub name_of_rehearsal : RehearsalFault → List ℕ
-name_of_rehearsal rehearsal.OutOfMemory = codes "OutOfMemory"
-name_of_rehearsal (rehearsal.BadScript line) = codes "BadScript"
-name_of_rehearsal (rehearsal.World fault) = world.name_of fault
+-- the innermost fault: the world's or a station's, where the stations were not opened; a script's is told with those of other texts
+abbrev pub innermost_of : RehearsalFault → Told
+innermost_of rehearsal.OutOfMemory = record { part = codes "mon_app"; number = number_of script.OutOfMemory; name = name_of script.OutOfMemory }
+innermost_of (rehearsal.BadScript line) = record { part = codes "mon_app"; number = number_of (script.BadScript line); name = name_of (script.BadScript line) }
+innermost_of (rehearsal.World fault) = world.innermost_of fault
 
 -- a script's fault as the rehearsal's
 abbrev pub rehearsal_fault : ScriptFault → RehearsalFault

@@ -2,21 +2,14 @@
 use Rattle.std.specs.Prelude.{ℕ, zero, suc, ◌+◌, List, [], ◌∷◌, ◌++◌, ◌==◌, if◌then◌else◌, Option, Some, None, Result, Ok, Err, codes, decimal}
 use Rattle.std.specs.List.{flat_map}
 use Rattle.mon_board.specs.Board.{window_of}
-use Rattle.mon_disk.specs.Fault as disk
-use Rattle.mon_exchange.specs.Fault as exchange
-use Rattle.mon_poller.specs.Fault.{poll_name, poll_number, response_name, response_number}
 use Rattle.mon_report.specs.Report.{report}
-use Rattle.mon_saved.specs.Fault as saved
-use Rattle.mon_station.specs.declared.fault.StationFault.{StationFault}
-use Rattle.mon_station.specs.declared.fault.StationFault.TheVariants as fault
-use Rattle.mon_station.specs.Fault as station
+use Rattle.mon_station.specs.Fault.{Told, told_text}
 use Rattle.mon_station.specs.Lived.{last_state}
 use Rattle.mon_station.specs.State.{State, owed_count, setting_of}
 use Rattle.mon_station.specs.Verdict.{slot_of}
 use Rattle.mon_world.specs.declared.fault.WorldFault.{WorldFault}
-use Rattle.mon_world.specs.declared.fault.WorldFault.TheVariants.{Refused}
 use Rattle.mon_world.specs.declared.sending.Sent.{Sent}
-use Rattle.mon_world.specs.Fault as world
+use Rattle.mon_world.specs.Fault.{innermost_of}
 use Rattle.mon_world.specs.Moves.{Move, lives_of}
 use Rattle.mon_world.specs.Places.{others_to}
 
@@ -31,27 +24,13 @@ abbrev pub sent_text : Sent → List ℕ
 sent_text sent = if sent.count == 0 then codes "ok" else codes "ok sent" ++ numbers_from sent.first sent.count
 
 -- a refusal: the crate that refused, and the number and the name of its fault
-abbrev pub refused_text : List ℕ → ℕ → List ℕ → List ℕ
-refused_text part number name = codes "refused " ++ part ++ codes " " ++ decimal number ++ codes " " ++ name
-
--- a station's refusal: of the part that refused, where it was a part
-abbrev pub station_refusal_text : StationFault → List ℕ
-station_refusal_text (fault.Poll f) = refused_text (codes "mon_poller") (poll_number f) (poll_name f)
-station_refusal_text (fault.Response f) = refused_text (codes "mon_poller") (response_number f) (response_name f)
-station_refusal_text (fault.Exchange f) = refused_text (codes "mon_exchange") (exchange.number_of f) (exchange.name_of f)
-station_refusal_text (fault.Keeper f) = refused_text (codes "mon_disk") (disk.number_of f) (disk.name_of f)
-station_refusal_text (fault.Image f) = refused_text (codes "mon_saved") (saved.number_of f) (saved.name_of f)
-station_refusal_text f = refused_text (codes "mon_station") (station.number_of f) (station.name_of f)
-
--- a world's refusal: of the station that refused, where it was one
-abbrev pub refusal_text : WorldFault → List ℕ
-refusal_text (Refused f) = station_refusal_text f
-refusal_text f = refused_text (codes "mon_world") (world.number_of f) (world.name_of f)
+abbrev pub refused_text : Told → List ℕ
+refused_text fault = codes "refused " ++ told_text fault
 
 -- the answer of a step
 abbrev pub answer_text : Result Sent WorldFault → List ℕ
 answer_text (Ok sent) = sent_text sent
-answer_text (Err f) = refusal_text f
+answer_text (Err f) = refused_text (innermost_of f)
 
 -- the line of the step of this number
 unfoldable pub step_line : ℕ → Result Sent WorldFault → List ℕ

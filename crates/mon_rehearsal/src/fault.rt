@@ -1,10 +1,11 @@
 //! Why a script was not read, or not rehearsed.
 
-ghost use Rattle.std.specs.Prelude.{◌≡◌};
-ghost use Rattle.mon_rehearsal.specs.Fault.{name_of, number_of, name_of_rehearsal, not_opened, number_of_rehearsal, rehearsal_fault};
+ghost use Rattle.std.specs.Prelude.{◌≡◌, codes};
+ghost use Rattle.mon_rehearsal.specs.Fault.{innermost_of, name_of, not_opened, number_of, rehearsal_fault};
 ghost use Rattle.mon_rehearsal.specs.declared.fault.RehearsalFault.TheVariants as rehearsal;
 ghost use Rattle.mon_rehearsal.specs.declared.fault.ScriptFault.TheVariants as script;
 
+use mon_station::Innermost;
 use mon_world::WorldFault;
 use std::alloc::{AllocError, AllocFailed};
 use thiserror::Error;
@@ -57,27 +58,27 @@ impl ScriptFault {
 }
 
 impl RehearsalFault {
-    /// The number that the line on standard error gives the fault: 1 or 7, or the number of the world's fault.
-    pub fn number(self) -> u8
-        ensures { result ≡ number_of_rehearsal self }
+    /// The innermost fault: the world's or a station's, where the stations were not opened. A script is a text that the program was given, so its
+    /// faults are told with those of other texts, as 1 and 7 of mon_app.
+    pub fn innermost(self) -> Innermost
+        ensures part { result.part.now ≡ (innermost_of self).part }
+        ensures number { result.number ≡ (innermost_of self).number }
+        ensures name { result.name.now ≡ (innermost_of self).name }
     {
         match self {
-            RehearsalFault::OutOfMemory => 1,
-            RehearsalFault::BadScript(_) => 7,
-            RehearsalFault::World(fault) => fault.number(),
+            RehearsalFault::OutOfMemory => of_script(ScriptFault::OutOfMemory),
+            RehearsalFault::BadScript(line) => of_script(ScriptFault::BadScript(line)),
+            RehearsalFault::World(fault) => fault.innermost(),
         }
     }
+}
 
-    /// The name that the line on standard error gives the fault.
-    pub fn name(self) -> &'static str
-        ensures { result.now ≡ name_of_rehearsal self }
-    {
-        match self {
-            RehearsalFault::OutOfMemory => "OutOfMemory",
-            RehearsalFault::BadScript(_) => "BadScript",
-            RehearsalFault::World(fault) => fault.name(),
-        }
-    }
+fn of_script(fault: ScriptFault) -> Innermost
+    ensures part { result.part.now ≡ codes "mon_app" }
+    ensures number { result.number ≡ number_of fault }
+    ensures name { result.name.now ≡ name_of fault }
+{
+    Innermost::new("mon_app", fault.number(), fault.name())
 }
 
 impl From<AllocError> for ScriptFault {

@@ -3,14 +3,15 @@
 ghost use Rattle.std.specs.Prelude.{◌≡◌, ◌≤◌, ◌++◌, ◌==◌, if◌then◌else◌, List, OnOk, length, string_bytes};
 ghost use Rattle.std.specs.List.{flat_map};
 ghost use Rattle.mon_station.specs.Lived.{last_state};
+ghost use Rattle.mon_world.specs.Fault.{innermost_of};
 ghost use Rattle.mon_world.specs.Moves.{Move, lives_of};
 ghost use Rattle.mon_world.specs.Places.{others_to};
 ghost use Rattle.mon_world.specs.Shows.{Shows, state_in};
-ghost use Rattle.mon_rehearsal.specs.Printed.{answer_text, numbers_from, owed_line, refusal_text, refused_text, sent_text, station_refusal_text, station_text, stations_text, step_line, text_at};
+ghost use Rattle.mon_rehearsal.specs.Printed.{answer_text, numbers_from, owed_line, refused_text, sent_text, station_text, stations_text, step_line, text_at};
 
 use mon_disk::MemoryDisk;
 use mon_report::write_report;
-use mon_station::{Station, StationFault};
+use mon_station::Station;
 use mon_world::{Sent, World, WorldFault};
 use std::alloc::{AllocError, Global};
 
@@ -63,31 +64,10 @@ fn put_numbers(line: &mut String, sent: Sent) -> Result<(), AllocError>
 
 /// Why a step was refused: the crate, the number and the name of the innermost fault.
 fn put_refused(line: &mut String, fault: WorldFault) -> Result<(), AllocError>
-    ensures { OnOk result (string_bytes line.new ≡ string_bytes line.old ++ refusal_text fault) }
+    ensures { OnOk result (string_bytes line.new ≡ string_bytes line.old ++ refused_text (innermost_of fault)) }
 {
-    match fault {
-        WorldFault::Refused(fault) => put_station_fault(line, fault),
-        other => put_fault(line, "mon_world", other.number(), other.name()),
-    }
-}
-
-fn put_station_fault(line: &mut String, fault: StationFault) -> Result<(), AllocError>
-    ensures { OnOk result (string_bytes line.new ≡ string_bytes line.old ++ station_refusal_text fault) }
-{
-    match fault {
-        StationFault::Poll(part) => put_fault(line, "mon_poller", part.number(), part.name()),
-        StationFault::Response(part) => put_fault(line, "mon_poller", part.number(), part.name()),
-        StationFault::Exchange(part) => put_fault(line, "mon_exchange", part.number(), part.name()),
-        StationFault::Keeper(part) => put_fault(line, "mon_disk", part.number(), part.name()),
-        StationFault::Image(part) => put_fault(line, "mon_saved", part.number(), part.name()),
-        other => put_fault(line, "mon_station", other.number(), other.name()),
-    }
-}
-
-fn put_fault(line: &mut String, part: &str, number: u8, name: &str) -> Result<(), AllocError>
-    ensures { OnOk result (string_bytes line.new ≡ string_bytes line.old ++ refused_text part.now number name.now) }
-{
-    write!(line, "refused {part} {number} {name}")
+    let innermost = fault.innermost();
+    write!(line, "refused {innermost}")
 }
 
 /// The stations of a world of so many: of each its incarnation, how many samples it owes each other one, and its report.

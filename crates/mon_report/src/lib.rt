@@ -10,5 +10,5 @@ mod report;
 mod writing;
 
 pub use fault::ReportFault;
-pub use line::write_end;
+pub use line::{write_end, write_rate};
 pub use report::{Entry, entries_of, write_entry, write_report, write_rest};

@@ -92,11 +92,12 @@ fn put_rate<W: Write>(writer: &mut W, ok: bool, rate: Option<u128>) -> bool
 {
     match rate {
         None => put(writer, ok, b"none"),
-        Some(rate) => put_thousandths(writer, ok, rate),
+        Some(rate) => write_rate(writer, ok, rate),
     }
 }
 
-fn put_thousandths<W: Write>(writer: &mut W, ok: bool, rate: u128) -> bool
+/// Writes a rate, given in thousandths, with three digits after the point, unless the writer failed before, and tells whether all is written so far.
+pub fn write_rate<W: Write>(writer: &mut W, ok: bool, rate: u128) -> bool
     ensures { AppendsIf (W.contents writer.old) ok (W.contents writer.new) result (rate_text (Some rate)) }
 {
     let hundreds = 48 + (rate / 100 % 10) as u8;

@@ -1,4 +1,6 @@
 pub mod Alarms
+pub mod AtSocket
+pub mod Course
 pub mod Found
 pub mod Given
 pub mod Next

@@ -10,7 +10,7 @@ use std::alloc::{AllocError, Global};
 
 /// The state that an alarm changed to.
 #[derive(Clone, Copy, Debug, PartialEq, Eq)]
-pub struct AlarmChange {
+pub(crate) struct AlarmChange {
     /// The number of its rule in the watch.
     pub rule: usize,
     /// The state that it has now.
@@ -18,7 +18,7 @@ pub struct AlarmChange {
 }
 
 /// The states of a board's alarms, in the order of the watch's rules.
-pub fn alarm_states(alloc: Global, board: &Board) -> Result<Vec<AlarmState>, AllocError>
+pub(crate) fn alarm_states(alloc: Global, board: &Board) -> Result<Vec<AlarmState>, AllocError>
     ensures { IfOk result (λ v. v.items ≡ states_of board.now) }
 {
     let rules = board.watch().rules();
@@ -30,7 +30,7 @@ pub fn alarm_states(alloc: Global, board: &Board) -> Result<Vec<AlarmState>, All
 }
 
 /// What changed from the states before to those after, by the numbers of the rules.
-pub fn alarm_changes(
+pub(crate) fn alarm_changes(
     alloc: Global,
     before: &[AlarmState],
     after: &[AlarmState],
@@ -81,7 +81,11 @@ fn is_same(a: AlarmState, b: AlarmState) -> bool
 
 /// The line of a change, without its end: the engine id in hex digits, the name, the thresholds in thousandths and the state, as a report has
 /// them. It is empty where the watch has no such rule.
-pub fn alarm_line(alloc: Global, watch: &Watch, change: &AlarmChange) -> Result<String, AllocError>
+pub(crate) fn alarm_line(
+    alloc: Global,
+    watch: &Watch,
+    change: &AlarmChange,
+) -> Result<String, AllocError>
     ensures { IfOk result (λ text. string_bytes text ≡ change_line watch.now change.now) }
 {
     match watch.rules().get(change.rule) {

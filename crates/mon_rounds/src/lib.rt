@@ -9,6 +9,7 @@
 
 mod addresses;
 mod alarms;
+mod course;
 mod receiver;
 mod reporting;
 mod round;
@@ -19,7 +20,7 @@ mod source;
 mod trial;
 
 pub use addresses::Addresses;
-pub use alarms::{AlarmChange, alarm_changes, alarm_line, alarm_states};
+pub use course::{Course, debts_of, is_due, left_of};
 pub use receiver::{Arrival, Receiver, ReceiverFault, Wait};
 pub use reporting::{Notice, RoundReport};
 pub use round::{Phase, Round, RoundEvent};

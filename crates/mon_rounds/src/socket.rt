@@ -1,6 +1,9 @@
 //! A station's socket, over UDP and IPv4: it receives and sends by one, so that responses and claims come back to it.
 
-ghost use Rattle.std.specs.Prelude.{◌≡◌, IfOk, length};
+ghost use Rattle.std.specs.Prelude.{◌≡◌, ◌≤◌, ◌+◌, ◌-◌, ◌↔◌, IfOk, IsTrue, Some, length};
+ghost use Rattle.core.specs.Duration.{as_nanos};
+ghost use Rattle.std.specs.Time.{instant_nanos};
+ghost use Rattle.mon_rounds.specs.AtSocket.{IsArrival, addr_in, goes_to, nanos_of_wait};
 
 use crate::addresses::Addresses;
 use crate::receiver::{Arrival, Receiver, ReceiverFault, Wait};
@@ -56,8 +59,50 @@ fn zeros(alloc: Global, len: usize) -> Result<Vec<u8>, AllocError>
 }
 
 /// The address as the system takes it.
-fn socket_address(address: Addr) -> SocketAddr {
+fn socket_address(address: Addr) -> SocketAddr
+    ensures { addr_in result ≡ Some address }
+{
     SocketAddr::V4(SocketAddrV4::new(Ipv4Addr::from(address.octets), address.port))
+}
+
+/// The address that the system's says. None of IPv6.
+fn address_in(from: SocketAddr) -> Option<Addr>
+    ensures { result ≡ addr_in from }
+{
+    match from {
+        SocketAddr::V4(from) => Some(Addr {
+            octets: from.ip().octets(),
+            port: from.port(),
+        }),
+        SocketAddr::V6(_) => None,
+    }
+}
+
+/// How long a wait lasts, after one that lasted this long.
+fn length_of(wait: Wait, before: Duration) -> Duration
+    ensures { as_nanos result ≡ nanos_of_wait wait (as_nanos before) }
+{
+    match wait {
+        Wait::Anew(milliseconds) => Duration::from_millis(u64::from(milliseconds)),
+        Wait::Rest => before,
+    }
+}
+
+/// What is left at this moment of a wait that began then and lasts this long.
+fn left_of(length: Duration, began: Instant, now: Instant) -> Duration
+    ensures { as_nanos result ≡ as_nanos length - (instant_nanos now - instant_nanos began) }
+{
+    length.saturating_sub(now.duration_since(began))
+}
+
+/// Whether a timeout does for what is left of a wait: it is as long, or at most `SLACK` longer.
+fn does_for(timeout: Duration, left: Duration) -> bool
+    ensures { IsTrue result ↔ ((as_nanos left ≤ as_nanos timeout) × (as_nanos timeout ≤ as_nanos left + 1_000_000)) }
+{
+    match timeout.checked_sub(left) {
+        Some(more) => more <= Duration::from_millis(SLACK),
+        None => false,
+    }
 }
 
 /// Receives a station's datagrams by its socket.
@@ -95,37 +140,30 @@ impl<'a, R: Clock> SocketReceiver<'a, R> {
 impl<R: Clock> SocketReceiver<'_, R> {
     /// Begins a wait where that is asked for.
     fn begin(&mut self, wait: Wait) -> Result<(), ReceiverFault> {
-        if let Wait::Anew(milliseconds) = wait {
+        if let Wait::Anew(_) = wait {
             self.began = Instant::now(self.rt).map_err(failed)?;
-            self.length = Duration::from_millis(u64::from(milliseconds));
         }
+        self.length = length_of(wait, self.length);
         Ok(())
     }
 
     /// What is left of the wait.
     fn left(&self) -> Result<Duration, ReceiverFault> {
         let now = Instant::now(self.rt).map_err(failed)?;
-        let passed = now.duration_since(self.began);
-        Ok(
-            self.length
-                .checked_sub(passed)
-                .unwrap_or(Duration::from_millis(0)),
-        )
+        Ok(left_of(self.length, self.began, now))
     }
 
     /// Has the socket wait this long, or up to `SLACK` longer where its timeout says so already.
     fn wait_for(&mut self, left: Duration) -> Result<(), ReceiverFault> {
-        match self.timeout.checked_sub(left) {
-            Some(more) if more <= Duration::from_millis(SLACK) => Ok(()),
-            _ => {
-                self.socket
-                    .udp
-                    .set_read_timeout(Some(left))
-                    .map_err(failed)?;
-                self.timeout = left;
-                Ok(())
-            }
+        if does_for(self.timeout, left) {
+            return Ok(());
         }
+        self.socket
+            .udp
+            .set_read_timeout(Some(left))
+            .map_err(failed)?;
+        self.timeout = left;
+        Ok(())
     }
 
     /// Hears something in the rest of the wait.
@@ -151,19 +189,19 @@ impl<R: Clock> SocketReceiver<'_, R> {
     }
 
     /// The datagram at the front of the room.
-    fn arrival(&self, len: usize, from: SocketAddr) -> Result<Arrival, ReceiverFault> {
-        let SocketAddr::V4(from) = from else {
+    fn arrival(&self, len: usize, from: SocketAddr) -> Result<Arrival, ReceiverFault>
+        ensures { IfOk result (IsArrival self.now.room.items len from) }
+    {
+        let Some(address) = address_in(from) else {
             return Err(ReceiverFault);
         };
-        let len = len.min(self.room.len());
-        let Ok(octets) = Octets::from_slice(self.alloc, &self.room[..len]) else {
+        let Some(datagram) = self.room.get(..len) else {
             return Err(ReceiverFault);
         };
-        let from = Addr {
-            octets: from.ip().octets(),
-            port: from.port(),
+        let Ok(octets) = Octets::from_slice(self.alloc, datagram) else {
+            return Err(ReceiverFault);
         };
-        Ok(Arrival::Datagram(from, octets))
+        Ok(Arrival::Datagram(address, octets))
     }
 
     fn received(&mut self, wait: Wait) -> Result<Arrival, ReceiverFault> {
@@ -211,13 +249,19 @@ impl<'a> SocketOutbox<'a> {
         }
     }
 
-    /// Sends a datagram to where it goes.
-    fn put(&self, out: &Outgoing) -> Result<(), OutboxFault> {
-        let found = match out.to {
+    /// Where what is sent to a target or a peer goes.
+    fn address_of(&self, to: To) -> Option<Addr>
+        ensures { result ≡ goes_to self.now.addresses to }
+    {
+        match to {
             To::Target(number) => self.addresses.target(number),
             To::Peer(station) => self.addresses.peer(station),
-        };
-        let Some(to) = found else {
+        }
+    }
+
+    /// Sends a datagram to where it goes.
+    fn put(&self, out: &Outgoing) -> Result<(), OutboxFault> {
+        let Some(to) = self.address_of(out.to) else {
             return Err(OutboxFault);
         };
         match self

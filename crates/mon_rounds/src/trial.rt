@@ -6,7 +6,8 @@ ghost use Rattle.mon_disk.specs.Disk.{Leaves};
 ghost use Rattle.mon_disk.specs.Kept.{device_of};
 ghost use Rattle.mon_disk.specs.Memory.{memory_leaves};
 ghost use Rattle.mon_report.specs.Report.{report};
-ghost use Rattle.mon_rounds.specs.Trial.{name_of, number_of, trial_report, trial_text};
+ghost use Rattle.mon_rounds.specs.Trial.{innermost_of, name_of, number_of, station_refusal, trial_report, trial_text};
+ghost use Rattle.mon_rounds.specs.declared.trial.TrialFault.TheVariants as trial;
 ghost use Rattle.mon_station.specs.Saved.{FindsState};
 ghost use Rattle.mon_station.specs.State.{state_of};
 
@@ -19,7 +20,7 @@ use mon_poller::Addr;
 use mon_report::write_report;
 use mon_settings::{SettingsFault, StationSettings, read_agent, read_station};
 use mon_smi::Names;
-use mon_station::{Event, Station, StationFault};
+use mon_station::{Event, Innermost, Station, StationFault};
 use std::alloc::{AllocError, Global};
 use thiserror::Error;
 
@@ -106,13 +107,18 @@ const DONE: &str = "selftest: ok\n";
 pub enum TrialFault {
     /// Memory was refused.
     #[error("out of memory")]
-    OutOfMemory = 1,
+    OutOfMemory,
     /// Something else was answered than what had to be.
     #[error("something else was answered than what had to be")]
-    Unexpected = 2,
+    Unexpected,
+    /// The station refused a step, or was not opened.
+    #[error("the station refused: {0}")]
+    Refused(StationFault),
 }
 
 impl From<AllocError> for TrialFault {
+    ghost from_gives = { λ _ fault. fault ≡ trial.OutOfMemory };
+
     fn from(_e: AllocError) -> TrialFault {
         TrialFault::OutOfMemory
     }
@@ -128,22 +134,28 @@ impl From<SettingsFault> for TrialFault {
     }
 }
 
-/// No step is to be refused here.
+/// A station's want of memory is the trial's own.
 impl From<StationFault> for TrialFault {
+    ghost from_gives = { λ part fault. fault ≡ station_refusal part };
+
     fn from(fault: StationFault) -> TrialFault {
         match fault {
             StationFault::OutOfMemory => TrialFault::OutOfMemory,
-            _ => TrialFault::Unexpected,
+            other => TrialFault::Refused(other),
         }
     }
 }
 
 impl TrialFault {
-    /// The number of the fault, 1 or 2.
+    /// The number of the fault, 1 to 3.
     pub fn number(self) -> u8
         ensures { result ≡ number_of self }
     {
-        self as u8
+        match self {
+            TrialFault::OutOfMemory => 1,
+            TrialFault::Unexpected => 2,
+            TrialFault::Refused(_) => 3,
+        }
     }
 
     /// The name of the fault, as a printed line gives it.
@@ -153,6 +165,21 @@ impl TrialFault {
         match self {
             TrialFault::OutOfMemory => "OutOfMemory",
             TrialFault::Unexpected => "Unexpected",
+            TrialFault::Refused(_) => "Refused",
+        }
+    }
+
+    /// The innermost fault: the station's, where the station refused.
+    pub fn innermost(self) -> Innermost
+        ensures part { result.part.now ≡ (innermost_of self).part }
+        ensures number { result.number ≡ (innermost_of self).number }
+        ensures name { result.name.now ≡ (innermost_of self).name }
+    {
+        match self {
+            TrialFault::Refused(fault) => fault.innermost(),
+            TrialFault::OutOfMemory | TrialFault::Unexpected => {
+                Innermost::new("mon_rounds", self.number(), self.name())
+            }
         }
     }
 }
@@ -178,7 +205,7 @@ pub struct Trial {
 /// saves. The trial has a good end where its report, and that of what its disk then holds, are what they must be.
 ///
 /// # Errors
-/// `OutOfMemory`; `Unexpected` where anything else was answered, also by a disk in memory that found no room.
+/// `OutOfMemory`; `Refused` where the station refused, also where its disk in memory found no room; `Unexpected` where anything else was answered.
 pub fn selftest(alloc: Global) -> Result<Trial, TrialFault>
     // The text is one text, and it is the report of the station that was tried.
     ensures text { IfOk result (λ trial. trial.text.items ≡ trial_text) }

@@ -2,13 +2,14 @@
 
 ghost use Rattle.std.specs.Prelude.{◌≡◌};
 ghost use Rattle.mon_station.specs.declared.fault.StationFault.TheVariants.{OutOfMemory};
-ghost use Rattle.mon_station.specs.Fault.{number_of, name_of, exchange_refusal, image_refusal, keeper_refusal, poll_refusal, response_refusal};
+ghost use Rattle.mon_station.specs.Fault.{number_of, name_of, innermost_of, exchange_refusal, image_refusal, keeper_refusal, poll_refusal, response_refusal};
 
 use mon_disk::KeeperFault;
 use mon_exchange::ExchangeFault;
 use mon_poller::{PollFault, ResponseFault};
 use mon_saved::ImageFault;
 use std::alloc::AllocError;
+use std::fmt;
 use thiserror::Error;
 
 /// Why a station refused an event, or was not opened. A part's want of memory is the station's own.
@@ -66,6 +67,67 @@ impl StationFault {
             StationFault::Image(_) => "Image",
             StationFault::NoMoreIncarnations => "NoMoreIncarnations",
         }
+    }
+
+    /// The innermost fault: the part's, where a part refused.
+    pub fn innermost(self) -> Innermost
+        ensures part { result.part.now ≡ (innermost_of self).part }
+        ensures number { result.number ≡ (innermost_of self).number }
+        ensures name { result.name.now ≡ (innermost_of self).name }
+    {
+        match self {
+            StationFault::Poll(part) => Innermost::new("mon_poller", part.number(), part.name()),
+            StationFault::Response(part) => Innermost::new(
+                "mon_poller",
+                part.number(),
+                part.name(),
+            ),
+            StationFault::Exchange(part) => Innermost::new(
+                "mon_exchange",
+                part.number(),
+                part.name(),
+            ),
+            StationFault::Keeper(part) => Innermost::new("mon_disk", part.number(), part.name()),
+            StationFault::Image(part) => Innermost::new("mon_saved", part.number(), part.name()),
+            StationFault::OutOfMemory | StationFault::NoMoreIncarnations => {
+                Innermost::new("mon_station", self.number(), self.name())
+            }
+        }
+    }
+}
+
+/// Of nested faults the innermost, as a line tells it: `CRATE NUMBER NAME`.
+#[derive(Clone, Copy, Debug)]
+pub struct Innermost {
+    /// The crate whose fault it is, as `mon_disk`.
+    pub part: &'static str,
+    /// Its number in that crate, from 1.
+    pub number: u8,
+    /// Its name in that crate, as `DiskFault`.
+    pub name: &'static str,
+}
+
+/// `CRATE NUMBER NAME`.
+impl fmt::Display for Innermost {
+    ghost use Rattle.std.specs.Prelude.{Some};
+    ghost use Rattle.mon_station.specs.Fault.{told_text};
+
+    ghost output = { λ i. Some (told_text record { part = i.part.now; number = i.number; name = i.name.now }) };
+
+    fn fmt<W: fmt::Write>(&self, f: &mut fmt::Formatter<W>) -> fmt::Result {
+        let Innermost { part, number, name } = *self;
+        write!(f, "{part} {number} {name}")
+    }
+}
+
+impl Innermost {
+    /// The fault of this crate, number and name.
+    pub fn new(part: &'static str, number: u8, name: &'static str) -> Self
+        ensures part { result.part.now ≡ part.now }
+        ensures number { result.number ≡ number }
+        ensures name { result.name.now ≡ name.now }
+    {
+        Innermost { part, number, name }
     }
 }
 

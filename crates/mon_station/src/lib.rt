@@ -14,6 +14,6 @@ mod sharing;
 mod station;
 
 pub use event::{Event, Outgoing, OwnedEvent, To, Told};
-pub use fault::StationFault;
+pub use fault::{Innermost, StationFault};
 pub use running::{Answer, Outbox, OutboxFault, Run, Source, SourceFault};
 pub use station::Station;

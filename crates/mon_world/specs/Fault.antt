@@ -4,6 +4,7 @@ use Rattle.mon_disk.specs.declared.fault.KeeperFault.{KeeperFault}
 use Rattle.mon_disk.specs.declared.fault.KeeperFault.TheVariants as keeper
 use Rattle.mon_station.specs.declared.fault.StationFault.{StationFault}
 use Rattle.mon_station.specs.declared.fault.StationFault.TheVariants as station
+use Rattle.mon_station.specs.Fault as stations
 use Rattle.mon_world.specs.declared.fault.WorldFault.{WorldFault}
 use Rattle.mon_world.specs.declared.fault.WorldFault.TheVariants.{OutOfMemory, NoSuchStation, NoSuchDatagram, Refused, BadCount, BadStop}
 use Rattle.mon_world.specs.declared.step.Step.{Step}
@@ -27,6 +28,11 @@ name_of NoSuchDatagram = codes "NoSuchDatagram"
 name_of (Refused f) = codes "Refused"
 name_of BadCount = codes "BadCount"
 name_of BadStop = codes "BadStop"
+
+-- the innermost fault: the station's, where a station refused
+abbrev pub innermost_of : WorldFault → stations.Told
+innermost_of (Refused f) = stations.innermost_of f
+innermost_of f = record { part = codes "mon_world"; number = number_of f; name = name_of f }
 
 -- a station's fault as the world's: its want of memory is the world's own
 abbrev pub station_refusal : StationFault → WorldFault

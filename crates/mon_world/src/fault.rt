@@ -1,10 +1,10 @@
 //! Why a step was not made.
 
 ghost use Rattle.std.specs.Prelude.{◌≡◌};
-ghost use Rattle.mon_world.specs.Fault.{name_of, number_of, station_refusal};
+ghost use Rattle.mon_world.specs.Fault.{innermost_of, name_of, number_of, station_refusal};
 ghost use Rattle.mon_world.specs.declared.fault.WorldFault.TheVariants.{OutOfMemory};
 
-use mon_station::StationFault;
+use mon_station::{Innermost, StationFault};
 use std::alloc::{AllocError, AllocFailed};
 use thiserror::Error;
 
@@ -57,6 +57,22 @@ impl WorldFault {
             WorldFault::Refused(_) => "Refused",
             WorldFault::BadCount => "BadCount",
             WorldFault::BadStop => "BadStop",
+        }
+    }
+
+    /// The innermost fault: the station's, where a station refused.
+    pub fn innermost(self) -> Innermost
+        ensures part { result.part.now ≡ (innermost_of self).part }
+        ensures number { result.number ≡ (innermost_of self).number }
+        ensures name { result.name.now ≡ (innermost_of self).name }
+    {
+        match self {
+            WorldFault::Refused(fault) => fault.innermost(),
+            WorldFault::OutOfMemory
+            | WorldFault::NoSuchStation
+            | WorldFault::NoSuchDatagram
+            | WorldFault::BadCount
+            | WorldFault::BadStop => Innermost::new("mon_world", self.number(), self.name()),
         }
     }
 }

@@ -2,13 +2,13 @@
 
 use crate::answering::answers;
 use crate::failure::Failure;
-use crate::fault::Fault;
 use crate::files::{print, read_input_text, read_text};
 use crate::naming::names_of;
 use crate::settings::unset;
 use clap::ArgMatches;
 use mon_agent::Agent;
 use mon_app::{AppFault, SocketPort, Untaken, serve};
+use mon_faults::Fault;
 use mon_mib::{Device, FuseDevice, Moment, SimDevice};
 use mon_settings::{AgentSettings, Kind, read_agent};
 use mon_smi::{Labels, Names};

@@ -1,7 +1,6 @@
 //! The client commands: `get`, `next`, `bulk`, `walk` and `set`.
 
 use crate::failure::Failure;
-use crate::fault::Fault;
 use crate::files::print;
 use crate::naming::{asked_for, names_of};
 use clap::ArgMatches;
@@ -9,6 +8,7 @@ use mon_app::{
     AppFault, Asking, Question, Repeats, SocketWire, ValueKind, answer_text, status_name, value_of,
 };
 use mon_ber::Value;
+use mon_faults::Fault;
 use mon_names::{InNumbers, NameTexts};
 use mon_oid::Oid;
 use mon_smi::Names;

@@ -1,7 +1,7 @@
 //! Why a command failed, and where.
 
-use crate::fault::Fault;
 use mon_app::{AppFault, SocketReason};
+use mon_faults::Fault;
 use mon_mib::DeviceFault;
 use mon_rehearsal::RehearsalFault;
 use mon_rounds::TrialFault;
@@ -72,15 +72,14 @@ impl Failure {
 
     /// Whether memory was refused.
     pub fn is_of_memory(&self) -> bool {
-        self.fault.number() == OUT_OF_MEMORY
+        self.fault.innermost().number == OUT_OF_MEMORY
     }
 
     /// Prints the fault's line, and a second one that says what was wrong and where. Out of memory says all in one line.
     pub fn tell(&self, rt: &impl Eprint) {
-        let fault = self.fault;
-        let (number, name, of) = (fault.number(), fault.name(), fault.of());
-        let _ = eprintln!(rt; "snmpmon: {of} {number} {name}");
-        if number != OUT_OF_MEMORY {
+        let innermost = self.fault.innermost();
+        let _ = eprintln!(rt; "snmpmon: {innermost}");
+        if innermost.number != OUT_OF_MEMORY {
             self.tell_more(rt);
         }
     }

@@ -1,8 +1,8 @@
 //! What commands read and print.
 
 use crate::failure::Failure;
-use crate::fault::Fault;
 use mon_app::{AppFault, Counted, read_all};
+use mon_faults::Fault;
 use std::alloc::Global;
 use std::fs::File;
 use std::io::{Read, Write};

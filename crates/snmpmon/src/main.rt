@@ -9,7 +9,6 @@ mod answering;
 mod client;
 mod commands;
 mod failure;
-mod fault;
 mod files;
 mod listing;
 mod naming;

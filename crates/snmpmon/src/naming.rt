@@ -1,9 +1,9 @@
 //! Names by the modules that are given.
 
 use crate::failure::Failure;
-use crate::fault::Fault;
 use crate::files::read_text;
 use clap::ArgMatches;
+use mon_faults::Fault;
 use mon_oid::Oid;
 use mon_smi::{Names, NamesFault, Position, TextFault, read_module};
 use std::alloc::Global;

@@ -1,7 +1,7 @@
 //! Why settings were refused, and where.
 
 use crate::failure::Failure;
-use crate::fault::Fault;
+use mon_faults::Fault;
 use mon_settings::{Kind, SettingsFault, explained};
 use std::alloc::{AllocError, Global};
 

@@ -3,24 +3,23 @@
 ghost use Rattle.std.specs.Prelude.{◌≤◌};
 
 use crate::failure::Failure;
-use crate::fault::Fault;
 use crate::files::{print, read_first, read_input, read_text};
 use crate::naming::add_module;
 use crate::printing::Printing;
 use crate::settings::unset;
-use crate::telling::{shown, tell_alarms, tell_notices};
+use crate::telling::{shown, tell_notices};
 use clap::ArgMatches;
-use mon_alarms::AlarmState;
 use mon_app::AppFault;
 use mon_board::Board;
 use mon_disk::{Disk, DiskError, FileDisk, SLOT_SIZE};
+use mon_faults::Fault;
 use mon_formats::Figures;
 use mon_poller::Addr;
 use mon_rehearsal::rehearse;
 use mon_report::write_report;
 use mon_rounds::{
-    Addresses, Receiver, RoundReport, Rounds, Socket, SocketOutbox, SocketReceiver, alarm_states,
-    board_in, rest, run_round, selftest,
+    Addresses, Course, Receiver, RoundReport, Rounds, Socket, SocketOutbox, SocketReceiver,
+    board_in, debts_of, is_due, left_of, rest, run_round, selftest,
 };
 use mon_settings::{Kind, StationSettings, module_files, read_station};
 use mon_smi::Names;
@@ -40,10 +39,8 @@ struct Running<S: Receiver + Drop, O: Outbox + Drop> {
     lines: Lines<S, O>,
     /// What the last round, or the time after it, did.
     run: Run,
-    alarms: Vec<AlarmState>,
+    course: Course,
     reports: Reports,
-    taken: u64,
-    given_up: u64,
 }
 
 /// What a station hears and sends by, and where its targets and peers are reached.
@@ -169,7 +166,7 @@ fn between<R: Clock + Print + Eprint + AllocGlobal, S: Receiver + Drop, O: Outbo
     began: Instant,
     timing: Timing,
 ) -> Result<(), Failure> {
-    if timing.report_every != 0 && number % timing.report_every == 0 {
+    if is_due(number, timing.report_every) {
         print_between(rt, running)?;
     }
     pause(rt, running, number, began, timing.interval)
@@ -324,7 +321,7 @@ fn begun<R: Eprint + AllocGlobal, S: Receiver + Drop, O: Outbox + Drop>(
         Ok(station) => station,
         Err((fault, _)) => return Err(unkept(alloc, &file, fault)),
     };
-    let alarms = alarm_states(alloc, station.board())?;
+    let course = Course::new(alloc, station.board())?;
     let incarnation = station.incarnation();
     let _ = eprintln!(rt;
         "snmpmon: station {number} at {at}, incarnation {incarnation}, file {file}, targets: {targets}, peers: {peers}"
@@ -333,10 +330,8 @@ fn begun<R: Eprint + AllocGlobal, S: Receiver + Drop, O: Outbox + Drop>(
         station,
         lines,
         run: Run::new(alloc),
-        alarms,
+        course,
         reports,
-        taken: 0,
-        given_up: 0,
     })
 }
 
@@ -363,13 +358,15 @@ fn told_of<R: Eprint + AllocGlobal, S: Receiver + Drop, O: Outbox + Drop>(
 ) -> Result<(), Failure> {
     let alloc = rt.alloc();
     let report = RoundReport::of(alloc, running.lines.rounds.round(), &running.run)?;
-    running.taken = running.taken.saturating_add(report.taken);
-    running.given_up = running.given_up.saturating_add(report.given_up);
+    running.course.add(&report);
     tell_notices(rt, number, &running.lines.addresses, &report);
-    let alarms = alarm_states(alloc, running.station.board())?;
-    let watch = running.station.board().watch();
-    tell_alarms(rt, watch, running.alarms.as_slice(), alarms.as_slice())?;
-    running.alarms = alarms;
+    for line in running
+        .course
+        .changed(alloc, running.station.board())?
+        .as_slice()
+    {
+        let _ = eprintln!(rt; "snmpmon: {line}");
+    }
     Ok(())
 }
 
@@ -382,7 +379,7 @@ fn pause<R: Clock + Eprint + AllocGlobal, S: Receiver + Drop, O: Outbox + Drop>(
     interval: Duration,
 ) -> Result<(), Failure> {
     for _ in 0..MOST_RESTS {
-        let left = left_of(rt, began, interval)?;
+        let left = left_of(interval, now(rt)?.duration_since(began));
         if left == 0 {
             return Ok(());
         }
@@ -397,19 +394,6 @@ fn pause<R: Clock + Eprint + AllocGlobal, S: Receiver + Drop, O: Outbox + Drop>(
         after(rt, running, number, ran);
     }
     Ok(())
-}
-
-/// How many milliseconds are left of a time that began then, at most a minute of them.
-fn left_of<R: Clock + AllocGlobal>(
-    rt: &R,
-    began: Instant,
-    interval: Duration,
-) -> Result<u32, Failure> {
-    let passed = now(rt)?.duration_since(began);
-    match interval.checked_sub(passed) {
-        Some(left) => Ok(left.as_millis().min(60_000) as u32),
-        None => Ok(0),
-    }
 }
 
 /// The time.
@@ -499,16 +483,11 @@ fn figures_of<S: Receiver + Drop, O: Outbox + Drop>(
     alloc: Global,
     running: &Running<S, O>,
 ) -> Result<Figures, AllocError> {
-    let station = &running.station;
-    let mut debts = Vec::new(alloc);
-    for peer in running.lines.peers.as_slice() {
-        debts.push((*peer, station.owed(*peer)))?;
-    }
     Ok(Figures {
-        incarnation: station.incarnation(),
-        taken: running.taken,
-        given_up: running.given_up,
-        debts,
+        incarnation: running.station.incarnation(),
+        taken: running.course.taken(),
+        given_up: running.course.given_up(),
+        debts: debts_of(alloc, &running.station, running.lines.peers.as_slice())?,
     })
 }
 

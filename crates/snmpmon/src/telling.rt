@@ -1,10 +1,7 @@
 //! What a running station says on standard error.
 
-use crate::failure::Failure;
-use mon_alarms::AlarmState;
-use mon_board::Watch;
 use mon_poller::Addr;
-use mon_rounds::{Addresses, Notice, RoundReport, alarm_changes, alarm_line};
+use mon_rounds::{Addresses, Notice, RoundReport};
 use std::net::{Ipv4Addr, SocketAddrV4};
 
 /// Tells what a round had to be told of, a line each.
@@ -47,20 +44,6 @@ fn tell_notice(rt: &impl Eprint, round: u32, addresses: &Addresses, notice: Noti
         }
         Notice::NoMemory(_) => eprintln!(rt; "snmpmon: round {round}: out of memory"),
     };
-}
-
-/// Tells which alarms changed, a line each.
-pub fn tell_alarms<R: Eprint + AllocGlobal>(
-    rt: &R,
-    watch: &Watch,
-    before: &[AlarmState],
-    after: &[AlarmState],
-) -> Result<(), Failure> {
-    for change in alarm_changes(rt.alloc(), before, after)?.as_slice() {
-        let line = alarm_line(rt.alloc(), watch, change)?;
-        let _ = eprintln!(rt; "snmpmon: {line}");
-    }
-    Ok(())
 }
 
 /// An address, which is printed as `a.b.c.d:port`.

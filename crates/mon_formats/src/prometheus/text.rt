@@ -1,11 +1,9 @@
 //! The parts of Prometheus' text format.
 
-ghost use Rattle.std.specs.Prelude.{◌≡◌, ◌++◌, OnOk, Some};
+ghost use Rattle.std.specs.Prelude.{◌≡◌, ◌++◌, OnOk};
 ghost use Rattle.std.specs.List.{flat_map};
-ghost use Rattle.mon_report.specs.Report.{rate_text};
 ghost use Rattle.mon_formats.specs.Prometheus.{escaped, label_text, metric_line, head_text, comment_line};
 
-use itoa::Buffer;
 use std::alloc::AllocError;
 
 /// Adds what a metric is, and of which type.
@@ -90,16 +88,4 @@ fn put_octet(text: &mut Vec<u8>, octet: u8) -> Result<(), AllocError>
         b'\n' => text.extend_from_slice(b"\\n"),
         _ => text.extend_from_slice(&[octet]),
     }
-}
-
-/// Adds a rate in thousandths with three digits after the point.
-pub(crate) fn put_thousandths(text: &mut Vec<u8>, rate: u128) -> Result<(), AllocError>
-    ensures { OnOk result (text.new.items ≡ text.old.items ++ rate_text (Some rate)) }
-{
-    let hundreds = 48 + (rate / 100 % 10) as u8;
-    let tens = 48 + (rate / 10 % 10) as u8;
-    let ones = 48 + (rate % 10) as u8;
-    let mut buffer = Buffer::new();
-    text.extend_from_slice(buffer.format(rate / 1000).as_bytes())?;
-    text.extend_from_slice(&[b'.', hundreds, tens, ones])
 }

@@ -1,17 +1,19 @@
-use Rattle.std.proofs.Common.{◌≡◌, ℕ, ◌+◌, ◌/◌, ◌%◌, ◌∷◌, ◌++◌, List, [], sym, ◌∙◌, append_assoc, arith, codes, decimal, Some}
-use Rattle.std.proofs.lemmas.Fmt.{decimal_digit}
+use Rattle.std.proofs.Common.{◌≡◌, ℕ, ◌<◌, ◌^◌, ◌+◌, ◌/◌, ◌%◌, zero, suc, ◌∷◌, ◌++◌, List, [], ◌∙◌, sym, subst, arith, rules, codes, decimal, Some}
+use Rattle.std.specs.Str.{IsAscii, IsUtf8}
+use Rattle.std.proofs.lemmas.Fmt.{IsAscii-decimal_wide}
+use Rattle.std.proofs.lemmas.Str.{IsUtf8-append, IsUtf8-from_ascii}
 use Rattle.mon_formats.specs.Columns.{rate_cell}
 use Rattle.mon_formats.proofs.columns.rate_text.Goals as goal
 
--- three digits, one by one
-digits : (q : ℕ) → decimal (q / 1000) ++ 46 ∷ (decimal (q / 100 % 10) ++ (decimal (q / 10 % 10) ++ (decimal (q % 10) ++ codes "/s"))) ≡ rate_cell (Some q)
-digits q =
-    let hundreds : decimal (q / 100 % 10) ≡ (48 + q / 100 % 10) ∷ [] = decimal_digit (q / 100 % 10) (omega arith) in
-    let tens : decimal (q / 10 % 10) ≡ (48 + q / 10 % 10) ∷ [] = decimal_digit (q / 10 % 10) (omega arith) in
-    let ones : decimal (q % 10) ≡ (48 + q % 10) ∷ [] = decimal_digit (q % 10) (omega arith) in
-    let three : List ℕ = (48 + q / 100 % 10) ∷ (48 + q / 10 % 10) ∷ (48 + q % 10) ∷ [] in
-    (λ i. decimal (q / 1000) ++ 46 ∷ (hundreds i ++ (tens i ++ (ones i ++ codes "/s"))))
-    ∙ sym (append_assoc (decimal (q / 1000) ++ codes ".") three (codes "/s") ∙ append_assoc (decimal (q / 1000)) (codes ".") (three ++ codes "/s"))
+-- three digits are text
+three : (a b c : ℕ) → a < 10 → b < 10 → c < 10 → IsAscii ((48 + a) ∷ (48 + b) ∷ (48 + c) ∷ [])
+three a b c h i j zero = omega arith
+three a b c h i j (suc zero) = omega arith
+three a b c h i j (suc (suc zero)) = omega arith
+three a b c h i j (suc (suc (suc k))) = omega arith
 
-pub returns : goal.returns
-returns c = (rw c.new-text.ensures.bytes at c.in_ok-write.ensures.bytes) ∙ digits c.args.rate
+-- a rate is text
+is_text : (q : ℕ) → q < 2 ^ 128 → IsUtf8 (rate_cell (Some q))
+is_text q small =
+    IsUtf8-append _ _ (IsUtf8-append _ _ (IsUtf8-append _ _ (IsUtf8-from_ascii (decimal (q / 1000)) (IsAscii-decimal_wide (q / 1000) (omega arith))) (IsUtf8-from_ascii (codes ".") (search rules)))
+    (IsUtf8-from_ascii _ (three (q / 100 % 10) (q / 10 % 10) (q % 10) (omega arith) (omega arith) (omega arith)))) (IsUtf8-from_ascii (codes "/s") (search rules))

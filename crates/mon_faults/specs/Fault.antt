@@ -1,0 +1,35 @@
+-- The faults of commands.
+use Rattle.std.specs.Prelude.{codes}
+use Rattle.mon_app.specs.AppFault as app
+use Rattle.mon_disk.specs.Fault as disk
+use Rattle.mon_mib.specs.DeviceFault as device
+use Rattle.mon_rehearsal.specs.Fault as rehearsal
+use Rattle.mon_rounds.specs.Trial as trial
+use Rattle.mon_saved.specs.Fault as saved
+use Rattle.mon_settings.specs.SettingsFault as settings
+use Rattle.mon_smi.specs.Faults.{number_of_names, name_of_names}
+use Rattle.mon_smi.specs.TextFaults.{number_of_text, name_of_text}
+use Rattle.mon_station.specs.declared.fault.StationFault.{StationFault}
+use Rattle.mon_station.specs.declared.fault.StationFault.TheVariants as of_station
+use Rattle.mon_station.specs.Fault as station
+use Rattle.mon_faults.specs.declared.fault.Fault.{Fault}
+use Rattle.mon_faults.specs.declared.fault.Fault.TheVariants.{App, Names, Text, Settings, Device, Keeper, Image, Station, Trial, Rehearsal}
+
+-- the innermost of nested faults: the crate whose it is, and its number and name there
+abbrev pub innermost_of : Fault → station.Told
+innermost_of (App f) = record { part = codes "mon_app"; number = app.number_of f; name = app.name_of f }
+innermost_of (Names f) = record { part = codes "mon_smi"; number = number_of_names f; name = name_of_names f }
+innermost_of (Text f) = record { part = codes "mon_smi"; number = number_of_text f; name = name_of_text f }
+innermost_of (Settings f) = record { part = codes "mon_settings"; number = settings.number_of f; name = settings.name_of f }
+innermost_of (Device f) = record { part = codes "mon_mib"; number = device.number_of f; name = device.name_of f }
+innermost_of (Keeper f) = record { part = codes "mon_disk"; number = disk.number_of f; name = disk.name_of f }
+innermost_of (Image f) = record { part = codes "mon_saved"; number = saved.number_of f; name = saved.name_of f }
+innermost_of (Station f) = station.innermost_of f
+innermost_of (Trial f) = trial.innermost_of f
+innermost_of (Rehearsal f) = rehearsal.innermost_of f
+
+-- a station's fault as a command's: one of its file is told as the file's own
+abbrev pub station_fault : StationFault → Fault
+station_fault (of_station.Keeper f) = Keeper f
+station_fault (of_station.Image f) = Image f
+station_fault f = Station f

@@ -1,0 +1,85 @@
+//! What may go wrong in a command, and whose fault it is.
+
+ghost use Rattle.std.specs.Prelude.{◌≡◌};
+ghost use Rattle.mon_faults.specs.Fault.{innermost_of, station_fault};
+
+use mon_app::AppFault;
+use mon_disk::KeeperFault;
+use mon_mib::DeviceFault;
+use mon_rehearsal::RehearsalFault;
+use mon_rounds::TrialFault;
+use mon_saved::ImageFault;
+use mon_settings::SettingsFault;
+use mon_smi::{NamesFault, TextFault};
+use mon_station::{Innermost, StationFault};
+use thiserror::Error;
+
+/// A fault of a command. As a text it says what was wrong, with no word of where.
+#[derive(Clone, Copy, Debug, PartialEq, Eq, Error)]
+pub enum Fault {
+    /// Of the words and streams of a command, of a question or of a script.
+    #[error("{0}")]
+    App(AppFault),
+    /// Of names.
+    #[error("{0}")]
+    Names(NamesFault),
+    /// Of a module's text.
+    #[error("{0}")]
+    Text(TextFault),
+    /// Of settings.
+    #[error("{0}")]
+    Settings(SettingsFault),
+    /// Of an agent's device.
+    #[error("{0}")]
+    Device(DeviceFault),
+    /// Of a station's file.
+    #[error("{0}")]
+    Keeper(KeeperFault),
+    /// Of what a station's file holds.
+    #[error("{0}")]
+    Image(ImageFault),
+    /// Of a station.
+    #[error("{0}")]
+    Station(StationFault),
+    /// Of a station's trial of itself.
+    #[error("{0}")]
+    Trial(TrialFault),
+    /// Of a rehearsal.
+    #[error("{0}")]
+    Rehearsal(RehearsalFault),
+}
+
+impl Fault {
+    /// The innermost fault, which the line on standard error names.
+    pub fn innermost(self) -> Innermost
+        ensures part { result.part.now ≡ (innermost_of self).part }
+        ensures number { result.number ≡ (innermost_of self).number }
+        ensures name { result.name.now ≡ (innermost_of self).name }
+    {
+        match self {
+            Fault::App(fault) => Innermost::new("mon_app", fault.number(), fault.name()),
+            Fault::Names(fault) => Innermost::new("mon_smi", fault.number(), fault.name()),
+            Fault::Text(fault) => Innermost::new("mon_smi", fault.number(), fault.name()),
+            Fault::Settings(fault) => Innermost::new("mon_settings", fault.number(), fault.name()),
+            Fault::Device(fault) => Innermost::new("mon_mib", fault.number(), fault.name()),
+            Fault::Keeper(fault) => Innermost::new("mon_disk", fault.number(), fault.name()),
+            Fault::Image(fault) => Innermost::new("mon_saved", fault.number(), fault.name()),
+            Fault::Station(fault) => fault.innermost(),
+            Fault::Trial(fault) => fault.innermost(),
+            Fault::Rehearsal(fault) => fault.innermost(),
+        }
+    }
+}
+
+/// A fault of a station's file is told as the file's own.
+impl From<StationFault> for Fault {
+    ghost from_gives = { λ part fault. fault ≡ station_fault part };
+
+    fn from(fault: StationFault) -> Fault {
+        match fault {
+            StationFault::Keeper(fault) => Fault::Keeper(fault),
+            StationFault::Image(fault) => Fault::Image(fault),
+            other => Fault::Station(other),
+        }
+    }
+}

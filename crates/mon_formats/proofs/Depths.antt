@@ -1,0 +1,73 @@
+-- A report as JSON nests six deep at most.
+use Rattle.std.proofs.Common.{◌≡◌, ◌≤◌, ℕ, ℤ, pos, negsuc, suc, ◌^◌, List, [], ◌∷◌, Bool, true, false, cond, max, Option, Some, None, decimal, map, nat_le, nat_lt, arith}
+use Rattle.std.specs.Fmt.{signed_decimal}
+use Rattle.serde_json.specs.Data.{Data, number, unsigned, negative, string, depth, items_depth}
+use Rattle.serde_json.specs.Read.{max_depth}
+use Rattle.serde_json.specs.View.{items_of}
+use Rattle.mon_alarms.specs.Rule.{Rule}
+use Rattle.mon_alarms.specs.Observed.{state_by}
+use Rattle.mon_alarms.specs.declared.alarm.AlarmState.{AlarmState}
+use Rattle.mon_alarms.specs.declared.alarm.AlarmState.TheVariants.{Clear, Raised}
+use Rattle.mon_rates.specs.Totals.{totals}
+use Rattle.mon_report.specs.Report.{Entry, samples_in}
+use Rattle.mon_formats.specs.Cells.{value_of, rate_of}
+use Rattle.mon_formats.specs.Json.{exact, exact_signed, sample_data, raised_data, alarm_data, rate_data, totals_data, entry_data, report_data}
+
+both : (a b n : ℕ) → a ≤ n → b ≤ n → max a b ≤ n
+both a b n p q = omega (arith, p, q)
+
+none : (n : ℕ) → 0 ≤ n
+none n = omega arith
+
+deeper : (a n : ℕ) → a ≤ n → suc a ≤ suc n
+deeper a n p = omega (arith, p)
+
+either_way : (b : Bool) (d e : Data) (n : ℕ) → depth d ≤ n → depth e ≤ n → depth (cond b d e) ≤ n
+either_way true d e n p q = p
+either_way false d e n p q = q
+
+of_items : {A : Type 0} (f : A → Data) (n : ℕ) → ((x : A) → depth (f x) ≤ n) → (xs : List A) → items_depth (items_of (map f xs)) ≤ n
+of_items f n each [] = none n
+of_items f n each (x ∷ xs) = both _ _ n (each x) (of_items f n each xs)
+
+of_exact : (m n : ℕ) → depth (exact m) ≤ n
+of_exact m n = either_way (nat_le m (2 ^ 53)) (number (unsigned m)) (string (decimal m)) n (none n) (none n)
+
+of_exact_signed : (z : ℤ) (n : ℕ) → depth (exact_signed z) ≤ n
+of_exact_signed (pos m) n = of_exact m n
+of_exact_signed (negsuc m) n = either_way (nat_lt m (2 ^ 53)) (number (negative (negsuc m))) (string (signed_decimal (negsuc m))) n (none n) (none n)
+
+of_raised : (s : AlarmState) → depth (raised_data s) ≤ 1
+of_raised Clear = none 1
+of_raised (Raised boots time) = deeper _ 0 (both _ _ 0 (none 0) (both _ _ 0 (none 0) (none 0)))
+
+of_rate : (rate : Option ℕ) (n : ℕ) → depth (rate_data rate) ≤ n
+of_rate None n = none n
+of_rate (Some q) n = of_exact q n
+
+of_sample : (s : ℕ) → depth (sample_data s) ≤ 1
+of_sample s =
+    deeper _ 0 (both _ _ 0 (none 0) (both _ _ 0 (none 0) (both _ _ 0 (none 0) (both _ _ 0 (none 0) (both _ _ 0 (of_exact_signed (value_of s) 0) (none 0))))))
+
+of_alarm : (items : List ℕ) (rule : Rule) → depth (alarm_data items rule) ≤ 2
+of_alarm items rule =
+    deeper _ 1 (both _ _ 1 (of_exact_signed rule.falling 1) (both _ _ 1 (of_raised (state_by rule items)) (both _ _ 1 (of_exact_signed rule.rising 1) (none 1))))
+
+of_totals : (items : List ℕ) → depth (totals_data items) ≤ 1
+of_totals items = deeper _ 0 (both _ _ 0 (of_exact (totals items).delta 0) (both _ _ 0 (of_exact (totals items).span 0) (none 0)))
+
+of_entry : (shown : List ℕ → List ℕ) (e : Entry) → depth (entry_data shown e) ≤ 4
+of_entry shown e =
+    deeper _ 3
+    (both _ _ 3 (deeper _ 2 (of_items (alarm_data e.items) 2 (of_alarm e.items) e.rules))
+    (both _ _ 3 (none 3)
+    (both _ _ 3 (none 3)
+    (both _ _ 3 (of_rate (rate_of e.items) 3)
+    (both _ _ 3 (deeper _ 2 (of_items sample_data 2 (λ s. omega (arith, of_sample s)) e.items))
+    (both _ _ 3 (omega (arith, of_totals e.items)) (none 3)))))))
+
+pub of_report : (shown : List ℕ → List ℕ) (entries : List Entry) → depth (report_data shown entries) ≤ max_depth
+of_report shown entries =
+    let shallow : depth (report_data shown entries) ≤ 6 =
+    deeper _ 5 (both _ _ 5 (deeper _ 4 (of_items (entry_data shown) 4 (of_entry shown) entries)) (both _ _ 5 (of_exact (samples_in entries) 5) (none 5))) in
+    omega (arith, shallow)

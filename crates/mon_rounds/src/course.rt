@@ -1,0 +1,131 @@
+//! What a station did over its rounds, and when it reports.
+
+ghost use Rattle.std.specs.Prelude.{◌≡◌, ◌↔◌, IfOk, IsTrue, OnErr, OnOk, map, string_bytes};
+ghost use Rattle.core.specs.Duration.{as_nanos};
+ghost use Rattle.mon_rounds.specs.Alarms.{change_line, changes_from, states_of};
+ghost use Rattle.mon_rounds.specs.Course.{IsDue, counted_on, debts_to, milliseconds_left};
+ghost use Rattle.mon_station.specs.State.{state_of};
+
+use crate::alarms::{AlarmChange, alarm_changes, alarm_line, alarm_states};
+use crate::reporting::RoundReport;
+use mon_alarms::AlarmState;
+use mon_board::{Board, Watch};
+use mon_disk::Disk;
+use mon_station::Station;
+use std::alloc::{AllocError, Global};
+use std::time::Duration;
+
+/// The longest time between two rounds that is heard in one go, in milliseconds.
+const LONGEST_REST: u128 = 60_000;
+
+/// What a station did since it began.
+#[derive(Drop)]
+pub struct Course {
+    taken: u64,
+    given_up: u64,
+    alarms: Vec<AlarmState>,
+}
+
+impl Course {
+    /// The course of a station that begins with this board: its alarms are known.
+    pub fn new(alloc: Global, board: &Board) -> Result<Self, AllocError>
+        ensures taken { IfOk result (λ c. c.taken ≡ 0) }
+        ensures given_up { IfOk result (λ c. c.given_up ≡ 0) }
+        ensures alarms { IfOk result (λ c. c.alarms.items ≡ states_of board.now) }
+    {
+        Ok(Course {
+            taken: 0,
+            given_up: 0,
+            alarms: alarm_states(alloc, board)?,
+        })
+    }
+
+    /// How many samples were offered in what it handled, at most 2^64 - 1.
+    pub fn taken(&self) -> u64
+        ensures { result ≡ self.now.taken }
+    {
+        self.taken
+    }
+
+    /// How many polls it gave up, at most 2^64 - 1.
+    pub fn given_up(&self) -> u64
+        ensures { result ≡ self.now.given_up }
+    {
+        self.given_up
+    }
+
+    /// Adds what a round did, or the time after it.
+    pub fn add(&mut self, report: &RoundReport)
+        ensures taken { self.new.taken ≡ counted_on self.old.taken report.now.taken }
+        ensures given_up { self.new.given_up ≡ counted_on self.old.given_up report.now.given_up }
+        ensures alarms { self.new.alarms ≡ self.old.alarms }
+    {
+        self.taken = self.taken.saturating_add(report.taken);
+        self.given_up = self.given_up.saturating_add(report.given_up);
+    }
+
+    /// A line for each alarm of the board that has another state than when they were told last, as `alarm_line` has it.
+    ///
+    /// # Errors
+    /// `AllocError`: then nothing counts as told.
+    pub fn changed(&mut self, alloc: Global, board: &Board) -> Result<Vec<String>, AllocError>
+        ensures lines { IfOk result (λ v. map string_bytes v.items ≡ map (change_line board.now.watch) (changes_from 0 self.old.alarms.items (states_of board.now))) }
+        ensures told { OnOk result (self.new.alarms.items ≡ states_of board.now) }
+        ensures kept { OnErr result (self.new.alarms ≡ self.old.alarms) }
+        ensures taken { self.new.taken ≡ self.old.taken }
+        ensures given_up { self.new.given_up ≡ self.old.given_up }
+    {
+        let states = alarm_states(alloc, board)?;
+        let changes = alarm_changes(alloc, self.alarms.as_slice(), states.as_slice())?;
+        let lines = change_lines(alloc, board.watch(), changes.as_slice())?;
+        self.alarms = states;
+        Ok(lines)
+    }
+}
+
+/// The lines of changes.
+fn change_lines(
+    alloc: Global,
+    watch: &Watch,
+    changes: &[AlarmChange],
+) -> Result<Vec<String>, AllocError>
+    ensures { IfOk result (λ v. map string_bytes v.items ≡ map (change_line watch.now) changes.now) }
+{
+    let mut lines = Vec::new(alloc);
+    for change in changes {
+        lines.push(alarm_line(alloc, watch, change)?)?;
+    }
+    Ok(lines)
+}
+
+/// By the station number of each of these peers, how many samples the station owes it.
+pub fn debts_of<D: Disk + Drop>(
+    alloc: Global,
+    station: &Station<D>,
+    peers: &[u32],
+) -> Result<Vec<(u32, u32)>, AllocError>
+    ensures { IfOk result (λ v. v.items ≡ debts_to (state_of station.now.life) peers.now) }
+{
+    let mut debts = Vec::with_capacity(alloc, peers.len())?;
+    for peer in peers {
+        debts.push((*peer, station.owed(*peer)))?;
+    }
+    Ok(debts)
+}
+
+/// Whether the report is due after the round of this number, where it is after each so many; with 0 it never is.
+pub fn is_due(round: u32, every: u32) -> bool
+    ensures { IsTrue result ↔ IsDue round every }
+{
+    every != 0 && round % every == 0
+}
+
+/// How many milliseconds are left of an interval of which this has passed, at most a minute of them.
+pub fn left_of(interval: Duration, passed: Duration) -> u32
+    ensures { result ≡ milliseconds_left (as_nanos interval) (as_nanos passed) }
+{
+    interval
+        .saturating_sub(passed)
+        .as_millis()
+        .min(LONGEST_REST) as u32
+}
