@@ -1,1 +1,4 @@
 pub mod Choice
+pub mod Line
+pub mod Table
+pub mod Program

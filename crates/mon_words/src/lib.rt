@@ -2,6 +2,8 @@
 #![tactic(auto)]
 
 mod choice;
+mod lines;
+mod texts;
 mod words;
 
 pub use choice::Choice;
