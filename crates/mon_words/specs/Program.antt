@@ -1,7 +1,10 @@
 -- The command lines as clap's model has them: rules of arguments, shapes of commands, and the program.
-use Rattle.std.specs.Prelude.{◌≡◌, ℕ, Bool, List, [], ◌∷◌, Option, Some, fold, codes, true, false}
+use Rattle.std.specs.Prelude.{◌≡◌, ◌⊎◌, ℕ, Result, Ok, Err, List, [], ◌∷◌, Option, Some, fold, codes, true, false}
 use Rattle.std.specs.Borrow.{Bor}
-use Rattle.clap.specs.Words.{App, Rule, Shape, Text, app_of, new_app, new_rule, with_rule, with_subcommand}
+use Rattle.clap.specs.Words.{App, IsAmong, Rule, Text, app_of, fault_of, found_of, kind_of, matches_of, new_app, new_rule, rows_of, subcommand_of, subcommand_rows_of, with_rule, with_subcommand}
+use Rattle.clap.specs.declared.error.Error.{Error}
+use Rattle.clap.specs.declared.error.ErrorKind.TheVariants.{OutOfMemory}
+use Rattle.clap.specs.declared.parser.matches.ArgMatches.{ArgMatches}
 use Rattle.clap.specs.Lexer.{usize_max}
 use Rattle.clap.specs.Walk.{texts}
 use Rattle.clap.specs.declared.builder.action.ArgAction.TheVariants.{Set, Append, SetTrue}
@@ -91,3 +94,9 @@ program lists = fold (with_command lists) (with_arguments lists (new_app (codes 
 -- the command is the program
 abbrev pub IsProgram : Command → Type 0
 IsProgram command = (lists : Lists) × IsLists lists × HasApp (program lists) command
+
+-- what is made of the words: the program's matches of them, or an error of a kind that the program gives at them, or memory ran out
+abbrev pub Reads : List Text → Result ArgMatches Error → Type 0
+Reads words (Ok m) = (lists : Lists) × IsLists lists × (fault_of (program lists) words ≡ [])
+    × (rows_of (found_of m) ≡ matches_of (program lists) words) × (subcommand_rows_of m ≡ subcommand_of (program lists) words)
+Reads words (Err e) = (kind_of e ≡ OutOfMemory) ⊎ ((lists : Lists) × IsLists lists × IsAmong (kind_of e) (fault_of (program lists) words))

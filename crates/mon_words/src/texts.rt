@@ -12,7 +12,8 @@ pub(crate) const MORE: &str = "With no command it does `replay 8`.
 A fault ends a command with status 1 and the line `snmpmon: CRATE NUMBER NAME` on standard error; mostly a second line
 says what was wrong and where. Words that cannot be read end it with status 2 and a line that says why.";
 
-const REPLAY_MORE: &str = "Reads SNMPv2c responses from standard input, one datagram a line, in hex digits, and prints for each
+const REPLAY_MORE: &str =
+    "Reads SNMPv2c responses from standard input, one datagram a line, in hex digits, and prints for each
 instance (an agent's engine id and an object's name) its N newest samples.
 
 A line counts if it is a Response-PDU without an error whose first three variable bindings are
@@ -42,7 +43,8 @@ Examples: snmpmon replay 8 < examples/three-responses.hex
           snmpmon replay 8 --report < examples/three-responses.hex
           snmpmon replay 8 --columns --names -m examples/served.mib < examples/three-responses.hex";
 
-const GET_MORE: &str = "Sends a GetRequest for the NAMEs to the agent at ADDRESS, and prints a line for each: NAME = KIND: VALUE.
+const GET_MORE: &str =
+    "Sends a GetRequest for the NAMEs to the agent at ADDRESS, and prints a line for each: NAME = KIND: VALUE.
 
 A name that the agent does not serve is printed as noSuchObject or noSuchInstance. The request is sent at most
 three times, two seconds apart; no reply ends the command with 2 Timeout, an error status with 6 AgentStatus.
@@ -52,17 +54,20 @@ With --module the names of an SMIv2 module (RFC 2578) are known too, and with --
 Examples: snmpmon get 127.0.0.1:16100 public 1.3.6.1.2.1.1.5.0
           snmpmon get --module examples/served.mib --names 127.0.0.1:16100 public sysName.0";
 
-const NEXT_MORE: &str = "Sends a GetNextRequest for the NAMEs to the agent at ADDRESS, and prints for each the first variable after it, as
+const NEXT_MORE: &str =
+    "Sends a GetNextRequest for the NAMEs to the agent at ADDRESS, and prints for each the first variable after it, as
 `get` does. After the agent's last variable that is endOfMibView.
 
 Example: snmpmon next 127.0.0.1:16100 public 1.3";
 
-const BULK_MORE: &str = "Sends a GetBulkRequest for the NAMEs to the agent at ADDRESS, and prints what it answers as `get` does: one variable
+const BULK_MORE: &str =
+    "Sends a GetBulkRequest for the NAMEs to the agent at ADDRESS, and prints what it answers as `get` does: one variable
 after each of the first N names, then M rounds of the variables after the others, as many as fit the agent's limit.
 
 Example: snmpmon bulk -n 0 -m 10 127.0.0.1:16100 public mib-2.2.2.1.10";
 
-const WALK_MORE: &str = "Asks the agent at ADDRESS for the variable after NAME, then for the one after that, and so on, and prints each as `get`
+const WALK_MORE: &str =
+    "Asks the agent at ADDRESS for the variable after NAME, then for the one after that, and so on, and prints each as `get`
 does. It ends at the first variable that is not under NAME, at the agent's last one, or after 65536 requests.
 
 An agent whose names do not increase ends it with 5 NotIncreasing, after what was printed so far.
@@ -70,7 +75,8 @@ An agent whose names do not increase ends it with 5 NotIncreasing, after what wa
 Examples: snmpmon walk 127.0.0.1:16100 public mib-2.2
           snmpmon walk -m examples/served.mib --names 127.0.0.1:16100 public ifTable";
 
-const SET_MORE: &str = "Sends a SetRequest to the agent at ADDRESS that assigns VALUE to the variable of NAME, and prints what it answers as `get` does.
+const SET_MORE: &str =
+    "Sends a SetRequest to the agent at ADDRESS that assigns VALUE to the variable of NAME, and prints what it answers as `get` does.
 The community has to be one that may write; an agent that refuses ends the command with 6 AgentStatus, and nothing is printed.
 
 KIND says how VALUE is read:
@@ -89,7 +95,8 @@ with 8 BadText before anything is sent. A VALUE that begins with - stands after 
 Examples: snmpmon set 127.0.0.1:16100 private mib-2.1.5.0 string r2
           snmpmon set 127.0.0.1:16100 private mib-2.2.2.1.7.1 integer -- -1";
 
-const AGENT_MORE: &str = "Reads SETTINGS, a TOML file (examples/agent.toml explains each key), listens at the address in it, says on standard
+const AGENT_MORE: &str =
+    "Reads SETTINGS, a TOML file (examples/agent.toml explains each key), listens at the address in it, says on standard
 error where, and answers as many datagrams as --count says: Get, GetNext, GetBulk and Set requests of the communities in the settings.
 
 A fault in SETTINGS ends the command before it listens, with the line `snmpmon: mon_settings 4 BadValue`, say, and a second one that
@@ -98,7 +105,8 @@ memory runs out is not answered and changes nothing: the line `snmpmon: mon_app 
 
 Example: snmpmon agent examples/agent.toml --count 1000";
 
-const ANSWER_MORE: &str = "Reads SETTINGS as `agent` does, and datagrams from standard input, one a line, in hex digits. A new agent gets them in turn,
+const ANSWER_MORE: &str =
+    "Reads SETTINGS as `agent` does, and datagrams from standard input, one a line, in hex digits. A new agent gets them in turn,
 and a line is printed for each; lines that are empty or begin with # are passed over:
 
   its reply in hex digits   the octets that the agent would send
@@ -118,7 +126,8 @@ answers then and what it undoes.
 Examples: snmpmon answer examples/agent.toml < examples/requests.hex
           snmpmon answer -m examples/served.mib --names examples/agent.toml < examples/requests.hex";
 
-const MIB_MORE: &str = "Reads one SMIv2 module (RFC 2578) from FILE and prints NAME IDENTIFIER for each value name that it defines, by identifier.
+const MIB_MORE: &str =
+    "Reads one SMIv2 module (RFC 2578) from FILE and prints NAME IDENTIFIER for each value name that it defines, by identifier.
 The built-in names, as enterprises and mib-2, are known; other modules are not read.
 
 A text that is no module ends it with 2 Unclosed, 3 Unexpected or 4 Duplicate; a name that cannot be resolved with 5 Unknown,
@@ -126,7 +135,8 @@ A text that is no module ends it with 2 Unclosed, 3 Unexpected or 4 Duplicate; a
 
 Example: snmpmon mib examples/EX-MIB.txt";
 
-const STATION_MORE: &str = "Reads SETTINGS, a TOML file (examples/station.toml explains each key), reads the file in it or makes it, listens at its address and runs
+const STATION_MORE: &str =
+    "Reads SETTINGS, a TOML file (examples/station.toml explains each key), reads the file in it or makes it, listens at its address and runs
 rounds. In a round the station polls each target, offers each peer the samples that it is owed, answers its peers and saves. At the
 end it prints the report of its windows, as `report` does; --out writes it to a file after each round, where Prometheus finds it (docs/OPERATE.md).
 
@@ -139,7 +149,8 @@ that is shorter than a station's, or in which no save was ever finished, counts 
 Examples: snmpmon station examples/station.toml --rounds 6 --interval 10
           snmpmon station examples/station.toml --rounds 6 --interval 10 --format prometheus --out snmpmon.prom";
 
-const REPORT_FILE_MORE: &str = "Reads SETTINGS as `station` does, and prints for each instance a line of what stands in the station's file, as
+const REPORT_FILE_MORE: &str =
+    "Reads SETTINGS as `station` does, and prints for each instance a line of what stands in the station's file, as
 `replay --report` does, with the alarms at its end. The station is not started: its incarnation stays.
 
 --format json prints an object, --format prometheus the text that Prometheus reads, --columns a table for people. With --names names
@@ -148,12 +159,14 @@ stand as ifInOctets.1, by the modules of the settings and those that -m gives.
 Examples: snmpmon report examples/station.toml
           snmpmon report examples/station.toml --columns --names -m examples/served.mib";
 
-const SELFTEST_MORE: &str = "Polls an agent in memory three times, saves what was taken, finds it again, and prints the report and `selftest: ok`.
+const SELFTEST_MORE: &str =
+    "Polls an agent in memory three times, saves what was taken, finds it again, and prints the report and `selftest: ok`.
 It opens no file and no socket.
 
 Example: snmpmon selftest";
 
-const REHEARSE_MORE: &str = "Reads SETTINGS as `station` does, and steps from standard input, one a line, and makes them with K stations in memory that have the watch and
+const REHEARSE_MORE: &str =
+    "Reads SETTINGS as `station` does, and steps from standard input, one a line, and makes them with K stations in memory that have the watch and
 the targets of the settings and are all peers of each other. It prints what each step answered, and then for each station its incarnation,
 how many samples it owes each of the others, and its report. It opens no socket and no file but SETTINGS and its modules.
 
@@ -184,10 +197,12 @@ pub(crate) fn about<'a>(choice: Choice) -> &'a str {
         Choice::Agent => "Serves an agent over a simulated device",
         Choice::Answer => "Prints what an agent answers to recorded datagrams, without a socket",
         Choice::Mib => "Prints the names that a module defines",
-        Choice::Station => "Polls agents, keeps windows of samples, shares them with peers and saves them",
+        Choice::Station =>
+            "Polls agents, keeps windows of samples, shares them with peers and saves them",
         Choice::Report => "Prints the report of what a station has saved",
         Choice::SelfTest => "Tries a station in memory on an agent in memory",
-        Choice::Rehearse => "Makes the steps of a script with stations in memory, and prints what they answer",
+        Choice::Rehearse =>
+            "Makes the steps of a script with stations in memory, and prints what they answer",
     }
 }
 

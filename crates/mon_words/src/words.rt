@@ -1,16 +1,17 @@
 //! The command line, as a `Command` of clap.
 
-ghost use Rattle.std.specs.Prelude.{◌≡◌, IfOk, fold, false};
+ghost use Rattle.std.specs.Prelude.{◌≡◌, IfOk, fold, false, map};
 ghost use Rattle.clap.specs.Words.{rule_of, app_of, App};
 ghost use Rattle.mon_words.specs.Line.{argument_of};
-ghost use Rattle.mon_words.specs.Program.{HasApp, IsProgram, parser_of, rule_for, with_form, with_takes, with_line, with_command, command_app};
+ghost use Rattle.mon_words.specs.Program.{HasApp, IsProgram, Reads, parser_of, rule_for, with_form, with_takes, with_line, with_command, command_app};
 
 use crate::choice::Choice;
 use crate::lines::{FIRST, Form, Line, Takes, Value, lines_of};
 use crate::texts::{ABOUT, MORE, about, more};
 use clap::builder::{ValueParser, ValueRange};
-use clap::{Arg, ArgAction, Command};
+use clap::{Arg, ArgAction, ArgMatches, Command, Error};
 use std::alloc::{AllocError, Global};
+use std::convert::AsStr;
 
 /// The name and the version, as `--version` prints them.
 pub const VERSION: &str = "snmpmon 0.1.0\n";
@@ -157,16 +158,21 @@ fn with_commands<'a>(
 }
 
 /// The whole command line. With no words it names no command, which the caller takes for `replay 8`.
-pub fn command<'a>(alloc: Global) -> Result<Command<'a>, AllocError>
+fn command<'a>(alloc: Global) -> Result<Command<'a>, AllocError>
     ensures { IfOk result IsProgram }
 {
     let lists = Lists {
         formats: FORMATS.as_slice(),
         kinds: KINDS.as_slice(),
     };
-    let command = Command::new(alloc, "snmpmon")
-        .about(ABOUT)
-        .after_help(MORE);
+    let command = Command::new(alloc, "snmpmon").about(ABOUT).after_help(MORE);
     let command = with_lines(alloc, lists, command, FIRST.as_slice())?;
     with_commands(alloc, lists, command, CHOICES.as_slice())
+}
+
+/// What clap makes of the words, of which the first is the program's name. With no command among them it names none.
+pub fn read<'a, S: AsStr>(alloc: Global, words: &'a [S]) -> Result<ArgMatches<'a>, Error>
+    ensures { Reads (map S.text words.entry.now) result }
+{
+    command(alloc)?.try_get_matches_from(words)
 }
