@@ -1,9 +1,9 @@
 -- What is read of matches.
-use Rattle.std.proofs.Common.{◌≡◌, ◌∙◌, ℕ, ℤ, ◌<◌, ◌^◌, Bool, List, [], Option, Some, None, Result, Ok, Err, refl, sym, subst, ap, option_map, unwrap_or, map}
+use Rattle.std.proofs.Common.{◌≡◌, ◌∙◌, ℕ, ℤ, List, [], Option, Some, None, Result, Ok, Err, refl, sym, subst, ap, option_map, unwrap_or}
 use Rattle.std.specs.Borrow.{Bor}
 use Rattle.std.specs.Prelude.{OkIff}
 use Rattle.std.specs.Option.{UnwrapsOrElse}
-use Rattle.clap.specs.Words.{ReadsOne, Row, Text, all_of, first_of, found_of, one_of, one_text, rows_of, first_value, raw_values, matched_of}
+use Rattle.clap.specs.Words.{ReadsOne, Text, all_of, first_of, found_of, one_of, one_text, rows_of, first_value, raw_values, matched_of}
 use Rattle.clap.specs.Walk.{texts}
 use Rattle.clap.proofs.WalkLemmas.{first_value-rows, one_text-rows, raw_values-rows}
 use Rattle.clap.specs.declared.parser.matches.ArgMatches.{ArgMatches}

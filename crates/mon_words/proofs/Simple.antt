@@ -1,6 +1,6 @@
 -- The program is one of those of which clap's clauses give the matches.
-use Rattle.std.proofs.Common.{◌≡◌, true, refl, sym, subst, List, [], Ok, Err, Result, inl, inr}
-use Rattle.clap.specs.Words.{App, FailsBy, HasKind, HasMatchesOf, Text, app_of, fault_of, is_simple, is_simple_and_free, kind_of}
+use Rattle.std.proofs.Common.{◌≡◌, true, refl, sym, subst, List, Ok, Err, Result, inl, inr}
+use Rattle.clap.specs.Words.{App, FailsBy, HasMatchesOf, Text, fault_of, is_simple, is_simple_and_free, kind_of}
 use Rattle.clap.specs.declared.error.Error.{Error}
 use Rattle.clap.specs.declared.error.ErrorKind.TheVariants.{OutOfMemory}
 use Rattle.clap.specs.declared.parser.matches.ArgMatches.{ArgMatches}

@@ -1,5 +1,5 @@
 -- What the words ask for, by the matches that clap gives for them: rows, each under the id of an argument.
-use Rattle.std.specs.Prelude.{◌≡◌, ◌≢◌, ◌⊎◌, ◌<◌, ◌^◌, FitsSigned, ◌||◌, ◌&&◌, ℕ, ℤ, pos, Bool, List, [], ◌∷◌, Option, Some, None, Result, codes, unwrap_or, is_some, ⊤, true, false, option_map, if◌then◌else◌}
+use Rattle.std.specs.Prelude.{◌≡◌, ◌≢◌, ◌⊎◌, ◌<◌, ◌^◌, FitsSigned, ◌||◌, ℕ, ℤ, pos, Bool, List, [], Option, Some, None, codes, unwrap_or, is_some, ⊤, true, false, option_map}
 use Rattle.std.specs.Option.{option_map_or}
 use Rattle.std.specs.Str.{bytes_eq}
 use Rattle.std.specs.Str.Parse.{IsNumeral, digits_value, signed_digits_value, without_leading_plus, without_leading_sign}

@@ -1,6 +1,5 @@
 -- The command lines as clap's model has them: rules of arguments, shapes of commands, and the program.
-use Rattle.std.specs.Prelude.{◌≡◌, ◌⊎◌, ℕ, Result, Ok, Err, List, [], ◌∷◌, Option, Some, fold, codes, true, false}
-use Rattle.std.specs.Borrow.{Bor}
+use Rattle.std.specs.Prelude.{◌≡◌, ◌⊎◌, Result, Ok, Err, List, [], ◌∷◌, Some, fold, codes, false}
 use Rattle.clap.specs.Words.{App, IsAmong, Rule, Text, app_of, fault_of, found_of, kind_of, matches_of, new_app, new_rule, rows_of, subcommand_of, subcommand_rows_of, with_rule, with_subcommand}
 use Rattle.clap.specs.declared.error.Error.{Error}
 use Rattle.clap.specs.declared.error.ErrorKind.TheVariants.{OutOfMemory}

@@ -1,5 +1,5 @@
 -- The command lines: for each command its options and words, in their order.
-use Rattle.std.specs.Prelude.{ℕ, ℤ, pos, List, [], ◌∷◌, ◌++◌, codes, true, false}
+use Rattle.std.specs.Prelude.{ℕ, pos, List, [], ◌∷◌, ◌++◌, codes, true, false}
 use Rattle.mon_words.specs.Line.{Argument}
 use Rattle.mon_words.specs.declared.choice.Choice.{Choice}
 use Rattle.mon_words.specs.declared.choice.Choice.TheVariants as commands

@@ -6,7 +6,7 @@ use Rattle.clap.specs.Simple.{app_of_fields}
 use Rattle.mon_words.specs.Choice.{choices}
 use Rattle.mon_words.specs.Line.{argument_of}
 use Rattle.mon_words.specs.Table.{first_arguments}
-use Rattle.mon_words.specs.Program.{HasApp, IsLists, program, with_argument, with_arguments, with_command, with_line}
+use Rattle.mon_words.specs.Program.{HasApp, IsLists, with_argument, with_arguments, with_command, with_line}
 use Rattle.mon_words.specs.declared.words.Lists.{Lists}
 use Rattle.mon_words.proofs.words.command.Goals as goal
 

@@ -1,4 +1,4 @@
-use Rattle.std.proofs.Common.{rules, subst, fold, take}
+use Rattle.std.proofs.Common.{rules, subst}
 use Rattle.clap.specs.Words.{App}
 use Rattle.mon_words.specs.Program.{HasApp, with_command}
 use Rattle.mon_words.proofs.Adding.{at_end, command_more}

@@ -1,4 +1,4 @@
-use Rattle.std.proofs.Common.{rules, arith, sym, subst, fold, take}
+use Rattle.std.proofs.Common.{rules, subst}
 use Rattle.clap.specs.Words.{App}
 use Rattle.mon_words.specs.Program.{HasApp, with_line}
 use Rattle.mon_words.proofs.Adding.{at_end, line_more}
