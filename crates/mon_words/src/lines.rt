@@ -320,7 +320,7 @@ const STATIONS: Line = Line {
     help: "How many stations, 1 to 16",
 };
 
-/// Before any command.
+/// What may stand before any command.
 pub(crate) static FIRST: [Line; 1] = [VERSION];
 
 static REPLAY: [Line; 6] = [SIZE, REPORT, FORMAT, COLUMNS, MODULE, NAMES];
