@@ -1,5 +1,5 @@
 -- The names of commands.
-use Rattle.std.specs.Prelude.{ℕ, List, codes}
+use Rattle.std.specs.Prelude.{ℕ, List, [], ◌∷◌, codes}
 use Rattle.mon_words.specs.declared.choice.Choice.{Choice}
 use Rattle.mon_words.specs.declared.choice.Choice.TheVariants as commands
 
@@ -18,3 +18,8 @@ word_of commands.Station = codes "station"
 word_of commands.Report = codes "report"
 word_of commands.SelfTest = codes "selftest"
 word_of commands.Rehearse = codes "rehearse"
+
+-- the commands, in the order of the list in help
+abbrev pub choices : List Choice
+choices = commands.Replay ∷ commands.Get ∷ commands.Next ∷ commands.Bulk ∷ commands.Walk ∷ commands.Set ∷ commands.Agent
+    ∷ commands.Answer ∷ commands.Mib ∷ commands.Station ∷ commands.Report ∷ commands.SelfTest ∷ commands.Rehearse ∷ []

@@ -44,4 +44,25 @@ impl Choice {
             _ => None,
         }
     }
+
+    /// The word that names this command.
+    pub(crate) fn word<'a>(self) -> &'a str
+        ensures { result.now ≡ word_of self }
+    {
+        match self {
+            Choice::Replay => "replay",
+            Choice::Get => "get",
+            Choice::Next => "next",
+            Choice::Bulk => "bulk",
+            Choice::Walk => "walk",
+            Choice::Set => "set",
+            Choice::Agent => "agent",
+            Choice::Answer => "answer",
+            Choice::Mib => "mib",
+            Choice::Station => "station",
+            Choice::Report => "report",
+            Choice::SelfTest => "selftest",
+            Choice::Rehearse => "rehearse",
+        }
+    }
 }

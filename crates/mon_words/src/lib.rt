@@ -2,7 +2,15 @@
 #![tactic(auto)]
 
 mod choice;
+mod format;
+mod lines;
+mod matches;
+mod meaning;
+mod texts;
 mod words;
 
 pub use choice::Choice;
-pub use words::{VERSION, command};
+pub use format::ReportFormat;
+pub use matches::asked;
+pub use meaning::{Asked, Named, Printed, Request, Scene, Timing};
+pub use words::{VERSION, read};

@@ -1,579 +1,178 @@
-//! The command line.
+//! The command line, as a `Command` of clap.
 
-use clap::builder::ValueRange;
-use clap::{Arg, ArgAction, Command, value_parser};
-use mon_app::KINDS;
+ghost use Rattle.std.specs.Prelude.{◌≡◌, IfOk, fold, false, map};
+ghost use Rattle.clap.specs.Words.{rule_of, app_of, App};
+ghost use Rattle.mon_words.specs.Line.{argument_of};
+ghost use Rattle.mon_words.specs.Program.{HasApp, IsProgram, Reads, parser_of, rule_for, with_form, with_takes, with_line, with_command, command_app};
+
+use crate::choice::Choice;
+use crate::lines::{FIRST, Form, Line, Takes, Value, lines_of};
+use crate::texts::{ABOUT, MORE, about, more};
+use clap::builder::{ValueParser, ValueRange};
+use clap::{Arg, ArgAction, ArgMatches, Command, Error};
 use std::alloc::{AllocError, Global};
-
-const ABOUT: &str =
-    "Proved SNMPv2c monitoring: reads what agents answered, and prints what was measured";
-
-const MORE: &str = "With no command it does `replay 8`.
-
-A fault ends a command with status 1 and the line `snmpmon: CRATE NUMBER NAME` on standard error; mostly a second line
-says what was wrong and where. Words that cannot be read end it with status 2 and a line that says why.";
+use std::convert::AsStr;
 
 /// The name and the version, as `--version` prints them.
 pub const VERSION: &str = "snmpmon 0.1.0\n";
 
-const REPLAY: &str = "Prints the newest samples of each instance in recorded responses";
+static FORMATS: [&str; 4] = ["text", "json", "prometheus", "columns"];
 
-const REPLAY_MORE: &str =
-    "Reads SNMPv2c responses from standard input, one datagram a line, in hex digits, and prints for each
-instance (an agent's engine id and an object's name) its N newest samples.
+/// The words for the kinds of values.
+static KINDS: [&str; 9] = [
+    "integer",
+    "string",
+    "hex",
+    "oid",
+    "ip",
+    "counter32",
+    "gauge32",
+    "timeticks",
+    "counter64",
+];
 
-A line counts if it is a Response-PDU without an error whose first three variable bindings are
-snmpEngineID.0, snmpEngineBoots.0 and snmpEngineTime.0; each further binding with an INTEGER, Counter32,
-Gauge32, TimeTicks or Counter64 is a sample. Empty lines are passed over. Any other line is named with
-its number and the reason, and changes nothing:
-
-  2 BadHex            not pairs of hex digits
-  3 BadMessage        no SNMPv2c message
-  4 NotAResponse      a message, and no response
-  5 AgentError        a response with an error status
-  6 BadStamp          no engine id, boots and time at the front
-  7 TooManyInstances  more than 256 instances in all
-
-A sample is printed as BOOTS TIME MARK KIND VALUE, the oldest first.
-
-With --report each instance has one line instead: ENGINE NAME n=COUNT, the stamps BOOTS:TIME of its oldest and its newest
-sample, the newest value, and for a counter what it counted from each sample to the next (delta), in how many seconds
-(span), and delta / span, a second (rate). A gap across a restart of the agent counts nothing.
-
-  8000000001 1.3.6.1.2.1.2.2.1.10.1 n=3 3:100..3:110 Counter32=9 delta=2 span=10 rate=0.200
-
---format prints such a report in another format: json, prometheus or columns, a table for people; then refused lines are named on
-standard error. With --names names stand as ifInOctets.1, by the modules that -m gives.
-
-Examples: snmpmon replay 8 < examples/three-responses.hex
-          snmpmon replay 8 --report < examples/three-responses.hex
-          snmpmon replay 8 --columns --names -m examples/served.mib < examples/three-responses.hex";
-
-const SIZE: &str = "How many samples a window keeps, 1 to 64";
-
-const REPORT: &str =
-    "Prints a line for each instance, with deltas, seconds and rates, in place of its samples, as --format text does";
-
-fn replay<'a>(alloc: Global) -> Result<Command<'a>, AllocError> {
-    let size = Arg::new(alloc, "N")
-        .required(true)
-        .value_parser(value_parser!(u8).range(1..=64))
-        .help(SIZE);
-    let report = Arg::new(alloc, "report")
-        .long("report")
-        .action(ArgAction::SetTrue)
-        .help(REPORT);
-    let replay = Command::new(alloc, "replay")
-        .about(REPLAY)
-        .long_about(REPLAY_MORE)
-        .arg(size)?
-        .arg(report)?;
-    printed(alloc, replay)
+/// The words of which a value may have to be one.
+#[derive(Clone, Copy)]
+struct Lists<'a> {
+    formats: &'a [&'a str],
+    kinds: &'a [&'a str],
 }
 
-const FORMATS: [&str; 4] = ["text", "json", "prometheus", "columns"];
-
-/// A command that prints a report in a format, and by the names of modules.
-fn printed<'a>(alloc: Global, command: Command<'a>) -> Result<Command<'a>, AllocError> {
-    let format = Arg::new(alloc, "format")
-        .long("format")
-        .value_name("FORMAT")
-        .value_parser(FORMATS.as_slice())
-        .help("The format of the report; text if not given");
-    let columns = Arg::new(alloc, "columns")
-        .long("columns")
-        .action(ArgAction::SetTrue)
-        .help("Prints the report as a table for people, as --format columns does");
-    named(
-        alloc,
-        command.arg(format)?.arg(columns)?,
-        module(alloc).short('m'),
-    )
+fn parser_of<'a>(lists: Lists<'a>, value: Value) -> ValueParser<'a>
+    ensures { result ≡ parser_of lists.entry value }
+{
+    match value {
+        Value::Text => ValueParser::String,
+        Value::Format => ValueParser::Names(lists.formats),
+        Value::Kind => ValueParser::Names(lists.kinds),
+        Value::Number(low, high) => ValueParser::Signed(low, high),
+        Value::Natural(low, high) => ValueParser::Unsigned(low, high),
+    }
 }
 
-const GET: &str = "Asks an agent for variables by their names (GetRequest)";
-
-const GET_MORE: &str =
-    "Sends a GetRequest for the NAMEs to the agent at ADDRESS, and prints a line for each: NAME = KIND: VALUE.
-
-A name that the agent does not serve is printed as noSuchObject or noSuchInstance. The request is sent at most
-three times, two seconds apart; no reply ends the command with 2 Timeout, an error status with 6 AgentStatus.
-
-With --module the names of an SMIv2 module (RFC 2578) are known too, and with --names what is answered is printed by name.
-
-Examples: snmpmon get 127.0.0.1:16100 public 1.3.6.1.2.1.1.5.0
-          snmpmon get --module examples/served.mib --names 127.0.0.1:16100 public sysName.0";
-
-const NEXT: &str = "Asks an agent for the variables after names (GetNextRequest)";
-
-const NEXT_MORE: &str =
-    "Sends a GetNextRequest for the NAMEs to the agent at ADDRESS, and prints for each the first variable after it, as
-`get` does. After the agent's last variable that is endOfMibView.
-
-Example: snmpmon next 127.0.0.1:16100 public 1.3";
-
-const ADDRESS: &str = "The agent's address, a.b.c.d:port";
-
-const COMMUNITY: &str = "The community, 1 to 512 octets";
-
-const NAME: &str =
-    "A name, in numbers as 1.3.6.1.2.1.1.5.0, or after a built-in name or one of a module as mib-2.1.5.0";
-
-const MODULE: &str =
-    "A file with an SMIv2 module, whose names are known then; given as often as wanted, a module after those whose names it uses";
-
-const NAMES: &str = "Prints names as ifInOctets.1 where the modules give them, in place of numbers";
-
-/// The option that gives a module.
-fn module<'a>(alloc: Global) -> Arg<'a> {
-    Arg::new(alloc, "module")
-        .long("module")
-        .value_name("FILE")
-        .action(ArgAction::Append)
-        .help(MODULE)
+fn formed<'a>(arg: Arg<'a>, line: &Line) -> Arg<'a>
+    ensures rule { rule_of result ≡ with_form line.now.form line.now.id.now (rule_of arg.entry) }
+    ensures local { result.global ≡ arg.entry.global }
+{
+    match line.form {
+        Form::Place => arg,
+        Form::Long => arg.long(line.id),
+        Form::Short(letter) => arg.short(letter),
+        Form::Both(letter) => arg.short(letter).long(line.id),
+    }
 }
 
-/// A command that knows the names of modules, and prints by them.
-fn named<'a>(
+/// The argument with what it takes.
+fn taking<'a>(arg: Arg<'a>, lists: Lists<'a>, line: &Line) -> Arg<'a>
+    ensures rule { rule_of result ≡ with_takes lists.entry line.now.takes (rule_of arg.entry) }
+    ensures local { result.global ≡ arg.entry.global }
+{
+    match line.takes {
+        Takes::Nothing => arg.action(ArgAction::SetTrue),
+        Takes::One(value) => arg
+            .action(ArgAction::Set)
+            .value_parser(parser_of(lists, value))
+            .value_name(line.shown),
+        Takes::Each(value) => arg
+            .action(ArgAction::Append)
+            .value_parser(parser_of(lists, value))
+            .value_name(line.shown),
+        Takes::Many(value) => arg
+            .action(ArgAction::Append)
+            .value_parser(parser_of(lists, value))
+            .num_args(ValueRange::new(1..))
+            .value_name(line.shown),
+    }
+}
+
+/// The argument of a line.
+fn argument<'a>(alloc: Global, lists: Lists<'a>, line: &Line) -> Arg<'a>
+    ensures rule { rule_of result ≡ rule_for lists.entry (argument_of line.now) }
+    ensures local { result.global ≡ false }
+{
+    let arg = Arg::new(alloc, line.id)
+        .help(line.help)
+        .required(line.needed);
+    taking(formed(arg, line), lists, line)
+}
+
+/// The command with the arguments of these lines.
+fn with_lines<'a>(
     alloc: Global,
+    lists: Lists<'a>,
     command: Command<'a>,
-    module: Arg<'a>,
-) -> Result<Command<'a>, AllocError> {
-    let names = Arg::new(alloc, "names")
-        .long("names")
-        .action(ArgAction::SetTrue)
-        .help(NAMES);
-    command.arg(module)?.arg(names)
+    lines: &[Line],
+) -> Result<Command<'a>, AllocError>
+    ensures { (before : App) → HasApp before command.entry
+        → IfOk result (HasApp (fold (with_line lists.entry) before lines.now)) }
+{
+    let mut command = command;
+    for line in lines {
+        command = command.arg(argument(alloc, lists, line))?;
+    }
+    Ok(command)
 }
 
-fn needed<'a>(alloc: Global, id: &'a str, help: &'a str) -> Arg<'a> {
-    Arg::new(alloc, id).required(true).help(help)
+/// The command line of a command.
+fn one<'a>(alloc: Global, lists: Lists<'a>, choice: Choice) -> Result<Command<'a>, AllocError>
+    ensures { IfOk result (HasApp (command_app lists.entry choice)) }
+{
+    let command = Command::new(alloc, choice.word())
+        .about(about(choice))
+        .long_about(more(choice));
+    with_lines(alloc, lists, command, lines_of(choice))
 }
 
-/// A command to an agent at an address, under a community.
-fn addressed<'a>(
+/// The commands, in the order of the list in help.
+const CHOICES: [Choice; 13] = [
+    Choice::Replay,
+    Choice::Get,
+    Choice::Next,
+    Choice::Bulk,
+    Choice::Walk,
+    Choice::Set,
+    Choice::Agent,
+    Choice::Answer,
+    Choice::Mib,
+    Choice::Station,
+    Choice::Report,
+    Choice::SelfTest,
+    Choice::Rehearse,
+];
+
+/// The command with these commands below it.
+fn with_commands<'a>(
     alloc: Global,
-    name: &'a str,
-    about: &'a str,
-    more: &'a str,
-) -> Result<Command<'a>, AllocError> {
-    Command::new(alloc, name)
-        .about(about)
-        .long_about(more)
-        .arg(needed(alloc, "ADDRESS", ADDRESS))?
-        .arg(needed(alloc, "COMMUNITY", COMMUNITY))
-}
-
-/// A command that asks an agent about names.
-fn client<'a>(
-    alloc: Global,
-    name: &'a str,
-    about: &'a str,
-    more: &'a str,
-) -> Result<Command<'a>, AllocError> {
-    let names = needed(alloc, "NAME", NAME).num_args(ValueRange::new(1..));
-    addressed(alloc, name, about, more)?.arg(names)
-}
-
-/// A command that asks an agent about names, which `-m` gives modules for.
-fn asking<'a>(
-    alloc: Global,
-    name: &'a str,
-    about: &'a str,
-    more: &'a str,
-) -> Result<Command<'a>, AllocError> {
-    named(
-        alloc,
-        client(alloc, name, about, more)?,
-        module(alloc).short('m'),
-    )
-}
-
-const BULK: &str = "Asks an agent for many variables after names (GetBulkRequest)";
-
-const BULK_MORE: &str =
-    "Sends a GetBulkRequest for the NAMEs to the agent at ADDRESS, and prints what it answers as `get` does: one variable
-after each of the first N names, then M rounds of the variables after the others, as many as fit the agent's limit.
-
-Example: snmpmon bulk -n 0 -m 10 127.0.0.1:16100 public mib-2.2.2.1.10";
-
-/// A count of a GetBulk, 0 to 2147483647.
-fn count<'a>(alloc: Global, id: &'a str, short: char, help: &'a str) -> Arg<'a> {
-    needed(alloc, id, help)
-        .short(short)
-        .value_parser(value_parser!(i32).range(0..))
-}
-
-fn bulk<'a>(alloc: Global) -> Result<Command<'a>, AllocError> {
-    named(
-        alloc,
-        client(alloc, "bulk", BULK, BULK_MORE)?,
-        module(alloc),
-    )?
-    .arg(count(
-        alloc,
-        "non-repeaters",
-        'n',
-        "How many of the names are asked for once",
-    ))?
-    .arg(count(
-        alloc,
-        "max-repetitions",
-        'm',
-        "How many rounds of the others are asked for",
-    ))
-}
-
-const WALK: &str = "Asks an agent for all variables under a name (GetNextRequests)";
-
-const WALK_MORE: &str =
-    "Asks the agent at ADDRESS for the variable after NAME, then for the one after that, and so on, and prints each as `get`
-does. It ends at the first variable that is not under NAME, at the agent's last one, or after 65536 requests.
-
-An agent whose names do not increase ends it with 5 NotIncreasing, after what was printed so far.
-
-Examples: snmpmon walk 127.0.0.1:16100 public mib-2.2
-          snmpmon walk -m examples/served.mib --names 127.0.0.1:16100 public ifTable";
-
-fn walk<'a>(alloc: Global) -> Result<Command<'a>, AllocError> {
-    let walk = addressed(alloc, "walk", WALK, WALK_MORE)?.arg(needed(alloc, "NAME", NAME))?;
-    named(alloc, walk, module(alloc).short('m'))
-}
-
-const SET: &str = "Has an agent assign a value to a variable (SetRequest)";
-
-const SET_MORE: &str =
-    "Sends a SetRequest to the agent at ADDRESS that assigns VALUE to the variable of NAME, and prints what it answers as `get` does.
-The community has to be one that may write; an agent that refuses ends the command with 6 AgentStatus, and nothing is printed.
-
-KIND says how VALUE is read:
-
-  integer                        a decimal number, -2147483648 to 2147483647
-  string                         the text's own octets
-  hex                            pairs of hex digits, in either case
-  oid                            numbers with dots between them, as 1.3.6.1.4.1
-  ip                             a.b.c.d
-  counter32, gauge32, timeticks  a decimal number, 0 to 4294967295
-  counter64                      a decimal number, 0 to 18446744073709551615
-
-A decimal number is digits alone, leading zeros allowed, for an integer also with - before them. Any other text ends the command
-with 8 BadText before anything is sent. A VALUE that begins with - stands after --.
-
-Examples: snmpmon set 127.0.0.1:16100 private mib-2.1.5.0 string r2
-          snmpmon set 127.0.0.1:16100 private mib-2.2.2.1.7.1 integer -- -1";
-
-const VALUE: &str = "The value, a text that KIND can read";
-
-fn set<'a>(alloc: Global) -> Result<Command<'a>, AllocError> {
-    let kind = needed(alloc, "KIND", "How VALUE is read").value_parser(KINDS.as_slice());
-    let set = addressed(alloc, "set", SET, SET_MORE)?
-        .arg(needed(alloc, "NAME", NAME))?
-        .arg(kind)?
-        .arg(needed(alloc, "VALUE", VALUE))?;
-    named(alloc, set, module(alloc).short('m'))
-}
-
-const AGENT: &str = "Serves an agent over a simulated device";
-
-const AGENT_MORE: &str =
-    "Reads SETTINGS, a TOML file (examples/agent.toml explains each key), listens at the address in it, says on standard
-error where, and answers as many datagrams as --count says: Get, GetNext, GetBulk and Set requests of the communities in the settings.
-
-A fault in SETTINGS ends the command before it listens, with the line `snmpmon: mon_settings 4 BadValue`, say, and a second one that
-tells the line of SETTINGS, the key and what is wanted there. A datagram for which
-memory runs out is not answered and changes nothing: the line `snmpmon: mon_app 1 OutOfMemory` tells, and the agent goes on.
-
-Example: snmpmon agent examples/agent.toml --count 1000";
-
-const SETTINGS: &str = "The settings of the agent, a TOML file";
-
-/// The boots in place of the settings'.
-fn boots<'a>(alloc: Global) -> Arg<'a> {
-    Arg::new(alloc, "boots")
-        .long("boots")
-        .value_parser(value_parser!(i32).range(1..))
-        .help("snmpEngineBoots, 1 to 2147483647, in place of the settings'")
-}
-
-fn agent<'a>(alloc: Global) -> Result<Command<'a>, AllocError> {
-    let count = needed(
-        alloc,
-        "count",
-        "How many datagrams are served, 1 to 4294967295",
-    )
-    .long("count")
-    .value_parser(value_parser!(u32).range(1..));
-    Command::new(alloc, "agent")
-        .about(AGENT)
-        .long_about(AGENT_MORE)
-        .arg(needed(alloc, "SETTINGS", SETTINGS))?
-        .arg(boots(alloc))?
-        .arg(count)
-}
-
-const ANSWER: &str = "Prints what an agent answers to recorded datagrams, without a socket";
-
-const ANSWER_MORE: &str =
-    "Reads SETTINGS as `agent` does, and datagrams from standard input, one a line, in hex digits. A new agent gets them in turn,
-and a line is printed for each; lines that are empty or begin with # are passed over:
-
-  its reply in hex digits   the octets that the agent would send
-  silent 1 BadMessage       the octets begin with no message
-  silent 2 BadVersion       a message of another version than SNMPv2c
-  silent 3 BadCommunity     the community is unknown
-  silent 4 NotARequest      a message, and no request
-  silent 5 TooBigTwice      neither the reply nor tooBig is within the limit
-  refused BadHex            not pairs of hex digits; the agent gets nothing
-
-With --names a reply is printed in other lines, by the names that modules give (-m): `reply`, its error-status and index, and then
-its variable bindings as `get` prints them.
-
-The agent's clock stands. With --fuses its device fails some of the changes that Sets ask of it, so that one sees what the agent
-answers then and what it undoes.
-
-Examples: snmpmon answer examples/agent.toml < examples/requests.hex
-          snmpmon answer -m examples/served.mib --names examples/agent.toml < examples/requests.hex";
-
-/// A number that may be given, in decimal.
-fn given<'a>(alloc: Global, id: &'a str, help: &'a str) -> Arg<'a> {
-    Arg::new(alloc, id).long(id).help(help)
-}
-
-/// Where the clock of `answer` stands.
-fn at<'a>(alloc: Global) -> Arg<'a> {
-    given(
-        alloc,
-        "at",
-        "Where the clock stands, in hundredths of a second after the start, 0 to 214748364799; 0 if not given",
-    )
-    .value_parser(value_parser!(u64).range(0..=214_748_364_799))
-}
-
-/// Which changes the device of `answer` fails.
-fn fuses<'a>(alloc: Global) -> Arg<'a> {
-    given(
-        alloc,
-        "fuses",
-        "The device fails its change number k, from 0, where bit k of this number is 1; 0 if not given",
-    )
-    .value_parser(value_parser!(u64))
-}
-
-/// How often each datagram of `answer` comes.
-fn times<'a>(alloc: Global) -> Arg<'a> {
-    given(
-        alloc,
-        "times",
-        "How many times each datagram comes, 1 to 4294967295; its last reply is printed; 1 if not given",
-    )
-    .value_parser(value_parser!(u32).range(1..))
-}
-
-fn answer<'a>(alloc: Global) -> Result<Command<'a>, AllocError> {
-    let answer = Command::new(alloc, "answer")
-        .about(ANSWER)
-        .long_about(ANSWER_MORE)
-        .arg(needed(alloc, "SETTINGS", SETTINGS))?
-        .arg(boots(alloc))?
-        .arg(at(alloc))?
-        .arg(fuses(alloc))?
-        .arg(times(alloc))?;
-    named(alloc, answer, module(alloc).short('m'))
-}
-
-const MIB: &str = "Prints the names that a module defines";
-
-const MIB_MORE: &str =
-    "Reads one SMIv2 module (RFC 2578) from FILE and prints NAME IDENTIFIER for each value name that it defines, by identifier.
-The built-in names, as enterprises and mib-2, are known; other modules are not read.
-
-A text that is no module ends it with 2 Unclosed, 3 Unexpected or 4 Duplicate; a name that cannot be resolved with 5 Unknown,
-6 Cycle, 7 TooDeep or 8 BadIdentifier, and then nothing is printed.
-
-Example: snmpmon mib examples/EX-MIB.txt";
-
-fn mib<'a>(alloc: Global) -> Result<Command<'a>, AllocError> {
-    Command::new(alloc, "mib")
-        .about(MIB)
-        .long_about(MIB_MORE)
-        .arg(needed(alloc, "FILE", "A text file with one SMIv2 module"))
-}
-
-const STATION: &str =
-    "Polls agents, keeps windows of samples, shares them with peers and saves them";
-
-const STATION_MORE: &str =
-    "Reads SETTINGS, a TOML file (examples/station.toml explains each key), reads the file in it or makes it, listens at its address and runs
-rounds. In a round the station polls each target, offers each peer the samples that it is owed, answers its peers and saves. At the
-end it prints the report of its windows, as `report` does; --out writes it to a file after each round, where Prometheus finds it (docs/OPERATE.md).
-
-Standard error tells where it listens and by which incarnation, for each round which targets gave up or were refused and why,
-and each alarm that changed. What is refused ends no round; docs/OPERATE.md tells what each line means.
-
-A damaged file ends it with mon_disk 5 Damaged, one of other instances with mon_saved 4 OtherWatch, and neither is touched. A file
-that is shorter than a station's, or in which no save was ever finished, counts as new.
-
-Examples: snmpmon station examples/station.toml --rounds 6 --interval 10
-          snmpmon station examples/station.toml --rounds 6 --interval 10 --format prometheus --out snmpmon.prom";
-
-const STATION_SETTINGS: &str = "The settings of the station, a TOML file";
-
-/// How many rounds a station runs.
-fn rounds<'a>(alloc: Global) -> Arg<'a> {
-    needed(alloc, "rounds", "How many rounds are run, 1 to 1000000")
-        .long("rounds")
-        .value_parser(value_parser!(u32).range(1..=1_000_000))
-}
-
-/// How often a station's rounds begin.
-fn interval<'a>(alloc: Global) -> Arg<'a> {
-    given(
-        alloc,
-        "interval",
-        "A round begins every so many seconds, 1 to 86400; at once after the last one if not given",
-    )
-    .value_parser(value_parser!(u32).range(1..=86_400))
-}
-
-/// How often a station prints its report between its rounds.
-fn report_every<'a>(alloc: Global) -> Arg<'a> {
-    given(
-        alloc,
-        "report-every",
-        "The report is printed after every so many rounds too, 1 to 1000000",
-    )
-    .value_parser(value_parser!(u32).range(1..=1_000_000))
-}
-
-/// The file that a station writes each round's report to.
-fn out<'a>(alloc: Global) -> Arg<'a> {
-    given(
-        alloc,
-        "out",
-        "Each round's report is written to FILE too, which is replaced whole",
-    )
-    .value_name("FILE")
-}
-
-fn station<'a>(alloc: Global) -> Result<Command<'a>, AllocError> {
-    let station = Command::new(alloc, "station")
-        .about(STATION)
-        .long_about(STATION_MORE)
-        .arg(needed(alloc, "SETTINGS", STATION_SETTINGS))?
-        .arg(rounds(alloc))?
-        .arg(interval(alloc))?
-        .arg(report_every(alloc))?
-        .arg(out(alloc))?;
-    printed(alloc, station)
-}
-
-const REPORT_FILE: &str = "Prints the report of what a station has saved";
-
-const REPORT_FILE_MORE: &str =
-    "Reads SETTINGS as `station` does, and prints for each instance a line of what stands in the station's file, as
-`replay --report` does, with the alarms at its end. The station is not started: its incarnation stays.
-
---format json prints an object, --format prometheus the text that Prometheus reads, --columns a table for people. With --names names
-stand as ifInOctets.1, by the modules of the settings and those that -m gives.
-
-Examples: snmpmon report examples/station.toml
-          snmpmon report examples/station.toml --columns --names -m examples/served.mib";
-
-fn report<'a>(alloc: Global) -> Result<Command<'a>, AllocError> {
-    let report = Command::new(alloc, "report")
-        .about(REPORT_FILE)
-        .long_about(REPORT_FILE_MORE)
-        .arg(needed(alloc, "SETTINGS", STATION_SETTINGS))?;
-    printed(alloc, report)
-}
-
-const SELFTEST: &str = "Tries a station in memory on an agent in memory";
-
-const SELFTEST_MORE: &str =
-    "Polls an agent in memory three times, saves what was taken, finds it again, and prints the report and `selftest: ok`.
-It opens no file and no socket.
-
-Example: snmpmon selftest";
-
-fn selftest<'a>(alloc: Global) -> Command<'a> {
-    Command::new(alloc, "selftest")
-        .about(SELFTEST)
-        .long_about(SELFTEST_MORE)
-}
-
-const REHEARSE: &str =
-    "Makes the steps of a script with stations in memory, and prints what they answer";
-
-const REHEARSE_MORE: &str =
-    "Reads SETTINGS as `station` does, and steps from standard input, one a line, and makes them with K stations in memory that have the watch and
-the targets of the settings and are all peers of each other. It prints what each step answered, and then for each station its incarnation,
-how many samples it owes each of the others, and its report. It opens no socket and no file but SETTINGS and its modules.
-
-  poll S T         station S polls target T; both count from 1
-  agent S T HEX    these octets come to station S from target T
-  timeout S ID     the poll of station S with this request-id was not answered in time
-  share S P        station S offers station P what it owes it
-  deliver D        datagram D, counted from 1, comes to its addressee; as often as it is asked
-  save S           station S saves
-  restart S        station S is started again from what it saved
-  stop S N keep    station S saves, is stopped after N calls of its disk, 0 to 6, and started again; with lose in place of keep,
-                   what was written and not synced is lost
-  forge S HEX      these octets come to station S as from a peer
-
-A line that is no step ends it with mon_app 7 BadScript before the first step; docs/OPERATE.md explains a script.
-
-Example: snmpmon rehearse examples/rehearsal.toml 2 < examples/exchange.script";
-
-fn rehearse<'a>(alloc: Global) -> Result<Command<'a>, AllocError> {
-    let count = needed(alloc, "K", "How many stations, 1 to 16").value_parser(value_parser!(
-        u32
-    ).range(1..=16));
-    Command::new(alloc, "rehearse")
-        .about(REHEARSE)
-        .long_about(REHEARSE_MORE)
-        .arg(needed(alloc, "SETTINGS", STATION_SETTINGS))?
-        .arg(count)
-}
-
-/// Adds the commands that ask agents.
-fn with_clients<'a>(alloc: Global, command: Command<'a>) -> Result<Command<'a>, AllocError> {
-    command
-        .subcommand(asking(alloc, "get", GET, GET_MORE)?)?
-        .subcommand(asking(alloc, "next", NEXT, NEXT_MORE)?)?
-        .subcommand(bulk(alloc)?)?
-        .subcommand(walk(alloc)?)?
-        .subcommand(set(alloc)?)
-}
-
-/// Adds the commands of an agent and of modules.
-fn with_agents<'a>(alloc: Global, command: Command<'a>) -> Result<Command<'a>, AllocError> {
-    command
-        .subcommand(agent(alloc)?)?
-        .subcommand(answer(alloc)?)?
-        .subcommand(mib(alloc)?)
-}
-
-/// Adds the commands of stations.
-fn with_stations<'a>(alloc: Global, command: Command<'a>) -> Result<Command<'a>, AllocError> {
-    command
-        .subcommand(station(alloc)?)?
-        .subcommand(report(alloc)?)?
-        .subcommand(selftest(alloc))?
-        .subcommand(rehearse(alloc)?)
+    lists: Lists<'a>,
+    command: Command<'a>,
+    choices: &[Choice],
+) -> Result<Command<'a>, AllocError>
+    ensures { (before : App) → HasApp before command.entry
+        → IfOk result (HasApp (fold (with_command lists.entry) before choices.now)) }
+{
+    let mut command = command;
+    for choice in choices {
+        command = command.subcommand(one(alloc, lists, *choice)?)?;
+    }
+    Ok(command)
 }
 
 /// The whole command line. With no words it names no command, which the caller takes for `replay 8`.
-pub fn command<'a>(alloc: Global) -> Result<Command<'a>, AllocError> {
-    let version = Arg::new(alloc, "version")
-        .long("version")
-        .action(ArgAction::SetTrue)
-        .help("Prints the version");
-    let command = Command::new(alloc, "snmpmon")
-        .about(ABOUT)
-        .after_help(MORE)
-        .arg(version)?
-        .subcommand(replay(alloc)?)?;
-    let command = with_clients(alloc, command)?;
-    let command = with_agents(alloc, command)?;
-    with_stations(alloc, command)
+fn command<'a>(alloc: Global) -> Result<Command<'a>, AllocError>
+    ensures { IfOk result IsProgram }
+{
+    let lists = Lists {
+        formats: FORMATS.as_slice(),
+        kinds: KINDS.as_slice(),
+    };
+    let command = Command::new(alloc, "snmpmon").about(ABOUT).after_help(MORE);
+    let command = with_lines(alloc, lists, command, FIRST.as_slice())?;
+    with_commands(alloc, lists, command, CHOICES.as_slice())
+}
+
+/// What clap makes of the words, of which the first is the program's name. With no command among them it names none.
+pub fn read<'a, S: AsStr>(alloc: Global, words: &'a [S]) -> Result<ArgMatches<'a>, Error>
+    ensures { Reads (map S.text words.entry.now) result }
+{
+    command(alloc)?.try_get_matches_from(words)
 }

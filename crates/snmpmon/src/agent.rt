@@ -5,35 +5,32 @@ use crate::failure::Failure;
 use crate::files::{print, read_input_text, read_text};
 use crate::naming::names_of;
 use crate::settings::unset;
-use clap::ArgMatches;
 use mon_agent::Agent;
 use mon_app::{AppFault, SocketPort, Untaken, serve};
 use mon_faults::Fault;
 use mon_mib::{Device, FuseDevice, Moment, SimDevice};
 use mon_settings::{AgentSettings, Kind, read_agent};
 use mon_smi::{Labels, Names};
-use std::alloc::Global;
+use mon_words::{Named, Scene};
+use std::alloc::{AllocError, Global};
 use std::net::{Ipv4Addr, Net, SocketAddrV4};
 use std::rt::{Clock, Files};
 
 /// The greatest moment of a device's life, in hundredths of a second.
 const MOMENTS: &str = "a moment up to 214748364799";
 
-/// Serves the agent of the settings, as many datagrams as `count` says.
+/// Serves the agent of the settings in a file, as many datagrams as `count` says.
 pub fn agent<R: Clock + Files + Net + Eprint + AllocGlobal>(
     rt: &R,
-    words: &ArgMatches<'_>,
+    path: &str,
+    boots: Option<i32>,
+    count: u32,
 ) -> Result<(), Failure> {
-    let told = told_of(rt, words)?;
+    let told = told_of(rt, path, boots)?;
     let listen = SocketAddrV4::new(Ipv4Addr::from(told.listen.octets), told.listen.port);
     let device = SimDevice::new(told.interfaces, told.texts)?;
     let agent = Agent::new(told.policy, told.settings, device);
-    listened(
-        rt,
-        listen,
-        agent,
-        words.get_one::<u32>("count").unwrap_or(0),
-    )
+    listened(rt, listen, agent, count)
 }
 
 /// Listens at an address, says so, and serves so many datagrams.
@@ -87,78 +84,74 @@ fn unheard(alloc: Global, listen: SocketAddrV4, fault: AppFault) -> Failure {
     }
 }
 
-/// What the file of an agent's settings says, with the boots that the words may give.
+/// What the file of an agent's settings says, with the boots that may be given in their place.
 fn told_of<R: Files + AllocGlobal>(
     rt: &R,
-    words: &ArgMatches<'_>,
+    path: &str,
+    boots: Option<i32>,
 ) -> Result<AgentSettings, Failure> {
-    let path = words.get_str("SETTINGS").unwrap_or("");
     let text = read_text(rt, path)?;
     let mut told = match read_agent(rt.alloc(), &text) {
         Ok(told) => told,
         Err(fault) => return Err(unset(rt.alloc(), Kind::Agent, path, &text, fault)),
     };
-    if let Some(boots) = words.get_one::<i32>("boots") {
+    if let Some(boots) = boots {
         told.settings.boots = boots;
     }
     Ok(told)
 }
 
-/// Prints what the agent of the settings answers to the datagrams on standard input.
+/// Prints what the agent of the settings in a file answers to the datagrams on standard input.
 pub fn answer<R: Files + Input + Print + AllocGlobal>(
     rt: &R,
-    words: &ArgMatches<'_>,
+    path: &str,
+    boots: Option<i32>,
+    scene: Scene,
+    named: Named<'_, '_>,
 ) -> Result<(), Failure> {
-    let mut agent = fused_agent(rt, words)?;
-    let at = at_of(rt.alloc(), words)?;
-    let names = names_of(rt, words)?;
+    let mut agent = fused_agent(told_of(rt, path, boots)?, scene.fuses)?;
+    let at = moment_of(rt.alloc(), scene.at)?;
+    let names = names_of(rt, named.modules)?;
     let text = read_input_text(rt)?;
-    let lines = told_answers(rt.alloc(), words, &mut agent, at, &names, &text)?;
+    let names = named.shown.then_some(&names);
+    let lines = told_answers(rt.alloc(), &mut agent, (at, scene.times), names, &text)?;
     print(rt, lines.as_bytes())
 }
 
-/// The agent of the settings over a device that fails the changes of the words' fuses.
-fn fused_agent<R: Files + AllocGlobal>(
-    rt: &R,
-    words: &ArgMatches<'_>,
-) -> Result<Agent<FuseDevice<SimDevice>>, Failure> {
-    let told = told_of(rt, words)?;
+/// The agent of the settings over a device that fails the changes of the fuses.
+fn fused_agent(told: AgentSettings, fuses: u64) -> Result<Agent<FuseDevice<SimDevice>>, Failure> {
     let simulated = SimDevice::new(told.interfaces, told.texts)?;
-    let device = FuseDevice::new(simulated, words.get_one::<u64>("fuses").unwrap_or(0));
+    let device = FuseDevice::new(simulated, fuses);
     Ok(Agent::new(told.policy, told.settings, device))
 }
 
-/// Where the words have the clock stand.
-fn at_of(alloc: Global, words: &ArgMatches<'_>) -> Result<Moment, Failure> {
-    match Moment::new(words.get_one::<u64>("at").unwrap_or(0)) {
+/// The moment of so many hundredths of a second.
+fn moment_of(alloc: Global, hundredths: u64) -> Result<Moment, Failure> {
+    match Moment::new(hundredths) {
         Some(at) => Ok(at),
         None => Err(Failure::text(alloc, "--at", MOMENTS)),
     }
 }
 
-/// What an agent answers to the datagrams of a text, as the words want it told.
+/// What an agent answers to the datagrams of a text at a moment, each of which comes so many times, and by which names it is told.
 fn told_answers<D: Device + Drop>(
     alloc: Global,
-    words: &ArgMatches<'_>,
     agent: &mut Agent<D>,
-    at: Moment,
-    names: &Names,
+    (at, times): (Moment, u32),
+    names: Option<&Names>,
     text: &str,
 ) -> Result<String, Failure> {
-    let times = words.get_one::<u32>("times").unwrap_or(1);
-    let labels = labels_of(alloc, words, names)?;
+    let labels = labels_of(alloc, names)?;
     answers(alloc, agent, text, at, times, labels.as_ref())
 }
 
-/// The names by which replies are printed, where the words want that.
+/// The labels of names, if there are any.
 fn labels_of<'n>(
     alloc: Global,
-    words: &ArgMatches<'_>,
-    names: &'n Names,
-) -> Result<Option<Labels<'n>>, Failure> {
-    if words.get_flag("names") {
-        Ok(Some(names.labels(alloc)?))
-    } else {
-        Ok(None)
+    names: Option<&'n Names>,
+) -> Result<Option<Labels<'n>>, AllocError> {
+    match names {
+        Some(names) => Ok(Some(names.labels(alloc)?)),
+        None => Ok(None),
     }
 }

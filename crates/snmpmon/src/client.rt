@@ -3,7 +3,6 @@
 use crate::failure::Failure;
 use crate::files::print;
 use crate::naming::{asked_for, names_of};
-use clap::ArgMatches;
 use mon_app::{
     AppFault, Asking, Question, Repeats, SocketWire, ValueKind, answer_text, status_name, value_of,
 };
@@ -12,6 +11,7 @@ use mon_faults::Fault;
 use mon_names::{InNumbers, NameTexts};
 use mon_oid::Oid;
 use mon_smi::Names;
+use mon_words::Request;
 use std::alloc::{AllocError, Global};
 use std::net::{Net, SocketAddrV4};
 use std::rt::{Clock, Files};
@@ -22,43 +22,46 @@ const LONGEST_COMMUNITY: usize = 512;
 /// Prints variables of an agent.
 pub fn get<R: Clock + Files + Net + Print + AllocGlobal>(
     rt: &R,
-    words: &ArgMatches<'_>,
+    request: Request<'_, '_>,
 ) -> Result<(), Failure> {
-    ask(rt, words, Asking::Get)
+    ask(rt, request, Asking::Get)
 }
 
 /// Prints the variables after some names.
 pub fn next<R: Clock + Files + Net + Print + AllocGlobal>(
     rt: &R,
-    words: &ArgMatches<'_>,
+    request: Request<'_, '_>,
 ) -> Result<(), Failure> {
-    ask(rt, words, Asking::GetNext)
+    ask(rt, request, Asking::GetNext)
 }
 
 /// Prints many variables after some names.
 pub fn bulk<R: Clock + Files + Net + Print + AllocGlobal>(
     rt: &R,
-    words: &ArgMatches<'_>,
+    request: Request<'_, '_>,
+    repeats: Repeats,
 ) -> Result<(), Failure> {
-    ask(rt, words, Asking::GetBulk(repeats(words)))
+    ask(rt, request, Asking::GetBulk(repeats))
 }
 
-/// Has the agent assign the value of the words to the variable that they name, and prints its answer.
+/// Has the agent assign a value to the variable that is asked about, and prints its answer.
 pub fn set<R: Clock + Files + Net + Print + AllocGlobal>(
     rt: &R,
-    words: &ArgMatches<'_>,
+    request: Request<'_, '_>,
+    kind: &str,
+    value: &str,
 ) -> Result<(), Failure> {
-    let query = query_of(rt, words)?;
-    let value = value(rt.alloc(), words)?;
+    let query = query_of(rt, request)?;
+    let value = read_value(rt.alloc(), kind, value)?;
     print_answer(rt, &query, Asking::Set(&value))
 }
 
 /// Walks through the variables under the name, and prints those that were met, also where the walk then fails.
 pub fn walk<R: Clock + Files + Net + Print + AllocGlobal>(
     rt: &R,
-    words: &ArgMatches<'_>,
+    request: Request<'_, '_>,
 ) -> Result<(), Failure> {
-    let query = query_of(rt, words)?;
+    let query = query_of(rt, request)?;
     let mut text = String::new(rt.alloc());
     let walked = walk_through(rt, &query, &mut text);
     print(rt, text.as_bytes())?;
@@ -68,10 +71,10 @@ pub fn walk<R: Clock + Files + Net + Print + AllocGlobal>(
 /// Asks the agent that the words name, and prints its answer.
 fn ask<R: Clock + Files + Net + Print + AllocGlobal>(
     rt: &R,
-    words: &ArgMatches<'_>,
+    request: Request<'_, '_>,
     asking: Asking<'_>,
 ) -> Result<(), Failure> {
-    let query = query_of(rt, words)?;
+    let query = query_of(rt, request)?;
     print_answer(rt, &query, asking)
 }
 
@@ -95,54 +98,49 @@ struct AgentAt<'a> {
 /// Whom the words ask, and about which variables. Their faults are found from left to right, then those of the modules, then those of the names.
 fn query_of<'a, R: Files + AllocGlobal>(
     rt: &R,
-    words: &ArgMatches<'a>,
+    request: Request<'_, 'a>,
 ) -> Result<Query<'a>, Failure> {
-    let agent = agent_of(rt.alloc(), words)?;
-    let community = community(rt.alloc(), words)?;
-    let known = names_of(rt, words)?;
-    let asked = asked(rt.alloc(), words, &known)?;
+    let agent = agent_at(rt.alloc(), request.address)?;
+    let community = community(rt.alloc(), request.community)?;
+    let known = names_of(rt, request.named.modules)?;
+    let asked = asked(rt.alloc(), request.names, &known)?;
     Ok(Query {
         agent,
         community,
         known,
         asked,
-        prints_names: words.get_flag("names"),
+        prints_names: request.named.shown,
     })
 }
 
-/// The agent's address that the words give. It is never looked up.
-fn agent_of<'a>(alloc: Global, words: &ArgMatches<'a>) -> Result<AgentAt<'a>, Failure> {
-    let word = words.get_str("ADDRESS").unwrap_or("");
+/// The agent's address that a word gives. It is never looked up.
+fn agent_at<'a>(alloc: Global, word: &'a str) -> Result<AgentAt<'a>, Failure> {
     match word.parse() {
         Ok(address) => Ok(AgentAt { word, address }),
         Err(_) => Err(Failure::text(alloc, word, "an address, a.b.c.d:port,")),
     }
 }
 
-/// The community that the words give.
-fn community<'a>(alloc: Global, words: &ArgMatches<'a>) -> Result<&'a [u8], Failure> {
-    let community = words.get_str("COMMUNITY").unwrap_or("").as_bytes();
+/// The octets of a community.
+fn community<'a>(alloc: Global, word: &'a str) -> Result<&'a [u8], Failure> {
+    let community = word.as_bytes();
     if community.is_empty() || community.len() > LONGEST_COMMUNITY {
         return Err(Failure::text(alloc, "COMMUNITY", "a text of 1 to 512 octets"));
     }
     Ok(community)
 }
 
-/// The identifiers that the words name.
-fn asked(alloc: Global, words: &ArgMatches<'_>, known: &Names) -> Result<Vec<Oid>, Failure> {
+/// The identifiers that words name.
+fn asked(alloc: Global, words: &[&str], known: &Names) -> Result<Vec<Oid>, Failure> {
     let mut asked = Vec::new(alloc);
-    for word in words.get_raw("NAME").unwrap_or(&[]) {
+    for word in words {
         asked.push(asked_for(alloc, known, word)?)?;
     }
     Ok(asked)
 }
 
-/// The value that the words give a variable.
-fn value(alloc: Global, words: &ArgMatches<'_>) -> Result<Value, Failure> {
-    let (kind, word) = (
-        words.get_str("KIND").unwrap_or(""),
-        words.get_str("VALUE").unwrap_or(""),
-    );
+/// The value that a word gives a variable, by the word for its kind.
+fn read_value(alloc: Global, kind: &str, word: &str) -> Result<Value, Failure> {
     let Some(kind) = ValueKind::named(kind) else {
         return Err(Failure::text(alloc, kind, "a kind of value"));
     };
@@ -165,14 +163,6 @@ fn wanted_of(kind: ValueKind) -> &'static str {
             "a number, 0 to 4294967295,"
         }
         ValueKind::Counter64 => "a number, 0 to 18446744073709551615,",
-    }
-}
-
-/// How often a GetBulk asks. The command line takes 0 to 2147483647 alone.
-fn repeats(words: &ArgMatches<'_>) -> Repeats {
-    Repeats {
-        non_repeaters: words.get_one::<i32>("non-repeaters").unwrap_or(0),
-        max_repetitions: words.get_one::<i32>("max-repetitions").unwrap_or(0),
     }
 }
 

@@ -9,19 +9,15 @@ use crate::files::{print, read_input, read_text};
 use crate::listing::list;
 use crate::printing::Printing;
 use crate::station::{rehearsal, report, self_test, station};
-use clap::ArgMatches;
 use clap::error::ErrorKind;
-use mon_app::Recorded;
+use mon_app::{Recorded, Repeats};
 use mon_smi::Names;
-use mon_words::{Choice, VERSION, command};
+use mon_words::{Asked, Printed, VERSION, asked, read};
 use std::alloc::AllocError;
 use std::fs::File;
 use std::net::Net;
 use std::rt::{Clock, Env, Files};
 use std::{env, io};
-
-/// How many samples a window keeps where no command is named.
-const USUAL_SIZE: u8 = 8;
 
 /// Runs the command that the words name, and answers the status.
 pub fn start<R: Env + Clock + Files<File = File> + Net + Input + Print + Eprint + AllocGlobal>(
@@ -34,11 +30,11 @@ pub fn start<R: Env + Clock + Files<File = File> + Net + Input + Print + Eprint 
         }
         Err(_) => return unreadable(rt),
     };
-    let (Ok(words), Ok(command)) = (words, command(rt.alloc())) else {
+    let Ok(words) = words else {
         return failed(rt, &Failure::from(AllocError));
     };
-    match command.try_get_matches_from(words.as_slice()) {
-        Ok(matches) => match run(rt, &matches) {
+    match read(rt.alloc(), words.as_slice()) {
+        Ok(matches) => match run(rt, asked(&matches)) {
             Ok(()) => 0,
             Err(failure) => failed(rt, &failure),
         },
@@ -73,58 +69,85 @@ fn failed(rt: &impl Eprint, failure: &Failure) -> u8 {
     1
 }
 
+/// Does what the words ask for.
 fn run<R: Clock + Files<File = File> + Net + Input + Print + Eprint + AllocGlobal>(
     rt: &R,
-    matches: &ArgMatches<'_>,
+    asked: Asked<'_, '_>,
 ) -> Result<(), Failure> {
-    if matches.get_flag("version") {
-        return print(rt, VERSION.as_bytes());
-    }
-    let Some((name, words)) = matches.subcommand() else {
-        return replay(rt, USUAL_SIZE);
-    };
-    match Choice::named(name) {
-        Some(Choice::Get) => get(rt, words),
-        Some(Choice::Next) => next(rt, words),
-        Some(Choice::Bulk) => bulk(rt, words),
-        Some(Choice::Walk) => walk(rt, words),
-        Some(Choice::Set) => set(rt, words),
-        Some(Choice::Agent) => agent(rt, words),
-        Some(Choice::Answer) => answer(rt, words),
-        Some(Choice::Mib) => mib(rt, words),
-        Some(Choice::Station) => station(rt, words),
-        Some(Choice::Report) => report(rt, words),
-        Some(Choice::SelfTest) => self_test(rt),
-        Some(Choice::Rehearse) => rehearsal(rt, words),
-        // The command line knows no other words.
-        Some(Choice::Replay) | None => replaying(rt, words),
+    match asked {
+        Asked::Version => print(rt, VERSION.as_bytes()),
+        Asked::Replay {
+            size,
+            reports,
+            printed,
+        } => { replaying(rt, window_of(size), reports.then_some(printed)) }
+        Asked::Get(request) => get(rt, request),
+        Asked::Next(request) => next(rt, request),
+        Asked::Bulk {
+            request,
+            non_repeaters,
+            max_repetitions,
+        } => {
+            bulk(
+                rt,
+                request,
+                Repeats {
+                    non_repeaters,
+                    max_repetitions,
+                },
+            )
+        }
+        Asked::Walk(request) => walk(rt, request),
+        Asked::Set {
+            request,
+            kind,
+            value,
+        } => set(rt, request, kind, value),
+        Asked::Agent {
+            settings,
+            boots,
+            count,
+        } => agent(rt, settings, boots, count),
+        Asked::Answer {
+            settings,
+            boots,
+            scene,
+            named,
+        } => { answer(rt, settings, boots, scene, named) }
+        Asked::Mib { file } => mib(rt, file),
+        Asked::Station {
+            settings,
+            timing,
+            out,
+            printed,
+        } => { station(rt, settings, timing, out, printed) }
+        Asked::Report { settings, printed } => report(rt, settings, printed),
+        Asked::SelfTest => self_test(rt),
+        Asked::Rehearse { settings, stations } => rehearsal(rt, settings, stations),
     }
 }
 
-/// The size that the words name. The command line takes 1 to 64 alone.
-fn size_of(words: &ArgMatches<'_>) -> u8
+/// The size of a window that the words name. The command line takes 1 to 64 alone.
+fn window_of(size: u32) -> u8
     ensures { (1 ≤ result) × (result ≤ 64) }
 {
-    words.get_one::<u8>("N").unwrap_or(USUAL_SIZE).clamp(1, 64)
+    size.clamp(1, 64) as u8
 }
 
-/// Prints the windows of the responses on standard input, or their report where the words ask for one.
+/// Prints the windows of the responses on standard input, or their report in this way.
 fn replaying<R: Files + Input + Print + Eprint + AllocGlobal>(
     rt: &R,
-    words: &ArgMatches<'_>,
-) -> Result<(), Failure> {
-    let size = size_of(words);
-    if !asks_for_report(words) {
+    size: u8,
+    printed: Option<Printed<'_, '_>>,
+) -> Result<(), Failure>
+    requires { (1 ≤ size) × (size ≤ 64) }
+{
+    let Some(printed) = printed else {
         return replay(rt, size);
-    }
-    let printing = Printing::of(rt, words, Names::new(rt.alloc())?, &[])?;
+    };
+    let printing = Printing::of(rt, printed, Names::new(rt.alloc())?, &[])?;
     let input = read_input(rt)?;
     replay_report(rt, size, &input, &printing)
-}
-
-/// Whether the words ask for the report of a replay.
-fn asks_for_report(words: &ArgMatches<'_>) -> bool {
-    words.get_flag("report") || words.get_flag("columns") || words.get_str("format").is_some()
 }
 
 /// Prints the windows of the responses on standard input.
@@ -158,8 +181,7 @@ fn replay_report<R: Print + Eprint + AllocGlobal>(
 }
 
 /// Prints the names of the module in a file.
-fn mib<R: Files + Print + AllocGlobal>(rt: &R, words: &ArgMatches<'_>) -> Result<(), Failure> {
-    let path = words.get_str("FILE").unwrap_or("");
+fn mib<R: Files + Print + AllocGlobal>(rt: &R, path: &str) -> Result<(), Failure> {
     let text = read_text(rt, path)?;
     let lines = list(rt.alloc(), path, &text)?;
     print(rt, lines.as_bytes())

@@ -2,17 +2,16 @@
 
 use crate::failure::Failure;
 use crate::files::read_text;
-use clap::ArgMatches;
 use mon_faults::Fault;
 use mon_oid::Oid;
 use mon_smi::{Names, NamesFault, Position, TextFault, read_module};
 use std::alloc::Global;
 use std::rt::Files;
 
-/// The built-in names, and those of the modules in the files that the words give, in this order.
-pub fn names_of<R: Files + AllocGlobal>(rt: &R, words: &ArgMatches<'_>) -> Result<Names, Failure> {
+/// The built-in names, and those of the modules in files, in this order.
+pub fn names_of<R: Files + AllocGlobal>(rt: &R, files: &[&str]) -> Result<Names, Failure> {
     let mut names = Names::new(rt.alloc())?;
-    for path in words.get_raw("module").unwrap_or(&[]) {
+    for path in files {
         add_module(rt, &mut names, path)?;
     }
     Ok(names)

@@ -1,14 +1,17 @@
 //! How reports are printed: in which format, and names by which modules.
 
+ghost use Rattle.std.specs.Prelude.{◌≡◌};
+ghost use Rattle.snmpmon.specs.Formats.{format_of};
+
 use crate::failure::Failure;
 use crate::files::replace_file;
 use crate::naming::add_module;
-use clap::ArgMatches;
 use mon_board::Board;
 use mon_formats::{Figures, Format, format_report};
 use mon_names::InNumbers;
 use mon_report::{Entry, entries_of};
 use mon_smi::Names;
+use mon_words::{Printed, ReportFormat};
 use std::alloc::{AllocError, Global};
 use std::fs::File;
 use std::rt::Files;
@@ -24,20 +27,19 @@ impl Printing {
     /// What the words ask for. These names are known, of the modules in these files, and those of the modules that the words give.
     pub fn of<R: Files + AllocGlobal>(
         rt: &R,
-        words: &ArgMatches<'_>,
+        printed: Printed<'_, '_>,
         names: Names,
         files: &[String],
     ) -> Result<Self, Failure> {
         let mut names = names;
-        for path in words.get_raw("module").unwrap_or(&[]) {
+        for path in printed.named.modules {
             if !is_among(files, path) {
                 add_module(rt, &mut names, path)?;
             }
         }
-        let shown = words.get_flag("names");
         Ok(Printing {
-            format: format_of(words),
-            names: shown.then_some(names),
+            format: format_of(printed.format),
+            names: printed.named.shown.then_some(names),
         })
     }
 
@@ -96,15 +98,14 @@ fn is_among(files: &[String], path: &str) -> bool {
     files.iter().any(|file| file.as_str() == path)
 }
 
-/// The format that the words name; lines of text where they name none.
-fn format_of(words: &ArgMatches<'_>) -> Format {
-    if words.get_flag("columns") {
-        return Format::Columns;
-    }
-    match words.get_str("format").unwrap_or("") {
-        "json" => Format::Json,
-        "prometheus" => Format::Prometheus,
-        "columns" => Format::Columns,
-        _ => Format::Text,
+/// The format of reports that the words want.
+fn format_of(wanted: ReportFormat) -> Format
+    ensures { result ≡ format_of wanted }
+{
+    match wanted {
+        ReportFormat::Text => Format::Text,
+        ReportFormat::Json => Format::Json,
+        ReportFormat::Prometheus => Format::Prometheus,
+        ReportFormat::Columns => Format::Columns,
     }
 }

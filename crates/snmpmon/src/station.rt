@@ -8,7 +8,6 @@ use crate::naming::add_module;
 use crate::printing::Printing;
 use crate::settings::unset;
 use crate::telling::{shown, tell_notices};
-use clap::ArgMatches;
 use mon_app::AppFault;
 use mon_board::Board;
 use mon_disk::{Disk, DiskError, FileDisk, SLOT_SIZE};
@@ -24,6 +23,7 @@ use mon_rounds::{
 use mon_settings::{Kind, StationSettings, module_files, read_station};
 use mon_smi::Names;
 use mon_station::{Outbox, Run, Station, StationFault};
+use mon_words::{Named, Printed, ReportFormat, Timing};
 use std::alloc::{AllocError, Global};
 use std::fs::File;
 use std::io::{BufWriter, Write};
@@ -59,30 +59,34 @@ struct Reports {
     out: Option<String>,
 }
 
-/// How often and when rounds are run, by the words.
-#[derive(Clone, Copy)]
-struct Timing {
-    rounds: u32,
-    interval: Duration,
-    report_every: u32,
-}
+/// How a report is printed where the words do not say.
+const PLAIN: Printed<'static, 'static> = Printed {
+    format: ReportFormat::Text,
+    named: Named {
+        modules: &[],
+        shown: false,
+    },
+};
 
 /// The most times that a station goes on hearing between two rounds.
 const MOST_RESTS: u32 = u32::MAX;
 
-/// Runs the station of the settings through its rounds, and prints its report.
+/// Runs the station of the settings in a file through its rounds, and prints its report.
 pub fn station<R: Clock + Files<File = File> + Net + Print + Eprint + AllocGlobal>(
     rt: &R,
-    words: &ArgMatches<'_>,
+    path: &str,
+    timing: Timing,
+    out: Option<&str>,
+    printed: Printed<'_, '_>,
 ) -> Result<(), Failure> {
-    let (settings, printing) = settings_of(rt, words)?;
-    let out = out_of(rt.alloc(), words)?;
+    let (settings, printing) = settings_of(rt, path, printed)?;
+    let out = out_of(rt.alloc(), out)?;
     let (disk, socket) = opened(rt, &settings)?;
     let listen = settings.listen;
     let at = used(rt.alloc(), listen, socket.address())?;
     let lines = lines_of(rt, &settings, &socket)?;
     let running = begun(rt, settings, at, disk, lines, Reports { printing, out })?;
-    run_rounds(rt, running, timing_of(words))
+    run_rounds(rt, running, timing)
 }
 
 /// What the station of the settings hears and sends by, over this socket.
@@ -169,15 +173,17 @@ fn between<R: Clock + Print + Eprint + AllocGlobal, S: Receiver + Drop, O: Outbo
     if is_due(number, timing.report_every) {
         print_between(rt, running)?;
     }
-    pause(rt, running, number, began, timing.interval)
+    let interval = Duration::from_secs(u64::from(timing.interval));
+    pause(rt, running, number, began, interval)
 }
 
 /// Prints the report of the windows in the file of the settings. The station is not started, and the file is read alone.
 pub fn report<R: Files<File = File> + Print + AllocGlobal>(
     rt: &R,
-    words: &ArgMatches<'_>,
+    path: &str,
+    printed: Printed<'_, '_>,
 ) -> Result<(), Failure> {
-    let (settings, printing) = settings_of(rt, words)?;
+    let (settings, printing) = settings_of(rt, path, printed)?;
     let alloc = rt.alloc();
     let board = saved_in(rt, &settings)?;
     let text = printing.report(alloc, &board, None)?;
@@ -198,27 +204,28 @@ fn saved_in<R: Files<File = File> + AllocGlobal>(
     }
 }
 
-/// Prints what the steps on standard input make of stations in memory.
+/// Prints what the steps on standard input make of so many stations in memory. The command line takes 1 to 16 alone.
 pub fn rehearsal<R: Files + Input + Print + AllocGlobal>(
     rt: &R,
-    words: &ArgMatches<'_>,
+    path: &str,
+    stations: u32,
 ) -> Result<(), Failure> {
-    let (settings, _) = settings_of(rt, words)?;
+    let (settings, _) = settings_of(rt, path, PLAIN)?;
     let script = read_input(rt)?;
     let text = rehearse(
         rt.alloc(),
         &settings.core,
-        count_of(words),
+        count_of(stations),
         script.as_slice(),
     )?;
     print(rt, text.as_slice())
 }
 
-/// How many stations the words name. The command line takes 1 to 16 alone.
-fn count_of(words: &ArgMatches<'_>) -> u32
+/// So many stations, 1 to 16.
+fn count_of(stations: u32) -> u32
     ensures { (1 ≤ result) × (result ≤ 16) }
 {
-    words.get_one::<u32>("K").unwrap_or(1).clamp(1, 16)
+    stations.clamp(1, 16)
 }
 
 /// Prints what a station in memory measured of an agent in memory.
@@ -230,10 +237,10 @@ pub fn self_test<R: Print + AllocGlobal>(rt: &R) -> Result<(), Failure> {
 /// What the file of a station's settings says, by the names of the modules that it lists, and how its reports are printed.
 fn settings_of<R: Files + AllocGlobal>(
     rt: &R,
-    words: &ArgMatches<'_>,
+    path: &str,
+    printed: Printed<'_, '_>,
 ) -> Result<(StationSettings, Printing), Failure> {
     let alloc = rt.alloc();
-    let path = words.get_str("SETTINGS").unwrap_or("");
     let text = read_text(rt, path)?;
     let files = match module_files(alloc, &text) {
         Ok(files) => files,
@@ -245,27 +252,18 @@ fn settings_of<R: Files + AllocGlobal>(
     }
     match read_station(alloc, &text, &names) {
         Ok(settings) => {
-            let printing = Printing::of(rt, words, names, files.as_slice())?;
+            let printing = Printing::of(rt, printed, names, files.as_slice())?;
             Ok((settings, printing))
         }
         Err(fault) => Err(unset(alloc, Kind::Station, path, &text, fault)),
     }
 }
 
-/// The file that the words name for each round's report.
-fn out_of(alloc: Global, words: &ArgMatches<'_>) -> Result<Option<String>, Failure> {
-    match words.get_str("out") {
+/// The file for each round's report, if there is to be one.
+fn out_of(alloc: Global, path: Option<&str>) -> Result<Option<String>, Failure> {
+    match path {
         Some(path) => Ok(Some(String::from_str(alloc, path)?)),
         None => Ok(None),
-    }
-}
-
-/// How often and when the words have rounds run. The command line takes no other numbers.
-fn timing_of(words: &ArgMatches<'_>) -> Timing {
-    Timing {
-        rounds: words.get_one::<u32>("rounds").unwrap_or(1),
-        interval: Duration::from_secs(u64::from(words.get_one::<u32>("interval").unwrap_or(0))),
-        report_every: words.get_one::<u32>("report-every").unwrap_or(0),
     }
 }
 

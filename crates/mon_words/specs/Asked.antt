@@ -1,0 +1,130 @@
+-- What the words ask for, by the matches that clap gives for them: rows, each under the id of an argument.
+use Rattle.std.specs.Prelude.{◌≡◌, ◌≢◌, ◌⊎◌, ◌<◌, ◌^◌, FitsSigned, ◌||◌, ℕ, ℤ, pos, Bool, List, [], Option, Some, None, codes, unwrap_or, is_some, ⊤, true, false, option_map}
+use Rattle.std.specs.Option.{option_map_or}
+use Rattle.std.specs.Str.{bytes_eq}
+use Rattle.std.specs.Str.Parse.{IsNumeral, digits_value, signed_digits_value, without_leading_plus, without_leading_sign}
+use Rattle.std.specs.Int.{w32}
+use Rattle.clap.specs.Words.{Row, Text, all_of, first_of, one_of}
+use Rattle.clap.specs.Walk.{texts}
+use Rattle.std.specs.Borrow.{Bor}
+use Rattle.mon_words.specs.Choice.{word_of}
+use Rattle.mon_words.specs.Format.{format_word}
+use Rattle.mon_words.specs.declared.choice.Choice.{Choice}
+use Rattle.mon_words.specs.declared.choice.Choice.TheVariants as commands
+use Rattle.mon_words.specs.declared.format.ReportFormat.{ReportFormat}
+use Rattle.mon_words.specs.declared.format.ReportFormat.TheVariants as report
+use Rattle.mon_words.specs.declared.meaning.Named.{Named}
+use Rattle.mon_words.specs.declared.meaning.Printed.{Printed}
+use Rattle.mon_words.specs.declared.meaning.Request.{Request}
+use Rattle.mon_words.specs.declared.meaning.Scene.{Scene}
+use Rattle.mon_words.specs.declared.meaning.Timing.{Timing}
+use Rattle.mon_words.specs.declared.meaning.Asked.{Asked}
+use Rattle.mon_words.specs.declared.meaning.Asked.TheVariants as asked
+
+-- the text of an argument, empty where it has none
+abbrev pub text_in : Text → List Row → Text
+text_in id rows = unwrap_or (first_of id rows) []
+
+-- all values of an argument, in the order of the words
+abbrev pub all_in : Text → List Row → List Text
+all_in id rows = unwrap_or (all_of id rows) []
+
+-- a flag was given
+abbrev pub is_on : Text → List Row → Bool
+is_on id rows = option_map_or (λ t. bytes_eq t (codes "true")) (first_of id rows) false
+
+-- v where P holds, and else nothing
+abbrev pub IsIf : {T : Type 0} → Type 0 → T → Option T → Type 0
+IsIf P v (Some x) = P × (x ≡ v)
+IsIf P v None = P → ⊥
+
+-- the number that a text spells in decimal, if there is a text and it spells one of so many bits
+abbrev pub IsNumber : ℕ → Option Text → Option ℕ → Type 0
+IsNumber bits None n = n ≡ None
+IsNumber bits (Some t) n = IsIf (IsNumeral 10 (without_leading_plus t) × (digits_value 10 (without_leading_plus t) < 2 ^ bits)) (digits_value 10 (without_leading_plus t)) n
+
+-- the same of one of 32 bits that has a sign
+abbrev pub IsInteger : Option Text → Option ℤ → Type 0
+IsInteger None n = n ≡ None
+IsInteger (Some t) n = IsIf (IsNumeral 10 (without_leading_sign t) × FitsSigned w32 (signed_digits_value 10 t)) (signed_digits_value 10 t) n
+
+abbrev pub IsNumberOr : ℕ → ℕ → Option Text → ℕ → Type 0
+IsNumberOr bits other t n = (read : Option ℕ) × IsNumber bits t read × (n ≡ unwrap_or read other)
+
+abbrev pub IsIntegerOr : ℤ → Option Text → ℤ → Type 0
+IsIntegerOr other t n = (read : Option ℤ) × IsInteger t read × (n ≡ unwrap_or read other)
+
+-- the modules of -m in the order of the words, and --names
+abbrev pub IsNamed : List Row → Named → Type 0
+IsNamed rows n = (texts n.modules.now ≡ all_in (codes "module") rows) × (n.shown ≡ is_on (codes "names") rows)
+
+-- a format by its word, or text where the word is none of a format
+abbrev pub IsFormatOf : Text → ReportFormat → Type 0
+IsFormatOf t f = (t ≡ format_word f) ⊎ ((f ≡ report.Text) × ((g : ReportFormat) → t ≢ format_word g))
+
+-- whether --columns was given, and the word after --format
+abbrev pub IsFormat : Bool → Text → ReportFormat → Type 0
+IsFormat true t f = f ≡ report.Columns
+IsFormat false t f = IsFormatOf t f
+
+abbrev pub IsPrinted : List Row → Printed → Type 0
+IsPrinted rows p = IsFormat (is_on (codes "columns") rows) (text_in (codes "format") rows) p.format × IsNamed rows p.named
+
+-- a replay's report is printed where any of these was given
+abbrev pub wants_report : List Row → Bool
+wants_report rows = is_on (codes "report") rows || (is_on (codes "columns") rows || is_some (first_of (codes "format") rows))
+
+abbrev pub IsRequest : List Row → Request → Type 0
+IsRequest rows q = (q.address.now ≡ text_in (codes "ADDRESS") rows)
+    × (q.community.now ≡ text_in (codes "COMMUNITY") rows)
+    × (texts q.names.now ≡ all_in (codes "NAME") rows)
+    × IsNamed rows q.named
+
+abbrev pub IsScene : List Row → Scene → Type 0
+IsScene rows s = IsNumberOr 64 0 (one_of (codes "at") rows) s.at
+    × IsNumberOr 64 0 (one_of (codes "fuses") rows) s.fuses
+    × IsNumberOr 32 1 (one_of (codes "times") rows) s.times
+
+abbrev pub IsTiming : List Row → Timing → Type 0
+IsTiming rows t = IsNumberOr 32 1 (one_of (codes "rounds") rows) t.rounds
+    × IsNumberOr 32 0 (one_of (codes "interval") rows) t.interval
+    × IsNumberOr 32 0 (one_of (codes "report-every") rows) t.report_every
+
+abbrev pub IsSettings : List Row → Bor Text → Type 0
+IsSettings rows path = path.now ≡ text_in (codes "SETTINGS") rows
+
+-- what the rows of a command's arguments ask for
+abbrev pub Says : Choice → List Row → Asked → Type 0
+Says commands.Replay rows (asked.Replay size reports printed) =
+    IsNumberOr 32 8 (one_of (codes "N") rows) size × (reports ≡ wants_report rows) × IsPrinted rows printed
+Says commands.Get rows (asked.Get request) = IsRequest rows request
+Says commands.Next rows (asked.Next request) = IsRequest rows request
+Says commands.Bulk rows (asked.Bulk request non_repeaters max_repetitions) = IsRequest rows request
+    × IsIntegerOr (pos 0) (one_of (codes "non-repeaters") rows) non_repeaters
+    × IsIntegerOr (pos 0) (one_of (codes "max-repetitions") rows) max_repetitions
+Says commands.Walk rows (asked.Walk request) = IsRequest rows request
+Says commands.Set rows (asked.Set request kind value) =
+    IsRequest rows request × (kind.now ≡ text_in (codes "KIND") rows) × (value.now ≡ text_in (codes "VALUE") rows)
+Says commands.Agent rows (asked.Agent settings boots count) = IsSettings rows settings
+    × IsInteger (one_of (codes "boots") rows) boots
+    × IsNumberOr 32 0 (one_of (codes "count") rows) count
+Says commands.Answer rows (asked.Answer settings boots scene named) = IsSettings rows settings
+    × IsInteger (one_of (codes "boots") rows) boots
+    × IsScene rows scene
+    × IsNamed rows named
+Says commands.Mib rows (asked.Mib file) = file.now ≡ text_in (codes "FILE") rows
+Says commands.Station rows (asked.Station settings timing out printed) = IsSettings rows settings
+    × IsTiming rows timing
+    × (option_map (λ o. o.now) out ≡ first_of (codes "out") rows)
+    × IsPrinted rows printed
+Says commands.Report rows (asked.Report settings printed) = IsSettings rows settings × IsPrinted rows printed
+Says commands.SelfTest rows asked.SelfTest = ⊤
+Says commands.Rehearse rows (asked.Rehearse settings stations) =
+    IsSettings rows settings × IsNumberOr 32 1 (one_of (codes "K") rows) stations
+Says _ rows _ = ⊥
+
+-- what all the words ask for: whether --version was given, the rows before any command, and the command that was met, with its rows
+abbrev pub AsksFor : Bool → List Row → Option (Text × List Row) → Asked → Type 0
+AsksFor true rows command a = a ≡ asked.Version
+AsksFor false rows None a = Says commands.Replay rows a
+AsksFor false rows (Some command) a = ((choice : Choice) × (command.0 ≡ word_of choice) × Says choice command.1 a) ⊎ ((choice : Choice) → command.0 ≢ word_of choice)

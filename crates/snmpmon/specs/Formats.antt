@@ -1,0 +1,12 @@
+-- The formats of reports, by what the words ask for.
+use Rattle.mon_formats.specs.declared.format.Format.{Format}
+use Rattle.mon_formats.specs.declared.format.Format.TheVariants as format
+use Rattle.mon_words.specs.declared.format.ReportFormat.{ReportFormat}
+use Rattle.mon_words.specs.declared.format.ReportFormat.TheVariants.{Text, Json, Prometheus, Columns}
+
+-- the format of a report that is wanted
+abbrev pub format_of : ReportFormat → Format
+format_of Text = format.Text
+format_of Json = format.Json
+format_of Prometheus = format.Prometheus
+format_of Columns = format.Columns
