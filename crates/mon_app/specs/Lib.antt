@@ -1,6 +1,7 @@
 pub mod AppFault
 pub mod Asking
 pub mod AtPort
+pub mod AtSocket
 pub mod AtWire
 pub mod Find
 pub mod Gives

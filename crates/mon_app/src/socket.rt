@@ -1,8 +1,11 @@
 //! A wire over UDP and IPv4.
 
-ghost use Rattle.std.specs.Prelude.{◌≡◌, IfOk, length};
+ghost use Rattle.std.specs.Prelude.{◌≡◌, ◌-◌, IfOk, length};
+ghost use Rattle.core.specs.Duration.{as_nanos};
+ghost use Rattle.std.specs.declared.net.socket_addr.SocketAddr.TheVariants.{V4};
 ghost use Rattle.std.specs.IoError.{error_kind};
 ghost use Rattle.mon_app.specs.AppFault.{of_socket, reason_of};
+ghost use Rattle.mon_app.specs.AtSocket.{IsHeardFrom};
 ghost use Rattle.mon_app.specs.AtWire.{FitsRoom};
 
 use crate::fault::{AppFault, SocketFault};
@@ -33,7 +36,10 @@ impl<'a, R: Clock + Net> SocketWire<'a, R> {
     ///
     /// # Errors
     /// `SocketFault` where no socket is to be had, `OutOfMemory`.
-    pub fn open(rt: &'a R, agent: SocketAddrV4) -> Result<Self, AppFault> {
+    pub fn open(rt: &'a R, agent: SocketAddrV4) -> Result<Self, AppFault>
+        ensures agent { IfOk result (λ w. w.agent ≡ V4 agent) }
+        ensures failures { IfOk result (λ w. w.failures ≡ 0) }
+    {
         let socket = UdpSocket::bind(rt, "0.0.0.0:0").map_err(socket_fault)?;
         let began = Instant::now(rt).map_err(socket_fault)?;
         Ok(SocketWire {
@@ -61,17 +67,13 @@ impl<R: Clock> SocketWire<'_, R> {
         ensures { IfOk result (FitsRoom (length room.new)) }
     {
         let now = Instant::now(self.rt).map_err(failed)?;
-        let passed = now.duration_since(self.began);
-        let Some(rest) = Duration::from_millis(WAIT).checked_sub(passed) else {
-            return Ok(Heard::Quiet);
-        };
+        let rest = rest_of_wait(now.duration_since(self.began));
         if rest.is_zero() {
             return Ok(Heard::Quiet);
         }
         self.socket.set_read_timeout(Some(rest)).map_err(failed)?;
         match self.socket.recv_from(room) {
-            Ok((len, from)) if from == self.agent && len <= room.len() => Ok(Heard::Datagram(len)),
-            Ok(_) => Ok(Heard::Other),
+            Ok((len, from)) => Ok(heard_from(self.agent, from, len, room.len())),
             Err(error) => match error.kind() {
                 io::ErrorKind::WouldBlock | io::ErrorKind::TimedOut => Ok(Heard::Quiet),
                 io::ErrorKind::Interrupted => Ok(Heard::Other),
@@ -101,6 +103,24 @@ impl<R: Clock> Wire for SocketWire<'_, R> {
         let heard = self.hear(room);
         self.failures = failed_after(self.failures, &heard);
         heard
+    }
+}
+
+/// What is left of a wait of which this has passed.
+fn rest_of_wait(passed: Duration) -> Duration
+    ensures { as_nanos result ≡ 2_000_000_000 - as_nanos passed }
+{
+    Duration::from_millis(WAIT).saturating_sub(passed)
+}
+
+/// What a datagram of this length is, from there, in this much room: the agent's, where it comes from the agent and fits.
+fn heard_from(agent: SocketAddr, from: SocketAddr, len: usize, room: usize) -> Heard
+    ensures { IsHeardFrom agent from len room result }
+{
+    if from == agent && len <= room {
+        Heard::Datagram(len)
+    } else {
+        Heard::Other
     }
 }
 

@@ -1,6 +1,7 @@
 //! A port over UDP and IPv4.
 
-ghost use Rattle.std.specs.Prelude.{◌≡◌, ◌≤◌, IfOk, length};
+ghost use Rattle.std.specs.Prelude.{◌≡◌, ◌≤◌, ◌<◌, ◌/◌, IfErr, IfOk, length};
+ghost use Rattle.core.specs.Duration.{as_nanos};
 
 use crate::fault::{AppFault, SocketFault};
 use crate::port::{Port, Received};
@@ -11,7 +12,7 @@ use mon_mib::Moment;
 use std::io;
 use std::net::{Net, SocketAddr, SocketAddrV4, UdpSocket};
 use std::rt::Clock;
-use std::time::Instant;
+use std::time::{Duration, Instant};
 
 /// How often a wait that a signal ended is begun anew.
 const TRIES: u8 = 255;
@@ -59,11 +60,7 @@ impl<R: Clock> SocketPort<'_, R> {
     /// The moment in the life of the agent, which is at most 2^31 seconds long.
     fn moment(&self) -> Result<Moment, SocketFault> {
         let now = Instant::now(self.rt).map_err(failed)?;
-        let hundredths = now.duration_since(self.began).as_millis() / 10;
-        match u64::try_from(hundredths) {
-            Ok(hundredths) => Moment::new(hundredths).ok_or(OVER),
-            Err(_) => Err(OVER),
-        }
+        moment_after(now.duration_since(self.began))
     }
 
     /// Waits for a datagram, and keeps where it came from.
@@ -89,6 +86,17 @@ impl<R: Clock> SocketPort<'_, R> {
         Err(SocketFault {
             reason: SocketReason::Other,
         })
+    }
+}
+
+/// The moment of a life of which this has passed, in whole hundredths of a second. At 2^31 seconds the life is over.
+fn moment_after(passed: Duration) -> Result<Moment, SocketFault>
+    ensures moment { IfOk result (λ moment. moment ≡ as_nanos passed / 10_000_000) }
+    ensures over { IfErr result (λ _. 214_748_364_800 ≤ as_nanos passed / 10_000_000) }
+{
+    match u64::try_from(passed.as_millis() / 10) {
+        Ok(hundredths) => Moment::new(hundredths).ok_or(OVER),
+        Err(_) => Err(OVER),
     }
 }
 
