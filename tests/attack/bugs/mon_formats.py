@@ -36,4 +36,19 @@ BUGS = {
         "        b'\"' => text.extend_from_slice(b\"\\\\\\\"\"),",
         "        b'\"' => text.extend_from_slice(b\"\\\"\"),",
     ),
+    "prints_rates_of_the_newest_digit_alone": (
+        "src/columns.rt",
+        "    if !write_rate(&mut octets, true, rate) {",
+        "    if !write_rate(&mut octets, true, rate % 10) {",
+    ),
+    "ends_json_with_no_line": (
+        "src/json.rt",
+        '    text.push_str("\\n")?;\n    Ok(text.into_bytes())',
+        "    Ok(text.into_bytes())",
+    ),
+    "escapes_no_quote": (
+        "src/prometheus/text.rt",
+        """        b'"' => text.extend_from_slice(b"\\\\\\""),\n""",
+        "",
+    ),
 }

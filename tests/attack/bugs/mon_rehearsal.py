@@ -71,11 +71,6 @@ BUGS = {
         "match cut(line, b' ') {",
         "match cut(line, b'\\t') {",
     ),
-    "names_the_station_for_its_disk": (
-        "src/printed.rt",
-        'StationFault::Keeper(part) => put_fault(line, "mon_disk", part.number(), part.name()),',
-        'StationFault::Keeper(part) => put_fault(line, "mon_station", part.number(), part.name()),',
-    ),
     "says_of_all_what_it_owes_the_first": (
         "src/printed.rt",
         "let owed = station.owed(peer);",
@@ -131,16 +126,6 @@ BUGS = {
         'return line.push_str("ok");',
         'return line.push_str("ok sent");',
     ),
-    "names_the_world_for_its_station": (
-        "src/printed.rt",
-        'other => put_fault(line, "mon_world", other.number(), other.name()),',
-        'other => put_fault(line, "mon_station", other.number(), other.name()),',
-    ),
-    "names_the_saved_for_the_exchanged": (
-        "src/printed.rt",
-        'put_fault(line, "mon_exchange", part.number(), part.name())',
-        'put_fault(line, "mon_saved", part.number(), part.name())',
-    ),
     "polls_at_a_timeout": (
         "src/script.rt",
         "        return Some(ScriptStep::Timeout(first, second));",
@@ -165,5 +150,20 @@ BUGS = {
         "src/fault.rt",
         "ScriptFault::BadScript(line) => RehearsalFault::BadScript(line),",
         "ScriptFault::BadScript(line) => RehearsalFault::BadScript(line / 2),",
+    ),
+    "tells_a_fault_of_scripts_as_of_worlds": (
+        "src/fault.rt",
+        'Innermost::new("mon_app", fault.number(), fault.name())',
+        'Innermost::new("mon_world", fault.number(), fault.name())',
+    ),
+    "tells_a_world_as_a_want_of_memory": (
+        "src/fault.rt",
+        "            RehearsalFault::World(fault) => fault.innermost(),",
+        "            RehearsalFault::World(_) => of_script(ScriptFault::OutOfMemory),",
+    ),
+    "tells_no_innermost_fault": (
+        "src/printed.rt",
+        "    let innermost = fault.innermost();",
+        '    let innermost = mon_station::Innermost::new("mon_world", fault.number(), fault.name());',
     ),
 }

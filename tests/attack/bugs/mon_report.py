@@ -13,7 +13,7 @@ BUGS = {
     "one_sample_less": ("src/line.rt", "put_number(writer, ok, samples.len() as u64)", "put_number(writer, ok, others.len() as u64)"),
     "clear_when_raised": ("src/line.rt", "AlarmState::Raised { boots, time } => put_raised(writer, ok, boots, time)", 'AlarmState::Raised { .. } => put(writer, ok, b"clear")'),
     "state_of_the_newest": ("src/line.rt", "put_state(writer, ok, state(rule, samples))", "put_state(writer, ok, state(rule, &samples[..samples.len().min(1)]))"),
-    "stops_at_an_interrupt_as_all": ("src/writing.rt", "                    return (sent, Some(fault));\n                }", "                    return (octets.len(), Some(fault));\n                }"),
+    "stops_at_an_interrupt_as_all": ("src/writing.rt", "                    return sent;\n                }", "                    return octets.len();\n                }"),
     "repeats_the_front": ("src/writing.rt", "writer.write(&octets[sent..])", "writer.write(&octets[sent / 2..])"),
     "first_instance_alone": ("src/report.rt", "write_line(board, writer, ok, i as u16, watched)", "write_line(board, writer, ok, 0, watched)"),
     "name_before_engine": ("src/report.rt", "let ok = put_hex(writer, ok, entry.engine);", "let ok = put_name(writer, ok, entry.name);"),

@@ -228,4 +228,99 @@ BUGS = {
         "    save(alloc, &mut station)?;\n    Ok(station)",
         "    Ok(station)",
     ),
+    "tells_the_trial_for_its_station": (
+        "src/trial.rt",
+        "            TrialFault::Refused(fault) => fault.innermost(),",
+        '            TrialFault::Refused(_) => Innermost::new("mon_rounds", self.number(), self.name()),',
+    ),
+    "forgets_why_the_station_refused": (
+        "src/trial.rt",
+        "            other => TrialFault::Refused(other),",
+        "            _ => TrialFault::Unexpected,",
+    ),
+    "sends_to_the_port_after": (
+        "src/socket.rt",
+        "SocketAddrV4::new(Ipv4Addr::from(address.octets), address.port)",
+        "SocketAddrV4::new(Ipv4Addr::from(address.octets), address.port.wrapping_add(1))",
+    ),
+    "hears_all_from_one_port": (
+        "src/socket.rt",
+        "            port: from.port(),",
+        "            port: 16100,",
+    ),
+    "waits_seconds_for_milliseconds": (
+        "src/socket.rt",
+        "Wait::Anew(milliseconds) => Duration::from_millis(u64::from(milliseconds)),",
+        "Wait::Anew(milliseconds) => Duration::from_secs(u64::from(milliseconds)),",
+    ),
+    "begins_no_wait_anew": (
+        "src/socket.rt",
+        "Wait::Anew(milliseconds) => Duration::from_millis(u64::from(milliseconds)),",
+        "Wait::Anew(_) => before,",
+    ),
+    "waits_the_whole_time_again": (
+        "src/socket.rt",
+        "    length.saturating_sub(now.duration_since(began))",
+        "    let _ = (began, now);\n    length",
+    ),
+    "keeps_any_longer_timeout": (
+        "src/socket.rt",
+        "        Some(more) => more <= Duration::from_millis(SLACK),",
+        "        Some(_) => true,",
+    ),
+    "cuts_datagrams": (
+        "src/socket.rt",
+        "        let Some(datagram) = self.room.get(..len) else {",
+        "        let Some(datagram) = self.room.get(..len / 2) else {",
+    ),
+    "sends_to_the_first_target_alone": (
+        "src/socket.rt",
+        "            To::Target(number) => self.addresses.target(number),",
+        "            To::Target(_) => self.addresses.target(0),",
+    ),
+    "sends_to_the_station_as_a_target": (
+        "src/socket.rt",
+        "            To::Peer(station) => self.addresses.peer(station),",
+        "            To::Peer(station) => self.addresses.target(station as u16),",
+    ),
+    "counts_the_last_round_alone": (
+        "src/course.rt",
+        "        self.taken = self.taken.saturating_add(report.taken);",
+        "        self.taken = report.taken;",
+    ),
+    "counts_no_polls_given_up": (
+        "src/course.rt",
+        "        self.given_up = self.given_up.saturating_add(report.given_up);\n",
+        "",
+    ),
+    "tells_each_alarm_again": (
+        "src/course.rt",
+        "        self.alarms = states;\n",
+        "",
+    ),
+    "tells_no_alarm": (
+        "src/course.rt",
+        "        Ok(lines)\n    }\n}",
+        "        let _ = lines;\n        Ok(Vec::new(alloc))\n    }\n}",
+    ),
+    "owes_all_what_it_owes_the_first": (
+        "src/course.rt",
+        "debts.push((*peer, station.owed(*peer)))?;",
+        "debts.push((*peer, station.owed(peers[0])))?;",
+    ),
+    "reports_after_each_round": (
+        "src/course.rt",
+        "    every != 0 && round % every == 0",
+        "    every != 0 && round % every < every",
+    ),
+    "ends_an_interval_at_once": (
+        "src/course.rt",
+        "        .saturating_sub(passed)\n",
+        "        .saturating_sub(interval)\n",
+    ),
+    "rests_a_second_at_most": (
+        "src/course.rt",
+        "const LONGEST_REST: u128 = 60_000;",
+        "const LONGEST_REST: u128 = 1_000;",
+    ),
 }

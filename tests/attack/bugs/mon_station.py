@@ -356,4 +356,24 @@ BUGS = {
         "            Event::Share(peer) => self.life.share(alloc, peer),",
         "            Event::Share(peer) => match self.life.share(alloc, peer) { Ok(told) => Ok(told), Err(_) => Err(StationFault::Keeper(KeeperFault::Reopen)) },",
     ),
+    "names_the_station_for_its_disk": (
+        "src/fault.rt",
+        'Innermost::new("mon_disk", part.number(), part.name())',
+        'Innermost::new("mon_station", part.number(), part.name())',
+    ),
+    "names_the_saved_for_the_exchanged": (
+        "src/fault.rt",
+        '"mon_exchange", part.number(), part.name()',
+        '"mon_saved", part.number(), part.name()',
+    ),
+    "tells_the_number_of_the_outer_fault": (
+        "src/fault.rt",
+        'Innermost::new("mon_saved", part.number(), part.name())',
+        'Innermost::new("mon_saved", self.number(), part.name())',
+    ),
+    "prints_the_name_before_the_number": (
+        "src/fault.rt",
+        'write!(f, "{part} {number} {name}")',
+        'write!(f, "{part} {name} {number}")',
+    ),
 }

@@ -196,4 +196,9 @@ BUGS = {
         "Ok(place) => Some(&self.stations[place]),",
         "Ok(place) => Some(&self.stations[place / 2]),",
     ),
+    "names_the_world_for_its_station": (
+        "src/fault.rt",
+        "            WorldFault::Refused(fault) => fault.innermost(),",
+        '            WorldFault::Refused(_) => Innermost::new("mon_world", self.number(), self.name()),',
+    ),
 }
