@@ -363,8 +363,8 @@ BUGS = {
     ),
     "names_the_saved_for_the_exchanged": (
         "src/fault.rt",
-        '"mon_exchange", part.number(), part.name()',
-        '"mon_saved", part.number(), part.name()',
+        '"mon_exchange"',
+        '"mon_saved"',
     ),
     "tells_the_number_of_the_outer_fault": (
         "src/fault.rt",
