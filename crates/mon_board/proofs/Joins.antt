@@ -51,7 +51,7 @@ other_set : (pair : ℕ × ℕ) (i : ℕ) → (pair.0 == i) ≡ false → set_of
 other_set pair i test = ap (λ (t : Bool). from_list {R = nat_cmp} (cond t (pair.1 ∷ []) [])) test
 
 module _ (watch : Watch) where
-  -- what is chosen of one side may be chosen before, on either side
+  -- what is kept of one side may be kept before, on either side
   on_left : (i : ℕ) (a b : Samples) → kept_by watch i (union (kept_by watch i a) b) ≡ kept_by watch i (union a b)
   on_left i a b = kept_union watch i a b
 

@@ -6,7 +6,6 @@ use Rattle.std.proofs.lemmas.Bool.{eqb-true}
 use Rattle.mon_sample.specs.Key.{boots_of}
 use Rattle.mon_window.specs.Keep.{keep}
 use Rattle.mon_window.specs.Window.{Samples}
-use Rattle.mon_window.proofs.Promised.{union_none}
 use Rattle.mon_board.specs.Board.{Board, window_of}
 use Rattle.mon_board.specs.Instance.{instances_of}
 use Rattle.mon_board.specs.Watch.{Watch, size_of, share_of}

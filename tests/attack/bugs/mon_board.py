@@ -186,10 +186,10 @@ BUGS = {
         "        Ok(inserted)",
         "        let _ = inserted;\n        Ok(Inserted::Known)",
     ),
-    "takes_the_last_for_all": (
+    "takes_all_for_another_instance": (
         "src/board.rt",
         "            let _ = self.take(instance, *sample);",
-        "            let _ = self.take(instance, samples[samples.len() - 1]);\n            let _ = sample;",
+        "            let _ = self.take(instance / 2, *sample);",
     ),
     "numbers_it_as_bad_rules": (
         "src/fault.rt",
