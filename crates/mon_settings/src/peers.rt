@@ -9,8 +9,7 @@ ghost use Rattle.toml.specs.View.{table_view};
 
 use crate::fault::SettingsFault;
 use crate::key::Key;
-use crate::list::read_rows;
-use crate::named_list::values_or_none;
+use crate::list::{read_rows, values_or_none};
 use crate::station_tables::{PeerRow, TargetRow};
 use mon_poller::Addr;
 use std::alloc::{AllocError, Global};
@@ -122,7 +121,7 @@ fn checked_peers(
 }
 
 /// The peers: at most 15 other stations, none twice, and none at the address of a target.
-#[tactic(auto, unfolding(crate::specs::Station::peers_at, crate::specs::NamedLists::rows_up_to))]
+#[tactic(auto, unfolding(crate::specs::Station::peers_at, crate::specs::Lists::rows_up_to))]
 pub(crate) fn peers_at(
     alloc: Global,
     own: u32,
@@ -133,6 +132,6 @@ pub(crate) fn peers_at(
     ensures others { IfOk result (λ v. ArePeersOf own (map (λ p. p.station) v.items)) }
 {
     let values = values_or_none(table, Key::Peer, MOST_PEERS)?;
-    let peers = read_rows(alloc, Key::Peer, values)?;
+    let peers = read_rows(alloc, &(), Key::Peer, values)?;
     checked_peers(alloc, own, targets, peers)
 }

@@ -6,13 +6,13 @@ pub returns-in-Err : goal.returns-in-Err
 returns-in-Err g c =
     elim c.in-Err.ensures [
       | inl memory ↦ inl memory
-      | inr bad ↦ inr (c.loop-index.invariant ∙ fault_place c.args.key g.R.Row.row_of _ c.args.values.now c.loop-index.index c.index-values-index.result _ (omega arith) c.index-values-index.is bad)
+      | inr bad ↦ inr (c.loop-index.invariant ∙ fault_place c.args.key (g.R.Row.row_of c.args.around.now) _ c.args.values.now c.loop-index.index c.index-values-index.result _ (omega arith) c.index-values-index.is bad)
     ]
 
 pub loop-index-preserved : goal.loop-index-preserved
 loop-index-preserved g c =
-    let step = after_place c.args.key g.R.Row.row_of c.loop-index.read.items c.args.values.now c.loop-index.index c.index-values-index.result _ (omega arith) c.index-values-index.is c.in-Ok.ensures in
+    let step = after_place c.args.key (g.R.Row.row_of c.args.around.now) c.loop-index.read.items c.args.values.now c.loop-index.index c.index-values-index.result _ (omega arith) c.index-values-index.is c.in-Ok.ensures in
     c.loop-index.invariant ∙ step ∙ rw (← c.in-Ok-push.ensures.items)
 
 pub returns : goal.returns
-returns g c = c.loop-index.invariant ∙ after_all c.args.key g.R.Row.row_of _ c.args.values.now c.loop-index.index (omega arith)
+returns g c = c.loop-index.invariant ∙ after_all c.args.key (g.R.Row.row_of c.args.around.now) _ c.args.values.now c.loop-index.index (omega arith)
