@@ -4,6 +4,7 @@ pub mod Distinct
 pub mod ForCores
 pub mod ForStations
 pub mod ForWatches
+pub mod Handed
 pub mod Insertions
 pub mod KeyNames
 pub mod Limits

@@ -56,14 +56,8 @@ pub(crate) fn read_rows<C, R: Row<C>>(
 {
     let mut read = Vec::new(alloc);
     for (index, value) in values.iter().enumerate() {
-        let entry = match read_row(alloc, around, Step::Entry(key, index + 1), value) {
-            Ok(entry) => entry,
-            Err(fault) => return Err(fault),
-        };
-        match read.push(entry) {
-            Ok(()) => {}
-            Err(_) => return Err(SettingsFault::OutOfMemory),
-        }
+        let entry = read_row(alloc, around, Step::Entry(key, index + 1), value)?;
+        read.push(entry)?;
     }
     Ok(read)
 }

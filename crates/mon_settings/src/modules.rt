@@ -31,14 +31,7 @@ fn texts_of(alloc: Global, values: &[Value]) -> Result<Vec<String>, SettingsFaul
 {
     let mut texts = Vec::new(alloc);
     for value in values {
-        let text = match text_of(alloc, value) {
-            Ok(text) => text,
-            Err(fault) => return Err(fault),
-        };
-        match texts.push(text) {
-            Ok(()) => {}
-            Err(_) => return Err(SettingsFault::OutOfMemory),
-        }
+        texts.push(text_of(alloc, value)?)?;
     }
     Ok(texts)
 }

@@ -59,24 +59,16 @@ fn is_address(a: Addr, b: Addr) -> bool
 fn has_address(targets: &[TargetRow], address: Addr) -> bool
     ensures { result ≡ list_any (λ t. is_address t.address address) targets.now }
 {
-    for target in targets {
-        if is_address(target.address, address) {
-            return true;
-        }
-    }
-    false
+    targets
+        .iter()
+        .any(|target| is_address(target.address, address))
 }
 
 /// Whether no target is asked at a peer's address.
 fn are_apart(targets: &[TargetRow], peers: &[PeerRow]) -> bool
     ensures { result ≡ are_apart targets.now peers.now }
 {
-    for peer in peers {
-        if has_address(targets, peer.address) {
-            return false;
-        }
-    }
-    true
+    peers.iter().all(|peer| !has_address(targets, peer.address))
 }
 
 /// The numbers of peers, in their order.

@@ -203,8 +203,8 @@ BUGS = {
     ),
     "takes_the_address_of_a_target": (
         "src/peers.rt",
-        "            return true;",
-        "            return false;",
+        "        .any(|target| is_address(target.address, address))",
+        "        .all(|target| is_address(target.address, address))",
     ),
     "takes_a_peer_twice": (
         "src/peers.rt",
