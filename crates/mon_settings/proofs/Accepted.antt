@@ -22,11 +22,12 @@ use Rattle.mon_settings.specs.declared.key.Key.{Key}
 use Rattle.mon_settings.specs.declared.key.Key.TheVariants as key
 use Rattle.mon_settings.specs.declared.fault.SettingsFault.{SettingsFault}
 use Rattle.mon_settings.specs.declared.place.Step.TheVariants as step
-use Rattle.mon_settings.specs.Accepted.{Holds, HoldsOr, HoldsRows, AreRows, HoldsGrowth, IsCommunity, IsGroup, IsAccess, IsFamily, IsGrowth, IsInterface, IsAgent}
-use Rattle.mon_settings.specs.Agent.{Agent, agent_keys, system_of, agent_of}
-use Rattle.mon_settings.specs.Interfaces.{interface_keys, long_in, growth_of, growth_at, interface_of, rise_from, rising, interfaces_in}
+use Rattle.mon_settings.specs.Accepted.{Holds, HoldsOr, HoldsRows, AreRows, HoldsGrowth, IsCommunity, IsGroup, IsAccess, IsFamily, IsGrowth, IsInterface, IsAgent, Agent}
+use Rattle.mon_settings.specs.Agent.{system_of, agent_of}
+use Rattle.mon_settings.specs.Interfaces.{growth_of, growth_at, interface_of, rise_from, rising, interfaces_in}
+use Rattle.mon_settings.specs.Grammar.{agent_keys, growth_keys, table_keys}
 use Rattle.mon_settings.specs.Keys.{only, needed_at, default_at, within}
-use Rattle.mon_settings.specs.Leaf.{bounded, number_in, int_in, text_in, hex_in, oid_in, addr_in, model_in}
+use Rattle.mon_settings.specs.Leaf.{bounded, number_in, int_in, text_in, hex_in, oid_in, addr_in, model_in, long_in}
 use Rattle.mon_settings.specs.Lists.{list_at}
 use Rattle.mon_settings.specs.Tables.{community_of, group_of, access_entry_of, family_of, policy_in}
 use Rattle.mon_settings.proofs.Policies.{policy_made, policy_accepted}
@@ -35,13 +36,13 @@ use Rattle.mon_settings.proofs.Steps.{bind_from, bind_to, ok_same, needed_from, 
 community_of-from : (t : Members) (x : Community) → community_of t ≡ Ok x → IsCommunity t x
 unfolding community_of
 community_of-from t x h =
-    let (v0, p0, h1) = bind_from (only (key.Community ∷ key.Security ∷ []) t) _ x h in
+    let (v0, p0, h1) = bind_from (only (table_keys key.Community) t) _ x h in
     let (v1, p1, h2) = bind_from (needed_at key.Community (text_in 1 512) t) _ x h1 in
     let (v2, p2, h3) = bind_from (needed_at key.Security (text_in 1 32) t) _ x h2 in
     let made : Community = record { name = v1; security_name = v2 } in
     let is : made ≡ x = ok_same made x h3 in
     subst (λ (y : Community). IsCommunity t y) is (record {
-      known = only_from (key.Community ∷ key.Security ∷ []) t _ p0;
+      known = only_from (table_keys key.Community) t _ p0;
       community = needed_from key.Community (text_in 1 512) t _ p1;
       security = needed_from key.Security (text_in 1 32) t _ p2;
     })
@@ -49,7 +50,7 @@ community_of-from t x h =
 community_of-to : (t : Members) (x : Community) → IsCommunity t x → community_of t ≡ Ok x
 unfolding community_of
 community_of-to t x h =
-    bind_to (only (key.Community ∷ key.Security ∷ []) t) _ tt x (only_to (key.Community ∷ key.Security ∷ []) t h.known)
+    bind_to (only (table_keys key.Community) t) _ tt x (only_to (table_keys key.Community) t h.known)
     (bind_to (needed_at key.Community (text_in 1 512) t) _ x.name x (needed_to key.Community (text_in 1 512) t _ h.community)
     (bind_to (needed_at key.Security (text_in 1 32) t) _ x.security_name x (needed_to key.Security (text_in 1 32) t _ h.security)
     refl))
@@ -60,13 +61,13 @@ community_of-is t x = (community_of-from t x, community_of-to t x)
 group_of-from : (t : Members) (x : Group) → group_of t ≡ Ok x → IsGroup t x
 unfolding group_of
 group_of-from t x h =
-    let (v0, p0, h1) = bind_from (only (key.Security ∷ key.Group ∷ []) t) _ x h in
+    let (v0, p0, h1) = bind_from (only (table_keys key.Group) t) _ x h in
     let (v1, p1, h2) = bind_from (needed_at key.Security (text_in 1 32) t) _ x h1 in
     let (v2, p2, h3) = bind_from (needed_at key.Group (text_in 1 32) t) _ x h2 in
     let made : Group = record { security_name = v1; group_name = v2 } in
     let is : made ≡ x = ok_same made x h3 in
     subst (λ (y : Group). IsGroup t y) is (record {
-      known = only_from (key.Security ∷ key.Group ∷ []) t _ p0;
+      known = only_from (table_keys key.Group) t _ p0;
       security = needed_from key.Security (text_in 1 32) t _ p1;
       group = needed_from key.Group (text_in 1 32) t _ p2;
     })
@@ -74,7 +75,7 @@ group_of-from t x h =
 group_of-to : (t : Members) (x : Group) → IsGroup t x → group_of t ≡ Ok x
 unfolding group_of
 group_of-to t x h =
-    bind_to (only (key.Security ∷ key.Group ∷ []) t) _ tt x (only_to (key.Security ∷ key.Group ∷ []) t h.known)
+    bind_to (only (table_keys key.Group) t) _ tt x (only_to (table_keys key.Group) t h.known)
     (bind_to (needed_at key.Security (text_in 1 32) t) _ x.security_name x (needed_to key.Security (text_in 1 32) t _ h.security)
     (bind_to (needed_at key.Group (text_in 1 32) t) _ x.group_name x (needed_to key.Group (text_in 1 32) t _ h.group)
     refl))
@@ -85,7 +86,7 @@ group_of-is t x = (group_of-from t x, group_of-to t x)
 access_of-from : (t : Members) (x : AccessEntry) → access_entry_of t ≡ Ok x → IsAccess t x
 unfolding access_entry_of
 access_of-from t x h =
-    let (v0, p0, h1) = bind_from (only (key.Group ∷ key.Model ∷ key.Read ∷ key.Write ∷ []) t) _ x h in
+    let (v0, p0, h1) = bind_from (only (table_keys key.Access) t) _ x h in
     let (v1, p1, h2) = bind_from (needed_at key.Group (text_in 1 32) t) _ x h1 in
     let (v2, p2, h3) = bind_from (needed_at key.Model model_in t) _ x h2 in
     let (v3, p3, h4) = bind_from (default_at key.Read None (λ d. option_map Some (text_in 1 32 d)) t) _ x h3 in
@@ -93,7 +94,7 @@ access_of-from t x h =
     let made : AccessEntry = record { group_name = v1; security_model = v2; read_view = v3; write_view = v4 } in
     let is : made ≡ x = ok_same made x h5 in
     subst (λ (y : AccessEntry). IsAccess t y) is (record {
-      known = only_from (key.Group ∷ key.Model ∷ key.Read ∷ key.Write ∷ []) t _ p0;
+      known = only_from (table_keys key.Access) t _ p0;
       group = needed_from key.Group (text_in 1 32) t _ p1;
       model = needed_from key.Model model_in t _ p2;
       read = default_from key.Read (λ d. option_map Some (text_in 1 32 d)) t _ None p3;
@@ -103,7 +104,7 @@ access_of-from t x h =
 access_of-to : (t : Members) (x : AccessEntry) → IsAccess t x → access_entry_of t ≡ Ok x
 unfolding access_entry_of
 access_of-to t x h =
-    bind_to (only (key.Group ∷ key.Model ∷ key.Read ∷ key.Write ∷ []) t) _ tt x (only_to (key.Group ∷ key.Model ∷ key.Read ∷ key.Write ∷ []) t h.known)
+    bind_to (only (table_keys key.Access) t) _ tt x (only_to (table_keys key.Access) t h.known)
     (bind_to (needed_at key.Group (text_in 1 32) t) _ x.group_name x (needed_to key.Group (text_in 1 32) t _ h.group)
     (bind_to (needed_at key.Model model_in t) _ x.security_model x (needed_to key.Model model_in t _ h.model)
     (bind_to (default_at key.Read None (λ d. option_map Some (text_in 1 32 d)) t) _ x.read_view x (default_to key.Read (λ d. option_map Some (text_in 1 32 d)) t _ None h.read)
@@ -116,7 +117,7 @@ access_of-is t x = (access_of-from t x, access_of-to t x)
 family_of-from : (t : Members) (x : Family) → family_of t ≡ Ok x → IsFamily t x
 unfolding family_of
 family_of-from t x h =
-    let (v0, p0, h1) = bind_from (only (key.View ∷ key.Subtree ∷ key.Mask ∷ key.Included ∷ []) t) _ x h in
+    let (v0, p0, h1) = bind_from (only (table_keys key.View) t) _ x h in
     let (v1, p1, h2) = bind_from (needed_at key.View (text_in 1 32) t) _ x h1 in
     let (v2, p2, h3) = bind_from (needed_at key.Subtree oid_in t) _ x h2 in
     let (v3, p3, h4) = bind_from (default_at key.Mask [] (hex_in 0 16) t) _ x h3 in
@@ -124,7 +125,7 @@ family_of-from t x h =
     let made : Family = record { view_name = v1; subtree = v2; mask = v3; included = v4 } in
     let is : made ≡ x = ok_same made x h5 in
     subst (λ (y : Family). IsFamily t y) is (record {
-      known = only_from (key.View ∷ key.Subtree ∷ key.Mask ∷ key.Included ∷ []) t _ p0;
+      known = only_from (table_keys key.View) t _ p0;
       view = needed_from key.View (text_in 1 32) t _ p1;
       subtree = needed_from key.Subtree oid_in t _ p2;
       mask = default_from key.Mask (hex_in 0 16) t _ [] p3;
@@ -134,7 +135,7 @@ family_of-from t x h =
 family_of-to : (t : Members) (x : Family) → IsFamily t x → family_of t ≡ Ok x
 unfolding family_of
 family_of-to t x h =
-    bind_to (only (key.View ∷ key.Subtree ∷ key.Mask ∷ key.Included ∷ []) t) _ tt x (only_to (key.View ∷ key.Subtree ∷ key.Mask ∷ key.Included ∷ []) t h.known)
+    bind_to (only (table_keys key.View) t) _ tt x (only_to (table_keys key.View) t h.known)
     (bind_to (needed_at key.View (text_in 1 32) t) _ x.view_name x (needed_to key.View (text_in 1 32) t _ h.view)
     (bind_to (needed_at key.Subtree oid_in t) _ x.subtree x (needed_to key.Subtree oid_in t _ h.subtree)
     (bind_to (default_at key.Mask [] (hex_in 0 16) t) _ x.mask x (default_to key.Mask (hex_in 0 16) t _ [] h.mask)
@@ -147,13 +148,13 @@ family_of-is t x = (family_of-from t x, family_of-to t x)
 growth_of-from : (t : Members) (x : Growth) → growth_of t ≡ Ok x → IsGrowth t x
 unfolding growth_of
 growth_of-from t x h =
-    let (v0, p0, h1) = bind_from (only (key.Start ∷ key.Rate ∷ []) t) _ x h in
+    let (v0, p0, h1) = bind_from (only growth_keys t) _ x h in
     let (v1, p1, h2) = bind_from (needed_at key.Start long_in t) _ x h1 in
     let (v2, p2, h3) = bind_from (needed_at key.Rate long_in t) _ x h2 in
     let made : Growth = record { start = v1; rate = v2 } in
     let is : made ≡ x = ok_same made x h3 in
     subst (λ (y : Growth). IsGrowth t y) is (record {
-      known = only_from (key.Start ∷ key.Rate ∷ []) t _ p0;
+      known = only_from growth_keys t _ p0;
       start = needed_from key.Start long_in t _ p1;
       rate = needed_from key.Rate long_in t _ p2;
     })
@@ -161,7 +162,7 @@ growth_of-from t x h =
 growth_of-to : (t : Members) (x : Growth) → IsGrowth t x → growth_of t ≡ Ok x
 unfolding growth_of
 growth_of-to t x h =
-    bind_to (only (key.Start ∷ key.Rate ∷ []) t) _ tt x (only_to (key.Start ∷ key.Rate ∷ []) t h.known)
+    bind_to (only growth_keys t) _ tt x (only_to growth_keys t h.known)
     (bind_to (needed_at key.Start long_in t) _ x.start x (needed_to key.Start long_in t _ h.start)
     (bind_to (needed_at key.Rate long_in t) _ x.rate x (needed_to key.Rate long_in t _ h.rate)
     refl))
@@ -180,7 +181,7 @@ growth_at_to k t g (inner, there, is) =
 interface_of-from : (t : Members) (x : Interface) → interface_of t ≡ Ok x → IsInterface t x
 unfolding interface_of
 interface_of-from t x h =
-    let (v0, p0, h1) = bind_from (only interface_keys t) _ x h in
+    let (v0, p0, h1) = bind_from (only (table_keys key.Interface) t) _ x h in
     let (v1, p1, h2) = bind_from (needed_at key.Index (number_in 1 2147483647) t) _ x h1 in
     let (v2, p2, h3) = bind_from (needed_at key.Descr (text_in 0 255) t) _ x h2 in
     let (v3, p3, h4) = bind_from (needed_at key.Type (int_in 0 2147483647) t) _ x h3 in
@@ -196,7 +197,7 @@ interface_of-from t x h =
     let made : Interface = record { index = v1; descr = v2; kind = v3; mtu = v4; speed = v5; phys = v6; name = v7; alias = v8; status = at_start; in_octets = v9; in_packets = v10; out_octets = v11; out_packets = v12 } in
     let is : made ≡ x = ok_same made x h13 in
     subst (λ (y : Interface). IsInterface t y) is (record {
-      known = only_from interface_keys t _ p0;
+      known = only_from (table_keys key.Interface) t _ p0;
       index = needed_from key.Index (number_in 1 2147483647) t _ p1;
       descr = needed_from key.Descr (text_in 0 255) t _ p2;
       kind = needed_from key.Type (int_in 0 2147483647) t _ p3;
@@ -215,7 +216,7 @@ interface_of-from t x h =
 interface_of-to : (t : Members) (x : Interface) → IsInterface t x → interface_of t ≡ Ok x
 unfolding interface_of
 interface_of-to t x h =
-    bind_to (only interface_keys t) _ tt x (only_to interface_keys t h.known)
+    bind_to (only (table_keys key.Interface) t) _ tt x (only_to (table_keys key.Interface) t h.known)
     (bind_to (needed_at key.Index (number_in 1 2147483647) t) _ x.index x (needed_to key.Index (number_in 1 2147483647) t _ h.index)
     (bind_to (needed_at key.Descr (text_in 0 255) t) _ x.descr x (needed_to key.Descr (text_in 0 255) t _ h.descr)
     (bind_to (needed_at key.Type (int_in 0 2147483647) t) _ x.kind x (needed_to key.Type (int_in 0 2147483647) t _ h.kind)

@@ -1,5 +1,5 @@
 -- The reading of each table of a station gives what the table is, and nothing else.
-use Rattle.std.proofs.Common.{◌≡◌, ◌↔◌, ℕ, Bool, true, false, ◌&&◌, if◌then◌else◌, List, [], ◌∷◌, map, Option, Some, None, Result, Ok, Err, refl, sym, ap, ◌∙◌, subst}
+use Rattle.std.proofs.Common.{◌≡◌, ◌↔◌, ℕ, Bool, true, false, ◌&&◌, if◌then◌else◌, List, [], map, Option, Some, None, Result, Ok, Err, refl, sym, ap, ◌∙◌, subst}
 use Rattle.std.specs.Prelude.{min}
 use Rattle.mon_alarms.specs.Rule.{Rule}
 use Rattle.mon_board.specs.declared.instance.Watched.{Watched}
@@ -17,14 +17,14 @@ use Rattle.mon_settings.specs.declared.station_tables.ObjectRow.{ObjectRow}
 use Rattle.mon_settings.specs.declared.station_tables.PeerRow.{PeerRow}
 use Rattle.mon_settings.specs.declared.station_tables.TargetRow.{TargetRow}
 use Rattle.mon_settings.specs.Key.{key_name}
+use Rattle.mon_settings.specs.Grammar.{station_keys, table_keys}
 use Rattle.mon_settings.specs.Keys.{or_bad, only, needed_at, default_at}
-use Rattle.mon_settings.specs.Leaf.{number_in, text_in, hex_in, addr_in}
-use Rattle.mon_settings.specs.Lists.{rows}
-use Rattle.mon_settings.specs.NamedLists.{list_between, rows_between, rows_up_to}
+use Rattle.mon_settings.specs.Leaf.{number_in, text_in, hex_in, addr_in, list_between, texts_in}
+use Rattle.mon_settings.specs.Lists.{rows, rows_between, rows_up_to}
 use Rattle.mon_settings.specs.Placing.{instances_of_rows, with_alarms}
-use Rattle.mon_settings.specs.Resolving.{Resolves, or_unknown, name_in, name_at, name_in_some, name_or_none}
-use Rattle.mon_settings.specs.Station.{Station, Scalars, are_apart, are_peer_numbers, checked_peers, core_from, modules_at, peers_at, rules_at, scalars_of, station_keys, station_of, texts_in}
-use Rattle.mon_settings.specs.StationAccepted.{Names, MayName, HoldsBetween, MayHoldUpTo, IsObject, IsPolled, IsPeer, IsAlarm, IsScalars, IsStation}
+use Rattle.mon_settings.specs.Resolving.{or_unknown, name_in, name_at, name_in_some, name_or_none}
+use Rattle.mon_settings.specs.Station.{are_apart, are_peer_numbers, checked_peers, modules_at, peers_at, rules_at, scalars_of, station_of}
+use Rattle.mon_settings.specs.StationAccepted.{Names, MayName, HoldsBetween, MayHoldUpTo, IsObject, IsPolled, IsPeer, IsAlarm, IsScalars, IsStation, Resolves, Station, Scalars, core_from}
 use Rattle.mon_settings.specs.StationTables.{object_of, target_of, peer_of, alarm_of}
 use Rattle.mon_settings.proofs.ForWatches.{instances_are, others_from, others_to, rules_are}
 use Rattle.mon_settings.proofs.Steps.{bind_from, bind_to, bad_from, ok_same, needed_from, needed_to, default_from, default_to, only_from, only_to, rows_from, rows_to}
@@ -58,13 +58,13 @@ module _ {A : Type 0} (k : Key) (f : Members → Result A SettingsFault) (P : Me
 peer_of-from : (t : Members) (x : PeerRow) → peer_of t ≡ Ok x → IsPeer t x
 unfolding peer_of
 peer_of-from t x h =
-    let (v0, p0, h1) = bind_from (only (key.Station ∷ key.Address ∷ []) t) _ x h in
+    let (v0, p0, h1) = bind_from (only (table_keys key.Peer) t) _ x h in
     let (v1, p1, h2) = bind_from (needed_at key.Station (number_in 1 4294967295) t) _ x h1 in
     let (v2, p2, h3) = bind_from (needed_at key.Address addr_in t) _ x h2 in
     let made : PeerRow = record { station = v1; address = v2 } in
     let is : made ≡ x = ok_same made x h3 in
     subst (λ (y : PeerRow). IsPeer t y) is (record {
-      known = only_from (key.Station ∷ key.Address ∷ []) t _ p0;
+      known = only_from (table_keys key.Peer) t _ p0;
       station = needed_from key.Station (number_in 1 4294967295) t _ p1;
       address = needed_from key.Address addr_in t _ p2;
     })
@@ -72,7 +72,7 @@ peer_of-from t x h =
 peer_of-to : (t : Members) (x : PeerRow) → IsPeer t x → peer_of t ≡ Ok x
 unfolding peer_of
 peer_of-to t x h =
-    bind_to (only (key.Station ∷ key.Address ∷ []) t) _ tt x (only_to (key.Station ∷ key.Address ∷ []) t h.known)
+    bind_to (only (table_keys key.Peer) t) _ tt x (only_to (table_keys key.Peer) t h.known)
     (bind_to (needed_at key.Station (number_in 1 4294967295) t) _ x.station x (needed_to key.Station (number_in 1 4294967295) t _ h.station)
     (bind_to (needed_at key.Address addr_in t) _ x.address x (needed_to key.Address addr_in t _ h.address)
     refl))
@@ -175,7 +175,7 @@ module _ (defs : List Definition) (find : List ℕ → Option (List ℕ)) (means
     object_of-from : (t : Members) (x : ObjectRow) → object_of find sizes t ≡ Ok x → IsObject defs sizes t x
     unfolding object_of
     object_of-from t x h =
-        let (v0, p0, h1) = bind_from (only (key.Name ∷ key.Mark ∷ key.Window ∷ key.Epoch ∷ []) t) _ x h in
+        let (v0, p0, h1) = bind_from (only (table_keys key.Objects) t) _ x h in
         let (v1, p1, h2) = bind_from (name_at find key.Name t) _ x h1 in
         let (v2, p2, h3) = bind_from (name_or_none find key.Mark t) _ x h2 in
         let (v3, p3, h4) = bind_from (default_at key.Window sizes.window (number_in 1 64) t) _ x h3 in
@@ -183,7 +183,7 @@ module _ (defs : List Definition) (find : List ℕ → Option (List ℕ)) (means
         let made : ObjectRow = record { name = v1; mark = v2; window = v3; epoch = v4 } in
         let is : made ≡ x = ok_same made x h5 in
         subst (λ (y : ObjectRow). IsObject defs sizes t y) is (record {
-          known = only_from (key.Name ∷ key.Mark ∷ key.Window ∷ key.Epoch ∷ []) t _ p0;
+          known = only_from (table_keys key.Objects) t _ p0;
           name = named_from key.Name t _ p1;
           mark = maybe_from key.Mark t _ p2;
           window = default_from key.Window (number_in 1 64) t _ sizes.window p3;
@@ -193,7 +193,7 @@ module _ (defs : List Definition) (find : List ℕ → Option (List ℕ)) (means
     object_of-to : (t : Members) (x : ObjectRow) → IsObject defs sizes t x → object_of find sizes t ≡ Ok x
     unfolding object_of
     object_of-to t x h =
-        bind_to (only (key.Name ∷ key.Mark ∷ key.Window ∷ key.Epoch ∷ []) t) _ tt x (only_to (key.Name ∷ key.Mark ∷ key.Window ∷ key.Epoch ∷ []) t h.known)
+        bind_to (only (table_keys key.Objects) t) _ tt x (only_to (table_keys key.Objects) t h.known)
         (bind_to (name_at find key.Name t) _ x.name x (named_to key.Name t _ h.name)
         (bind_to (name_or_none find key.Mark t) _ x.mark x (maybe_to key.Mark t _ h.mark)
         (bind_to (default_at key.Window sizes.window (number_in 1 64) t) _ x.window x (default_to key.Window (number_in 1 64) t _ sizes.window h.window)
@@ -206,7 +206,7 @@ module _ (defs : List Definition) (find : List ℕ → Option (List ℕ)) (means
     target_of-from : (t : Members) (x : TargetRow) → target_of find sizes t ≡ Ok x → IsPolled defs sizes t x
     unfolding target_of
     target_of-from t x h =
-        let (v0, p0, h1) = bind_from (only (key.Address ∷ key.Community ∷ key.Engine ∷ key.Tries ∷ key.Objects ∷ []) t) _ x h in
+        let (v0, p0, h1) = bind_from (only (table_keys key.Target) t) _ x h in
         let (v1, p1, h2) = bind_from (needed_at key.Address addr_in t) _ x h1 in
         let (v2, p2, h3) = bind_from (needed_at key.Community (text_in 1 512) t) _ x h2 in
         let (v3, p3, h4) = bind_from (needed_at key.Engine (hex_in 5 32) t) _ x h3 in
@@ -215,7 +215,7 @@ module _ (defs : List Definition) (find : List ℕ → Option (List ℕ)) (means
         let made : TargetRow = record { address = v1; community = v2; engine = v3; tries = v4; objects = v5 } in
         let is : made ≡ x = ok_same made x h6 in
         subst (λ (y : TargetRow). IsPolled defs sizes t y) is (record {
-          known = only_from (key.Address ∷ key.Community ∷ key.Engine ∷ key.Tries ∷ key.Objects ∷ []) t _ p0;
+          known = only_from (table_keys key.Target) t _ p0;
           address = needed_from key.Address addr_in t _ p1;
           community = needed_from key.Community (text_in 1 512) t _ p2;
           engine = needed_from key.Engine (hex_in 5 32) t _ p3;
@@ -226,7 +226,7 @@ module _ (defs : List Definition) (find : List ℕ → Option (List ℕ)) (means
     target_of-to : (t : Members) (x : TargetRow) → IsPolled defs sizes t x → target_of find sizes t ≡ Ok x
     unfolding target_of
     target_of-to t x h =
-        bind_to (only (key.Address ∷ key.Community ∷ key.Engine ∷ key.Tries ∷ key.Objects ∷ []) t) _ tt x (only_to (key.Address ∷ key.Community ∷ key.Engine ∷ key.Tries ∷ key.Objects ∷ []) t h.known)
+        bind_to (only (table_keys key.Target) t) _ tt x (only_to (table_keys key.Target) t h.known)
         (bind_to (needed_at key.Address addr_in t) _ x.address x (needed_to key.Address addr_in t _ h.address)
         (bind_to (needed_at key.Community (text_in 1 512) t) _ x.community x (needed_to key.Community (text_in 1 512) t _ h.community)
         (bind_to (needed_at key.Engine (hex_in 5 32) t) _ x.engine x (needed_to key.Engine (hex_in 5 32) t _ h.engine)
@@ -240,7 +240,7 @@ module _ (defs : List Definition) (find : List ℕ → Option (List ℕ)) (means
     alarm_of-from : (t : Members) (x : AlarmRow) → alarm_of find sizes t ≡ Ok x → IsAlarm defs t x
     unfolding alarm_of
     alarm_of-from t x h =
-        let (v0, p0, h1) = bind_from (only (key.Engine ∷ key.Name ∷ key.Rising ∷ key.Falling ∷ []) t) _ x h in
+        let (v0, p0, h1) = bind_from (only (table_keys key.Alarm) t) _ x h in
         let (v1, p1, h2) = bind_from (needed_at key.Engine (hex_in 5 32) t) _ x h1 in
         let (v2, p2, h3) = bind_from (name_at find key.Name t) _ x h2 in
         let (v3, p3, h4) = bind_from (needed_at key.Rising as_integer t) _ x h3 in
@@ -248,7 +248,7 @@ module _ (defs : List Definition) (find : List ℕ → Option (List ℕ)) (means
         let made : AlarmRow = record { engine = v1; name = v2; rising = v3; falling = v4 } in
         let is : made ≡ x = ok_same made x h5 in
         subst (λ (y : AlarmRow). IsAlarm defs t y) is (record {
-          known = only_from (key.Engine ∷ key.Name ∷ key.Rising ∷ key.Falling ∷ []) t _ p0;
+          known = only_from (table_keys key.Alarm) t _ p0;
           engine = needed_from key.Engine (hex_in 5 32) t _ p1;
           name = named_from key.Name t _ p2;
           rising = needed_from key.Rising as_integer t _ p3;
@@ -258,7 +258,7 @@ module _ (defs : List Definition) (find : List ℕ → Option (List ℕ)) (means
     alarm_of-to : (t : Members) (x : AlarmRow) → IsAlarm defs t x → alarm_of find sizes t ≡ Ok x
     unfolding alarm_of
     alarm_of-to t x h =
-        bind_to (only (key.Engine ∷ key.Name ∷ key.Rising ∷ key.Falling ∷ []) t) _ tt x (only_to (key.Engine ∷ key.Name ∷ key.Rising ∷ key.Falling ∷ []) t h.known)
+        bind_to (only (table_keys key.Alarm) t) _ tt x (only_to (table_keys key.Alarm) t h.known)
         (bind_to (needed_at key.Engine (hex_in 5 32) t) _ x.engine x (needed_to key.Engine (hex_in 5 32) t _ h.engine)
         (bind_to (name_at find key.Name t) _ x.name x (named_to key.Name t _ h.name)
         (bind_to (needed_at key.Rising as_integer t) _ x.rising x (needed_to key.Rising as_integer t _ h.rising)

@@ -1,25 +1,24 @@
 -- The names of a table's keys, in its map and in its tree.
-use Rattle.std.proofs.Common.{◌≡◌, ◌↔◌, true, IsTrue, List, [], ◌∷◌, All, String, Global, string_bytes, rules, arith}
-use Rattle.std.proofs.lemmas.Bool.{and_parts}
-use Rattle.std.proofs.lemmas.List.Elements.{All-cons, All-drop}
+use Rattle.std.proofs.Common.{◌≡◌, not, List, [], ◌∷◌, Option, Some, None, option_map, String, Global, Bor, string_bytes, refl, inl, inr}
+use Rattle.std.specs.List.{find}
+use Rattle.std.specs.Option.{option_copied}
 use Rattle.std.specs.Map.{keys_of}
+use Rattle.std.proofs.lemmas.Bool.{cases_Bool}
 use Rattle.toml.specs.View.{members_view}
 use Rattle.toml.specs.declared.value.Value.{Value}
 use Rattle.mon_settings.specs.declared.key.Key.{Key}
-use Rattle.mon_settings.specs.Keys.{is_one_of, has_only}
+use Rattle.mon_settings.specs.Keys.{first_unknown, is_one_of}
 
-abbrev IsKnown : List Key → String Global → Type 0
-IsKnown ks n = IsTrue (is_one_of ks (string_bytes n))
+-- the first unknown name of the map is that of the tree
+pub first_is : (ks : List Key) (es : List (String Global × Value)) → option_map string_bytes (find (λ n. not (is_one_of ks (string_bytes n))) (keys_of es)) ≡ first_unknown ks (members_view es)
+first_is ks [] = refl
+first_is ks (e ∷ es) =
+    elim (cases_Bool (is_one_of ks (string_bytes e.0))) [
+      | inl known ↦ rw known (first_is ks es)
+      | inr other ↦ rw other
+    ]
 
-pub has_only-keys : (ks : List Key) (es : List (String Global × Value)) → (has_only ks (members_view es) ≡ true) ↔ All (λ n. IsTrue (is_one_of ks (string_bytes n))) (keys_of es)
-has_only-keys ks [] = search rules
-has_only-keys ks (e ∷ es) =
-    let more = has_only-keys ks es in (
-      λ h.
-          let (here, rest) = and_parts (is_one_of ks (string_bytes e.0)) (has_only ks (members_view es)) h in
-          All-cons (IsKnown ks) e.0 (keys_of es) here (more.0 rest),
-      λ h.
-          let here : is_one_of ks (string_bytes e.0) ≡ true = h 0 e.0 (omega arith) in
-          let rest : All (IsKnown ks) (keys_of es) = All-drop (IsKnown ks) 1 (keys_of (e ∷ es)) h in
-          rw (here, more.1 rest),
-    )
+-- the name that a reference leads to
+pub copied_now : (o : Option (Bor (String Global))) → option_map (λ n. string_bytes n.now) o ≡ option_map string_bytes (option_copied o)
+copied_now None = refl
+copied_now (Some n) = refl

@@ -4,11 +4,11 @@ pub mod Distinct
 pub mod ForCores
 pub mod ForStations
 pub mod ForWatches
+pub mod Handed
 pub mod Insertions
 pub mod KeyNames
 pub mod Limits
 pub mod Named
-pub mod NamedRows
 pub mod Oids
 pub mod PeerLists
 pub mod Placings
@@ -18,5 +18,5 @@ pub mod Resolved
 pub mod Rows
 pub mod StationFaults
 pub mod Steps
-pub mod UnknownKeys
+pub mod Texts
 pub mod WithRows

@@ -19,12 +19,13 @@ use Rattle.mon_settings.specs.declared.place.Step.TheVariants as step
 use Rattle.mon_settings.specs.declared.sizes.Sizes.{Sizes}
 use Rattle.mon_settings.specs.declared.station_tables.ObjectRow.{ObjectRow}
 use Rattle.mon_settings.specs.declared.station_tables.TargetRow.{TargetRow}
+use Rattle.mon_settings.specs.StationAccepted.{Scalars}
+use Rattle.mon_settings.specs.Grammar.{table_keys}
 use Rattle.mon_settings.specs.Keys.{or_bad_at, only, needed_at, default_at, within}
-use Rattle.mon_settings.specs.Leaf.{bounded, number_in, sized, text_in, ok_of, hex_of, hex_in, addr_in}
-use Rattle.mon_settings.specs.Lists.{count, row, rows}
-use Rattle.mon_settings.specs.NamedLists.{between, list_between, rows_between, rows_up_to}
+use Rattle.mon_settings.specs.Leaf.{bounded, number_in, sized, text_in, ok_of, hex_of, hex_in, addr_in, count, between, list_between}
+use Rattle.mon_settings.specs.Lists.{row, rows, rows_between, rows_up_to}
 use Rattle.mon_settings.specs.Resolving.{name_at, name_or_none}
-use Rattle.mon_settings.specs.Station.{Scalars, scalars_of}
+use Rattle.mon_settings.specs.Station.{scalars_of}
 use Rattle.mon_settings.specs.StationTables.{object_of, target_of}
 use Rattle.mon_settings.proofs.Insertions.{some_same, then_from}
 use Rattle.mon_settings.proofs.Steps.{bind_from, default_from, needed_from, ok_same, within_from}
@@ -162,7 +163,7 @@ module _ (find : List ℕ → Option (List ℕ)) (sizes : Sizes) (fit : AreSizes
   object_sizes : (t : Members) (o : ObjectRow) → object_of find sizes t ≡ Ok o → HasSizes o
   unfolding object_of
   object_sizes t o h =
-      let (v0, p0, h1) = bind_from (only (key.Name ∷ key.Mark ∷ key.Window ∷ key.Epoch ∷ []) t) _ o h in
+      let (v0, p0, h1) = bind_from (only (table_keys key.Objects) t) _ o h in
       let (v1, p1, h2) = bind_from (name_at find key.Name t) _ o h1 in
       let (v2, p2, h3) = bind_from (name_or_none find key.Mark t) _ o h2 in
       let (v3, p3, h4) = bind_from (default_at key.Window sizes.window (number_in 1 64) t) _ o h3 in
@@ -179,7 +180,7 @@ module _ (find : List ℕ → Option (List ℕ)) (sizes : Sizes) (fit : AreSizes
   pub target_limits : (t : Members) (r : TargetRow) → target_of find sizes t ≡ Ok r → IsWithin r
   unfolding target_of
   target_limits t r h =
-      let (v0, p0, h1) = bind_from (only (key.Address ∷ key.Community ∷ key.Engine ∷ key.Tries ∷ key.Objects ∷ []) t) _ r h in
+      let (v0, p0, h1) = bind_from (only (table_keys key.Target) t) _ r h in
       let (v1, p1, h2) = bind_from (needed_at key.Address addr_in t) _ r h1 in
       let (v2, p2, h3) = bind_from (needed_at key.Community (text_in 1 512) t) _ r h2 in
       let (v3, p3, h4) = bind_from (needed_at key.Engine (hex_in 5 32) t) _ r h3 in

@@ -1,5 +1,5 @@
 -- A tree is refused for a missing key, a bad value or an unknown key, and for nothing else.
-use Rattle.std.proofs.Common.{◌≡◌, Bool, true, false, List, [], ◌∷◌, Option, Some, None, option_map, Result, Ok, Err, refl, ap, ◌∙◌, ℕ, ◌+◌, subst, inl, inr, pos, if◌then◌else◌}
+use Rattle.std.proofs.Common.{◌≡◌, Bool, true, false, List, [], ◌∷◌, Option, Some, None, option_map, Result, Ok, Err, refl, ap, ℕ, ◌+◌, subst, pos, if◌then◌else◌}
 use Rattle.std.specs.List.{list_all}
 use Rattle.toml.specs.Data.{Data, Items, no_items, item, Members, get_member, as_table, as_bool}
 use Rattle.mon_mib.specs.declared.interface.Interface.{Interface}
@@ -12,13 +12,14 @@ use Rattle.mon_settings.specs.declared.place.Place.{Place}
 use Rattle.mon_settings.specs.declared.place.Place.TheVariants as place
 use Rattle.mon_settings.specs.declared.place.Step.{Step}
 use Rattle.mon_settings.specs.declared.place.Step.TheVariants as step
-use Rattle.mon_settings.specs.Agent.{agent_keys, system_of, agent_of}
-use Rattle.mon_settings.specs.Interfaces.{interface_keys, long_in, growth_of, growth_at, interface_of, rise_from, rising, interfaces_in}
+use Rattle.mon_settings.specs.Agent.{system_of, agent_of}
+use Rattle.mon_settings.specs.Interfaces.{growth_of, growth_at, interface_of, rise_from, rising, interfaces_in}
 use Rattle.mon_settings.specs.Key.{key_name}
 use Rattle.mon_oid.specs.Steps.{◌>>=◌}
-use Rattle.mon_settings.specs.Keys.{or_bad, or_bad_at, needed, needed_at, or_default, default_at, has_only, only, within, Reads}
-use Rattle.mon_settings.specs.Leaf.{number_in, int_in, text_in, hex_in, oid_in, addr_in, model_in}
-use Rattle.mon_settings.specs.Lists.{list_in, row, rows, list_at}
+use Rattle.mon_settings.specs.Grammar.{agent_keys, growth_keys, table_keys}
+use Rattle.mon_settings.specs.Keys.{or_bad, or_bad_at, needed, needed_at, or_default, default_at, first_unknown, or_unknown_key, only, within}
+use Rattle.mon_settings.specs.Leaf.{number_in, int_in, text_in, hex_in, oid_in, addr_in, model_in, long_in, list_in}
+use Rattle.mon_settings.specs.Lists.{row, rows, list_at}
 use Rattle.mon_settings.specs.Place.{at}
 use Rattle.mon_settings.specs.SettingsFault.{IsOfTree, bad_value, fault_within, missing_key}
 use Rattle.mon_settings.specs.Tables.{communities_differ, knows_views, families_differ, community_of, group_of, access_entry_of, family_of, policy_of, policy_in}
@@ -45,7 +46,7 @@ bad_own k o = bad_at_own (at k) o
 
 of_within : (s : Step) (e : SettingsFault) → IsOfTree e → IsOfTree (fault_within s e)
 of_within s fault.OutOfMemory h = h
-of_within s fault.NotToml h = h
+of_within s (fault.NotToml from) h = h
 of_within s (fault.Missing p) h = tt
 of_within s (fault.BadValue p) h = tt
 of_within s (fault.UnknownKey p) h = tt
@@ -74,9 +75,13 @@ pub either_own : {A : Type 0} (b : Bool) (r s : Result A SettingsFault) → Own 
 either_own true r s p q = p
 either_own false r s p q = q
 
+known_own : (o : Option (List ℕ)) → Own (or_unknown_key o)
+known_own None = ok_own tt
+known_own (Some name) = err_own (fault.UnknownKey place.Whole) tt
+
 pub only_own : (ks : List Key) (t : Members) → Own (only ks t)
 unfolding only
-only_own ks t = either_own (has_only ks t) (Ok tt) (Err (fault.UnknownKey place.Whole)) (ok_own tt) (err_own (fault.UnknownKey place.Whole) tt)
+only_own ks t = known_own (first_unknown ks t)
 
 module _ {A : Type 0} (k : Key) (f : Members → Result A SettingsFault) (each : (t : Members) → Own (f t)) where
   row_own : (s : Step) (d : Data) → Own (row s f d)
@@ -96,7 +101,7 @@ module _ {A : Type 0} (k : Key) (f : Members → Result A SettingsFault) (each :
 community_of-own : (t : Members) → Own (community_of t)
 unfolding community_of
 community_of-own t =
-    bind_own (only (key.Community ∷ key.Security ∷ []) t) _ (only_own (key.Community ∷ key.Security ∷ []) t) (λ v0.
+    bind_own (only (table_keys key.Community) t) _ (only_own (table_keys key.Community) t) (λ v0.
     bind_own (needed_at key.Community (text_in 1 512) t) _ (needed_own key.Community (text_in 1 512) t) (λ v1.
     bind_own (needed_at key.Security (text_in 1 32) t) _ (needed_own key.Security (text_in 1 32) t) (λ v2.
     λ e h. absurd cc)))
@@ -104,7 +109,7 @@ community_of-own t =
 group_of-own : (t : Members) → Own (group_of t)
 unfolding group_of
 group_of-own t =
-    bind_own (only (key.Security ∷ key.Group ∷ []) t) _ (only_own (key.Security ∷ key.Group ∷ []) t) (λ v0.
+    bind_own (only (table_keys key.Group) t) _ (only_own (table_keys key.Group) t) (λ v0.
     bind_own (needed_at key.Security (text_in 1 32) t) _ (needed_own key.Security (text_in 1 32) t) (λ v1.
     bind_own (needed_at key.Group (text_in 1 32) t) _ (needed_own key.Group (text_in 1 32) t) (λ v2.
     λ e h. absurd cc)))
@@ -112,7 +117,7 @@ group_of-own t =
 access_of-own : (t : Members) → Own (access_entry_of t)
 unfolding access_entry_of
 access_of-own t =
-    bind_own (only (key.Group ∷ key.Model ∷ key.Read ∷ key.Write ∷ []) t) _ (only_own (key.Group ∷ key.Model ∷ key.Read ∷ key.Write ∷ []) t) (λ v0.
+    bind_own (only (table_keys key.Access) t) _ (only_own (table_keys key.Access) t) (λ v0.
     bind_own (needed_at key.Group (text_in 1 32) t) _ (needed_own key.Group (text_in 1 32) t) (λ v1.
     bind_own (needed_at key.Model model_in t) _ (needed_own key.Model model_in t) (λ v2.
     bind_own (default_at key.Read None (λ d. option_map Some (text_in 1 32 d)) t) _ (default_own key.Read (λ d. option_map Some (text_in 1 32 d)) None t) (λ v3.
@@ -122,7 +127,7 @@ access_of-own t =
 family_of-own : (t : Members) → Own (family_of t)
 unfolding family_of
 family_of-own t =
-    bind_own (only (key.View ∷ key.Subtree ∷ key.Mask ∷ key.Included ∷ []) t) _ (only_own (key.View ∷ key.Subtree ∷ key.Mask ∷ key.Included ∷ []) t) (λ v0.
+    bind_own (only (table_keys key.View) t) _ (only_own (table_keys key.View) t) (λ v0.
     bind_own (needed_at key.View (text_in 1 32) t) _ (needed_own key.View (text_in 1 32) t) (λ v1.
     bind_own (needed_at key.Subtree oid_in t) _ (needed_own key.Subtree oid_in t) (λ v2.
     bind_own (default_at key.Mask [] (hex_in 0 16) t) _ (default_own key.Mask (hex_in 0 16) [] t) (λ v3.
@@ -132,7 +137,7 @@ family_of-own t =
 growth_of-own : (t : Members) → Own (growth_of t)
 unfolding growth_of
 growth_of-own t =
-    bind_own (only (key.Start ∷ key.Rate ∷ []) t) _ (only_own (key.Start ∷ key.Rate ∷ []) t) (λ v0.
+    bind_own (only growth_keys t) _ (only_own growth_keys t) (λ v0.
     bind_own (needed_at key.Start long_in t) _ (needed_own key.Start long_in t) (λ v1.
     bind_own (needed_at key.Rate long_in t) _ (needed_own key.Rate long_in t) (λ v2.
     λ e h. absurd cc)))
@@ -144,7 +149,7 @@ growth_at-own k t = bind_own (needed_at k as_table t) _ (needed_own k as_table t
 interface_of-own : (t : Members) → Own (interface_of t)
 unfolding interface_of
 interface_of-own t =
-    bind_own (only interface_keys t) _ (only_own interface_keys t) (λ v0.
+    bind_own (only (table_keys key.Interface) t) _ (only_own (table_keys key.Interface) t) (λ v0.
     bind_own (needed_at key.Index (number_in 1 2147483647) t) _ (needed_own key.Index (number_in 1 2147483647) t) (λ v1.
     bind_own (needed_at key.Descr (text_in 0 255) t) _ (needed_own key.Descr (text_in 0 255) t) (λ v2.
     bind_own (needed_at key.Type (int_in 0 2147483647) t) _ (needed_own key.Type (int_in 0 2147483647) t) (λ v3.
@@ -208,9 +213,3 @@ agent_of-own t =
     bind_own (policy_in t) _ (policy_in-own t) (λ v2.
     bind_own (interfaces_in t) _ (interfaces_in-own t) (λ v3.
     λ e h. absurd cc))))
-
-pub is_toml : {T A : Type 0} (view : T → A) (expected : Result A SettingsFault) → Own expected
-    → (r : Result T SettingsFault) → Reads view expected r → r ≡ Err fault.NotToml → ⊥
-is_toml view expected own (Ok x) reads h = absurd cc
-is_toml view expected own (Err e) (inl memory) h = absurd cc
-is_toml view expected own (Err e) (inr bad) h = let same : e ≡ fault.NotToml = cc in own fault.NotToml (bad ∙ ap Err same)

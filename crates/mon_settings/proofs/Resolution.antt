@@ -18,8 +18,9 @@ use Rattle.mon_smi.specs.Nearest.{dotted_after}
 use Rattle.mon_smi.specs.Parents.{numbers_of}
 use Rattle.mon_smi.specs.Words.{is_part, GoesOn, IsWord}
 use Rattle.mon_smi.specs.declared.definition.Definition.{Definition}
+use Rattle.mon_settings.specs.StationAccepted.{Resolves}
 use Rattle.mon_settings.specs.Leaf.{is_oid, oid_of}
-use Rattle.mon_settings.specs.Resolving.{Resolves, all_go_on, is_word, is_named, checked_name, name_in_parts, name_of_text, only_oid, oid_of_name, resolution}
+use Rattle.mon_settings.specs.Resolving.{all_go_on, is_word, is_named, checked_name, name_in_parts, name_of_text, only_oid, oid_of_name, resolution}
 use Rattle.mon_settings.proofs.Insertions.{then_from}
 use Rattle.mon_settings.proofs.Oids.{is_dot, no_dots, values, small_true, true_small, own, is_oid-true, true-is_oid, oid_sound, oid_complete}
 

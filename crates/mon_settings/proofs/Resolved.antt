@@ -9,8 +9,9 @@ use Rattle.mon_smi.specs.declared.fault.NamesFault.TheVariants.{OutOfMemory, Dup
 use Rattle.mon_settings.specs.declared.fault.SettingsFault.{SettingsFault}
 use Rattle.mon_settings.specs.declared.fault.SettingsFault.TheVariants as fault
 use Rattle.mon_settings.specs.declared.key.Key.{Key}
+use Rattle.mon_settings.specs.StationAccepted.{Resolves}
 use Rattle.mon_settings.specs.Place.{at}
-use Rattle.mon_settings.specs.Resolving.{Resolves, or_unknown, unresolved}
+use Rattle.mon_settings.specs.Resolving.{or_unknown, unresolved}
 
 none_found : (k : Key) (o : Option (List ℕ)) → ((q : List ℕ) → o ≡ Some q → ⊥) → (let r : Result (List ℕ) SettingsFault = or_unknown k o in r) ≡ Err (fault.UnknownObject (at k))
 none_found k None none = refl

@@ -1,5 +1,5 @@
 -- A list of tables, entry by entry.
-use Rattle.std.proofs.Common.{◌≡◌, ℕ, ◌+◌, ◌<◌, ◌≤◌, List, [], ◌∷◌, ◌++◌, length, get_or, drop, Result, Ok, Err, refl, ap, sym, ◌∙◌, append_assoc, append-nil, arith, nat_le, if◌then◌else◌, Some, None}
+use Rattle.std.proofs.Common.{◌≡◌, ℕ, ◌+◌, ◌<◌, ◌≤◌, List, [], ◌∷◌, ◌++◌, length, get_or, drop, Result, Ok, Err, refl, ap, sym, ◌∙◌, append_assoc, append-nil, arith, nat_le, ◌&&◌, if◌then◌else◌, Some, None}
 use Rattle.std.proofs.Math.ListN.{drop_of_length-le}
 use Rattle.toml.specs.Data.{Data, Items, item, Members}
 use Rattle.toml.specs.View.{view, items_view}
@@ -9,7 +9,8 @@ use Rattle.mon_settings.specs.declared.key.Key.{Key}
 use Rattle.mon_settings.specs.declared.fault.SettingsFault.{SettingsFault}
 use Rattle.mon_settings.specs.declared.place.Step.TheVariants as step
 use Rattle.mon_oid.specs.Steps.{◌>>=◌}
-use Rattle.mon_settings.specs.Lists.{count, few, row, rows}
+use Rattle.mon_settings.specs.Leaf.{between, count}
+use Rattle.mon_settings.specs.Lists.{row, rows}
 
 -- what is read after some entries
 abbrev pub after : {A : Type 0} → List A → Result (List A) SettingsFault → Result (List A) SettingsFault
@@ -60,5 +61,6 @@ pub count_view : (vs : List Value) → count (items_view vs) ≡ length vs
 count_view [] = refl
 count_view (v ∷ vs) = omega (arith, count_view vs)
 
-pub few_values : (vs : List Value) → few (items_view vs) ≡ (if nat_le (length vs) 256 then Some (items_view vs) else None)
-few_values vs = rw (count_view vs)
+pub between_values : (least most : ℕ) (vs : List Value) → between least most (items_view vs)
+    ≡ (if nat_le least (length vs) && nat_le (length vs) most then Some (items_view vs) else None)
+between_values least most vs = rw (count_view vs)

@@ -1,5 +1,5 @@
 -- A tree is refused as a station's settings for a key, a value or a name in it, and for nothing else.
-use Rattle.std.proofs.Common.{◌≡◌, refl, ℕ, ◌+◌, ◌&&◌, nat_le, List, [], ◌∷◌, length, map, Option, Some, None, Result, Ok, Err, ap, ◌∙◌, inl, inr, sym, subst}
+use Rattle.std.proofs.Common.{◌≡◌, refl, ℕ, ◌+◌, ◌&&◌, nat_le, List, [], ◌∷◌, length, map, Option, Some, None, Result, Ok, Err, ap, sym, subst}
 use Rattle.std.specs.Prelude.{int_lt, min}
 use Rattle.mon_alarms.specs.Rule.{Rule}
 use Rattle.mon_board.specs.Instance.{named}
@@ -19,17 +19,17 @@ use Rattle.mon_settings.specs.declared.station_tables.AlarmRow.{AlarmRow}
 use Rattle.mon_settings.specs.declared.station_tables.PeerRow.{PeerRow}
 use Rattle.mon_settings.specs.declared.station_tables.TargetRow.{TargetRow}
 use Rattle.mon_settings.specs.Key.{key_name}
-use Rattle.mon_settings.specs.Keys.{or_bad, or_bad_at, only, needed_at, default_at, within, Reads}
-use Rattle.mon_settings.specs.Leaf.{number_in, text_in, hex_in, addr_in}
-use Rattle.mon_settings.specs.Lists.{row, rows}
-use Rattle.mon_settings.specs.NamedLists.{list_between, rows_between, rows_up_to}
+use Rattle.mon_settings.specs.Grammar.{station_keys, table_keys}
+use Rattle.mon_settings.specs.Keys.{or_bad, or_bad_at, only, needed_at, default_at, within}
+use Rattle.mon_settings.specs.Leaf.{number_in, text_in, hex_in, addr_in, list_between, texts_in}
+use Rattle.mon_settings.specs.Lists.{row, rows, rows_between, rows_up_to}
 use Rattle.mon_settings.specs.Place.{at}
-use Rattle.mon_settings.specs.Placing.{few_instances, instances_of_rows, number_of_instance, placed, rule_from, rule_of_alarm, watched_cmp, with_alarm, with_alarms}
+use Rattle.mon_settings.specs.Placing.{few_instances, instances_of_rows, placed, rule_from, rule_of_alarm, with_alarm, with_alarms}
 use Rattle.mon_settings.specs.Resolving.{or_unknown, name_in, name_at, name_in_some, name_or_none}
 use Rattle.mon_settings.specs.SettingsFault.{IsOfStationTree, IsOfTree, bad_value, fault_within}
-use Rattle.mon_settings.specs.Station.{are_apart, are_peer_numbers, checked_peers, modules_at, peers_at, rules_at, scalars_of, station_keys, station_of, texts_in}
+use Rattle.mon_settings.specs.Station.{are_apart, are_peer_numbers, checked_peers, modules_at, peers_at, rules_at, scalars_of, station_of}
 use Rattle.mon_settings.specs.StationTables.{object_of, target_of, peer_of, alarm_of}
-use Rattle.mon_settings.specs.Watching.{all_watched}
+use Rattle.mon_settings.specs.Watching.{all_watched, number_of_instance, watched_cmp}
 use Rattle.mon_settings.proofs.ForWatches.{targets_are}
 use Rattle.mon_settings.proofs.Insertions.{place_all}
 use Rattle.mon_settings.proofs.Named.{Own, bad_at_own, bad_own, bind_own, default_own, either_own, err_own, needed_own, ok_own, only_own, within_own}
@@ -40,7 +40,7 @@ Told r = (e : SettingsFault) → r ≡ Err e → IsOfStationTree e
 
 of_any : (e : SettingsFault) → IsOfTree e → IsOfStationTree e
 of_any fault.OutOfMemory h = absurd h
-of_any fault.NotToml h = absurd h
+of_any (fault.NotToml from) h = absurd h
 of_any (fault.Missing k) h = tt
 of_any (fault.BadValue k) h = tt
 of_any (fault.UnknownKey p) h = tt
@@ -62,7 +62,7 @@ unknown_told k (Some q) = ok_told q
 
 of_within : (s : Step) (e : SettingsFault) → IsOfStationTree e → IsOfStationTree (fault_within s e)
 of_within s fault.OutOfMemory h = h
-of_within s fault.NotToml h = h
+of_within s (fault.NotToml from) h = h
 of_within s (fault.Missing p) h = tt
 of_within s (fault.BadValue p) h = tt
 of_within s (fault.UnknownKey p) h = tt
@@ -94,7 +94,7 @@ module _ {A : Type 0} (k : Key) (f : Members → Result A SettingsFault) (each :
 peer_of-own : (t : Members) → Own (peer_of t)
 unfolding peer_of
 peer_of-own t =
-    bind_own (only (key.Station ∷ key.Address ∷ []) t) _ (only_own (key.Station ∷ key.Address ∷ []) t) (λ v0.
+    bind_own (only (table_keys key.Peer) t) _ (only_own (table_keys key.Peer) t) (λ v0.
     bind_own (needed_at key.Station (number_in 1 4294967295) t) _ (needed_own key.Station (number_in 1 4294967295) t) (λ v1.
     bind_own (needed_at key.Address addr_in t) _ (needed_own key.Address addr_in t) (λ v2.
     λ e h. absurd cc)))
@@ -160,7 +160,7 @@ module _ (find : List ℕ → Option (List ℕ)) where
   object_of-told : (sizes : Sizes) (t : Members) → Told (object_of find sizes t)
   unfolding object_of
   object_of-told sizes t =
-      bind_told (only (key.Name ∷ key.Mark ∷ key.Window ∷ key.Epoch ∷ []) t) _ (told _ (only_own (key.Name ∷ key.Mark ∷ key.Window ∷ key.Epoch ∷ []) t)) (λ v0.
+      bind_told (only (table_keys key.Objects) t) _ (told _ (only_own (table_keys key.Objects) t)) (λ v0.
       bind_told (name_at find key.Name t) _ (name_at-told key.Name t) (λ v1.
       bind_told (name_or_none find key.Mark t) _ (name_some-told key.Mark (get_member (key_name key.Mark) t)) (λ v2.
       bind_told (default_at key.Window sizes.window (number_in 1 64) t) _ (told _ (default_own key.Window (number_in 1 64) sizes.window t)) (λ v3.
@@ -170,7 +170,7 @@ module _ (find : List ℕ → Option (List ℕ)) where
   target_of-told : (sizes : Sizes) (t : Members) → Told (target_of find sizes t)
   unfolding target_of
   target_of-told sizes t =
-      bind_told (only (key.Address ∷ key.Community ∷ key.Engine ∷ key.Tries ∷ key.Objects ∷ []) t) _ (told _ (only_own (key.Address ∷ key.Community ∷ key.Engine ∷ key.Tries ∷ key.Objects ∷ []) t)) (λ v0.
+      bind_told (only (table_keys key.Target) t) _ (told _ (only_own (table_keys key.Target) t)) (λ v0.
       bind_told (needed_at key.Address addr_in t) _ (told _ (needed_own key.Address addr_in t)) (λ v1.
       bind_told (needed_at key.Community (text_in 1 512) t) _ (told _ (needed_own key.Community (text_in 1 512) t)) (λ v2.
       bind_told (needed_at key.Engine (hex_in 5 32) t) _ (told _ (needed_own key.Engine (hex_in 5 32) t)) (λ v3.
@@ -181,7 +181,7 @@ module _ (find : List ℕ → Option (List ℕ)) where
   alarm_of-told : (sizes : Sizes) (t : Members) → Told (alarm_of find sizes t)
   unfolding alarm_of
   alarm_of-told sizes t =
-      bind_told (only (key.Engine ∷ key.Name ∷ key.Rising ∷ key.Falling ∷ []) t) _ (told _ (only_own (key.Engine ∷ key.Name ∷ key.Rising ∷ key.Falling ∷ []) t)) (λ v0.
+      bind_told (only (table_keys key.Alarm) t) _ (told _ (only_own (table_keys key.Alarm) t)) (λ v0.
       bind_told (needed_at key.Engine (hex_in 5 32) t) _ (told _ (needed_own key.Engine (hex_in 5 32) t)) (λ v1.
       bind_told (name_at find key.Name t) _ (name_at-told key.Name t) (λ v2.
       bind_told (needed_at key.Rising as_integer t) _ (told _ (needed_own key.Rising as_integer t)) (λ v3.
@@ -208,9 +208,3 @@ module _ (find : List ℕ → Option (List ℕ)) where
 
 pub modules-told : (t : Members) → Told (modules_at t)
 modules-told t = told (modules_at t) (default_own key.Modules texts_in [] t)
-
-pub is_toml : {T A : Type 0} (view : T → A) (expected : Result A SettingsFault) → Told expected
-    → (r : Result T SettingsFault) → Reads view expected r → r ≡ Err fault.NotToml → ⊥
-is_toml view expected all (Ok x) reads h = absurd cc
-is_toml view expected all (Err e) (inl memory) h = absurd cc
-is_toml view expected all (Err e) (inr bad) h = let same : e ≡ fault.NotToml = cc in all fault.NotToml (bad ∙ ap Err same)

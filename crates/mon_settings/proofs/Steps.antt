@@ -6,7 +6,7 @@ use Rattle.std.specs.Cmp.{tied_itself}
 use Rattle.std.specs.Ordering.{match_ordering}
 use Rattle.std.specs.declared.cmp.Ordering.{Ordering}
 use Rattle.std.specs.declared.cmp.Ordering.TheVariants.{Less, Equal, Greater}
-use Rattle.std.proofs.lemmas.Bool.{and_parts, cases_Bool}
+use Rattle.std.proofs.lemmas.Bool.{cases_Bool}
 use Rattle.std.proofs.lemmas.Cmp.{nat_list_cmp_total}
 use Rattle.std.proofs.lemmas.Map.Text.{is_eq-slice_cmp}
 use Rattle.std.proofs.lemmas.Slice.Eq.{bytes_eq-Decides}
@@ -17,11 +17,12 @@ use Rattle.mon_settings.specs.declared.place.Place.{Place}
 use Rattle.mon_settings.specs.declared.place.Place.TheVariants as place
 use Rattle.mon_settings.specs.declared.place.Step.{Step}
 use Rattle.mon_settings.specs.declared.place.Step.TheVariants as step
+use Rattle.mon_settings.specs.Leaf.{list_in}
 use Rattle.mon_settings.specs.Key.{key_name}
 use Rattle.mon_settings.specs.Place.{at}
 use Rattle.mon_oid.specs.Steps.{◌>>=◌}
-use Rattle.mon_settings.specs.Keys.{or_bad, or_bad_at, needed, needed_at, or_default, default_at, is_one_of, has_only, only, within}
-use Rattle.mon_settings.specs.Lists.{list_in, row, rows, list_at}
+use Rattle.mon_settings.specs.Keys.{or_bad, or_bad_at, needed, needed_at, or_default, default_at, is_one_of, first_unknown, or_unknown_key, only, within}
+use Rattle.mon_settings.specs.Lists.{row, rows, list_at}
 use Rattle.mon_settings.specs.Accepted.{KnowsOnly, Holds, HoldsOr, AreRows, HoldsRows}
 
 -- a chain gives something where each of its steps does
@@ -106,36 +107,40 @@ module _ (ks : List Key) where
   known_at Equal name l e rest d is here more h = one_from ks name (rw (equal_same name l is) here)
   known_at Greater name l e rest d is here more h = more h
 
-  pub known_from : (t : Members) → has_only ks t ≡ true → KnowsOnly ks t
+  known_from : (t : Members) → first_unknown ks t ≡ None → KnowsOnly ks t
   known_from no_members h = λ name d is. absurd cc
   known_from (member l e ms) h =
-      let (here, rest) = and_parts (is_one_of ks l) (has_only ks ms) h in
-      λ name d is. known_at (slice_cmp nat_cmp name l) name l e (get_member name ms) d refl here (known_from ms rest name d) is
+      elim (cases_Bool (is_one_of ks l)) [
+        | inl here ↦
+            let rest : first_unknown ks ms ≡ None = rw here at h in
+            λ name d is. known_at (slice_cmp nat_cmp name l) name l e (get_member name ms) d refl here (known_from ms rest name d) is
+        | inr other ↦ let unknown : (let o : Option (List ℕ) = Some l in o) ≡ None = rw other at h in absurd cc
+      ]
 
-  pub found_at : (o : Ordering) (e : Data) (rest : Option Data) (d : Data) → rest ≡ Some d → (x : Data) × (match_ordering o rest (Some e) rest ≡ Some x)
+  found_at : (o : Ordering) (e : Data) (rest : Option Data) (d : Data) → rest ≡ Some d → (x : Data) × (match_ordering o rest (Some e) rest ≡ Some x)
   found_at Less e rest d h = (d, h)
   found_at Equal e rest d h = (e, refl)
   found_at Greater e rest d h = (d, h)
 
-  known_to : (t : Members) → KnowsOnly ks t → has_only ks t ≡ true
+  known_to : (t : Members) → KnowsOnly ks t → first_unknown ks t ≡ None
   known_to no_members h = refl
   known_to (member l e ms) h =
       let first : get_member l (member l e ms) ≡ Some e = rw (tied_itself nat_list_cmp_total l) in
       let here = one_to ks l (h l e first) in
       let others = known_to ms (λ name d is. let (x, found) = found_at (slice_cmp nat_cmp name l) e (get_member name ms) d is in h name x found) in
-      rw (here, others)
+      rw here others
+
+  none_from : (o : Option (List ℕ)) (u : Unit {0}) → or_unknown_key o ≡ Ok u → o ≡ None
+  none_from None u h = refl
+  none_from (Some name) u h = absurd cc
 
   pub only_from : (t : Members) (u : Unit {0}) → only ks t ≡ Ok u → KnowsOnly ks t
   unfolding only
-  only_from t u h =
-      elim (cases_Bool (has_only ks t)) [
-        | inl yes_only ↦ known_from t yes_only
-        | inr other ↦ let refused : (let r : Result (Unit {0}) SettingsFault = Ok u in r) ≡ Err _ = sym (rw other at h) in absurd cc
-      ]
+  only_from t u h = known_from t (none_from (first_unknown ks t) u h)
 
   pub only_to : (t : Members) → KnowsOnly ks t → only ks t ≡ Ok tt
   unfolding only
-  only_to t h = rw (known_to t h)
+  only_to t h = ap or_unknown_key (known_to t h)
 
 -- the tables of a list
 module _ {A : Type 0} (k : Key) (f : Members → Result A SettingsFault) (P : Members → A → Type 0) (same : (t : Members) (a : A) → (f t ≡ Ok a) ↔ P t a) where

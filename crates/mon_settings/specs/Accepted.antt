@@ -1,23 +1,43 @@
 -- Which trees are settings of an agent, and of which: key by key, with no order of reading.
 use Rattle.std.specs.Prelude.{◌≡◌, ◌⊎◌, ℕ, List, [], ◌∷◌, Any, Option, Some, None, option_map, pos}
+use Rattle.mon_mib.specs.declared.sys_texts.SysTexts.{SysTexts}
+use Rattle.mon_mib.specs.declared.settings.Settings.{Settings}
+use Rattle.mon_poller.specs.declared.addr.Addr.{Addr}
 use Rattle.toml.specs.Data.{Data, Items, no_items, item, Members, get_member, as_table, as_bool}
 use Rattle.mon_mib.specs.Held.{at_start}
 use Rattle.mon_mib.specs.Held.{AreIndexes}
 use Rattle.mon_mib.specs.Sim.{indexes_of}
 use Rattle.mon_mib.specs.declared.interface.Growth.{Growth}
 use Rattle.mon_mib.specs.declared.interface.Interface.{Interface}
-use Rattle.mon_vacm.specs.Tables.{IsPolicy}
+use Rattle.mon_vacm.specs.Tables.{IsPolicy, Lists}
 use Rattle.mon_vacm.specs.declared.access_entry.AccessEntry.{AccessEntry}
 use Rattle.mon_vacm.specs.declared.community.Community.{Community}
 use Rattle.mon_vacm.specs.declared.family.Family.{Family}
 use Rattle.mon_vacm.specs.declared.group.Group.{Group}
+use Rattle.mon_settings.specs.declared.agent.AgentSettings.{AgentSettings}
 use Rattle.mon_settings.specs.declared.key.Key.{Key}
 use Rattle.mon_settings.specs.declared.key.Key.TheVariants as key
-use Rattle.mon_settings.specs.Agent.{Agent, agent_keys}
-use Rattle.mon_settings.specs.Interfaces.{interface_keys, long_in}
+use Rattle.mon_settings.specs.Grammar.{agent_keys, growth_keys, table_keys}
 use Rattle.mon_settings.specs.Key.{key_name}
-use Rattle.mon_settings.specs.Leaf.{number_in, int_in, text_in, hex_in, oid_in, addr_in, model_in}
-use Rattle.mon_settings.specs.Lists.{list_in}
+use Rattle.mon_settings.specs.Leaf.{number_in, int_in, text_in, hex_in, oid_in, addr_in, model_in, long_in, list_in}
+
+-- the settings, with their lists as lists
+pub record Agent : Type 0 where
+  pub listen : Addr
+  pub settings : Settings
+  pub texts : SysTexts
+  pub policy : Lists
+  pub interfaces : List Interface
+
+-- the settings as contracts compare them
+abbrev pub agent_view : AgentSettings → Agent
+agent_view s = record {
+  listen = s.listen;
+  settings = s.settings;
+  texts = s.texts;
+  policy = s.policy;
+  interfaces = s.interfaces.items;
+}
 
 -- each key of a table is one of these
 abbrev pub KnowsOnly : List Key → Members → Type 0
@@ -48,19 +68,19 @@ HoldsRows k P t rest = (ds : Items) × Holds k list_in t ds × AreRows P ds rest
 
 -- a table of the list of communities
 pub record IsCommunity (t : Members) (c : Community) : Type 0 where
-  pub known : KnowsOnly (key.Community ∷ key.Security ∷ []) t
+  pub known : KnowsOnly (table_keys key.Community) t
   pub community : Holds key.Community (text_in 1 512) t c.name
   pub security : Holds key.Security (text_in 1 32) t c.security_name
 
 -- a table of the list of groups
 pub record IsGroup (t : Members) (g : Group) : Type 0 where
-  pub known : KnowsOnly (key.Security ∷ key.Group ∷ []) t
+  pub known : KnowsOnly (table_keys key.Group) t
   pub security : Holds key.Security (text_in 1 32) t g.security_name
   pub group : Holds key.Group (text_in 1 32) t g.group_name
 
 -- a table of the list of access entries
 pub record IsAccess (t : Members) (a : AccessEntry) : Type 0 where
-  pub known : KnowsOnly (key.Group ∷ key.Model ∷ key.Read ∷ key.Write ∷ []) t
+  pub known : KnowsOnly (table_keys key.Access) t
   pub group : Holds key.Group (text_in 1 32) t a.group_name
   pub model : Holds key.Model model_in t a.security_model
   pub read : MayHold key.Read (text_in 1 32) t a.read_view
@@ -68,7 +88,7 @@ pub record IsAccess (t : Members) (a : AccessEntry) : Type 0 where
 
 -- a table of the list of view families
 pub record IsFamily (t : Members) (f : Family) : Type 0 where
-  pub known : KnowsOnly (key.View ∷ key.Subtree ∷ key.Mask ∷ key.Included ∷ []) t
+  pub known : KnowsOnly (table_keys key.View) t
   pub view : Holds key.View (text_in 1 32) t f.view_name
   pub subtree : Holds key.Subtree oid_in t f.subtree
   pub mask : HoldsOr key.Mask [] (hex_in 0 16) t f.mask
@@ -76,7 +96,7 @@ pub record IsFamily (t : Members) (f : Family) : Type 0 where
 
 -- a table of a count
 pub record IsGrowth (t : Members) (g : Growth) : Type 0 where
-  pub known : KnowsOnly (key.Start ∷ key.Rate ∷ []) t
+  pub known : KnowsOnly growth_keys t
   pub start : Holds key.Start long_in t g.start
   pub rate : Holds key.Rate long_in t g.rate
 
@@ -86,7 +106,7 @@ HoldsGrowth k t g = (inner : Members) × Holds k as_table t inner × IsGrowth in
 
 -- a table of the list of interfaces
 pub record IsInterface (t : Members) (p : Interface) : Type 0 where
-  pub known : KnowsOnly interface_keys t
+  pub known : KnowsOnly (table_keys key.Interface) t
   pub index : Holds key.Index (number_in 1 2147483647) t p.index
   pub descr : Holds key.Descr (text_in 0 255) t p.descr
   pub kind : Holds key.Type (int_in 0 2147483647) t p.kind

@@ -1,40 +1,16 @@
--- The settings of an agent.
-use Rattle.std.specs.Prelude.{List, [], ◌∷◌, Option, Some, None, Result, Ok, Err, pos}
+-- Which fault of an agent's tree comes first: the keys in the order of reading. What is accepted is said in Accepted, and a law ties both.
+use Rattle.std.specs.Prelude.{Result, Ok, pos}
 use Rattle.toml.specs.Data.{Members}
-use Rattle.mon_mib.specs.declared.interface.Interface.{Interface}
-use Rattle.mon_mib.specs.declared.settings.Settings.{Settings}
-use Rattle.mon_mib.specs.declared.sys_texts.SysTexts.{SysTexts}
-use Rattle.mon_vacm.specs.Tables.{Lists}
-use Rattle.mon_poller.specs.declared.addr.Addr.{Addr}
-use Rattle.mon_settings.specs.declared.agent.AgentSettings.{AgentSettings}
+use Rattle.mon_oid.specs.Steps.{◌>>=◌}
+use Rattle.mon_settings.specs.Accepted.{Agent}
 use Rattle.mon_settings.specs.declared.agent.System.{System}
-use Rattle.mon_settings.specs.declared.key.Key.{Key}
 use Rattle.mon_settings.specs.declared.key.Key.TheVariants as key
 use Rattle.mon_settings.specs.declared.fault.SettingsFault.{SettingsFault}
-use Rattle.mon_settings.specs.declared.fault.SettingsFault.TheVariants as fault
-use Rattle.mon_oid.specs.Steps.{◌>>=◌}
+use Rattle.mon_settings.specs.Grammar.{agent_keys}
 use Rattle.mon_settings.specs.Keys.{only, needed_at, default_at}
 use Rattle.mon_settings.specs.Leaf.{int_in, text_in, hex_in, oid_in, addr_in}
 use Rattle.mon_settings.specs.Interfaces.{interfaces_in}
 use Rattle.mon_settings.specs.Tables.{policy_in}
-
--- the settings, with their lists as lists
-pub record Agent : Type 0 where
-  pub listen : Addr
-  pub settings : Settings
-  pub texts : SysTexts
-  pub policy : Lists
-  pub interfaces : List Interface
-
--- the settings as contracts compare them
-abbrev pub agent_view : AgentSettings → Agent
-agent_view s = record {
-  listen = s.listen;
-  settings = s.settings;
-  texts = s.texts;
-  policy = s.policy;
-  interfaces = s.interfaces.items;
-}
 
 -- what stands outside of the lists
 unfoldable pub system_of : Members → Result System SettingsFault
@@ -62,12 +38,6 @@ system_of t = do
     texts = record { contact = contact; name = name; location = location };
   })
 
--- the keys of an agent's settings
-abbrev pub agent_keys : List Key
-agent_keys =
-    key.Listen ∷ key.Limit ∷ key.Engine ∷ key.Boots ∷ key.Descr ∷ key.ObjectId ∷ key.Contact ∷ key.Name ∷ key.Location
-    ∷ key.Services ∷ key.Community ∷ key.Group ∷ key.Access ∷ key.View ∷ key.Interface ∷ []
-
 -- what a tree gives: unknown keys are refused first, and then the keys are read in this order
 unfoldable pub agent_of : Members → Result Agent SettingsFault
 agent_of t = do
@@ -82,8 +52,3 @@ agent_of t = do
     policy = policy;
     interfaces = interfaces;
   })
-
--- what a text gives, by the tree that it has
-abbrev pub agent_in : Option Members → Result Agent SettingsFault
-agent_in None = Err fault.NotToml
-agent_in (Some tree) = agent_of tree

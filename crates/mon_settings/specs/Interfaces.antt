@@ -1,26 +1,19 @@
--- The interfaces of the simulated device, as the settings give them.
-use Rattle.std.specs.Prelude.{Bool, true, ◌&&◌, ℕ, nat_lt, List, [], ◌∷◌, Option, Result, Ok, Err, if◌then◌else◌}
-use Rattle.toml.specs.Data.{Data, Members, as_table}
+-- Which fault of the interfaces comes first.
+use Rattle.std.specs.Prelude.{Bool, true, ◌&&◌, ℕ, nat_lt, List, [], ◌∷◌, Result, Ok, Err, if◌then◌else◌}
+use Rattle.toml.specs.Data.{Members, as_table}
 use Rattle.mon_mib.specs.Held.{at_start}
 use Rattle.mon_mib.specs.declared.interface.Growth.{Growth}
 use Rattle.mon_mib.specs.declared.interface.Interface.{Interface}
+use Rattle.mon_oid.specs.Steps.{◌>>=◌}
 use Rattle.mon_settings.specs.declared.key.Key.{Key}
 use Rattle.mon_settings.specs.declared.key.Key.TheVariants as key
 use Rattle.mon_settings.specs.declared.fault.SettingsFault.{SettingsFault}
 use Rattle.mon_settings.specs.declared.place.Step.TheVariants as step
 use Rattle.mon_settings.specs.SettingsFault.{bad_value}
-use Rattle.mon_oid.specs.Steps.{◌>>=◌}
+use Rattle.mon_settings.specs.Grammar.{growth_keys, table_keys}
 use Rattle.mon_settings.specs.Keys.{only, needed_at, within}
-use Rattle.mon_settings.specs.Leaf.{number_in, int_in, text_in, hex_in}
+use Rattle.mon_settings.specs.Leaf.{number_in, int_in, text_in, hex_in, long_in}
 use Rattle.mon_settings.specs.Lists.{list_at}
-
--- a number of up to 63 bits
-abbrev pub long_in : Data → Option ℕ
-long_in d = number_in 0 9223372036854775807 d
-
--- the keys of a count
-abbrev pub growth_keys : List Key
-growth_keys = key.Start ∷ key.Rate ∷ []
 
 -- how a count begins, and what each second adds
 unfoldable pub growth_of : Members → Result Growth SettingsFault
@@ -34,16 +27,10 @@ growth_of t = do
 unfoldable pub growth_at : Key → Members → Result Growth SettingsFault
 growth_at k t = needed_at k as_table t >>= (λ inner. within (step.Value k) (growth_of inner))
 
--- the keys of an interface
-abbrev pub interface_keys : List Key
-interface_keys =
-    key.Index ∷ key.Descr ∷ key.Type ∷ key.Mtu ∷ key.Speed ∷ key.Phys ∷ key.Name ∷ key.Alias
-    ∷ key.InOctets ∷ key.InPackets ∷ key.OutOctets ∷ key.OutPackets ∷ []
-
 -- the interface of a table
 unfoldable pub interface_of : Members → Result Interface SettingsFault
 interface_of t = do
-  known ← only interface_keys t
+  known ← only (table_keys key.Interface) t
   index ← needed_at key.Index (number_in 1 2147483647) t
   descr ← needed_at key.Descr (text_in 0 255) t
   kind ← needed_at key.Type (int_in 0 2147483647) t

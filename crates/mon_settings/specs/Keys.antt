@@ -1,7 +1,8 @@
--- What a key of a table gives.
-use Rattle.std.specs.Prelude.{◌≡◌, ◌⊎◌, Bool, true, false, ◌&&◌, ◌||◌, ℕ, List, [], ◌∷◌, Option, Some, None, option_map, Result, Ok, Err, if◌then◌else◌}
+-- Which fault of a key comes first.
+use Rattle.std.specs.Prelude.{◌≡◌, ◌⊎◌, Bool, false, ◌||◌, ℕ, List, [], ◌∷◌, Option, Some, None, option_map, Result, Ok, Err, if◌then◌else◌}
 use Rattle.std.specs.Str.{bytes_eq}
 use Rattle.toml.specs.Data.{Data, Members, no_members, member, get_member}
+use Rattle.mon_settings.specs.Place.{at}
 use Rattle.mon_settings.specs.declared.key.Key.{Key}
 use Rattle.mon_settings.specs.declared.fault.SettingsFault.{SettingsFault}
 use Rattle.mon_settings.specs.declared.fault.SettingsFault.TheVariants as fault
@@ -9,7 +10,6 @@ use Rattle.mon_settings.specs.declared.place.Place.{Place}
 use Rattle.mon_settings.specs.declared.place.Place.TheVariants as place
 use Rattle.mon_settings.specs.declared.place.Step.{Step}
 use Rattle.mon_settings.specs.Key.{key_name}
-use Rattle.mon_settings.specs.Place.{at}
 use Rattle.mon_settings.specs.SettingsFault.{fault_within, missing_key}
 
 -- what stands at a place gives, or that it is bad
@@ -48,14 +48,19 @@ abbrev pub is_one_of : List Key → List ℕ → Bool
 is_one_of [] name = false
 is_one_of (k ∷ ks) name = bytes_eq name (key_name k) || is_one_of ks name
 
--- each key of a table is one of these
-abbrev pub has_only : List Key → Members → Bool
-has_only ks no_members = true
-has_only ks (member name d ms) = is_one_of ks name && has_only ks ms
+-- the first key of a table that is none of these; a table has its keys in the order of their octets
+abbrev pub first_unknown : List Key → Members → Option (List ℕ)
+first_unknown ks no_members = None
+first_unknown ks (member name d ms) = if is_one_of ks name then first_unknown ks ms else Some name
+
+-- nothing, where no key is unknown
+abbrev pub or_unknown_key : Option (List ℕ) → Result Unit SettingsFault
+or_unknown_key None = Ok tt
+or_unknown_key (Some name) = Err (fault.UnknownKey place.Whole)
 
 -- no key but these is there
 unfoldable pub only : List Key → Members → Result Unit SettingsFault
-only ks t = if has_only ks t then Ok tt else Err (fault.UnknownKey place.Whole)
+only ks t = or_unknown_key (first_unknown ks t)
 
 -- what a table gives, with its faults as they are called from around the table
 abbrev pub within : {A : Type 0} → Step → Result A SettingsFault → Result A SettingsFault

@@ -1,22 +1,22 @@
 -- What the value of a key has to be, and what it then gives.
-use Rattle.std.specs.Prelude.{Bool, ◌&&◌, ◌||◌, ℕ, ℤ, ◌^◌, pos, negsuc, nat_le, nat_lt, ◌==◌, List, length, map, slice_index, Option, Some, None, Result, Ok, Err, option_map, option_and_then, if◌then◌else◌}
+use Rattle.std.specs.Prelude.{Bool, ◌&&◌, ◌||◌, ℕ, ℤ, ◌^◌, pos, negsuc, nat_le, nat_lt, ◌==◌, List, length, map, slice_index, Option, Some, None, Result, Ok, Err, option_map, option_and_then, if◌then◌else◌, [], ◌∷◌, ◌+◌}
 use Rattle.std.specs.List.{slice_split, list_all}
 use Rattle.std.specs.Str.{bytes_eq}
 use Rattle.std.specs.Str.Parse.{digits_value}
 use Rattle.hex.specs.Hex.{decode_of}
 use Rattle.hex.specs.declared.error.FromHexError.{FromHexError}
-use Rattle.toml.specs.Data.{Data, as_integer, as_str}
+use Rattle.toml.specs.Data.{Data, as_integer, as_str, Items, as_array, item, no_items}
 use Rattle.mon_oid.specs.Oid.{dotted}
 use Rattle.mon_vacm.specs.declared.model.SecurityModel.{SecurityModel}
 use Rattle.mon_vacm.specs.declared.model.SecurityModel.TheVariants as model
 use Rattle.mon_oid.specs.declared.fault.OidFault.{OidFault}
 use Rattle.mon_oid.specs.declared.fault.OidFault.TheVariants as oid_fault
+use Rattle.mon_poller.specs.declared.addr.Addr.{Addr}
+use Rattle.mon_poller.specs.Addr.{addr_of}
 use Rattle.mon_settings.specs.declared.key.Key.{Key}
 use Rattle.mon_settings.specs.declared.fault.SettingsFault.{SettingsFault}
 use Rattle.mon_settings.specs.declared.fault.SettingsFault.TheVariants as fault
 use Rattle.mon_settings.specs.SettingsFault.{bad_value}
-use Rattle.mon_poller.specs.declared.addr.Addr.{Addr}
-use Rattle.mon_poller.specs.Addr.{addr_of}
 
 -- a number from least to most
 abbrev pub bounded : ℕ → ℕ → ℤ → Option ℕ
@@ -101,3 +101,33 @@ model_of (negsuc n) = None
 -- a security model
 abbrev pub model_in : Data → Option SecurityModel
 model_in d = option_and_then model_of (as_integer d)
+
+-- a number of up to 63 bits
+abbrev pub long_in : Data → Option ℕ
+long_in d = number_in 0 9223372036854775807 d
+
+-- how many items there are
+abbrev pub count : Items → ℕ
+count no_items = 0
+count (item d ds) = 1 + count ds
+
+-- least to most items
+abbrev pub between : ℕ → ℕ → Items → Option Items
+between least most ds = if nat_le least (count ds) && nat_le (count ds) most then Some ds else None
+
+-- a list of least to most items
+abbrev pub list_between : ℕ → ℕ → Data → Option Items
+list_between least most d = option_and_then (between least most) (as_array d)
+
+-- a list of at most 256 entries
+abbrev pub list_in : Data → Option Items
+list_in d = list_between 0 256 d
+
+-- texts of at most 4095 octets
+abbrev pub texts_of : Items → Option (List (List ℕ))
+texts_of no_items = Some []
+texts_of (item d ds) = option_and_then (λ text. option_map (λ rest. text ∷ rest) (texts_of ds)) (text_in 0 4095 d)
+
+-- a list of at most 256 such texts
+abbrev pub texts_in : Data → Option (List (List ℕ))
+texts_in d = option_and_then texts_of (list_in d)

@@ -1,11 +1,11 @@
 pub mod Accepted
 pub mod Agent
+pub mod Grammar
 pub mod Interfaces
 pub mod Key
 pub mod Keys
 pub mod Leaf
 pub mod Lists
-pub mod NamedLists
 pub mod Place
 pub mod Placing
 pub mod Position
@@ -16,5 +16,6 @@ pub mod StationAccepted
 pub mod StationCore
 pub mod StationTables
 pub mod Tables
+pub mod Text
 pub mod Unknown
 pub mod Watching

@@ -1,5 +1,5 @@
 -- Where in a text something stands.
-use Rattle.std.specs.Prelude.{◌≡◌, Bool, ◌||◌, ◌==◌, ℕ, ◌+◌, ◌≤◌, nat_le, nat_lt, List, [], ◌∷◌, length, take, count_by, if◌then◌else◌}
+use Rattle.std.specs.Prelude.{Bool, ◌||◌, ◌==◌, ℕ, ◌+◌, nat_le, nat_lt, List, [], ◌∷◌, count_by, if◌then◌else◌}
 use Rattle.mon_settings.specs.declared.position.Position.{Position}
 
 -- the line that is last: what stands after the last line feed, or this line where there is none
@@ -18,7 +18,3 @@ begins_char b = nat_lt b 128 || nat_le 192 b
 -- the place after some octets: its line and its column, both from 1
 abbrev pub position_after : List ℕ → Position
 position_after before = record { line = count_by (λ b. b == 10) before + 1; column = count_by begins_char (last_line before) + 1 }
-
--- the place after some beginning of a text
-abbrev pub IsIn : List ℕ → Position → Type 0
-IsIn text p = (n : ℕ) × (n ≤ length text) × (p ≡ position_after (take n text))

@@ -1,13 +1,11 @@
--- Names of objects, and the identifiers that they resolve to.
-use Rattle.std.specs.Prelude.{◌≡◌, ◌↔◌, Bool, true, ◌&&◌, ◌||◌, ◌==◌, ◌^◌, nat_lt, List, [], ◌∷◌, ◌++◌, map, slice_index, ℕ, Option, Some, None, option_and_then, Result, Ok, Err, if◌then◌else◌}
+-- Resolving names as a function, and which fault of a name comes first. That the function is what StationAccepted.Resolves says is a law.
+use Rattle.std.specs.Prelude.{Bool, true, ◌&&◌, ◌||◌, ◌==◌, ◌^◌, nat_lt, List, [], ◌∷◌, ◌++◌, map, slice_index, ℕ, Option, Some, None, option_and_then, Result, Ok, Err, if◌then◌else◌}
 use Rattle.std.specs.Char.{is_ascii_alphabetic}
 use Rattle.std.specs.List.{list_all, slice_split}
 use Rattle.std.specs.Option.{option_or}
 use Rattle.std.specs.Str.{bytes_eq}
 use Rattle.std.specs.Str.Parse.{digits_value}
-use Rattle.mon_oid.specs.Oid.{IsOid}
 use Rattle.mon_oid.specs.Steps.{◌>>=◌}
-use Rattle.mon_smi.specs.Names.{MeansNumbers}
 use Rattle.mon_smi.specs.Nearest.{dotted_after}
 use Rattle.mon_smi.specs.Parents.{numbers_of}
 use Rattle.mon_smi.specs.Words.{is_part}
@@ -15,19 +13,13 @@ use Rattle.mon_smi.specs.declared.definition.Definition.{Definition}
 use Rattle.mon_smi.specs.declared.fault.NamesFault.{NamesFault}
 use Rattle.mon_smi.specs.declared.fault.NamesFault.TheVariants as names
 use Rattle.toml.specs.Data.{Data, Members, get_member, as_str}
+use Rattle.mon_settings.specs.Place.{at}
 use Rattle.mon_settings.specs.declared.key.Key.{Key}
 use Rattle.mon_settings.specs.declared.fault.SettingsFault.{SettingsFault}
 use Rattle.mon_settings.specs.declared.fault.SettingsFault.TheVariants as fault
 use Rattle.mon_settings.specs.Key.{key_name}
-use Rattle.mon_settings.specs.Place.{at}
 use Rattle.mon_settings.specs.Keys.{or_bad, needed_at}
 use Rattle.mon_settings.specs.Leaf.{is_oid, oid_of}
-
--- how texts resolve under these definitions: to the identifier that a text means, and to none where it means no identifier
-abbrev pub Resolves : List Definition → (List ℕ → Option (List ℕ)) → Type 0
-Resolves defs find = (text q : List ℕ) → (find text ≡ Some q) ↔ (IsOid q × MeansNumbers defs text q)
-
--- Resolving as a function, from here to `resolution`: that it is what `Resolves` says is a law, so its steps are not to be believed.
 
 -- letters, digits, underscores, and hyphens that one of these follows
 abbrev pub all_go_on : List ℕ → Bool

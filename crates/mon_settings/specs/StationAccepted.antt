@@ -1,9 +1,13 @@
 -- Which trees are settings of a station, and of which: key by key, with no order of reading.
-use Rattle.std.specs.Prelude.{◌≡◌, ℕ, List, [], ◌∷◌, map, Option, Some, None, min}
+use Rattle.std.specs.Prelude.{◌≡◌, ℕ, List, [], map, Option, Some, None, min, string_bytes, ◌↔◌}
+use Rattle.mon_board.specs.declared.instance.Watched.{Watched}
+use Rattle.mon_alarms.specs.Rule.{Rule}
+use Rattle.mon_poller.specs.declared.addr.Addr.{Addr}
 use Rattle.mon_oid.specs.Oid.{IsOid}
 use Rattle.mon_smi.specs.Names.{MeansNumbers}
 use Rattle.mon_smi.specs.declared.definition.Definition.{Definition}
 use Rattle.toml.specs.Data.{Items, no_items, Members, get_member, as_str, as_integer}
+use Rattle.mon_settings.specs.declared.station.StationSettings.{StationSettings}
 use Rattle.mon_settings.specs.declared.key.Key.{Key}
 use Rattle.mon_settings.specs.declared.key.Key.TheVariants as key
 use Rattle.mon_settings.specs.declared.sizes.Sizes.{Sizes}
@@ -12,12 +16,52 @@ use Rattle.mon_settings.specs.declared.station_tables.ObjectRow.{ObjectRow}
 use Rattle.mon_settings.specs.declared.station_tables.PeerRow.{PeerRow}
 use Rattle.mon_settings.specs.declared.station_tables.TargetRow.{TargetRow}
 use Rattle.mon_settings.specs.Accepted.{KnowsOnly, Holds, HoldsOr, AreRows}
+use Rattle.mon_settings.specs.Grammar.{station_keys, table_keys}
 use Rattle.mon_settings.specs.Key.{key_name}
-use Rattle.mon_settings.specs.Leaf.{number_in, text_in, hex_in, addr_in}
-use Rattle.mon_settings.specs.NamedLists.{list_between}
-use Rattle.mon_settings.specs.Station.{Station, Scalars, core_from, station_keys, texts_in}
-use Rattle.mon_settings.specs.StationCore.{ArePeersOf}
-use Rattle.mon_settings.specs.Watching.{AreElsewhere, AreInstancesOfRows, AreRulesOf}
+use Rattle.mon_settings.specs.Leaf.{number_in, text_in, hex_in, addr_in, list_between, texts_in}
+use Rattle.mon_settings.specs.StationCore.{ArePeersOf, Core}
+use Rattle.mon_settings.specs.Watching.{AreElsewhere, AreInstancesOfRows, AreRulesOf, target_from}
+
+-- the settings, with their texts and lists as lists
+pub record Station : Type 0 where
+  pub core : Core
+  pub listen : Addr
+  pub file : List ℕ
+  pub wait_ms : ℕ
+  pub modules : List (List ℕ)
+  pub peer_addresses : List Addr
+
+-- the settings as contracts compare them
+abbrev pub station_view : StationSettings → Station
+station_view s = record {
+  core = s.core;
+  listen = s.listen;
+  file = string_bytes s.file;
+  wait_ms = s.wait_ms;
+  modules = map string_bytes s.modules.items;
+  peer_addresses = s.peer_addresses.items;
+}
+
+-- what stands outside of the lists
+pub record Scalars : Type 0 where
+  pub station : ℕ
+  pub listen : Addr
+  pub file : List ℕ
+  pub sizes : Sizes
+  pub wait_ms : ℕ
+
+-- the core of a station with this number
+abbrev pub core_from : ℕ → List TargetRow → List PeerRow → List Watched → List Rule → Core
+core_from station targets peers instances rules = record {
+  station = station;
+  watch = record { instances = instances; rules = rules };
+  targets = map (target_from instances) targets;
+  peers = map (λ p. p.station) peers;
+}
+
+-- how texts resolve under these definitions: to the identifier that a text means, and to none where it means no identifier
+abbrev pub Resolves : List Definition → (List ℕ → Option (List ℕ)) → Type 0
+Resolves defs find = (text q : List ℕ) → (find text ≡ Some q) ↔ (IsOid q × MeansNumbers defs text q)
 
 -- the key is there, and its text means this identifier
 abbrev pub Names : List Definition → Key → Members → List ℕ → Type 0
@@ -38,7 +82,7 @@ MayHoldUpTo k most P t rows = (ds : Items) × HoldsOr k no_items (list_between 0
 
 -- a table of the list of objects
 pub record IsObject (defs : List Definition) (sizes : Sizes) (t : Members) (o : ObjectRow) : Type 0 where
-  pub known : KnowsOnly (key.Name ∷ key.Mark ∷ key.Window ∷ key.Epoch ∷ []) t
+  pub known : KnowsOnly (table_keys key.Objects) t
   pub name : Names defs key.Name t o.name
   pub mark : MayName defs key.Mark t o.mark
   pub window : HoldsOr key.Window sizes.window (number_in 1 64) t o.window
@@ -46,7 +90,7 @@ pub record IsObject (defs : List Definition) (sizes : Sizes) (t : Members) (o : 
 
 -- a table of the list of targets
 pub record IsPolled (defs : List Definition) (sizes : Sizes) (t : Members) (r : TargetRow) : Type 0 where
-  pub known : KnowsOnly (key.Address ∷ key.Community ∷ key.Engine ∷ key.Tries ∷ key.Objects ∷ []) t
+  pub known : KnowsOnly (table_keys key.Target) t
   pub address : Holds key.Address addr_in t r.address
   pub community : Holds key.Community (text_in 1 512) t r.community
   pub engine : Holds key.Engine (hex_in 5 32) t r.engine
@@ -55,13 +99,13 @@ pub record IsPolled (defs : List Definition) (sizes : Sizes) (t : Members) (r : 
 
 -- a table of the list of peers
 pub record IsPeer (t : Members) (p : PeerRow) : Type 0 where
-  pub known : KnowsOnly (key.Station ∷ key.Address ∷ []) t
+  pub known : KnowsOnly (table_keys key.Peer) t
   pub station : Holds key.Station (number_in 1 4294967295) t p.station
   pub address : Holds key.Address addr_in t p.address
 
 -- a table of the list of alarms
 pub record IsAlarm (defs : List Definition) (t : Members) (a : AlarmRow) : Type 0 where
-  pub known : KnowsOnly (key.Engine ∷ key.Name ∷ key.Rising ∷ key.Falling ∷ []) t
+  pub known : KnowsOnly (table_keys key.Alarm) t
   pub engine : Holds key.Engine (hex_in 5 32) t a.engine
   pub name : Names defs key.Name t a.name
   pub rising : Holds key.Rising as_integer t a.rising

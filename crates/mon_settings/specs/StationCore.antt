@@ -1,6 +1,6 @@
 -- What stations share, and what tells one from the others.
 use Rattle.std.specs.Prelude.{◌≡◌, ◌≢◌, ℕ, ◌≤◌, List, length, All, AllPairs, Some, slice_get, refl}
-use Rattle.std.specs.Coded.{Coded, code_by, coded×, coded_ℕ, coded_list}
+use Rattle.std.specs.Coded.{Coded, code_by, coded_ℕ, coded_list, coded×}
 use Rattle.mon_board.specs.Instance.{named}
 use Rattle.mon_board.specs.Watch.{Watch, IsWatch}
 use Rattle.mon_board.specs.contracts.watch.Watch as watch

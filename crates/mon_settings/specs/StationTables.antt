@@ -1,8 +1,7 @@
--- The tables of a station's settings: whom it polls for what, its peers, and its alarms.
-use Rattle.std.specs.Prelude.{ℕ, List, [], ◌∷◌, Option, Result, Ok, min}
+-- Which fault of the tables of a station comes first.
+use Rattle.std.specs.Prelude.{ℕ, List, Option, Result, Ok, min}
 use Rattle.mon_oid.specs.Steps.{◌>>=◌}
 use Rattle.toml.specs.Data.{Members, as_integer}
-use Rattle.mon_settings.specs.declared.key.Key.{Key}
 use Rattle.mon_settings.specs.declared.key.Key.TheVariants as key
 use Rattle.mon_settings.specs.declared.fault.SettingsFault.{SettingsFault}
 use Rattle.mon_settings.specs.declared.sizes.Sizes.{Sizes}
@@ -10,31 +9,16 @@ use Rattle.mon_settings.specs.declared.station_tables.AlarmRow.{AlarmRow}
 use Rattle.mon_settings.specs.declared.station_tables.ObjectRow.{ObjectRow}
 use Rattle.mon_settings.specs.declared.station_tables.PeerRow.{PeerRow}
 use Rattle.mon_settings.specs.declared.station_tables.TargetRow.{TargetRow}
+use Rattle.mon_settings.specs.Grammar.{table_keys}
 use Rattle.mon_settings.specs.Keys.{only, needed_at, default_at}
 use Rattle.mon_settings.specs.Leaf.{number_in, text_in, hex_in, addr_in}
-use Rattle.mon_settings.specs.NamedLists.{rows_between}
+use Rattle.mon_settings.specs.Lists.{rows_between}
 use Rattle.mon_settings.specs.Resolving.{name_at, name_or_none}
-
--- the keys of an object
-abbrev pub object_keys : List Key
-object_keys = key.Name ∷ key.Mark ∷ key.Window ∷ key.Epoch ∷ []
-
--- the keys of a target
-abbrev pub target_keys : List Key
-target_keys = key.Address ∷ key.Community ∷ key.Engine ∷ key.Tries ∷ key.Objects ∷ []
-
--- the keys of a peer
-abbrev pub peer_keys : List Key
-peer_keys = key.Station ∷ key.Address ∷ []
-
--- the keys of an alarm
-abbrev pub alarm_keys : List Key
-alarm_keys = key.Engine ∷ key.Name ∷ key.Rising ∷ key.Falling ∷ []
 
 -- an object: its window is the station's where it gives none, and its epoch the lesser of the station's and its window
 unfoldable pub object_of : (List ℕ → Option (List ℕ)) → Sizes → Members → Result ObjectRow SettingsFault
 object_of find sizes t = do
-  known ← only object_keys t
+  known ← only (table_keys key.Objects) t
   name ← name_at find key.Name t
   mark ← name_or_none find key.Mark t
   window ← default_at key.Window sizes.window (number_in 1 64) t
@@ -44,7 +28,7 @@ object_of find sizes t = do
 -- an agent that is polled, for 1 to 16 objects
 unfoldable pub target_of : (List ℕ → Option (List ℕ)) → Sizes → Members → Result TargetRow SettingsFault
 target_of find sizes t = do
-  known ← only target_keys t
+  known ← only (table_keys key.Target) t
   address ← needed_at key.Address addr_in t
   community ← needed_at key.Community (text_in 1 512) t
   engine ← needed_at key.Engine (hex_in 5 32) t
@@ -55,7 +39,7 @@ target_of find sizes t = do
 -- a peer
 unfoldable pub peer_of : Members → Result PeerRow SettingsFault
 peer_of t = do
-  known ← only peer_keys t
+  known ← only (table_keys key.Peer) t
   station ← needed_at key.Station (number_in 1 4294967295) t
   address ← needed_at key.Address addr_in t
   Ok (record { station = station; address = address })
@@ -63,7 +47,7 @@ peer_of t = do
 -- an alarm on an object at an engine
 unfoldable pub alarm_of : (List ℕ → Option (List ℕ)) → Sizes → Members → Result AlarmRow SettingsFault
 alarm_of find sizes t = do
-  known ← only alarm_keys t
+  known ← only (table_keys key.Alarm) t
   engine ← needed_at key.Engine (hex_in 5 32) t
   name ← name_at find key.Name t
   rising ← needed_at key.Rising as_integer t

@@ -1,4 +1,4 @@
--- The tables of a policy, as the settings give them.
+-- Which fault of the tables of a policy comes first.
 use Rattle.std.specs.Prelude.{Bool, true, false, not, ◌&&◌, ◌||◌, List, [], ◌∷◌, ℕ, Option, Some, None, Result, Ok, Err, if◌then◌else◌}
 use Rattle.std.specs.List.{list_all}
 use Rattle.std.specs.Str.{bytes_eq}
@@ -10,35 +10,20 @@ use Rattle.mon_vacm.specs.declared.family.Family.{Family}
 use Rattle.mon_vacm.specs.declared.group.Group.{Group}
 use Rattle.mon_vacm.specs.declared.fault.PolicyFault.{PolicyFault}
 use Rattle.mon_vacm.specs.declared.fault.PolicyFault.TheVariants.{DuplicateCommunity, UnknownView, DuplicateFamily}
+use Rattle.mon_oid.specs.Steps.{◌>>=◌}
 use Rattle.mon_settings.specs.declared.key.Key.{Key}
 use Rattle.mon_settings.specs.declared.key.Key.TheVariants as key
 use Rattle.mon_settings.specs.declared.fault.SettingsFault.{SettingsFault}
 use Rattle.mon_settings.specs.SettingsFault.{bad_value}
-use Rattle.mon_oid.specs.Steps.{◌>>=◌}
+use Rattle.mon_settings.specs.Grammar.{table_keys}
 use Rattle.mon_settings.specs.Keys.{only, needed_at, default_at, optional_at}
 use Rattle.mon_settings.specs.Leaf.{text_in, hex_in, oid_in, model_in}
 use Rattle.mon_settings.specs.Lists.{list_at}
 
--- the keys of a table of the list of communities
-abbrev pub community_keys : List Key
-community_keys = key.Community ∷ key.Security ∷ []
-
--- the keys of a table of the list of groups
-abbrev pub group_keys : List Key
-group_keys = key.Security ∷ key.Group ∷ []
-
--- the keys of a table of the list of access entries
-abbrev pub access_keys : List Key
-access_keys = key.Group ∷ key.Model ∷ key.Read ∷ key.Write ∷ []
-
--- the keys of a table of the list of view families
-abbrev pub view_keys : List Key
-view_keys = key.View ∷ key.Subtree ∷ key.Mask ∷ key.Included ∷ []
-
 -- a community and its security name
 unfoldable pub community_of : Members → Result Community SettingsFault
 community_of t = do
-  known ← only community_keys t
+  known ← only (table_keys key.Community) t
   community ← needed_at key.Community (text_in 1 512) t
   security ← needed_at key.Security (text_in 1 32) t
   Ok (record { name = community; security_name = security })
@@ -46,7 +31,7 @@ community_of t = do
 -- a security name and its group
 unfoldable pub group_of : Members → Result Group SettingsFault
 group_of t = do
-  known ← only group_keys t
+  known ← only (table_keys key.Group) t
   security ← needed_at key.Security (text_in 1 32) t
   group ← needed_at key.Group (text_in 1 32) t
   Ok (record { security_name = security; group_name = group })
@@ -54,7 +39,7 @@ group_of t = do
 -- the views of a group under a security model
 unfoldable pub access_entry_of : Members → Result AccessEntry SettingsFault
 access_entry_of t = do
-  known ← only access_keys t
+  known ← only (table_keys key.Access) t
   group ← needed_at key.Group (text_in 1 32) t
   model ← needed_at key.Model model_in t
   read ← optional_at key.Read (text_in 1 32) t
@@ -64,7 +49,7 @@ access_entry_of t = do
 -- a family of a view: an empty mask, and one that is left out, is all ones
 unfoldable pub family_of : Members → Result Family SettingsFault
 family_of t = do
-  known ← only view_keys t
+  known ← only (table_keys key.View) t
   view ← needed_at key.View (text_in 1 32) t
   subtree ← needed_at key.Subtree oid_in t
   mask ← default_at key.Mask [] (hex_in 0 16) t

@@ -1,10 +1,11 @@
 //! A fault of a settings text, explained for who wrote it.
 
 use crate::fault::SettingsFault;
+use crate::grammar::{Kind, known_keys};
 use crate::key::Key;
 use crate::place::Place;
-use crate::position::{Position, toml_position};
-use crate::unknown::{Kind, known_keys, unknown_key};
+use crate::position::{Position, position_at};
+use crate::unknown::unknown_key;
 use std::alloc::{AllocError, Global};
 
 /// The names of keys, with commas between them.
@@ -27,18 +28,14 @@ fn unknown(alloc: Global, text: &str, kind: Kind, place: Place) -> Result<String
     }
 }
 
-fn not_toml(alloc: Global, text: &str) -> Result<String, AllocError> {
-    match toml_position(alloc, text)? {
-        Some(Position { line, column }) => {
-            format!(in alloc; "line {line}, column {column}: the text is not TOML from here on")
-        }
-        None => format!(in alloc; "the text is not TOML"),
-    }
+fn not_toml(alloc: Global, position: Position) -> Result<String, AllocError> {
+    let Position { line, column } = position;
+    format!(in alloc; "line {line}, column {column}: the text is not TOML from here on")
 }
 
 /// What is wrong with a text that is refused as settings of this kind for this fault, and where, in one line without its end:
 /// `access[2].model: 0 or 2 is wanted`; of an unknown key its name and those that are known; of what is not TOML the line and column.
-/// The text is read again where the fault does not say all of this.
+/// The text is read again where a key is unknown.
 ///
 /// # Errors
 /// Out of memory.
@@ -49,7 +46,7 @@ pub fn explained(
     text: &str,
 ) -> Result<String, AllocError> {
     match fault {
-        SettingsFault::NotToml => not_toml(alloc, text),
+        SettingsFault::NotToml(from) => not_toml(alloc, position_at(text, from)),
         SettingsFault::UnknownKey(place) => unknown(alloc, text, kind, place),
         _ => format!(in alloc; "{fault}"),
     }

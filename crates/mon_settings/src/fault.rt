@@ -13,8 +13,9 @@ use std::fmt;
 pub enum SettingsFault {
     /// Memory was refused.
     OutOfMemory,
-    /// The text is not TOML. `toml_position` says from where on.
-    NotToml,
+    /// The text is not TOML. The number is of the octets in front of what stopped the reader, of which `position_at` gives the line
+    /// and the column. It is at most the text's length; that it is the right one is tested, and no clause says it.
+    NotToml(usize),
     /// A key that has to be there is not.
     Missing(Place),
     /// A value is of a wrong type, out of its range, or at odds with the rest of its list.
@@ -32,7 +33,7 @@ impl SettingsFault {
     {
         match self {
             SettingsFault::OutOfMemory => 1,
-            SettingsFault::NotToml => 2,
+            SettingsFault::NotToml(_) => 2,
             SettingsFault::Missing(_) => 3,
             SettingsFault::BadValue(_) => 4,
             SettingsFault::UnknownKey(_) => 5,
@@ -46,7 +47,7 @@ impl SettingsFault {
     {
         match self {
             SettingsFault::OutOfMemory => "OutOfMemory",
-            SettingsFault::NotToml => "NotToml",
+            SettingsFault::NotToml(_) => "NotToml",
             SettingsFault::Missing(_) => "Missing",
             SettingsFault::BadValue(_) => "BadValue",
             SettingsFault::UnknownKey(_) => "UnknownKey",
@@ -74,7 +75,7 @@ impl SettingsFault {
     {
         match self {
             SettingsFault::OutOfMemory => SettingsFault::OutOfMemory,
-            SettingsFault::NotToml => SettingsFault::NotToml,
+            SettingsFault::NotToml(from) => SettingsFault::NotToml(from),
             SettingsFault::Missing(place) => SettingsFault::Missing(place.within(step)),
             SettingsFault::BadValue(place) => SettingsFault::BadValue(place.within(step)),
             SettingsFault::UnknownKey(place) => SettingsFault::UnknownKey(place.within(step)),
@@ -88,7 +89,7 @@ impl fmt::Display for SettingsFault {
     fn fmt<W: fmt::Write>(&self, f: &mut fmt::Formatter<W>) -> fmt::Result {
         match self {
             SettingsFault::OutOfMemory => f.write_str("out of memory"),
-            SettingsFault::NotToml => f.write_str("the text is not TOML"),
+            SettingsFault::NotToml(_) => f.write_str("the text is not TOML"),
             SettingsFault::Missing(place) => {
                 let wanted = place.wanted();
                 write!(f, "{place} is missing: {wanted}")

@@ -8,12 +8,14 @@ ghost use Rattle.mon_settings.specs.Keys.{Reads};
 ghost use Rattle.toml.specs.View.{table_view};
 
 use crate::fault::SettingsFault;
+use crate::grammar::table_keys;
 use crate::key::Key;
-use crate::keys::{find, only};
-use crate::leaf::{index_at, int_at, number_at};
-use crate::list::{Row, list_at};
+use crate::keys::{needed, only};
+use crate::leaf::{int_at, number_at, u32_at};
+use crate::list::Row;
 use crate::octets::{hex_octets_at, octets_at};
 use crate::place::Step;
+use crate::tables::list_at;
 use mon_mib::{Growth, Interface, Status};
 use std::alloc::Global;
 use toml::Table;
@@ -24,30 +26,11 @@ const INT: u64 = 2147483647;
 /// The greatest integer of a TOML text.
 const LONG: u64 = 9223372036854775807;
 
-/// The keys of an interface.
-pub(crate) const KEYS: [Key; 12] = [
-    Key::Index,
-    Key::Descr,
-    Key::Type,
-    Key::Mtu,
-    Key::Speed,
-    Key::Phys,
-    Key::Name,
-    Key::Alias,
-    Key::InOctets,
-    Key::InPackets,
-    Key::OutOctets,
-    Key::OutPackets,
-];
-
-/// The keys of a count.
-pub(crate) const GROWTH_KEYS: [Key; 2] = [Key::Start, Key::Rate];
-
 #[tactic(auto, unfolding(crate::specs::Interfaces::growth_of))]
 fn growth_of(table: &Table) -> Result<Growth, SettingsFault>
     ensures { result ≡ growth_of (table_view table.now) }
 {
-    only(table, &GROWTH_KEYS)?;
+    only(table, table_keys(Key::InOctets))?;
     let start = number_at(table, Key::Start, 0, LONG)?;
     let rate = number_at(table, Key::Rate, 0, LONG)?;
     Ok(Growth { start, rate })
@@ -57,31 +40,28 @@ fn growth_of(table: &Table) -> Result<Growth, SettingsFault>
 fn growth_at(table: &Table, key: Key) -> Result<Growth, SettingsFault>
     ensures { result ≡ growth_at key (table_view table.now) }
 {
-    match find(table, key) {
-        Some(value) => match value.as_table() {
-            Some(inner) => growth_of(inner).map_err(|fault| fault.within(Step::Value(key))),
-            None => Err(SettingsFault::bad(key)),
-        },
-        None => Err(SettingsFault::missing(key)),
+    match needed(table, key)?.as_table() {
+        Some(inner) => growth_of(inner).map_err(|fault| fault.within(Step::Value(key))),
+        None => Err(SettingsFault::bad(key)),
     }
 }
 
-impl Row for Interface {
+impl Row<()> for Interface {
     ghost use Rattle.mon_settings.specs.Interfaces.{interface_of};
 
-    ghost row_of = { interface_of };
+    ghost row_of = { λ _. interface_of };
 
     #[tactic(auto, unfolding(crate::specs::Interfaces::interface_of))]
-    fn read(alloc: Global, table: &Table) -> Result<Self, SettingsFault> {
-        only(table, &KEYS)?;
-        let index = index_at(table, Key::Index)?;
-        let descr = octets_at(alloc, table, Key::Descr, 255)?;
+    fn read(alloc: Global, _around: &(), table: &Table) -> Result<Self, SettingsFault> {
+        only(table, table_keys(Key::Interface))?;
+        let index = u32_at(table, Key::Index, 1, INT)?;
+        let descr = octets_at(alloc, table, Key::Descr, 0, 255)?;
         let kind = int_at(table, Key::Type, 0, INT)?;
         let mtu = int_at(table, Key::Mtu, 0, INT)?;
         let speed = number_at(table, Key::Speed, 0, LONG)?;
         let phys = hex_octets_at(alloc, table, Key::Phys, 0, 255)?;
-        let name = octets_at(alloc, table, Key::Name, 255)?;
-        let alias = octets_at(alloc, table, Key::Alias, 64)?;
+        let name = octets_at(alloc, table, Key::Name, 0, 255)?;
+        let alias = octets_at(alloc, table, Key::Alias, 0, 64)?;
         let in_octets = growth_at(table, Key::InOctets)?;
         let in_packets = growth_at(table, Key::InPackets)?;
         let out_octets = growth_at(table, Key::OutOctets)?;

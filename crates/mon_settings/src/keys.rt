@@ -1,11 +1,13 @@
 //! The keys of a table.
 
-ghost use Rattle.std.specs.Prelude.{◌≡◌, ◌↔◌, All, IsTrue, option_map, string_bytes};
+ghost use Rattle.std.specs.Prelude.{◌≡◌, not, IfErr, IfOk, None, Some, option_copied, option_map, string_bytes};
+ghost use Rattle.std.specs.List.{find};
 ghost use Rattle.std.specs.Map.{keys_of};
 ghost use Rattle.toml.specs.Data.{get_member};
 ghost use Rattle.toml.specs.View.{view, table_view};
 ghost use Rattle.mon_settings.specs.Key.{key_name};
-ghost use Rattle.mon_settings.specs.Keys.{is_one_of, only};
+ghost use Rattle.mon_settings.specs.Keys.{first_unknown, is_one_of, only};
+ghost use Rattle.mon_settings.specs.SettingsFault.{missing_key};
 
 use crate::fault::SettingsFault;
 use crate::key::Key;
@@ -17,6 +19,14 @@ pub(crate) fn find(table: &Table, key: Key) -> Option<&Value>
     ensures { option_map (λ v. view v.now) result ≡ get_member (key_name key) (table_view table.now) }
 {
     table.get(key.name())
+}
+
+/// The value at a key that has to be there.
+pub(crate) fn needed(table: &Table, key: Key) -> Result<&Value, SettingsFault>
+    ensures there { IfOk result (λ v. get_member (key_name key) (table_view table.now) ≡ Some (view v.now)) }
+    ensures missing { IfErr result (λ e. (get_member (key_name key) (table_view table.now) ≡ None) × (e ≡ missing_key key)) }
+{
+    find(table, key).ok_or(SettingsFault::missing(key))
 }
 
 /// Whether a name is that of one of the keys.
@@ -31,19 +41,26 @@ pub(crate) fn is_one_of(name: &str, keys: &[Key]) -> bool
     false
 }
 
-fn has_only(table: &Table, keys: &[Key]) -> bool
-    ensures { IsTrue result ↔ All (λ name. IsTrue (is_one_of keys.now (string_bytes name))) (keys_of table.now.entries) }
+fn found<'t>(table: &'t Table, keys: &[Key]) -> Option<&'t String>
+    ensures { option_copied result ≡ find (λ n. not (is_one_of keys.now (string_bytes n))) (keys_of table.now.entries) }
 {
-    table.keys().all(|name| is_one_of(name.as_str(), keys))
+    table.keys().find(|name| !is_one_of(name.as_str(), keys))
+}
+
+/// The first key of a table, in the order of its octets, that is none of these.
+pub(crate) fn first_unknown<'t>(table: &'t Table, keys: &[Key]) -> Option<&'t String>
+    ensures { option_map (λ n. string_bytes n.now) result ≡ first_unknown keys.now (table_view table.now) }
+{
+    found(table, keys)
 }
 
 /// Refuses a table that has a key besides these.
+#[tactic(auto, unfolding(crate::specs::Keys::only))]
 pub(crate) fn only(table: &Table, keys: &[Key]) -> Result<(), SettingsFault>
     ensures { result ≡ only keys.now (table_view table.now) }
 {
-    if has_only(table, keys) {
-        Ok(())
-    } else {
-        Err(SettingsFault::UnknownKey(Place::Whole))
+    match first_unknown(table, keys) {
+        Some(_) => Err(SettingsFault::UnknownKey(Place::Whole)),
+        None => Ok(()),
     }
 }

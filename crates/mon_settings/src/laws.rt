@@ -3,13 +3,13 @@
 ghost use Rattle.std.specs.Prelude.{◌≡◌, ◌↔◌, ℕ, List, Option, Some, Ok, Err};
 ghost use Rattle.toml.specs.Data.{Members};
 ghost use Rattle.mon_oid.specs.Oid.{IsOid, Spells};
-ghost use Rattle.mon_settings.specs.Accepted.{IsAgent};
-ghost use Rattle.mon_settings.specs.Agent.{Agent, agent_of};
+ghost use Rattle.mon_settings.specs.Accepted.{IsAgent, Agent};
+ghost use Rattle.mon_settings.specs.Agent.{agent_of};
 ghost use Rattle.mon_settings.specs.Leaf.{oid_of};
 ghost use Rattle.mon_settings.specs.SettingsFault.{IsOfStationTree, IsOfTree};
-ghost use Rattle.mon_settings.specs.Resolving.{Resolves, resolution};
-ghost use Rattle.mon_settings.specs.Station.{Station, station_of};
-ghost use Rattle.mon_settings.specs.StationAccepted.{IsStation};
+ghost use Rattle.mon_settings.specs.Resolving.{resolution};
+ghost use Rattle.mon_settings.specs.Station.{station_of};
+ghost use Rattle.mon_settings.specs.StationAccepted.{IsStation, Resolves, Station};
 ghost use Rattle.mon_smi.specs.Names.{AreDistinct};
 ghost use Rattle.mon_smi.specs.declared.definition.Definition.{Definition};
 ghost use Rattle.mon_settings.specs.declared.fault.SettingsFault.{SettingsFault};

@@ -8,7 +8,7 @@ ghost use Rattle.mon_settings.specs.Leaf.{bounded, number_in, int_in, text_in, h
 
 use crate::fault::SettingsFault;
 use crate::key::Key;
-use crate::keys::find;
+use crate::keys::{find, needed};
 use hex::FromHexError;
 use mon_oid::{Oid, OidFault};
 use mon_poller::Addr;
@@ -32,10 +32,7 @@ fn number_in(value: &Value, least: u64, most: u64) -> Option<u64>
     ensures great { IfSome result (λ n. least ≤ n) }
     ensures small { IfSome result (λ n. n ≤ most) }
 {
-    match value.as_integer() {
-        Some(number) => bounded(number, least, most),
-        None => None,
-    }
+    bounded(value.as_integer()?, least, most)
 }
 
 /// The number at a key, from least to most.
@@ -49,12 +46,9 @@ pub(crate) fn number_at(
     ensures great { IfOk result (λ n. least ≤ n) }
     ensures small { IfOk result (λ n. n ≤ most) }
 {
-    match find(table, key) {
-        Some(value) => match number_in(value, least, most) {
-            Some(n) => Ok(n),
-            None => Err(SettingsFault::bad(key)),
-        },
-        None => Err(SettingsFault::missing(key)),
+    match number_in(needed(table, key)?, least, most) {
+        Some(n) => Ok(n),
+        None => Err(SettingsFault::bad(key)),
     }
 }
 
@@ -62,10 +56,7 @@ fn int_in(value: &Value, least: u64, most: u64) -> Option<i32>
     requires { most < 2 ^ 31 }
     ensures { result ≡ int_in least most (view value.now) }
 {
-    let Some(number) = number_in(value, least, most) else {
-        return None;
-    };
-    i32::try_from(number).ok()
+    i32::try_from(number_in(value, least, most)?).ok()
 }
 
 /// The number at a key, from least to most, as a signed one.
@@ -73,10 +64,7 @@ pub(crate) fn int_at(table: &Table, key: Key, least: u64, most: u64) -> Result<i
     requires { most < 2 ^ 31 }
     ensures { result ≡ needed_at key (int_in least most) (table_view table.now) }
 {
-    match find(table, key) {
-        Some(value) => int_in(value, least, most).ok_or(SettingsFault::bad(key)),
-        None => Err(SettingsFault::missing(key)),
-    }
+    int_in(needed(table, key)?, least, most).ok_or(SettingsFault::bad(key))
 }
 
 /// The same, or another number where the key is left out.
@@ -100,10 +88,7 @@ pub(crate) fn int_or(
 pub(crate) fn bool_at(table: &Table, key: Key) -> Result<bool, SettingsFault>
     ensures { result ≡ needed_at key as_bool (table_view table.now) }
 {
-    match find(table, key) {
-        Some(value) => value.as_bool().ok_or(SettingsFault::bad(key)),
-        None => Err(SettingsFault::missing(key)),
-    }
+    needed(table, key)?.as_bool().ok_or(SettingsFault::bad(key))
 }
 
 /// The text that a value is, of least to most octets.
@@ -126,12 +111,9 @@ pub(crate) fn text_at(
     ensures gives { Reads (λ s. s.now) (needed_at key (text_in least most) (table_view table.now)) result }
     ensures no_memory { result ≢ Err SettingsFault.OutOfMemory }
 {
-    match find(table, key) {
-        Some(value) => match text_in(value, least, most) {
-            Some(text) => Ok(text),
-            None => Err(SettingsFault::bad(key)),
-        },
-        None => Err(SettingsFault::missing(key)),
+    match text_in(needed(table, key)?, least, most) {
+        Some(text) => Ok(text),
+        None => Err(SettingsFault::bad(key)),
     }
 }
 
@@ -177,10 +159,7 @@ pub(crate) fn hex_at(
 ) -> Result<Vec<u8>, SettingsFault>
     ensures { Reads (λ v. v.items) (needed_at key (hex_in least most) (table_view table.now)) result }
 {
-    match find(table, key) {
-        Some(value) => hex_in(alloc, value, key, least, most),
-        None => Err(SettingsFault::missing(key)),
-    }
+    hex_in(alloc, needed(table, key)?, key, least, most)
 }
 
 /// The same, or none where the key is left out.
@@ -229,29 +208,20 @@ fn oid_in(alloc: Global, value: &Value, key: Key) -> Result<Oid, SettingsFault>
 pub(crate) fn oid_at(alloc: Global, table: &Table, key: Key) -> Result<Oid, SettingsFault>
     ensures { Reads (λ o. o) (needed_at key oid_in (table_view table.now)) result }
 {
-    match find(table, key) {
-        Some(value) => oid_in(alloc, value, key),
-        None => Err(SettingsFault::missing(key)),
-    }
+    oid_in(alloc, needed(table, key)?, key)
 }
 
 fn addr_in(value: &Value) -> Option<Addr>
     ensures { result ≡ addr_in (view value.now) }
 {
-    match value.as_str() {
-        Some(text) => Addr::parse(text),
-        None => None,
-    }
+    Addr::parse(value.as_str()?)
 }
 
 /// The address at a key.
 pub(crate) fn addr_at(table: &Table, key: Key) -> Result<Addr, SettingsFault>
     ensures { result ≡ needed_at key addr_in (table_view table.now) }
 {
-    match find(table, key) {
-        Some(value) => addr_in(value).ok_or(SettingsFault::bad(key)),
-        None => Err(SettingsFault::missing(key)),
-    }
+    addr_in(needed(table, key)?).ok_or(SettingsFault::bad(key))
 }
 
 fn model_of(number: i64) -> Option<SecurityModel>
@@ -267,28 +237,14 @@ fn model_of(number: i64) -> Option<SecurityModel>
 fn model_in(value: &Value) -> Option<SecurityModel>
     ensures { result ≡ model_in (view value.now) }
 {
-    match value.as_integer() {
-        Some(number) => model_of(number),
-        None => None,
-    }
+    model_of(value.as_integer()?)
 }
 
 /// The security model at a key.
 pub(crate) fn model_at(table: &Table, key: Key) -> Result<SecurityModel, SettingsFault>
     ensures { result ≡ needed_at key model_in (table_view table.now) }
 {
-    match find(table, key) {
-        Some(value) => model_in(value).ok_or(SettingsFault::bad(key)),
-        None => Err(SettingsFault::missing(key)),
-    }
-}
-
-/// The index at a key, 1 to 2147483647.
-pub(crate) fn index_at(table: &Table, key: Key) -> Result<u32, SettingsFault>
-    ensures { result ≡ needed_at key (number_in 1 2147483647) (table_view table.now) }
-{
-    let index = number_at(table, key, 1, 2147483647)?;
-    u32::try_from(index).map_err(|_| SettingsFault::bad(key))
+    model_in(needed(table, key)?).ok_or(SettingsFault::bad(key))
 }
 
 /// The number at a key, from least to most, in 32 bits.
@@ -297,24 +253,21 @@ pub(crate) fn u32_at(table: &Table, key: Key, least: u64, most: u64) -> Result<u
     ensures value { result ≡ needed_at key (number_in least most) (table_view table.now) }
     ensures great { IfOk result (λ n. least ≤ n) }
 {
-    let number = number_at(table, key, least, most)?;
-    Ok(number as u32)
+    Ok(number_at(table, key, least, most)? as u32)
 }
 
 /// How often a poll is sent, 1 to 8.
 pub(crate) fn tries_at(table: &Table) -> Result<u8, SettingsFault>
     ensures { result ≡ needed_at Key.Tries (number_in 1 8) (table_view table.now) }
 {
-    let tries = number_at(table, Key::Tries, 1, 8)?;
-    Ok(tries as u8)
+    Ok(number_at(table, Key::Tries, 1, 8)? as u8)
 }
 
 /// The size at a key, from 1 to most.
 pub(crate) fn size_at(table: &Table, key: Key, most: usize) -> Result<usize, SettingsFault>
     ensures { result ≡ needed_at key (number_in 1 most) (table_view table.now) }
 {
-    let size = number_at(table, key, 1, most as u64)?;
-    Ok(size as usize)
+    Ok(number_at(table, key, 1, most as u64)? as usize)
 }
 
 /// The same, or another size where the key is left out.
@@ -339,8 +292,7 @@ pub(crate) fn size_or(
 pub(crate) fn long_at(table: &Table, key: Key) -> Result<i64, SettingsFault>
     ensures { result ≡ needed_at key as_integer (table_view table.now) }
 {
-    match find(table, key) {
-        Some(value) => value.as_integer().ok_or(SettingsFault::bad(key)),
-        None => Err(SettingsFault::missing(key)),
-    }
+    needed(table, key)?
+        .as_integer()
+        .ok_or(SettingsFault::bad(key))
 }

@@ -1,11 +1,12 @@
-//! Settings, read from TOML 1.0 texts: what an agent serves, at which address, and to whom; and what a station watches, whom it
-//! polls, and its peers. To the layer above: where the text is TOML, the result is what one definition gives for its tree,
-//! unless memory runs out; and what a station needs of its settings holds for every `Core`.
+//! Settings, read from TOML 1.1 texts: what an agent serves, at which address, and to whom; and what a station watches, whom it
+//! polls, and its peers. To the layer above: settings are read exactly where the text is TOML and its tree is an
+//! agent's or a station's, unless memory runs out; and what a station needs of its settings holds for every `Core`.
 #![tactic(auto)]
 
 mod agent;
 mod explaining;
 mod fault;
+mod grammar;
 mod interfaces;
 mod key;
 mod keys;
@@ -13,7 +14,6 @@ pub mod laws;
 mod leaf;
 mod list;
 mod modules;
-mod named_list;
 mod octets;
 mod peers;
 mod place;
@@ -25,18 +25,20 @@ mod station;
 mod station_core;
 mod station_tables;
 mod tables;
+mod text;
 mod unknown;
 mod wanted;
 
 pub use agent::{AgentSettings, read_agent};
 pub use explaining::explained;
 pub use fault::SettingsFault;
+pub use grammar::{Kind, known_keys};
 pub use key::Key;
 pub use modules::module_files;
 pub use mon_poller::Addr;
 pub use peers::are_peers;
 pub use place::{Place, Step};
-pub use position::{Position, toml_position};
+pub use position::{Position, position_at};
 pub use station::{StationSettings, read_station};
 pub use station_core::{Core, CoreParts};
-pub use unknown::{Kind, known_keys, unknown_key};
+pub use unknown::unknown_key;

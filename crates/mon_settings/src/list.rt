@@ -1,19 +1,21 @@
 //! Lists of tables.
 
 ghost use Rattle.std.specs.Prelude.{◌≡◌, option_map};
+ghost use Rattle.toml.specs.Data.{no_items};
 ghost use Rattle.toml.specs.View.{view, table_view, items_view};
-ghost use Rattle.mon_settings.specs.Keys.{Reads};
-ghost use Rattle.mon_settings.specs.Lists.{few, list_in, row, rows, list_at};
+ghost use Rattle.mon_settings.specs.Leaf.{between, list_between};
+ghost use Rattle.mon_settings.specs.Keys.{Reads, needed_at, default_at};
+ghost use Rattle.mon_settings.specs.Lists.{row, rows};
 
 use crate::fault::SettingsFault;
 use crate::key::Key;
-use crate::keys::find;
+use crate::keys::{find, needed};
 use crate::place::{Place, Step};
 use std::alloc::Global;
 use toml::{Table, Value};
 
-/// What a table of a list is read as.
-pub(crate) trait Row: Drop {
+/// What a table of a list is read as, by what stands around the list.
+pub(crate) trait Row<C>: Drop {
     ghost use Rattle.std.specs.Prelude.{Result};
     ghost use Rattle.toml.specs.Data.{Members};
     ghost use Rattle.toml.specs.View.{table_view};
@@ -21,80 +23,91 @@ pub(crate) trait Row: Drop {
     ghost use Rattle.mon_settings.specs.Keys.{Reads};
 
     // What a table gives.
-    ghost row_of: { Members → Result Self AnyFault };
+    ghost row_of: { C → Members → Result Self AnyFault };
 
     /// Reads one table.
-    fn read(alloc: Global, table: &Table) -> Result<Self, SettingsFault>
-        ensures { Reads (λ r. r) (row_of (table_view table.now)) result };
+    fn read(alloc: Global, around: &C, table: &Table) -> Result<Self, SettingsFault>
+        ensures { Reads (λ r. r) (row_of around.now (table_view table.now)) result };
 }
 
 #[tactic(auto, unfolding(crate::specs::Lists::row))]
-fn read_row<R: Row>(alloc: Global, step: Step, value: &Value) -> Result<R, SettingsFault>
-    ensures { Reads (λ r. r) (row step R.row_of (view value.now)) result }
+fn read_row<C, R: Row<C>>(
+    alloc: Global,
+    around: &C,
+    step: Step,
+    value: &Value,
+) -> Result<R, SettingsFault>
+    ensures { Reads (λ r. r) (row step (R.row_of around.now) (view value.now)) result }
 {
     match value.as_table() {
-        Some(table) => R::read(alloc, table).map_err(|fault| fault.within(step)),
+        Some(table) => R::read(alloc, around, table).map_err(|fault| fault.within(step)),
         None => Err(SettingsFault::BadValue(Place::At(step))),
     }
 }
 
 /// The tables of these values, which are the list at a key.
-pub(crate) fn read_rows<R: Row>(
+pub(crate) fn read_rows<C, R: Row<C>>(
     alloc: Global,
+    around: &C,
     key: Key,
     values: &[Value],
 ) -> Result<Vec<R>, SettingsFault>
-    ensures { Reads (λ rs. rs.items) (rows key R.row_of 1 (items_view values.now)) result }
+    ensures { Reads (λ rs. rs.items) (rows key (R.row_of around.now) 1 (items_view values.now)) result }
 {
     let mut read = Vec::new(alloc);
     for (index, value) in values.iter().enumerate() {
-        let entry = match read_row(alloc, Step::Entry(key, index + 1), value) {
-            Ok(entry) => entry,
-            Err(fault) => return Err(fault),
-        };
-        match read.push(entry) {
-            Ok(()) => {}
-            Err(_) => return Err(SettingsFault::OutOfMemory),
-        }
+        let entry = read_row(alloc, around, Step::Entry(key, index + 1), value)?;
+        read.push(entry)?;
     }
     Ok(read)
 }
 
-/// The values of a list of at most 256.
-#[tactic(auto, using(crate::proofs::Rows::few_values))]
-fn few(values: &[Value]) -> Option<&[Value]>
-    ensures { option_map (λ vs. items_view vs.now) result ≡ few (items_view values.now) }
+#[tactic(auto, using(crate::proofs::Rows::between_values))]
+fn between(values: &[Value], least: usize, most: usize) -> Option<&[Value]>
+    ensures { option_map (λ vs. items_view vs.now) result ≡ between least most (items_view values.now) }
 {
-    if values.len() <= 256 {
+    if least <= values.len() && values.len() <= most {
         Some(values)
     } else {
         None
     }
 }
 
-pub(crate) fn list_in(value: &Value) -> Option<&[Value]>
-    ensures { option_map (λ vs. items_view vs.now) result ≡ list_in (view value.now) }
+/// The values of a list of least to most.
+pub(crate) fn list_between(value: &Value, least: usize, most: usize) -> Option<&[Value]>
+    ensures { option_map (λ vs. items_view vs.now) result ≡ list_between least most (view value.now) }
 {
-    match value.as_array() {
-        Some(array) => few(array.as_slice()),
-        None => None,
+    between(value.as_array()?.as_slice(), least, most)
+}
+
+/// The values of the list at a key, least to most of them.
+pub(crate) fn values_at(
+    table: &Table,
+    key: Key,
+    least: usize,
+    most: usize,
+) -> Result<&[Value], SettingsFault>
+    ensures { Reads (λ vs. items_view vs.now) (needed_at key (list_between least most) (table_view table.now)) result }
+{
+    match list_between(needed(table, key)?, least, most) {
+        Some(values) => Ok(values),
+        None => Err(SettingsFault::bad(key)),
     }
 }
 
-/// The tables of the list at a key, at most 256 of them.
-#[tactic(auto, unfolding(crate::specs::Lists::list_at))]
-pub(crate) fn list_at<R: Row>(
-    alloc: Global,
+/// The values of the list at a key, at most this many, and none where the key is left out.
+pub(crate) fn values_or_none(
     table: &Table,
     key: Key,
-) -> Result<Vec<R>, SettingsFault>
-    ensures { Reads (λ rs. rs.items) (list_at key R.row_of (table_view table.now)) result }
+    most: usize,
+) -> Result<&[Value], SettingsFault>
+    ensures { Reads (λ vs. items_view vs.now) (default_at key no_items (list_between 0 most) (table_view table.now)) result }
 {
     match find(table, key) {
-        Some(value) => match list_in(value) {
-            Some(values) => read_rows(alloc, key, values),
+        Some(value) => match list_between(value, 0, most) {
+            Some(values) => Ok(values),
             None => Err(SettingsFault::bad(key)),
         },
-        None => Err(SettingsFault::missing(key)),
+        None => Ok(&[]),
     }
 }

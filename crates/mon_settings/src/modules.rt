@@ -1,17 +1,19 @@
 //! The module files that settings name.
 
-ghost use Rattle.std.specs.Prelude.{◌≡◌, ◌++◌, None, Some, Err, map, option_map, string_bytes};
+ghost use Rattle.std.specs.Prelude.{[], IfErr, map, string_bytes};
+ghost use Rattle.mon_settings.specs.Accepted.{HoldsOr};
 ghost use Rattle.mon_settings.specs.Keys.{Reads, or_bad};
-ghost use Rattle.mon_settings.specs.Leaf.{text_in};
-ghost use Rattle.mon_settings.specs.Station.{modules_at, modules_in, texts_in, texts_of};
-ghost use Rattle.toml.specs.Parse.{parse_document};
+ghost use Rattle.mon_settings.specs.Leaf.{text_in, texts_in, texts_of};
+ghost use Rattle.mon_settings.specs.Station.{modules_at};
+ghost use Rattle.mon_settings.specs.Text.{IsReadAs, IsRefusal, Says};
 ghost use Rattle.toml.specs.View.{view, table_view, items_view};
 
 use crate::fault::SettingsFault;
 use crate::key::Key;
 use crate::keys::find;
 use crate::leaf::text_in;
-use crate::list::list_in;
+use crate::list::list_between;
+use crate::text::tree;
 use std::alloc::Global;
 use toml::{Table, Value};
 
@@ -29,14 +31,7 @@ fn texts_of(alloc: Global, values: &[Value]) -> Result<Vec<String>, SettingsFaul
 {
     let mut texts = Vec::new(alloc);
     for value in values {
-        let text = match text_of(alloc, value) {
-            Ok(text) => text,
-            Err(fault) => return Err(fault),
-        };
-        match texts.push(text) {
-            Ok(()) => {}
-            Err(_) => return Err(SettingsFault::OutOfMemory),
-        }
+        texts.push(text_of(alloc, value)?)?;
     }
     Ok(texts)
 }
@@ -44,7 +39,7 @@ fn texts_of(alloc: Global, values: &[Value]) -> Result<Vec<String>, SettingsFaul
 fn texts_in(alloc: Global, value: &Value) -> Result<Vec<String>, SettingsFault>
     ensures { Reads (λ v. map string_bytes v.items) (or_bad Key.Modules (texts_in (view value.now))) result }
 {
-    match list_in(value) {
+    match list_between(value, 0, 256) {
         Some(values) => texts_of(alloc, values),
         None => Err(SettingsFault::bad(Key::Modules)),
     }
@@ -60,23 +55,17 @@ pub(crate) fn modules_at(alloc: Global, table: &Table) -> Result<Vec<String>, Se
     }
 }
 
-/// The module files that a text in TOML 1.0 names by its key `modules`, at most 256 of at most 4095 octets each, and none where
+/// The module files that a text in TOML 1.1 names by its key `modules`, at most 256 of at most 4095 octets each, and none where
 /// the key is missing. Other keys are not looked at.
 ///
 /// # Errors
 /// `NotToml`; `BadValue` of `modules`; `OutOfMemory`.
 pub fn module_files(alloc: Global, text: &str) -> Result<Vec<String>, SettingsFault>
-    ensures gives { Reads (λ v. map string_bytes v.items) (modules_in (parse_document text.now)) result }
-    ensures not_toml { result ≡ Err SettingsFault.NotToml → parse_document text.now ≡ None }
+    ensures accepted { IsReadAs (λ v. map string_bytes v.items) (Says (HoldsOr Key.Modules [] texts_in) text.now) result }
+    ensures refused { IfErr result (IsRefusal modules_at text.now) }
 {
-    match toml::table_from_str(alloc, text) {
+    match tree(alloc, text) {
         Ok(table) => modules_at(alloc, &table),
-        Err(error) => {
-            if error.is_memory() {
-                Err(SettingsFault::OutOfMemory)
-            } else {
-                Err(SettingsFault::NotToml)
-            }
-        }
+        Err(fault) => Err(fault),
     }
 }

@@ -14,21 +14,8 @@ use mon_vacm::Octets as PolicyOctets;
 use std::alloc::Global;
 use toml::{Table, Value};
 
-/// The text at a key, of at most this many octets.
-pub(crate) fn octets_at(
-    alloc: Global,
-    table: &Table,
-    key: Key,
-    most: usize,
-) -> Result<Octets, SettingsFault>
-    ensures { Reads (λ o. o) (needed_at key (text_in 0 most) (table_view table.now)) result }
-{
-    let text = text_at(table, key, 0, most)?;
-    Ok(Octets::from_slice(alloc, text.as_bytes())?)
-}
-
 /// The text at a key, of least to most octets.
-pub(crate) fn octets_between(
+pub(crate) fn octets_at(
     alloc: Global,
     table: &Table,
     key: Key,

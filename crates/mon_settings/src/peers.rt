@@ -9,8 +9,7 @@ ghost use Rattle.toml.specs.View.{table_view};
 
 use crate::fault::SettingsFault;
 use crate::key::Key;
-use crate::list::read_rows;
-use crate::named_list::values_or_none;
+use crate::list::{read_rows, values_or_none};
 use crate::station_tables::{PeerRow, TargetRow};
 use mon_poller::Addr;
 use std::alloc::{AllocError, Global};
@@ -60,24 +59,16 @@ fn is_address(a: Addr, b: Addr) -> bool
 fn has_address(targets: &[TargetRow], address: Addr) -> bool
     ensures { result ≡ list_any (λ t. is_address t.address address) targets.now }
 {
-    for target in targets {
-        if is_address(target.address, address) {
-            return true;
-        }
-    }
-    false
+    targets
+        .iter()
+        .any(|target| is_address(target.address, address))
 }
 
 /// Whether no target is asked at a peer's address.
 fn are_apart(targets: &[TargetRow], peers: &[PeerRow]) -> bool
     ensures { result ≡ are_apart targets.now peers.now }
 {
-    for peer in peers {
-        if has_address(targets, peer.address) {
-            return false;
-        }
-    }
-    true
+    peers.iter().all(|peer| !has_address(targets, peer.address))
 }
 
 /// The numbers of peers, in their order.
@@ -122,7 +113,7 @@ fn checked_peers(
 }
 
 /// The peers: at most 15 other stations, none twice, and none at the address of a target.
-#[tactic(auto, unfolding(crate::specs::Station::peers_at, crate::specs::NamedLists::rows_up_to))]
+#[tactic(auto, unfolding(crate::specs::Station::peers_at, crate::specs::Lists::rows_up_to))]
 pub(crate) fn peers_at(
     alloc: Global,
     own: u32,
@@ -133,6 +124,6 @@ pub(crate) fn peers_at(
     ensures others { IfOk result (λ v. ArePeersOf own (map (λ p. p.station) v.items)) }
 {
     let values = values_or_none(table, Key::Peer, MOST_PEERS)?;
-    let peers = read_rows(alloc, Key::Peer, values)?;
+    let peers = read_rows(alloc, &(), Key::Peer, values)?;
     checked_peers(alloc, own, targets, peers)
 }

@@ -1,10 +1,7 @@
-//! Where a text stops being TOML.
+//! Lines and columns of a text.
 
-ghost use Rattle.std.specs.Prelude.{◌≡◌, ◌==◌, None, IfOk, IfSome, IsSome, count_by};
-ghost use Rattle.mon_settings.specs.Position.{begins_char, last_line, line_from, position_after, IsIn};
-ghost use Rattle.toml.specs.Parse.{parse_document};
-
-use std::alloc::{AllocError, Global};
+ghost use Rattle.std.specs.Prelude.{◌≡◌, ◌==◌, count_by, take};
+ghost use Rattle.mon_settings.specs.Position.{begins_char, last_line, line_from, position_after};
 
 /// A place in a text.
 #[derive(Clone, Copy, Debug, PartialEq, Eq)]
@@ -53,20 +50,22 @@ fn position_after(octets: &[u8]) -> Position
     }
 }
 
-/// Where a text stops being TOML 1.0, or nothing for one that is TOML: the place of the first character that does not fit.
-///
-/// # Errors
-/// Out of memory.
-pub fn toml_position(alloc: Global, text: &str) -> Result<Option<Position>, AllocError>
-    ensures none { IfOk result (λ o. o ≡ None → IsSome (parse_document text.now)) }
-    ensures some { IfOk result (λ o. IfSome o (λ p. parse_document text.now ≡ None)) }
-    ensures inside { IfOk result (λ o. IfSome o (IsIn text.now)) }
+/// The first octets of a text, all where it has no more.
+#[tactic(auto, using(std::proofs::lemmas::List::take_all))]
+fn front(octets: &[u8], count: usize) -> &[u8]
+    ensures { result.now ≡ take count octets.now }
 {
-    match toml::table_from_str(alloc, text) {
-        Ok(_) => Ok(None),
-        Err(error) => match error.span() {
-            Some(span) => Ok(Some(position_after(&text.as_bytes()[..span.start]))),
-            None => Err(AllocError),
-        },
+    if count <= octets.len() {
+        &octets[..count]
+    } else {
+        octets
     }
+}
+
+/// The line and the column of the octet after the first `offset` ones of a text, and of its end where it has no more.
+/// A column counts characters.
+pub fn position_at(text: &str, offset: usize) -> Position
+    ensures { result ≡ position_after (take offset text.now) }
+{
+    position_after(front(text.as_bytes(), offset))
 }

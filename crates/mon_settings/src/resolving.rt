@@ -7,7 +7,7 @@ ghost use Rattle.mon_settings.specs.Resolving.{resolution, or_unknown, unresolve
 
 use crate::fault::SettingsFault;
 use crate::key::Key;
-use crate::keys::find;
+use crate::keys::{find, needed};
 use crate::place::{Place, Step};
 use mon_oid::Oid;
 use mon_smi::{Names, NamesFault};
@@ -55,10 +55,7 @@ pub(crate) fn name_at(
 ) -> Result<Oid, SettingsFault>
     ensures { Reads (λ o. o) (name_at (resolution names.now) key (table_view table.now)) result }
 {
-    match find(table, key) {
-        Some(value) => name_in(alloc, names, key, value),
-        None => Err(SettingsFault::missing(key)),
-    }
+    name_in(alloc, names, key, needed(table, key)?)
 }
 
 /// The identifier that a key names, or nothing where the key is left out.

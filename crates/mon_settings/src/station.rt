@@ -1,25 +1,31 @@
 //! The settings of a station.
 
-ghost use Rattle.std.specs.Prelude.{◌≡◌, ◌≤◌, Err, None, IfOk, length, map};
+ghost use Rattle.std.specs.Prelude.{◌≡◌, ◌≤◌, IfErr, IfOk, length, map};
+ghost use Rattle.mon_settings.specs.Watching.{object_from, target_from};
 ghost use Rattle.mon_settings.specs.Keys.{Reads};
-ghost use Rattle.mon_settings.specs.Placing.{object_from, target_from};
+ghost use Rattle.mon_settings.specs.Lists.{rows_between};
 ghost use Rattle.mon_settings.specs.Resolving.{resolution};
-ghost use Rattle.mon_settings.specs.Station.{core_from, rules_at, scalars_of, scalars_view, station_in, station_of, station_view};
+ghost use Rattle.mon_settings.specs.Station.{rules_at, scalars_of, scalars_view, station_of};
+ghost use Rattle.mon_settings.specs.StationAccepted.{IsStation, core_from, station_view};
 ghost use Rattle.mon_settings.specs.StationCore.{IsCore};
-ghost use Rattle.toml.specs.Parse.{parse_document};
+ghost use Rattle.mon_settings.specs.StationTables.{target_of};
+ghost use Rattle.mon_settings.specs.Text.{IsReadAs, IsRefusal, Says};
+ghost use Rattle.mon_smi.specs.Names.{AreDistinct};
 ghost use Rattle.toml.specs.View.{table_view};
 
 use crate::fault::SettingsFault;
+use crate::grammar::{Kind, top_keys};
 use crate::key::Key;
 use crate::keys::only;
 use crate::leaf::{addr_at, size_at, size_or, text_at, u32_at};
+use crate::list::{read_rows, values_at, values_or_none};
 use crate::modules::modules_at;
-use crate::named_list::{rows_between, rows_up_to};
 use crate::peers::{addresses_of, peers_at, stations_of};
 use crate::placing::{instances_of, number_of, rules_of};
 use crate::sizes::Sizes;
 use crate::station_core::Core;
-use crate::station_tables::{AlarmRow, ObjectRow, PeerRow, TargetRow};
+use crate::station_tables::{AlarmRow, Around, ObjectRow, PeerRow, TargetRow};
+use crate::text::tree;
 use mon_alarms::Rule;
 use mon_ber::Octets;
 use mon_board::{Watch, Watched};
@@ -54,20 +60,6 @@ pub(crate) struct Scalars {
     pub(crate) sizes: Sizes,
     pub(crate) wait_ms: u32,
 }
-
-/// The keys of a station's settings.
-pub(crate) const KEYS: [Key; 10] = [
-    Key::Station,
-    Key::Listen,
-    Key::File,
-    Key::Window,
-    Key::Epoch,
-    Key::WaitMs,
-    Key::Modules,
-    Key::Target,
-    Key::Peer,
-    Key::Alarm,
-];
 
 #[tactic(auto, unfolding(crate::specs::Station::scalars_of))]
 fn read_scalars(alloc: Global, table: &Table) -> Result<Scalars, SettingsFault>
@@ -182,19 +174,32 @@ fn core_from(
     Ok(Core::new(station, watch, numbered, numbers))
 }
 
+/// The targets, 1 to 64 of them.
+#[tactic(auto, unfolding(crate::specs::Lists::rows_between))]
+fn targets_at(
+    alloc: Global,
+    around: &Around<'_>,
+    table: &Table,
+) -> Result<Vec<TargetRow>, SettingsFault>
+    ensures { Reads (λ v. v.items) (rows_between Key.Target 1 64 (target_of (resolution around.now.names.now) around.now.sizes) (table_view table.now)) result }
+{
+    let values = values_at(table, Key::Target, 1, 64)?;
+    read_rows(alloc, around, Key::Target, values)
+}
+
 /// The alarm rules, in the order of a watch.
-#[tactic(auto, unfolding(crate::specs::Station::rules_at))]
+#[tactic(auto, unfolding(crate::specs::Station::rules_at, crate::specs::Lists::rows_up_to))]
 fn rules_at(
     alloc: Global,
-    names: &Names,
-    sizes: Sizes,
+    around: &Around<'_>,
     instances: &[Watched],
     table: &Table,
 ) -> Result<Vec<Rule>, SettingsFault>
     requires { length instances.now ≤ 256 }
-    ensures { Reads (λ v. v.items) (rules_at (resolution names.now) sizes instances.now (table_view table.now)) result }
+    ensures { Reads (λ v. v.items) (rules_at (resolution around.now.names.now) around.now.sizes instances.now (table_view table.now)) result }
 {
-    let alarms: Vec<AlarmRow> = rows_up_to(alloc, names, sizes, table, Key::Alarm, 256)?;
+    let values = values_or_none(table, Key::Alarm, 256)?;
+    let alarms: Vec<AlarmRow> = read_rows(alloc, around, Key::Alarm, values)?;
     rules_of(alloc, instances, alarms.as_slice())
 }
 
@@ -202,21 +207,17 @@ fn rules_at(
 fn read_tree(alloc: Global, table: &Table, names: &Names) -> Result<StationSettings, SettingsFault>
     ensures { Reads station_view (station_of (resolution names.now) (table_view table.now)) result }
 {
-    only(table, &KEYS)?;
+    only(table, top_keys(Kind::Station))?;
     let scalars = read_scalars(alloc, table)?;
-    let modules = modules_at(alloc, table)?;
-    let targets: Vec<TargetRow> = rows_between(
-        alloc,
+    let around = Around {
         names,
-        scalars.sizes,
-        table,
-        Key::Target,
-        1,
-        64,
-    )?;
+        sizes: scalars.sizes,
+    };
+    let modules = modules_at(alloc, table)?;
+    let targets = targets_at(alloc, &around, table)?;
     let instances = instances_of(alloc, targets.as_slice())?;
     let peers = peers_at(alloc, scalars.station, targets.as_slice(), table)?;
-    let rules = rules_at(alloc, names, scalars.sizes, instances.as_slice(), table)?;
+    let rules = rules_at(alloc, &around, instances.as_slice(), table)?;
     let peer_addresses = addresses_of(alloc, peers.as_slice())?;
     let core = core_from(
         alloc,
@@ -236,7 +237,7 @@ fn read_tree(alloc: Global, table: &Table, names: &Names) -> Result<StationSetti
     })
 }
 
-/// Reads a station's settings from a text in TOML 1.0, in which objects have the names of these modules.
+/// Reads a station's settings from a text in TOML 1.1, in which objects have the names of these modules.
 ///
 /// The keys, in the order in which they are read: `station` 1 to 4294967295; `listen`; `file`, at most 4095 octets; `window`,
 /// 1 to 64 samples; `epoch`, 1 to the window, which it is where it is left out; `wait_ms` 1 to 60000; and the lists `modules`
@@ -245,24 +246,21 @@ fn read_tree(alloc: Global, table: &Table, names: &Names) -> Result<StationSetti
 /// once the later one was read.
 ///
 /// # Errors
-/// `NotToml`; `UnknownKey` with the place of the table; `Missing`, `BadValue` and `UnknownObject`, for a name that does not
+/// The first fault: `NotToml`; `UnknownKey` with the place of the table; `Missing`, `BadValue` and `UnknownObject`, for a name that does not
 /// resolve, with the place of the key; `OutOfMemory`.
 pub fn read_station(
     alloc: Global,
     text: &str,
     names: &Names,
 ) -> Result<StationSettings, SettingsFault>
-    ensures gives { Reads station_view (station_in (resolution names.now) (parse_document text.now)) result }
-    ensures not_toml { result ≡ Err SettingsFault.NotToml → parse_document text.now ≡ None }
+    // Memory aside, settings are read exactly where the text is a station's, and then they are what it says. No `Names` defines a name
+    // twice: `resolve` says so.
+    ensures accepted { AreDistinct names.now → IsReadAs station_view (Says (IsStation names.now) text.now) result }
+    ensures refused { IfErr result (IsRefusal (station_of (resolution names.now)) text.now) }
 {
-    match toml::table_from_str(alloc, text) {
+    crate::laws::resolving();
+    match tree(alloc, text) {
         Ok(table) => read_tree(alloc, &table, names),
-        Err(error) => {
-            if error.is_memory() {
-                Err(SettingsFault::OutOfMemory)
-            } else {
-                Err(SettingsFault::NotToml)
-            }
-        }
+        Err(fault) => Err(fault),
     }
 }

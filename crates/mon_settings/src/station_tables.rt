@@ -3,12 +3,12 @@
 ghost use Rattle.std.specs.Prelude.{◌≡◌};
 
 use crate::fault::SettingsFault;
+use crate::grammar::table_keys;
 use crate::key::Key;
 use crate::keys::only;
 use crate::leaf::{addr_at, long_at, size_or, tries_at, u32_at};
-use crate::list::Row;
-use crate::named_list::{NamedRow, rows_between};
-use crate::octets::{hex_octets_at, octets_between};
+use crate::list::{Row, read_rows, values_at};
+use crate::octets::{hex_octets_at, octets_at};
 use crate::resolving::{name_at, name_or_none};
 use crate::sizes::Sizes;
 use mon_ber::Octets;
@@ -18,6 +18,13 @@ use mon_smi::Names;
 use std::alloc::Global;
 use std::marker::Model;
 use toml::Table;
+
+/// What stands around the lists of a station: the names of objects, and the sizes of windows.
+#[derive(Clone, Copy)]
+pub(crate) struct Around<'n> {
+    pub(crate) names: &'n Names,
+    pub(crate) sizes: Sizes,
+}
 
 /// An object that is polled, with the sizes of its window.
 #[derive(Drop)]
@@ -78,41 +85,19 @@ pub(crate) struct AlarmRow {
     pub(crate) falling: i64,
 }
 
-/// The keys of an object.
-pub(crate) const OBJECT_KEYS: [Key; 4] = [Key::Name, Key::Mark, Key::Window, Key::Epoch];
-
-/// The keys of a target.
-pub(crate) const TARGET_KEYS: [Key; 5] = [
-    Key::Address,
-    Key::Community,
-    Key::Engine,
-    Key::Tries,
-    Key::Objects,
-];
-
-/// The keys of a peer.
-pub(crate) const PEER_KEYS: [Key; 2] = [Key::Station, Key::Address];
-
-/// The keys of an alarm.
-pub(crate) const ALARM_KEYS: [Key; 4] = [Key::Engine, Key::Name, Key::Rising, Key::Falling];
-
-impl NamedRow for ObjectRow {
+impl Row<Around<'_>> for ObjectRow {
+    ghost use Rattle.mon_settings.specs.Resolving.{resolution};
     ghost use Rattle.mon_settings.specs.StationTables.{object_of};
 
-    ghost row_of = { object_of };
+    ghost row_of = { λ a. object_of (resolution a.names.now) a.sizes };
 
     #[tactic(auto, unfolding(crate::specs::StationTables::object_of))]
-    fn read(
-        alloc: Global,
-        names: &Names,
-        sizes: Sizes,
-        table: &Table,
-    ) -> Result<Self, SettingsFault> {
-        only(table, &OBJECT_KEYS)?;
-        let name = name_at(alloc, names, table, Key::Name)?;
-        let mark = name_or_none(alloc, names, table, Key::Mark)?;
-        let window = size_or(table, Key::Window, sizes.window, 64)?;
-        let epoch = size_or(table, Key::Epoch, sizes.epoch.min(window), window)?;
+    fn read(alloc: Global, around: &Around<'_>, table: &Table) -> Result<Self, SettingsFault> {
+        only(table, table_keys(Key::Objects))?;
+        let name = name_at(alloc, around.names, table, Key::Name)?;
+        let mark = name_or_none(alloc, around.names, table, Key::Mark)?;
+        let window = size_or(table, Key::Window, around.sizes.window, 64)?;
+        let epoch = size_or(table, Key::Epoch, around.sizes.epoch.min(window), window)?;
         Ok(ObjectRow {
             name,
             mark,
@@ -122,24 +107,21 @@ impl NamedRow for ObjectRow {
     }
 }
 
-impl NamedRow for TargetRow {
+impl Row<Around<'_>> for TargetRow {
+    ghost use Rattle.mon_settings.specs.Resolving.{resolution};
     ghost use Rattle.mon_settings.specs.StationTables.{target_of};
 
-    ghost row_of = { target_of };
+    ghost row_of = { λ a. target_of (resolution a.names.now) a.sizes };
 
-    #[tactic(auto, unfolding(crate::specs::StationTables::target_of))]
-    fn read(
-        alloc: Global,
-        names: &Names,
-        sizes: Sizes,
-        table: &Table,
-    ) -> Result<Self, SettingsFault> {
-        only(table, &TARGET_KEYS)?;
+    #[tactic(auto, unfolding(crate::specs::StationTables::target_of, crate::specs::Lists::rows_between))]
+    fn read(alloc: Global, around: &Around<'_>, table: &Table) -> Result<Self, SettingsFault> {
+        only(table, table_keys(Key::Target))?;
         let address = addr_at(table, Key::Address)?;
-        let community = octets_between(alloc, table, Key::Community, 1, 512)?;
+        let community = octets_at(alloc, table, Key::Community, 1, 512)?;
         let engine = hex_octets_at(alloc, table, Key::Engine, 5, 32)?;
         let tries = tries_at(table)?;
-        let items = rows_between(alloc, names, sizes, table, Key::Objects, 1, 16)?;
+        let values = values_at(table, Key::Objects, 1, 16)?;
+        let items = read_rows(alloc, around, Key::Objects, values)?;
         Ok(TargetRow {
             address,
             community,
@@ -150,35 +132,31 @@ impl NamedRow for TargetRow {
     }
 }
 
-impl Row for PeerRow {
+impl Row<()> for PeerRow {
     ghost use Rattle.mon_settings.specs.StationTables.{peer_of};
 
-    ghost row_of = { peer_of };
+    ghost row_of = { λ _. peer_of };
 
     #[tactic(auto, unfolding(crate::specs::StationTables::peer_of))]
-    fn read(_alloc: Global, table: &Table) -> Result<Self, SettingsFault> {
-        only(table, &PEER_KEYS)?;
+    fn read(_alloc: Global, _around: &(), table: &Table) -> Result<Self, SettingsFault> {
+        only(table, table_keys(Key::Peer))?;
         let station = u32_at(table, Key::Station, 1, 4294967295)?;
         let address = addr_at(table, Key::Address)?;
         Ok(PeerRow { station, address })
     }
 }
 
-impl NamedRow for AlarmRow {
+impl Row<Around<'_>> for AlarmRow {
+    ghost use Rattle.mon_settings.specs.Resolving.{resolution};
     ghost use Rattle.mon_settings.specs.StationTables.{alarm_of};
 
-    ghost row_of = { alarm_of };
+    ghost row_of = { λ a. alarm_of (resolution a.names.now) a.sizes };
 
     #[tactic(auto, unfolding(crate::specs::StationTables::alarm_of))]
-    fn read(
-        alloc: Global,
-        names: &Names,
-        _sizes: Sizes,
-        table: &Table,
-    ) -> Result<Self, SettingsFault> {
-        only(table, &ALARM_KEYS)?;
+    fn read(alloc: Global, around: &Around<'_>, table: &Table) -> Result<Self, SettingsFault> {
+        only(table, table_keys(Key::Alarm))?;
         let engine = hex_octets_at(alloc, table, Key::Engine, 5, 32)?;
-        let name = name_at(alloc, names, table, Key::Name)?;
+        let name = name_at(alloc, around.names, table, Key::Name)?;
         let rising = long_at(table, Key::Rising)?;
         let falling = long_at(table, Key::Falling)?;
         Ok(AlarmRow {

@@ -3,39 +3,29 @@
 ghost use Rattle.std.specs.Prelude.{◌≡◌};
 ghost use Rattle.mon_vacm.specs.Tables.{lists_of};
 ghost use Rattle.mon_settings.specs.Keys.{Reads};
+ghost use Rattle.mon_settings.specs.Lists.{list_at};
 ghost use Rattle.mon_settings.specs.Tables.{list_of, policy_of, policy_in};
 ghost use Rattle.toml.specs.View.{table_view};
 
 use crate::fault::SettingsFault;
+use crate::grammar::table_keys;
 use crate::key::Key;
 use crate::keys::only;
 use crate::leaf::{bool_at, hex_or_none, model_at, oid_at};
-use crate::list::{Row, list_at};
+use crate::list::{Row, read_rows, values_at};
 use crate::octets::{name_at, name_or_none};
 use mon_vacm::{AccessEntry, Community, Family, Group, Octets, Policy, PolicyFault, Tables};
 use std::alloc::Global;
 use toml::Table;
 
-/// The keys of a table of the list of communities.
-pub(crate) const COMMUNITY_KEYS: [Key; 2] = [Key::Community, Key::Security];
-
-/// The keys of a table of the list of groups.
-pub(crate) const GROUP_KEYS: [Key; 2] = [Key::Security, Key::Group];
-
-/// The keys of a table of the list of access entries.
-pub(crate) const ACCESS_KEYS: [Key; 4] = [Key::Group, Key::Model, Key::Read, Key::Write];
-
-/// The keys of a table of the list of view families.
-pub(crate) const VIEW_KEYS: [Key; 4] = [Key::View, Key::Subtree, Key::Mask, Key::Included];
-
-impl Row for Community {
+impl Row<()> for Community {
     ghost use Rattle.mon_settings.specs.Tables.{community_of};
 
-    ghost row_of = { community_of };
+    ghost row_of = { λ _. community_of };
 
     #[tactic(auto, unfolding(crate::specs::Tables::community_of))]
-    fn read(alloc: Global, table: &Table) -> Result<Self, SettingsFault> {
-        only(table, &COMMUNITY_KEYS)?;
+    fn read(alloc: Global, _around: &(), table: &Table) -> Result<Self, SettingsFault> {
+        only(table, table_keys(Key::Community))?;
         let name = name_at(alloc, table, Key::Community, 512)?;
         let security_name = name_at(alloc, table, Key::Security, 32)?;
         Ok(Community {
@@ -45,14 +35,14 @@ impl Row for Community {
     }
 }
 
-impl Row for Group {
+impl Row<()> for Group {
     ghost use Rattle.mon_settings.specs.Tables.{group_of};
 
-    ghost row_of = { group_of };
+    ghost row_of = { λ _. group_of };
 
     #[tactic(auto, unfolding(crate::specs::Tables::group_of))]
-    fn read(alloc: Global, table: &Table) -> Result<Self, SettingsFault> {
-        only(table, &GROUP_KEYS)?;
+    fn read(alloc: Global, _around: &(), table: &Table) -> Result<Self, SettingsFault> {
+        only(table, table_keys(Key::Group))?;
         let security_name = name_at(alloc, table, Key::Security, 32)?;
         let group_name = name_at(alloc, table, Key::Group, 32)?;
         Ok(Group {
@@ -62,14 +52,14 @@ impl Row for Group {
     }
 }
 
-impl Row for AccessEntry {
+impl Row<()> for AccessEntry {
     ghost use Rattle.mon_settings.specs.Tables.{access_entry_of};
 
-    ghost row_of = { access_entry_of };
+    ghost row_of = { λ _. access_entry_of };
 
     #[tactic(auto, unfolding(crate::specs::Tables::access_entry_of))]
-    fn read(alloc: Global, table: &Table) -> Result<Self, SettingsFault> {
-        only(table, &ACCESS_KEYS)?;
+    fn read(alloc: Global, _around: &(), table: &Table) -> Result<Self, SettingsFault> {
+        only(table, table_keys(Key::Access))?;
         let group_name = name_at(alloc, table, Key::Group, 32)?;
         let security_model = model_at(table, Key::Model)?;
         let read_view = name_or_none(alloc, table, Key::Read, 32)?;
@@ -83,14 +73,14 @@ impl Row for AccessEntry {
     }
 }
 
-impl Row for Family {
+impl Row<()> for Family {
     ghost use Rattle.mon_settings.specs.Tables.{family_of};
 
-    ghost row_of = { family_of };
+    ghost row_of = { λ _. family_of };
 
     #[tactic(auto, unfolding(crate::specs::Tables::family_of))]
-    fn read(alloc: Global, table: &Table) -> Result<Self, SettingsFault> {
-        only(table, &VIEW_KEYS)?;
+    fn read(alloc: Global, _around: &(), table: &Table) -> Result<Self, SettingsFault> {
+        only(table, table_keys(Key::View))?;
         let view_name = name_at(alloc, table, Key::View, 32)?;
         let subtree = oid_at(alloc, table, Key::Subtree)?;
         let mask = hex_or_none(alloc, table, Key::Mask, 16)?;
@@ -122,6 +112,19 @@ fn policy_of(tables: Tables) -> Result<Policy, SettingsFault>
         Ok(policy) => Ok(policy),
         Err(fault) => Err(SettingsFault::bad(list_of(fault))),
     }
+}
+
+/// The tables of the list at a key, at most 256 of them.
+#[tactic(auto, unfolding(crate::specs::Lists::list_at))]
+pub(crate) fn list_at<R: Row<()>>(
+    alloc: Global,
+    table: &Table,
+    key: Key,
+) -> Result<Vec<R>, SettingsFault>
+    ensures { Reads (λ rs. rs.items) (list_at key (R.row_of tt) (table_view table.now)) result }
+{
+    let values = values_at(table, key, 0, 256)?;
+    read_rows(alloc, &(), key, values)
 }
 
 /// The policy of the four lists.

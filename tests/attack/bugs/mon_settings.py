@@ -2,9 +2,9 @@
 
 BUGS = {
     "calls_what_is_not_toml_an_unknown_key": (
-        "src/agent.rt",
-        "                Err(SettingsFault::NotToml)",
-        "                Err(SettingsFault::UnknownKey(crate::place::Place::Whole))",
+        "src/text.rt",
+        "            Some(span) => Err(SettingsFault::NotToml(span.start)),",
+        "            Some(_) => Err(SettingsFault::UnknownKey(crate::place::Place::Whole)),",
     ),
     "displays_listen_for_limit": (
         "src/key.rt",
@@ -32,9 +32,9 @@ BUGS = {
         "Key::Boots, 2, 1, 2147483647)?;",
     ),
     "takes_257_entries": (
-        "src/list.rt",
-        "    if values.len() <= 256 {",
-        "    if values.len() <= 257 {",
+        "src/tables.rt",
+        "values_at(table, key, 0, 256)?;",
+        "values_at(table, key, 0, 257)?;",
     ),
     "takes_a_community_of_513_octets": (
         "src/tables.rt",
@@ -48,13 +48,13 @@ BUGS = {
     ),
     "takes_a_window_of_0": (
         "src/leaf.rt",
-        "    let size = number_at(table, key, 1, most as u64)?;",
-        "    let size = number_at(table, key, 0, most as u64)?;",
+        "number_at(table, key, 1, most as u64)?",
+        "number_at(table, key, 0, most as u64)?",
     ),
     "takes_an_alias_of_65_octets": (
         "src/interfaces.rt",
-        "Key::Alias, 64)?;",
-        "Key::Alias, 65)?;",
+        "Key::Alias, 0, 64)?;",
+        "Key::Alias, 0, 65)?;",
     ),
     "takes_services_of_128": (
         "src/agent.rt",
@@ -62,14 +62,14 @@ BUGS = {
         "Key::Services, 0, 128)?;",
     ),
     "refuses_256_entries": (
-        "src/list.rt",
-        "    if values.len() <= 256 {",
-        "    if values.len() < 256 {",
+        "src/tables.rt",
+        "values_at(table, key, 0, 256)?;",
+        "values_at(table, key, 0, 255)?;",
     ),
     "calls_a_missing_list_a_bad_value": (
-        "src/list.rt",
-        "        None => Err(SettingsFault::missing(key)),",
-        "        None => Err(SettingsFault::bad(key)),",
+        "src/keys.rt",
+        "    find(table, key).ok_or(SettingsFault::missing(key))",
+        "    find(table, key).ok_or(SettingsFault::bad(key))",
     ),
     "refuses_the_greatest_number": (
         "src/leaf.rt",
@@ -123,13 +123,13 @@ BUGS = {
     ),
     "forgets_to_look_for_unknown_keys": (
         "src/agent.rt",
-        "    only(table, &KEYS)?;\n",
+        "    only(table, top_keys(Kind::Agent))?;\n",
         "",
     ),
     "calls_memory_not_toml": (
-        "src/agent.rt",
-        "            if error.is_memory() {",
-        "            if !error.is_memory() {",
+        "src/text.rt",
+        "            None => Err(SettingsFault::OutOfMemory),",
+        "            None => Err(SettingsFault::NotToml(0)),",
     ),
     "reads_the_read_view_for_writing": (
         "src/tables.rt",
@@ -158,7 +158,7 @@ BUGS = {
     ),
     "takes_the_window_as_the_epoch": (
         "src/station_tables.rt",
-        "Key::Epoch, sizes.epoch.min(window), window)?;",
+        "Key::Epoch, around.sizes.epoch.min(window), window)?;",
         "Key::Epoch, window, window)?;",
     ),
     "takes_17_objects": (
@@ -173,13 +173,13 @@ BUGS = {
     ),
     "takes_65_targets": (
         "src/station.rt",
-        "        64,\n",
-        "        65,\n",
+        "Key::Target, 1, 64)?;",
+        "Key::Target, 1, 65)?;",
     ),
     "takes_9_tries": (
         "src/leaf.rt",
-        "Key::Tries, 1, 8)?;",
-        "Key::Tries, 1, 9)?;",
+        "Key::Tries, 1, 8)?",
+        "Key::Tries, 1, 9)?",
     ),
     "takes_257_instances": (
         "src/placing.rt",
@@ -203,8 +203,8 @@ BUGS = {
     ),
     "takes_the_address_of_a_target": (
         "src/peers.rt",
-        "            return true;",
-        "            return false;",
+        "        .any(|target| is_address(target.address, address))",
+        "        .all(|target| is_address(target.address, address))",
     ),
     "takes_a_peer_twice": (
         "src/peers.rt",
@@ -238,8 +238,8 @@ BUGS = {
     ),
     "reads_the_name_as_the_mark": (
         "src/station_tables.rt",
-        "    let mark = name_or_none(alloc, names, table, Key::Mark)?;",
-        "    let mark = name_or_none(alloc, names, table, Key::Name)?;",
+        "name_or_none(alloc, around.names, table, Key::Mark)?;",
+        "name_or_none(alloc, around.names, table, Key::Name)?;",
     ),
     "numbers_unknown_object_5": (
         "src/fault.rt",
@@ -288,13 +288,13 @@ BUGS = {
     ),
     "calls_a_stations_memory_not_toml": (
         "src/station.rt",
-        "            if error.is_memory() {",
-        "            if !error.is_memory() {",
+        "        Err(fault) => Err(fault),",
+        "        Err(_) => Err(SettingsFault::NotToml(0)),",
     ),
     "calls_a_station_that_is_not_toml_an_unknown_key": (
         "src/station.rt",
-        "                Err(SettingsFault::NotToml)",
-        "                Err(SettingsFault::UnknownKey(crate::place::Place::Whole))",
+        "        Err(fault) => Err(fault),",
+        "        Err(_) => Err(SettingsFault::UnknownKey(crate::place::Place::Whole)),",
     ),
     "calls_a_bad_tree_of_modules_not_toml": (
         "src/modules.rt",
@@ -313,13 +313,13 @@ BUGS = {
     ),
     "counts_entries_from_0": (
         "src/list.rt",
-        "        let entry = match read_row(alloc, Step::Entry(key, index + 1), value) {",
-        "        let entry = match read_row(alloc, Step::Entry(key, index), value) {",
+        "Step::Entry(key, index + 1), value)",
+        "Step::Entry(key, index), value)",
     ),
     "blames_the_entry_after_the_bad_one": (
-        "src/named_list.rt",
-        "Step::Entry(key, index + 1), value) {",
-        "Step::Entry(key, index + 2), value) {",
+        "src/list.rt",
+        "Step::Entry(key, index + 1), value)",
+        "Step::Entry(key, index + 2), value)",
     ),
     "leaves_out_the_table_of_a_count": (
         "src/interfaces.rt",
@@ -347,7 +347,7 @@ BUGS = {
         "    match number.checked_sub(2) {",
     ),
     "names_a_known_key": (
-        "src/unknown.rt",
+        "src/keys.rt",
         "    table.keys().find(|name| !is_one_of(name.as_str(), keys))",
         "    table.keys().find(|name| is_one_of(name.as_str(), keys))",
     ),
@@ -373,8 +373,8 @@ BUGS = {
     ),
     "reads_the_name_as_contact": (
         "src/agent.rt",
-        "    let contact = octets_at(alloc, table, Key::Contact, 255)?;",
-        "    let contact = octets_at(alloc, table, Key::Name, 255)?;",
+        "    let contact = octets_at(alloc, table, Key::Contact, 0, 255)?;",
+        "    let contact = octets_at(alloc, table, Key::Name, 0, 255)?;",
     ),
     "takes_equal_indexes": (
         "src/interfaces.rt",
@@ -383,13 +383,13 @@ BUGS = {
     ),
     "allows_unknown_keys": (
         "src/keys.rt",
-        "        Err(SettingsFault::UnknownKey(Place::Whole))",
-        "        Ok(())",
+        "        Some(_) => Err(SettingsFault::UnknownKey(Place::Whole)),",
+        "        Some(_) => Ok(()),",
     ),
     "reads_the_first_entry_alone": (
-        "src/list.rt",
-        "            Some(values) => read_rows(alloc, key, values),",
-        "            Some(values) => read_rows(alloc, key, if values.len() > 1 { &values[..1] } else { values }),",
+        "src/tables.rt",
+        "    read_rows(alloc, &(), key, values)\n",
+        "    read_rows(alloc, &(), key, if values.len() > 1 { &values[..1] } else { values })\n",
     ),
     "takes_an_alarm_on_what_is_not_watched": (
         "src/placing.rt",
@@ -405,5 +405,70 @@ BUGS = {
         "src/peers.rt",
         "    numbers.iter().all(|number| *number != own)",
         "    numbers.iter().all(|number| *number != own || *number == 1)",
+    ),
+    "answers_line_1": (
+        "src/position.rt",
+        "        line: line_feeds(octets) + 1,",
+        "        line: 1,",
+    ),
+    "answers_column_1": (
+        "src/position.rt",
+        "        column: chars(last_line(octets)) + 1,",
+        "        column: 1,",
+    ),
+    "counts_a_column_in_octets": (
+        "src/position.rt",
+        "        column: chars(last_line(octets)) + 1,",
+        "        column: last_line(octets).len() + 1,",
+    ),
+    "answers_the_last_place_of_a_text": (
+        "src/position.rt",
+        "        &octets[..count]\n",
+        "        octets\n",
+    ),
+    "finds_the_last_unknown_key": (
+        "src/keys.rt",
+        "    table.keys().find(|name| !is_one_of(name.as_str(), keys))",
+        "    table.keys().rev().find(|name| !is_one_of(name.as_str(), keys))",
+    ),
+    "names_no_unknown_key": (
+        "src/unknown.rt",
+        "        Some(name) => Ok(Some(String::from_str(alloc, name.as_str())?)),",
+        "        Some(_) => Ok(None),",
+    ),
+    "looks_into_the_top_table_alone": (
+        "src/unknown.rt",
+        "        Place::At(last) => table_of(tree, last),",
+        "        Place::At(_) => Some(tree),",
+    ),
+    "skips_the_keys_of_a_peer": (
+        "src/station_tables.rt",
+        "        only(table, table_keys(Key::Peer))?;\n",
+        "",
+    ),
+    "knows_the_keys_of_a_group_in_a_community": (
+        "src/grammar.rt",
+        "        Key::Community => &COMMUNITY,",
+        "        Key::Community => &GROUP,",
+    ),
+    "knows_no_key_of_a_peer": (
+        "src/grammar.rt",
+        "        Key::Peer => &PEER,",
+        "        Key::Peer => &[],",
+    ),
+    "knows_a_stations_keys_in_an_agents_settings": (
+        "src/grammar.rt",
+        "        Kind::Agent => &AGENT,",
+        "        Kind::Agent => &STATION,",
+    ),
+    "leaves_rules_in_the_order_of_the_alarms": (
+        "src/placing.rt",
+        "        match compare(rule, new) {\n            Ordering::Less => {}\n            Ordering::Equal => return None,\n            Ordering::Greater => return Some(place),",
+        "        match compare(rule, new) {\n            Ordering::Less | Ordering::Greater => {}\n            Ordering::Equal => return None,",
+    ),
+    "takes_a_rule_twice": (
+        "src/placing.rt",
+        "        match compare(rule, new) {\n            Ordering::Less => {}\n            Ordering::Equal => return None,",
+        "        match compare(rule, new) {\n            Ordering::Less | Ordering::Equal => {}",
     ),
 }

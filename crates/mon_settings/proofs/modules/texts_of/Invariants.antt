@@ -1,6 +1,6 @@
+use Rattle.mon_settings.specs.Leaf.{texts_of}
 use Rattle.std.proofs.Common.{◌≡◌, map, drop, option_map, ◌++◌, string_bytes}
 use Rattle.toml.specs.View.{items_view}
-use Rattle.mon_settings.specs.Station.{texts_of}
 use Rattle.mon_settings.proofs.modules.texts_of.Given as goal
 
 -- what is left follows what was read

@@ -1,5 +1,5 @@
+use Rattle.mon_settings.specs.Watching.{object_from}
 use Rattle.std.proofs.Common.{◌≡◌, map, take}
-use Rattle.mon_settings.specs.Placing.{object_from}
 use Rattle.mon_settings.proofs.station.objects_from.Given as goal
 
 -- those so far

@@ -3,9 +3,10 @@ use Rattle.mon_board.specs.declared.instance.Watched.{Watched}
 use Rattle.toml.specs.View.{table_view}
 use Rattle.mon_settings.specs.declared.station_tables.PeerRow.{PeerRow}
 use Rattle.mon_settings.specs.declared.station_tables.TargetRow.{TargetRow}
+use Rattle.mon_settings.specs.StationAccepted.{Scalars, core_from}
 use Rattle.mon_settings.specs.Placing.{instances_of_rows}
 use Rattle.mon_settings.specs.Resolving.{resolution}
-use Rattle.mon_settings.specs.Station.{Scalars, core_from, rules_at, scalars_view}
+use Rattle.mon_settings.specs.Station.{rules_at, scalars_view}
 use Rattle.mon_settings.specs.StationCore.{IsCore}
 use Rattle.mon_settings.proofs.ForCores.{core_read}
 use Rattle.mon_settings.proofs.station.read_tree.Goals as goal
