@@ -16,6 +16,9 @@ use Rattle.mon_words.specs.declared.format.ReportFormat.TheVariants as report
 use Rattle.mon_words.specs.declared.meaning.Named.{Named}
 use Rattle.mon_words.specs.declared.meaning.Printed.{Printed}
 use Rattle.mon_words.specs.declared.meaning.Request.{Request}
+use Rattle.mon_words.specs.declared.meaning.AgentWords.{AgentWords}
+use Rattle.mon_words.specs.declared.meaning.AnswerWords.{AnswerWords}
+use Rattle.mon_words.specs.declared.meaning.StationWords.{StationWords}
 use Rattle.mon_words.specs.declared.meaning.Scene.{Scene}
 use Rattle.mon_words.specs.declared.meaning.Timing.{Timing}
 use Rattle.mon_words.specs.declared.meaning.Asked.{Asked}
@@ -48,6 +51,7 @@ abbrev pub IsInteger : Option Text → Option ℤ → Type 0
 IsInteger None n = n ≡ None
 IsInteger (Some t) n = IsIf (IsNumeral 10 (without_leading_sign t) × FitsSigned w32 (signed_digits_value 10 t)) (signed_digits_value 10 t) n
 
+-- the same, or another number where there is none
 abbrev pub IsNumberOr : ℕ → ℕ → Option Text → ℕ → Type 0
 IsNumberOr bits other t n = (read : Option ℕ) × IsNumber bits t read × (n ≡ unwrap_or read other)
 
@@ -67,6 +71,7 @@ abbrev pub IsFormat : Bool → Text → ReportFormat → Type 0
 IsFormat true t f = f ≡ report.Columns
 IsFormat false t f = IsFormatOf t f
 
+-- how a report is printed
 abbrev pub IsPrinted : List Row → Printed → Type 0
 IsPrinted rows p = IsFormat (is_on (codes "columns") rows) (text_in (codes "format") rows) p.format × IsNamed rows p.named
 
@@ -74,17 +79,20 @@ IsPrinted rows p = IsFormat (is_on (codes "columns") rows) (text_in (codes "form
 abbrev pub wants_report : List Row → Bool
 wants_report rows = is_on (codes "report") rows || (is_on (codes "columns") rows || is_some (first_of (codes "format") rows))
 
+-- ADDRESS, COMMUNITY and all NAMEs in the order of the words
 abbrev pub IsRequest : List Row → Request → Type 0
 IsRequest rows q = (q.address.now ≡ text_in (codes "ADDRESS") rows)
     × (q.community.now ≡ text_in (codes "COMMUNITY") rows)
     × (texts q.names.now ≡ all_in (codes "NAME") rows)
     × IsNamed rows q.named
 
+-- --at, --fuses and --times
 abbrev pub IsScene : List Row → Scene → Type 0
 IsScene rows s = IsNumberOr 64 0 (one_of (codes "at") rows) s.at
     × IsNumberOr 64 0 (one_of (codes "fuses") rows) s.fuses
     × IsNumberOr 32 1 (one_of (codes "times") rows) s.times
 
+-- --rounds, --interval and --report-every
 abbrev pub IsTiming : List Row → Timing → Type 0
 IsTiming rows t = IsNumberOr 32 1 (one_of (codes "rounds") rows) t.rounds
     × IsNumberOr 32 0 (one_of (codes "interval") rows) t.interval
@@ -93,37 +101,47 @@ IsTiming rows t = IsNumberOr 32 1 (one_of (codes "rounds") rows) t.rounds
 abbrev pub IsSettings : List Row → Bor Text → Type 0
 IsSettings rows path = path.now ≡ text_in (codes "SETTINGS") rows
 
+-- the words of `agent`, of `answer` and of `station`
+abbrev pub IsAgent : List Row → AgentWords → Type 0
+IsAgent rows w = IsSettings rows w.settings
+    × IsInteger (one_of (codes "boots") rows) w.boots
+    × IsNumberOr 32 0 (one_of (codes "count") rows) w.count
+
+abbrev pub IsAnswer : List Row → AnswerWords → Type 0
+IsAnswer rows w = IsSettings rows w.settings
+    × IsInteger (one_of (codes "boots") rows) w.boots
+    × IsScene rows w.scene
+    × IsNamed rows w.named
+
+abbrev pub IsStation : List Row → StationWords → Type 0
+IsStation rows w = IsSettings rows w.settings
+    × IsTiming rows w.timing
+    × (option_map (λ o. o.now) w.out ≡ first_of (codes "out") rows)
+    × IsPrinted rows w.printed
+
 -- what the rows of a command's arguments ask for
 abbrev pub Says : Choice → List Row → Asked → Type 0
-Says commands.Replay rows (asked.Replay size reports printed) =
-    IsNumberOr 32 8 (one_of (codes "N") rows) size × (reports ≡ wants_report rows) × IsPrinted rows printed
+Says commands.Replay rows (asked.Replay w) =
+    IsNumberOr 32 8 (one_of (codes "N") rows) w.size × (w.reports ≡ wants_report rows) × IsPrinted rows w.printed
 Says commands.Get rows (asked.Get request) = IsRequest rows request
 Says commands.Next rows (asked.Next request) = IsRequest rows request
-Says commands.Bulk rows (asked.Bulk request non_repeaters max_repetitions) = IsRequest rows request
-    × IsIntegerOr (pos 0) (one_of (codes "non-repeaters") rows) non_repeaters
-    × IsIntegerOr (pos 0) (one_of (codes "max-repetitions") rows) max_repetitions
+Says commands.Bulk rows (asked.Bulk w) = IsRequest rows w.request
+    × IsIntegerOr (pos 0) (one_of (codes "non-repeaters") rows) w.non_repeaters
+    × IsIntegerOr (pos 0) (one_of (codes "max-repetitions") rows) w.max_repetitions
 Says commands.Walk rows (asked.Walk request) = IsRequest rows request
-Says commands.Set rows (asked.Set request kind value) =
-    IsRequest rows request × (kind.now ≡ text_in (codes "KIND") rows) × (value.now ≡ text_in (codes "VALUE") rows)
-Says commands.Agent rows (asked.Agent settings boots count) = IsSettings rows settings
-    × IsInteger (one_of (codes "boots") rows) boots
-    × IsNumberOr 32 0 (one_of (codes "count") rows) count
-Says commands.Answer rows (asked.Answer settings boots scene named) = IsSettings rows settings
-    × IsInteger (one_of (codes "boots") rows) boots
-    × IsScene rows scene
-    × IsNamed rows named
+Says commands.Set rows (asked.Set w) =
+    IsRequest rows w.request × (w.kind.now ≡ text_in (codes "KIND") rows) × (w.value.now ≡ text_in (codes "VALUE") rows)
+Says commands.Agent rows (asked.Agent w) = IsAgent rows w
+Says commands.Answer rows (asked.Answer w) = IsAnswer rows w
 Says commands.Mib rows (asked.Mib file) = file.now ≡ text_in (codes "FILE") rows
-Says commands.Station rows (asked.Station settings timing out printed) = IsSettings rows settings
-    × IsTiming rows timing
-    × (option_map (λ o. o.now) out ≡ first_of (codes "out") rows)
-    × IsPrinted rows printed
-Says commands.Report rows (asked.Report settings printed) = IsSettings rows settings × IsPrinted rows printed
+Says commands.Station rows (asked.Station w) = IsStation rows w
+Says commands.Report rows (asked.Report w) = IsSettings rows w.settings × IsPrinted rows w.printed
 Says commands.SelfTest rows asked.SelfTest = ⊤
-Says commands.Rehearse rows (asked.Rehearse settings stations) =
-    IsSettings rows settings × IsNumberOr 32 1 (one_of (codes "K") rows) stations
+Says commands.Rehearse rows (asked.Rehearse w) = IsSettings rows w.settings × IsNumberOr 32 1 (one_of (codes "K") rows) w.stations
 Says _ rows _ = ⊥
 
--- what all the words ask for: whether --version was given, the rows before any command, and the command that was met, with its rows
+-- What all the words ask for, by three things: whether --version was given, the rows before any command, and the command that was met, with its rows. The program has
+-- no command but those of the table.
 abbrev pub AsksFor : Bool → List Row → Option (Text × List Row) → Asked → Type 0
 AsksFor true rows command a = a ≡ asked.Version
 AsksFor false rows None a = Says commands.Replay rows a

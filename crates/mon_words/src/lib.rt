@@ -12,5 +12,8 @@ mod words;
 pub use choice::Choice;
 pub use format::ReportFormat;
 pub use matches::asked;
-pub use meaning::{Asked, Named, Printed, Request, Scene, Timing};
+pub use meaning::{
+    AgentWords, AnswerWords, Asked, BulkWords, Named, Printed, RehearseWords, ReplayWords,
+    ReportWords, Request, Scene, SetWords, StationWords, Timing,
+};
 pub use words::{VERSION, read};

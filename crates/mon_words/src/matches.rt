@@ -3,11 +3,14 @@
 ghost use Rattle.std.specs.Prelude.{◌≡◌, codes, option_map};
 ghost use Rattle.clap.specs.Words.{first_of, found_of, one_of, rows_of, subcommand_rows_of};
 ghost use Rattle.clap.specs.Walk.{texts};
-ghost use Rattle.mon_words.specs.Asked.{AsksFor, IsFormat, IsInteger, IsNamed, IsNumber, IsNumberOr, IsPrinted, IsRequest, IsScene, IsTiming, Says, all_in, is_on, text_in, wants_report};
+ghost use Rattle.mon_words.specs.Asked.{AsksFor, IsAgent, IsAnswer, IsFormat, IsInteger, IsNamed, IsNumber, IsNumberOr, IsPrinted, IsRequest, IsScene, IsStation, IsTiming, Says, all_in, is_on, text_in, wants_report};
 
 use crate::choice::Choice;
 use crate::format::ReportFormat;
-use crate::meaning::{Asked, Named, Printed, Request, Scene, Timing};
+use crate::meaning::{
+    AgentWords, AnswerWords, Asked, BulkWords, Named, Printed, RehearseWords, ReplayWords,
+    ReportWords, Request, Scene, SetWords, StationWords, Timing,
+};
 use clap::ArgMatches;
 
 /// How many samples a window keeps where the words do not say.
@@ -143,58 +146,77 @@ fn scene(words: &ArgMatches<'_>) -> Scene
     }
 }
 
+/// The agent that the words have served.
+fn agent<'a>(words: &ArgMatches<'a>) -> AgentWords<'a>
+    ensures { IsAgent (rows_of (found_of words.now)) result }
+{
+    AgentWords {
+        settings: text(words, "SETTINGS"),
+        boots: small_number(words, "boots"),
+        count: number_or(words, "count", 0),
+    }
+}
+
+/// The agent that the words hand datagrams.
+fn answer<'m, 'a>(words: &'m ArgMatches<'a>) -> AnswerWords<'m, 'a>
+    ensures { IsAnswer (rows_of (found_of words.now)) result }
+{
+    AnswerWords {
+        settings: text(words, "SETTINGS"),
+        boots: small_number(words, "boots"),
+        scene: scene(words),
+        named: named(words),
+    }
+}
+
+/// The station that the words have run.
+fn station<'m, 'a>(words: &'m ArgMatches<'a>) -> StationWords<'m, 'a>
+    ensures { IsStation (rows_of (found_of words.now)) result }
+{
+    StationWords {
+        settings: text(words, "SETTINGS"),
+        timing: timing(words),
+        out: given(words, "out"),
+        printed: printed(words),
+    }
+}
+
 /// What the words of a command ask for.
 fn asked_by<'m, 'a>(choice: Choice, words: &'m ArgMatches<'a>) -> Asked<'m, 'a>
     ensures { Says choice (rows_of (found_of words.now)) result }
 {
     match choice {
-        Choice::Replay => Asked::Replay {
+        Choice::Replay => Asked::Replay(ReplayWords {
             size: number_or(words, "N", USUAL_SIZE),
             reports: reports(words),
             printed: printed(words),
-        },
+        }),
         Choice::Get => Asked::Get(request(words)),
         Choice::Next => Asked::Next(request(words)),
-        Choice::Bulk => Asked::Bulk {
+        Choice::Bulk => Asked::Bulk(BulkWords {
             request: request(words),
             non_repeaters: small_number(words, "non-repeaters").unwrap_or(0),
             max_repetitions: small_number(words, "max-repetitions").unwrap_or(0),
-        },
+        }),
         Choice::Walk => Asked::Walk(request(words)),
-        Choice::Set => Asked::Set {
+        Choice::Set => Asked::Set(SetWords {
             request: request(words),
             kind: text(words, "KIND"),
             value: text(words, "VALUE"),
-        },
-        Choice::Agent => Asked::Agent {
-            settings: text(words, "SETTINGS"),
-            boots: small_number(words, "boots"),
-            count: number_or(words, "count", 0),
-        },
-        Choice::Answer => Asked::Answer {
-            settings: text(words, "SETTINGS"),
-            boots: small_number(words, "boots"),
-            scene: scene(words),
-            named: named(words),
-        },
-        Choice::Mib => Asked::Mib {
-            file: text(words, "FILE"),
-        },
-        Choice::Station => Asked::Station {
-            settings: text(words, "SETTINGS"),
-            timing: timing(words),
-            out: given(words, "out"),
-            printed: printed(words),
-        },
-        Choice::Report => Asked::Report {
-            settings: text(words, "SETTINGS"),
-            printed: printed(words),
-        },
+        }),
+        Choice::Mib => Asked::Mib(text(words, "FILE")),
         Choice::SelfTest => Asked::SelfTest,
-        Choice::Rehearse => Asked::Rehearse {
+        Choice::Agent => Asked::Agent(agent(words)),
+        Choice::Answer => Asked::Answer(answer(words)),
+        Choice::Station => Asked::Station(station(words)),
+        Choice::Report => Asked::Report(ReportWords {
+            settings: text(words, "SETTINGS"),
+            printed: printed(words),
+        }),
+        Choice::Rehearse => Asked::Rehearse(RehearseWords {
             settings: text(words, "SETTINGS"),
             stations: number_or(words, "K", 1),
-        },
+        }),
     }
 }
 

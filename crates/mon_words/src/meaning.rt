@@ -48,57 +48,97 @@ pub struct Timing {
     pub report_every: u32,
 }
 
+/// What `replay` is to print of recorded responses.
+#[derive(Clone, Copy)]
+pub struct ReplayWords<'m, 'a> {
+    /// How many samples a window keeps.
+    pub size: u32,
+    /// Whether the report is printed, and not the windows.
+    pub reports: bool,
+    pub printed: Printed<'m, 'a>,
+}
+
+/// What `bulk` asks for.
+#[derive(Clone, Copy)]
+pub struct BulkWords<'m, 'a> {
+    pub request: Request<'m, 'a>,
+    pub non_repeaters: i32,
+    pub max_repetitions: i32,
+}
+
+/// What `set` assigns to which variable.
+#[derive(Clone, Copy)]
+pub struct SetWords<'m, 'a> {
+    pub request: Request<'m, 'a>,
+    pub kind: &'a str,
+    pub value: &'a str,
+}
+
+/// The agent that `agent` serves.
+#[derive(Clone, Copy)]
+pub struct AgentWords<'a> {
+    /// The file of its settings.
+    pub settings: &'a str,
+    pub boots: Option<i32>,
+    /// How many datagrams are served.
+    pub count: u32,
+}
+
+/// The agent that `answer` hands recorded datagrams.
+#[derive(Clone, Copy)]
+pub struct AnswerWords<'m, 'a> {
+    /// The file of its settings.
+    pub settings: &'a str,
+    pub boots: Option<i32>,
+    pub scene: Scene,
+    pub named: Named<'m, 'a>,
+}
+
+/// The station that `station` runs.
+#[derive(Clone, Copy)]
+pub struct StationWords<'m, 'a> {
+    /// The file of its settings.
+    pub settings: &'a str,
+    pub timing: Timing,
+    /// The file that each round's report is written to.
+    pub out: Option<&'a str>,
+    pub printed: Printed<'m, 'a>,
+}
+
+/// The station whose windows `report` prints.
+#[derive(Clone, Copy)]
+pub struct ReportWords<'m, 'a> {
+    /// The file of its settings.
+    pub settings: &'a str,
+    pub printed: Printed<'m, 'a>,
+}
+
+/// The stations that `rehearse` makes.
+#[derive(Clone, Copy)]
+pub struct RehearseWords<'a> {
+    /// The file of their settings.
+    pub settings: &'a str,
+    /// How many they are.
+    pub stations: u32,
+}
+
 /// What the words ask for, by their command.
 #[derive(Clone, Copy)]
 pub enum Asked<'m, 'a> {
     /// The program's name and version.
     Version,
-    /// Windows of this size, and their report where `reports` says so.
-    Replay {
-        size: u32,
-        reports: bool,
-        printed: Printed<'m, 'a>,
-    },
+    Replay(ReplayWords<'m, 'a>),
     Get(Request<'m, 'a>),
     Next(Request<'m, 'a>),
-    Bulk {
-        request: Request<'m, 'a>,
-        non_repeaters: i32,
-        max_repetitions: i32,
-    },
+    Bulk(BulkWords<'m, 'a>),
     Walk(Request<'m, 'a>),
-    Set {
-        request: Request<'m, 'a>,
-        kind: &'a str,
-        value: &'a str,
-    },
-    Agent {
-        settings: &'a str,
-        boots: Option<i32>,
-        count: u32,
-    },
-    Answer {
-        settings: &'a str,
-        boots: Option<i32>,
-        scene: Scene,
-        named: Named<'m, 'a>,
-    },
-    Mib {
-        file: &'a str,
-    },
-    Station {
-        settings: &'a str,
-        timing: Timing,
-        out: Option<&'a str>,
-        printed: Printed<'m, 'a>,
-    },
-    Report {
-        settings: &'a str,
-        printed: Printed<'m, 'a>,
-    },
+    Set(SetWords<'m, 'a>),
+    Agent(AgentWords<'a>),
+    Answer(AnswerWords<'m, 'a>),
+    /// The names of the module in this file.
+    Mib(&'a str),
+    Station(StationWords<'m, 'a>),
+    Report(ReportWords<'m, 'a>),
     SelfTest,
-    Rehearse {
-        settings: &'a str,
-        stations: u32,
-    },
+    Rehearse(RehearseWords<'a>),
 }

@@ -11,7 +11,7 @@ use mon_faults::Fault;
 use mon_mib::{Device, FuseDevice, Moment, SimDevice};
 use mon_settings::{AgentSettings, Kind, read_agent};
 use mon_smi::{Labels, Names};
-use mon_words::{Named, Scene};
+use mon_words::{AgentWords, AnswerWords};
 use std::alloc::{AllocError, Global};
 use std::net::{Ipv4Addr, Net, SocketAddrV4};
 use std::rt::{Clock, Files};
@@ -19,18 +19,16 @@ use std::rt::{Clock, Files};
 /// The greatest moment of a device's life, in hundredths of a second.
 const MOMENTS: &str = "a moment up to 214748364799";
 
-/// Serves the agent of the settings in a file, as many datagrams as `count` says.
+/// Serves the agent of the settings, as many datagrams as the words say.
 pub fn agent<R: Clock + Files + Net + Eprint + AllocGlobal>(
     rt: &R,
-    path: &str,
-    boots: Option<i32>,
-    count: u32,
+    words: AgentWords<'_>,
 ) -> Result<(), Failure> {
-    let told = told_of(rt, path, boots)?;
+    let told = told_of(rt, words.settings, words.boots)?;
     let listen = SocketAddrV4::new(Ipv4Addr::from(told.listen.octets), told.listen.port);
     let device = SimDevice::new(told.interfaces, told.texts)?;
     let agent = Agent::new(told.policy, told.settings, device);
-    listened(rt, listen, agent, count)
+    listened(rt, listen, agent, words.count)
 }
 
 /// Listens at an address, says so, and serves so many datagrams.
@@ -101,15 +99,14 @@ fn told_of<R: Files + AllocGlobal>(
     Ok(told)
 }
 
-/// Prints what the agent of the settings in a file answers to the datagrams on standard input.
+/// Prints what the agent of the settings answers to the datagrams on standard input.
 pub fn answer<R: Files + Input + Print + AllocGlobal>(
     rt: &R,
-    path: &str,
-    boots: Option<i32>,
-    scene: Scene,
-    named: Named<'_, '_>,
+    words: AnswerWords<'_, '_>,
 ) -> Result<(), Failure> {
-    let mut agent = fused_agent(told_of(rt, path, boots)?, scene.fuses)?;
+    let AnswerWords { scene, named, .. } = words;
+    let told = told_of(rt, words.settings, words.boots)?;
+    let mut agent = fused_agent(told, scene.fuses)?;
     let at = moment_of(rt.alloc(), scene.at)?;
     let names = names_of(rt, named.modules)?;
     let text = read_input_text(rt)?;

@@ -11,7 +11,7 @@ use mon_faults::Fault;
 use mon_names::{InNumbers, NameTexts};
 use mon_oid::Oid;
 use mon_smi::Names;
-use mon_words::Request;
+use mon_words::{BulkWords, Request, SetWords};
 use std::alloc::{AllocError, Global};
 use std::net::{Net, SocketAddrV4};
 use std::rt::{Clock, Files};
@@ -38,21 +38,22 @@ pub fn next<R: Clock + Files + Net + Print + AllocGlobal>(
 /// Prints many variables after some names.
 pub fn bulk<R: Clock + Files + Net + Print + AllocGlobal>(
     rt: &R,
-    request: Request<'_, '_>,
-    repeats: Repeats,
+    words: BulkWords<'_, '_>,
 ) -> Result<(), Failure> {
-    ask(rt, request, Asking::GetBulk(repeats))
+    let repeats = Repeats {
+        non_repeaters: words.non_repeaters,
+        max_repetitions: words.max_repetitions,
+    };
+    ask(rt, words.request, Asking::GetBulk(repeats))
 }
 
 /// Has the agent assign a value to the variable that is asked about, and prints its answer.
 pub fn set<R: Clock + Files + Net + Print + AllocGlobal>(
     rt: &R,
-    request: Request<'_, '_>,
-    kind: &str,
-    value: &str,
+    words: SetWords<'_, '_>,
 ) -> Result<(), Failure> {
-    let query = query_of(rt, request)?;
-    let value = read_value(rt.alloc(), kind, value)?;
+    let query = query_of(rt, words.request)?;
+    let value = read_value(rt.alloc(), words.kind, words.value)?;
     print_answer(rt, &query, Asking::Set(&value))
 }
 

@@ -10,9 +10,9 @@ use crate::listing::list;
 use crate::printing::Printing;
 use crate::station::{rehearsal, report, self_test, station};
 use clap::error::ErrorKind;
-use mon_app::{Recorded, Repeats};
+use mon_app::Recorded;
 use mon_smi::Names;
-use mon_words::{Asked, Printed, VERSION, asked, read};
+use mon_words::{Asked, ReplayWords, VERSION, asked, read};
 use std::alloc::AllocError;
 use std::fs::File;
 use std::net::Net;
@@ -76,54 +76,19 @@ fn run<R: Clock + Files<File = File> + Net + Input + Print + Eprint + AllocGloba
 ) -> Result<(), Failure> {
     match asked {
         Asked::Version => print(rt, VERSION.as_bytes()),
-        Asked::Replay {
-            size,
-            reports,
-            printed,
-        } => { replaying(rt, window_of(size), reports.then_some(printed)) }
+        Asked::Replay(words) => replaying(rt, words),
         Asked::Get(request) => get(rt, request),
         Asked::Next(request) => next(rt, request),
-        Asked::Bulk {
-            request,
-            non_repeaters,
-            max_repetitions,
-        } => {
-            bulk(
-                rt,
-                request,
-                Repeats {
-                    non_repeaters,
-                    max_repetitions,
-                },
-            )
-        }
+        Asked::Bulk(words) => bulk(rt, words),
         Asked::Walk(request) => walk(rt, request),
-        Asked::Set {
-            request,
-            kind,
-            value,
-        } => set(rt, request, kind, value),
-        Asked::Agent {
-            settings,
-            boots,
-            count,
-        } => agent(rt, settings, boots, count),
-        Asked::Answer {
-            settings,
-            boots,
-            scene,
-            named,
-        } => { answer(rt, settings, boots, scene, named) }
-        Asked::Mib { file } => mib(rt, file),
-        Asked::Station {
-            settings,
-            timing,
-            out,
-            printed,
-        } => { station(rt, settings, timing, out, printed) }
-        Asked::Report { settings, printed } => report(rt, settings, printed),
+        Asked::Set(words) => set(rt, words),
+        Asked::Agent(words) => agent(rt, words),
+        Asked::Answer(words) => answer(rt, words),
+        Asked::Mib(path) => mib(rt, path),
+        Asked::Station(words) => station(rt, words),
+        Asked::Report(words) => report(rt, words),
         Asked::SelfTest => self_test(rt),
-        Asked::Rehearse { settings, stations } => rehearsal(rt, settings, stations),
+        Asked::Rehearse(words) => rehearsal(rt, words),
     }
 }
 
@@ -134,18 +99,16 @@ fn window_of(size: u32) -> u8
     size.clamp(1, 64) as u8
 }
 
-/// Prints the windows of the responses on standard input, or their report in this way.
+/// Prints the windows of the responses on standard input, or their report where the words ask for one.
 fn replaying<R: Files + Input + Print + Eprint + AllocGlobal>(
     rt: &R,
-    size: u8,
-    printed: Option<Printed<'_, '_>>,
-) -> Result<(), Failure>
-    requires { (1 ≤ size) × (size ≤ 64) }
-{
-    let Some(printed) = printed else {
+    words: ReplayWords<'_, '_>,
+) -> Result<(), Failure> {
+    let size = window_of(words.size);
+    if !words.reports {
         return replay(rt, size);
-    };
-    let printing = Printing::of(rt, printed, Names::new(rt.alloc())?, &[])?;
+    }
+    let printing = Printing::of(rt, words.printed, Names::new(rt.alloc())?, &[])?;
     let input = read_input(rt)?;
     replay_report(rt, size, &input, &printing)
 }

@@ -23,7 +23,7 @@ use mon_rounds::{
 use mon_settings::{Kind, StationSettings, module_files, read_station};
 use mon_smi::Names;
 use mon_station::{Outbox, Run, Station, StationFault};
-use mon_words::{Named, Printed, ReportFormat, Timing};
+use mon_words::{Named, Printed, RehearseWords, ReportFormat, ReportWords, StationWords, Timing};
 use std::alloc::{AllocError, Global};
 use std::fs::File;
 use std::io::{BufWriter, Write};
@@ -71,22 +71,19 @@ const PLAIN: Printed<'static, 'static> = Printed {
 /// The most times that a station goes on hearing between two rounds.
 const MOST_RESTS: u32 = u32::MAX;
 
-/// Runs the station of the settings in a file through its rounds, and prints its report.
+/// Runs the station of the settings through its rounds, and prints its report.
 pub fn station<R: Clock + Files<File = File> + Net + Print + Eprint + AllocGlobal>(
     rt: &R,
-    path: &str,
-    timing: Timing,
-    out: Option<&str>,
-    printed: Printed<'_, '_>,
+    words: StationWords<'_, '_>,
 ) -> Result<(), Failure> {
-    let (settings, printing) = settings_of(rt, path, printed)?;
-    let out = out_of(rt.alloc(), out)?;
+    let (settings, printing) = settings_of(rt, words.settings, words.printed)?;
+    let out = out_of(rt.alloc(), words.out)?;
     let (disk, socket) = opened(rt, &settings)?;
     let listen = settings.listen;
     let at = used(rt.alloc(), listen, socket.address())?;
     let lines = lines_of(rt, &settings, &socket)?;
     let running = begun(rt, settings, at, disk, lines, Reports { printing, out })?;
-    run_rounds(rt, running, timing)
+    run_rounds(rt, running, words.timing)
 }
 
 /// What the station of the settings hears and sends by, over this socket.
@@ -180,10 +177,9 @@ fn between<R: Clock + Print + Eprint + AllocGlobal, S: Receiver + Drop, O: Outbo
 /// Prints the report of the windows in the file of the settings. The station is not started, and the file is read alone.
 pub fn report<R: Files<File = File> + Print + AllocGlobal>(
     rt: &R,
-    path: &str,
-    printed: Printed<'_, '_>,
+    words: ReportWords<'_, '_>,
 ) -> Result<(), Failure> {
-    let (settings, printing) = settings_of(rt, path, printed)?;
+    let (settings, printing) = settings_of(rt, words.settings, words.printed)?;
     let alloc = rt.alloc();
     let board = saved_in(rt, &settings)?;
     let text = printing.report(alloc, &board, None)?;
@@ -204,24 +200,23 @@ fn saved_in<R: Files<File = File> + AllocGlobal>(
     }
 }
 
-/// Prints what the steps on standard input make of so many stations in memory. The command line takes 1 to 16 alone.
+/// Prints what the steps on standard input make of stations in memory.
 pub fn rehearsal<R: Files + Input + Print + AllocGlobal>(
     rt: &R,
-    path: &str,
-    stations: u32,
+    words: RehearseWords<'_>,
 ) -> Result<(), Failure> {
-    let (settings, _) = settings_of(rt, path, PLAIN)?;
+    let (settings, _) = settings_of(rt, words.settings, PLAIN)?;
     let script = read_input(rt)?;
     let text = rehearse(
         rt.alloc(),
         &settings.core,
-        count_of(stations),
+        count_of(words.stations),
         script.as_slice(),
     )?;
     print(rt, text.as_slice())
 }
 
-/// So many stations, 1 to 16.
+/// How many stations the words name. The command line takes 1 to 16 alone.
 fn count_of(stations: u32) -> u32
     ensures { (1 ≤ result) × (result ≤ 16) }
 {
