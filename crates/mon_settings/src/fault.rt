@@ -13,8 +13,8 @@ use std::fmt;
 pub enum SettingsFault {
     /// Memory was refused.
     OutOfMemory,
-    /// The text is not TOML. The number is of the octets in front of what stopped the reader, of which `position_at` gives the line
-    /// and the column. It is at most the text's length; that it is the right one is tested, and no clause says it.
+    /// The text is not TOML. So many octets are in front of what stopped the reader, at most all of the text: `position_at` knows the line
+    /// and the column. That the number is the right one is tested, and no clause says it.
     NotToml(usize),
     /// A key that has to be there is not.
     Missing(Place),

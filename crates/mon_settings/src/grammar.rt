@@ -61,45 +61,30 @@ const STATION: [Key; 10] = [
     Key::Alarm,
 ];
 
-const COMMUNITY: [Key; 2] = [Key::Community, Key::Security];
-
-const GROUP: [Key; 2] = [Key::Security, Key::Group];
-
-const ACCESS: [Key; 4] = [Key::Group, Key::Model, Key::Read, Key::Write];
-
-const VIEW: [Key; 4] = [Key::View, Key::Subtree, Key::Mask, Key::Included];
-
-const GROWTH: [Key; 2] = [Key::Start, Key::Rate];
-
-const TARGET: [Key; 5] = [
-    Key::Address,
-    Key::Community,
-    Key::Engine,
-    Key::Tries,
-    Key::Objects,
-];
-
-const OBJECT: [Key; 4] = [Key::Name, Key::Mark, Key::Window, Key::Epoch];
-
-const PEER: [Key; 2] = [Key::Station, Key::Address];
-
-const ALARM: [Key; 4] = [Key::Engine, Key::Name, Key::Rising, Key::Falling];
-
-/// The keys of the tables that stand at a key, and none where no table stands.
+/// The keys of the tables at a key, and none for a key that has no table.
 pub(crate) fn table_keys(key: Key) -> &'static [Key]
     ensures { result.now ≡ table_keys key }
 {
     match key {
-        Key::Community => &COMMUNITY,
-        Key::Group => &GROUP,
-        Key::Access => &ACCESS,
-        Key::View => &VIEW,
+        Key::Community => &[Key::Community, Key::Security],
+        Key::Group => &[Key::Security, Key::Group],
+        Key::Access => &[Key::Group, Key::Model, Key::Read, Key::Write],
+        Key::View => &[Key::View, Key::Subtree, Key::Mask, Key::Included],
         Key::Interface => &INTERFACE,
-        Key::InOctets | Key::InPackets | Key::OutOctets | Key::OutPackets => &GROWTH,
-        Key::Target => &TARGET,
-        Key::Objects => &OBJECT,
-        Key::Peer => &PEER,
-        Key::Alarm => &ALARM,
+        Key::InOctets | Key::InPackets | Key::OutOctets | Key::OutPackets => &[
+            Key::Start,
+            Key::Rate,
+        ],
+        Key::Target => &[
+            Key::Address,
+            Key::Community,
+            Key::Engine,
+            Key::Tries,
+            Key::Objects,
+        ],
+        Key::Objects => &[Key::Name, Key::Mark, Key::Window, Key::Epoch],
+        Key::Peer => &[Key::Station, Key::Address],
+        Key::Alarm => &[Key::Engine, Key::Name, Key::Rising, Key::Falling],
         _ => &[],
     }
 }

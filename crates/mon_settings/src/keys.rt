@@ -21,7 +21,7 @@ pub(crate) fn find(table: &Table, key: Key) -> Option<&Value>
     table.get(key.name())
 }
 
-/// The value at a key that has to be there.
+/// The value at a key, which must be there.
 pub(crate) fn needed(table: &Table, key: Key) -> Result<&Value, SettingsFault>
     ensures there { IfOk result (λ v. get_member (key_name key) (table_view table.now) ≡ Some (view v.now)) }
     ensures missing { IfErr result (λ e. (get_member (key_name key) (table_view table.now) ≡ None) × (e ≡ missing_key key)) }

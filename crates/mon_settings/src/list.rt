@@ -14,7 +14,7 @@ use crate::place::{Place, Step};
 use std::alloc::Global;
 use toml::{Table, Value};
 
-/// What a table of a list is read as, by what stands around the list.
+/// What a table of a list is read as, by what is around the list.
 pub(crate) trait Row<C>: Drop {
     ghost use Rattle.std.specs.Prelude.{Result};
     ghost use Rattle.toml.specs.Data.{Members};

@@ -19,7 +19,7 @@ use std::alloc::Global;
 use std::marker::Model;
 use toml::Table;
 
-/// What stands around the lists of a station: the names of objects, and the sizes of windows.
+/// What is around the lists of a station: the names of objects, and the sizes of windows.
 #[derive(Clone, Copy)]
 pub(crate) struct Around<'n> {
     pub(crate) names: &'n Names,

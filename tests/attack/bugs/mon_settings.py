@@ -448,12 +448,12 @@ BUGS = {
     ),
     "knows_the_keys_of_a_group_in_a_community": (
         "src/grammar.rt",
-        "        Key::Community => &COMMUNITY,",
-        "        Key::Community => &GROUP,",
+        "        Key::Community => &[Key::Community, Key::Security],",
+        "        Key::Community => &[Key::Security, Key::Group],",
     ),
     "knows_no_key_of_a_peer": (
         "src/grammar.rt",
-        "        Key::Peer => &PEER,",
+        "        Key::Peer => &[Key::Station, Key::Address],",
         "        Key::Peer => &[],",
     ),
     "knows_a_stations_keys_in_an_agents_settings": (
