@@ -1,5 +1,6 @@
 -- The listing of the names that a module defines.
-use Rattle.std.specs.Prelude.{◌≡◌, ◌×◌, ℕ, List, ◌++◌, codes, map}
+use Rattle.std.specs.Prelude.{◌≡◌, ℕ, List, ◌++◌, codes, map}
+use Rattle.std.specs.Borrow.{Bor}
 use Rattle.std.specs.Ordering.{nat_cmp, ordering_then}
 use Rattle.std.specs.Cmp.Lexicographic.{slice_cmp}
 use Rattle.std.specs.declared.cmp.Ordering.{Ordering}
@@ -48,7 +49,7 @@ pub record IsListing (known : List Definition) (names : List (List ℕ)) (text :
 -- a name of these that means no identifier, for this reason, where each of them that stands before it by bytes means one
 pub record IsFirstUnnamed (known : List Definition) (names : List (List ℕ)) (name : List ℕ) (fault : NamesFault) : Type 0 where
   pub listed : Contains names name
-  pub fault : IsFaultOfNameText fault known name
+  pub unmeant : IsFaultOfNameText fault known name
   pub lesser : (other : List ℕ) → Contains names other → slice_cmp nat_cmp other name ≡ Less → (q : List ℕ) × IsMeant known (q, other)
 
 -- why names are not listed

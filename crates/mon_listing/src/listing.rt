@@ -3,7 +3,7 @@
 ghost use Rattle.std.specs.Prelude.{◌≡◌, ◌++◌, IfErr, IfOk, OnOk, map, string_bytes};
 ghost use Rattle.std.specs.List.{All, flat_map};
 ghost use Rattle.std.specs.List.Sorted.{IsPermutation, IsSorted};
-ghost use Rattle.mon_listing.specs.Listing.{IsListFault, IsListing, IsMeant, names_in, row_lines, seen, shown_cmp, text_cmp};
+ghost use Rattle.mon_listing.specs.Listing.{IsListFault, IsListing, IsMeant, names_in, row_line, seen, shown_cmp, text_cmp};
 
 use mon_oid::Oid;
 use mon_smi::{Definition, Names, NamesFault};
@@ -51,7 +51,10 @@ pub fn list<'a>(
     ensures fault { IfErr result (IsListFault known.now (names_in definitions.now)) }
 {
     let names = sorted_names(alloc, definitions)?;
-    let rows = rows_of(alloc, known, names.as_slice())?;
+    let rows = match rows_of(alloc, known, names.as_slice()) {
+        Ok(rows) => rows,
+        Err(fault) => return Err(fault),
+    };
     Ok(lines_of(alloc, rows.as_slice())?)
 }
 
@@ -120,12 +123,20 @@ fn found_of<'a>(
 
 /// The lines of rows.
 fn lines_of(alloc: Global, rows: &[(Oid, &str)]) -> Result<String, AllocError>
-    ensures { IfOk result (λ text. string_bytes text ≡ row_lines (map seen rows.now)) }
+    ensures { IfOk result (λ text. string_bytes text ≡ flat_map (λ r. row_line (seen r)) rows.now) }
 {
     let mut lines = String::new(alloc);
     for (oid, name) in rows {
-        let dotted = oid.text(alloc)?;
-        write!(lines, "{name} {dotted}\n")?;
+        put_row(alloc, &mut lines, oid, name)?;
     }
     Ok(lines)
+}
+
+/// Adds the line of a name that means an identifier.
+#[tactic(auto, unfolding(crate::specs::Listing::row_line))]
+fn put_row(alloc: Global, lines: &mut String, oid: &Oid, name: &str) -> Result<(), AllocError>
+    ensures { OnOk result (string_bytes lines.new ≡ string_bytes lines.old ++ row_line (oid.now, name.now)) }
+{
+    let dotted = oid.text(alloc)?;
+    write!(lines, "{name} {dotted}\n")
 }

@@ -51,14 +51,6 @@ pub fn no_module(alloc: Global, path: &str, text: &str, fault: TextFault) -> Fai
     }
 }
 
-/// The identifier that a name of a module means.
-pub fn identifier(alloc: Global, names: &Names, word: &str) -> Result<Oid, Failure> {
-    match names.resolve(alloc, word) {
-        Ok(oid) => Ok(oid),
-        Err(fault) => Err(Failure::at(alloc, word, Fault::Names(fault))),
-    }
-}
-
 /// The identifier that a word of the command line means. Where its name is not defined, the fault says what would define it.
 pub fn asked_for(alloc: Global, names: &Names, word: &str) -> Result<Oid, Failure> {
     match names.resolve(alloc, word) {
