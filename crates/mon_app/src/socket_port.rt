@@ -1,7 +1,7 @@
 //! A port over UDP and IPv4.
 
 ghost use Rattle.std.specs.Prelude.{◌≡◌, ◌≤◌, ◌<◌, ◌/◌, IfErr, IfOk, length};
-ghost use Rattle.core.specs.Duration.{as_nanos};
+ghost use Rattle.std.specs.Duration.{as_nanos};
 
 use crate::fault::{AppFault, SocketFault};
 use crate::port::{Port, Received};

@@ -1,7 +1,7 @@
 //! What a station did over its rounds, and when it reports.
 
 ghost use Rattle.std.specs.Prelude.{◌≡◌, ◌↔◌, IfOk, IsTrue, OnErr, OnOk, map, string_bytes};
-ghost use Rattle.core.specs.Duration.{as_nanos};
+ghost use Rattle.std.specs.Duration.{as_nanos};
 ghost use Rattle.mon_rounds.specs.Alarms.{change_line, changes_from, states_of};
 ghost use Rattle.mon_rounds.specs.Course.{IsDue, counted_on, debts_to, milliseconds_left};
 ghost use Rattle.mon_station.specs.State.{state_of};

@@ -1,7 +1,7 @@
 //! A station's socket, over UDP and IPv4: it receives and sends by one, so that responses and claims come back to it.
 
 ghost use Rattle.std.specs.Prelude.{◌≡◌, ◌≤◌, ◌+◌, ◌-◌, ◌↔◌, IfOk, IsTrue, Some, length};
-ghost use Rattle.core.specs.Duration.{as_nanos};
+ghost use Rattle.std.specs.Duration.{as_nanos};
 ghost use Rattle.std.specs.Time.{instant_nanos};
 ghost use Rattle.mon_rounds.specs.AtSocket.{IsArrival, addr_in, goes_to, nanos_of_wait};
 
