@@ -55,6 +55,7 @@ IsInteger (Some t) n = IsIf (IsNumeral 10 (without_leading_sign t) × FitsSigned
 abbrev pub IsNumberOr : ℕ → ℕ → Option Text → ℕ → Type 0
 IsNumberOr bits other t n = (read : Option ℕ) × IsNumber bits t read × (n ≡ unwrap_or read other)
 
+-- the same of a number with a sign
 abbrev pub IsIntegerOr : ℤ → Option Text → ℤ → Type 0
 IsIntegerOr other t n = (read : Option ℤ) × IsInteger t read × (n ≡ unwrap_or read other)
 
@@ -98,21 +99,24 @@ IsTiming rows t = IsNumberOr 32 1 (one_of (codes "rounds") rows) t.rounds
     × IsNumberOr 32 0 (one_of (codes "interval") rows) t.interval
     × IsNumberOr 32 0 (one_of (codes "report-every") rows) t.report_every
 
+-- SETTINGS
 abbrev pub IsSettings : List Row → Bor Text → Type 0
 IsSettings rows path = path.now ≡ text_in (codes "SETTINGS") rows
 
--- the words of `agent`, of `answer` and of `station`
+-- the words of `agent`
 abbrev pub IsAgent : List Row → AgentWords → Type 0
 IsAgent rows w = IsSettings rows w.settings
     × IsInteger (one_of (codes "boots") rows) w.boots
     × IsNumberOr 32 0 (one_of (codes "count") rows) w.count
 
+-- the words of `answer`
 abbrev pub IsAnswer : List Row → AnswerWords → Type 0
 IsAnswer rows w = IsSettings rows w.settings
     × IsInteger (one_of (codes "boots") rows) w.boots
     × IsScene rows w.scene
     × IsNamed rows w.named
 
+-- the words of `station`
 abbrev pub IsStation : List Row → StationWords → Type 0
 IsStation rows w = IsSettings rows w.settings
     × IsTiming rows w.timing

@@ -34,6 +34,7 @@ IsLists lists = (texts lists.formats.now ≡ codes "text" ∷ codes "json" ∷ c
 
 -- ---- arguments
 
+-- clap's parser of a kind of value
 abbrev pub parser_of : Lists → Value → ValueParser
 parser_of lists value.Text = parser.String
 parser_of lists value.Format = parser.Names lists.formats
@@ -70,9 +71,11 @@ rule_for lists a = with_takes lists a.takes (with_form a.form a.id (record (new_
 abbrev pub HasApp : App → Command → Type 0
 HasApp app command = (app_of command ≡ app) × ((out-Command command).has_globals ≡ false)
 
+-- an app with one argument more
 abbrev pub with_argument : Lists → App → Argument → App
 with_argument lists app a = with_rule app (rule_for lists a)
 
+-- an app with these arguments, in their order
 abbrev pub with_arguments : Lists → App → List Argument → App
 with_arguments lists app list = fold (with_argument lists) app list
 
@@ -80,9 +83,11 @@ with_arguments lists app list = fold (with_argument lists) app list
 abbrev pub with_line : Lists → App → Line → App
 with_line lists app line = with_argument lists app (argument_of line)
 
+-- the app of a command: its word and its arguments
 abbrev pub command_app : Lists → Choice → App
 command_app lists choice = with_arguments lists (new_app (word_of choice)) (arguments choice)
 
+-- an app with one command more
 abbrev pub with_command : Lists → App → Choice → App
 with_command lists app choice = with_subcommand app (command_app lists choice).top
 

@@ -42,6 +42,7 @@ needed a = record a { needed = true }
 abbrev pub or_letter : ℕ → Argument → Argument
 or_letter c a = record a { form = Both c }
 
+-- a number of these bounds, both among them
 abbrev pub up_to : ℕ → ℕ → Value
 up_to low high = Number (pos low) (pos high)
 
@@ -59,12 +60,15 @@ printed = option (codes "format") Format ∷ flag (codes "columns") ∷ named
 abbrev pub addressed : List Argument
 addressed = word (codes "ADDRESS") Text ∷ word (codes "COMMUNITY") Text ∷ []
 
+-- SETTINGS: the file of the settings
 abbrev pub settings : Argument
 settings = word (codes "SETTINGS") Text
 
+-- [--boots N]: the boots in place of those of the settings
 abbrev pub boots : Argument
 boots = option (codes "boots") (up_to 1 2147483647)
 
+-- the arguments of each command
 abbrev pub arguments : Choice → List Argument
 arguments commands.Replay = word (codes "N") (up_to 1 64) ∷ flag (codes "report") ∷ printed
 arguments commands.Get = addressed ++ words (codes "NAME") ∷ named
