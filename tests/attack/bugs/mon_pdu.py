@@ -226,6 +226,11 @@ BUGS = {
         "    frame_at(bytes).ok()",
         "    frame_at(bytes).ok().filter(|_| false)",
     ),
+    "frames_octets_that_have_no_frame": (
+        "src/frame.rt",
+        "    frame_at(bytes).ok()",
+        "    frame_at(bytes).ok().or(Some(Frame {\n        community: bytes,\n        kind: PduKind::Get,\n        request_id: 0,\n        error_status: 0,\n        error_index: 0,\n        list: b\"\\x05\",\n    }))",
+    ),
     "frames_octets_after_the_pdu": (
         "src/frame.rt",
         "    if !rest.is_empty() {\n        return Err(BerFault::BadLength);\n    }\n    let (request_id",
