@@ -64,6 +64,12 @@ impl Names {
         Ok(())
     }
 
+    /// No name is defined twice. It does nothing: the clause holds of all names, and is here for whoever needs it.
+    pub fn settled(&self)
+        ensures { AreDistinct self.now }
+    {
+    }
+
     /// The identifier that a text means: numbers with dots between them, a name, or a name with
     /// numbers after it, as `ifInOctets.1`. `Unknown` where the text has another form or the chain
     /// of parents ends at a name that is not defined, `Cycle` where the chain comes to a name that it
