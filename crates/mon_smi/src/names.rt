@@ -67,7 +67,9 @@ impl Names {
     /// No name is defined twice. It does nothing: the clause holds of all names, and is here for whoever needs it.
     pub fn settled(&self)
         ensures { AreDistinct self.now }
-    {}
+    {
+        let _ = self.defs.as_slice();
+    }
 
     /// The identifier that a text means: numbers with dots between them, a name, or a name with
     /// numbers after it, as `ifInOctets.1`. `Unknown` where the text has another form or the chain

@@ -1,5 +1,7 @@
 //! The client commands: `get`, `next`, `bulk`, `walk` and `set`.
 
+ghost use Rattle.std.specs.Prelude.{◌↔◌, ◌≤◌, IsTrue, length};
+
 use crate::failure::Failure;
 use crate::files::print;
 use crate::naming::{asked_for, names_of};
@@ -16,8 +18,8 @@ use std::alloc::{AllocError, Global};
 use std::net::{Net, SocketAddrV4};
 use std::rt::{Clock, Files};
 
-/// The longest community, in octets.
-const LONGEST_COMMUNITY: usize = 512;
+/// The maximum length of a community, in octets.
+const MAX_COMMUNITY: usize = 512;
 
 /// Prints variables of an agent.
 pub fn get<R: Clock + Files + Net + Print + AllocGlobal>(
@@ -124,11 +126,17 @@ fn agent_at<'a>(alloc: Global, word: &'a str) -> Result<AgentAt<'a>, Failure> {
 
 /// The octets of a community.
 fn community<'a>(alloc: Global, word: &'a str) -> Result<&'a [u8], Failure> {
-    let community = word.as_bytes();
-    if community.is_empty() || community.len() > LONGEST_COMMUNITY {
-        return Err(Failure::text(alloc, "COMMUNITY", "a text of 1 to 512 octets"));
+    if is_community(word) {
+        return Ok(word.as_bytes());
     }
-    Ok(community)
+    Err(Failure::text(alloc, "COMMUNITY", "a text of 1 to 512 octets"))
+}
+
+/// Returns `true` if the word can be a community, which has 1 to 512 octets.
+fn is_community(word: &str) -> bool
+    ensures { IsTrue result ↔ ((1 ≤ length word.now) × (length word.now ≤ 512)) }
+{
+    1 <= word.len() && word.len() <= MAX_COMMUNITY
 }
 
 /// The identifiers that words name.

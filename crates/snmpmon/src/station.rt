@@ -1,6 +1,6 @@
 //! The commands of stations: `station`, `report`, `selftest` and `rehearse`.
 
-ghost use Rattle.std.specs.Prelude.{◌≤◌};
+ghost use Rattle.std.specs.Prelude.{◌↔◌, ◌<◌, ◌≤◌, IsTrue};
 
 use crate::failure::Failure;
 use crate::files::{print, read_first, read_input, read_text};
@@ -290,12 +290,19 @@ fn opened<R: Files<File = File> + Net + Eprint + AllocGlobal>(
 /// Says of a file that is shorter than a station's, and not empty, that it will be laid out.
 fn warn_of_short<R: Eprint>(rt: &R, path: &str, size: Result<u64, DiskError>) {
     if let Ok(size) = size {
-        if size > 0 && size < 2 * SLOT_SIZE {
+        if is_short(size) {
             let _ = eprintln!(rt;
                 "snmpmon: {path} has {size} octets, so it is no station's file yet: it is laid out as one"
             );
         }
     }
+}
+
+/// Returns `true` if a file of this size is laid out as a station's though it isn't empty.
+fn is_short(size: u64) -> bool
+    ensures { IsTrue result ↔ ((1 ≤ size) × (size < 2097152)) }
+{
+    size > 0 && size < 2 * SLOT_SIZE
 }
 
 /// Opens the station, and says where it stands.
