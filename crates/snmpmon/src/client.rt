@@ -71,7 +71,7 @@ pub fn walk<R: Clock + Files + Net + Print + AllocGlobal>(
     walked
 }
 
-/// Asks the agent that the words name, and prints its answer.
+/// Asks the agent that the arguments name, and prints its answer.
 fn ask<R: Clock + Files + Net + Print + AllocGlobal>(
     rt: &R,
     request: Request<'_, '_>,
@@ -98,7 +98,8 @@ struct AgentAt<'a> {
     address: SocketAddrV4,
 }
 
-/// Whom the words ask, and about which variables. Their faults are found from left to right, then those of the modules, then those of the names.
+/// Reads whom the arguments ask, and about which variables. Their faults are found from left to
+/// right, then those of the modules, then those of the names.
 fn query_of<'a, R: Files + AllocGlobal>(
     rt: &R,
     request: Request<'_, 'a>,
@@ -148,7 +149,7 @@ fn asked(alloc: Global, words: &[&str], known: &Names) -> Result<Vec<Oid>, Failu
     Ok(asked)
 }
 
-/// The value that a word gives a variable, by the word for its kind.
+/// Reads the value of a variable, by its kind.
 fn read_value(alloc: Global, kind: &str, word: &str) -> Result<Value, Failure> {
     let Some(kind) = ValueKind::named(kind) else {
         return Err(Failure::text(alloc, kind, "a kind of value"));
@@ -160,7 +161,7 @@ fn read_value(alloc: Global, kind: &str, word: &str) -> Result<Value, Failure> {
     }
 }
 
-/// What is wanted as a value of a kind.
+/// Says what a value of a kind must be.
 fn wanted_of(kind: ValueKind) -> &'static str {
     match kind {
         ValueKind::Integer => "an integer, -2147483648 to 2147483647,",
