@@ -25,8 +25,7 @@ fn sent(reply: &Reply) -> &[u8] {
 }
 
 /// Returns what an agent answers to a datagram, which comes again if memory ran out the first time;
-/// and whether the agent had counted
-/// nothing then.
+/// and whether the agent had counted nothing then.
 fn answer_again(
     alloc: Global,
     agent: &mut Agent<SimDevice>,

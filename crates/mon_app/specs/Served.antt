@@ -62,8 +62,7 @@ abbrev pub stands : {D : Type 0} → Agent D → ℕ → Standing D
 stands agent times = record { counts = counters_of agent; device = device_of agent; untaken = times }
 
 -- The agent's reply to a datagram that came at a moment, and what became of its counters and its
--- device, of which devices of one
--- kind hold, fail and refuse so.
+-- device, of which devices of one kind hold, fail and refuse so.
 pub record AnswersIt {D : Type 0} (held : D → Held) (failed : D → ℕ) (refuses : D → Change → Type 0) (policy : Lists) (settings : Settings)
     (before after : Standing D) (datagram : List ℕ) (moment : ℕ) (reply : Reply) : Type 0 where
   pub answer : IsAnswer held failed refuses policy (known_of settings (counted before.counts InPackets) (held before.device) moment) before.device

@@ -31,12 +31,12 @@ pub(crate) fn room(alloc: Global) -> Result<Vec<u8>, AllocError>
 }
 
 /// Asks: sends the request at most three times, and returns the first reply that is received. After
-/// each sending it waits as long as
-/// the wire does, and passes over at most 64 datagrams that are no reply.
+/// each sending it waits as long as the wire does, and passes over at most 64 datagrams that are no
+/// reply.
 ///
 /// # Errors
-/// `Timeout` where no reply came in three waits, `SocketFault` where the wire failed, `BadText` where the request needs 2^32
-/// octets or more, `OutOfMemory`.
+/// `Timeout` where no reply came in three waits, `SocketFault` where the wire failed, `BadText`
+/// where the request needs 2^32 octets or more, `OutOfMemory`.
 pub fn send_request<W: Wire>(
     alloc: Global,
     wire: &mut W,

@@ -17,8 +17,7 @@ use mon_pdu::{Bindings, Body, Message, Pdu};
 use std::alloc::Global;
 
 /// Asks an agent, and returns its answer as text: a line for each variable binding of the reply.
-/// Names are printed as `names`
-/// has it, also those that are values.
+/// Names are printed as `names` has it, also those that are values.
 ///
 /// # Errors
 /// `AgentStatus` where the reply has an error status; else as `send_request`.

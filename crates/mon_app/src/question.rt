@@ -111,8 +111,8 @@ fn asked_bindings(
 }
 
 /// Returns `true` if a message replies to the question: a Response in its community with its
-/// request-id that has an error status or
-/// answers each name. To a Get or a Set the names are those asked for; to a GetNext there are as many; to a GetBulk there are any.
+/// request-id that has an error status or answers each name. To a Get or a Set the names are those
+/// asked for; to a GetNext there are as many; to a GetBulk there are any.
 pub fn is_reply(question: &Question<'_>, message: &Message) -> bool
     ensures { result ≡ is_reply (asked_in question.now) message.now }
 {

@@ -124,11 +124,13 @@ pub(crate) fn take_lines(
     Ok(refused)
 }
 
-/// The text of what windows of `n` samples keep of the responses that the input records, one a line, in hex digits.
+/// The text of what windows of `n` samples keep of the responses that the input records, one a
+/// line, in hex digits.
 ///
-/// Refused lines are named first, by number and cause, and change nothing else. Then come the instances, by engine id
-/// and name, each with its `n` newest samples, the oldest first, and at last the counts. Time is linear in the input;
-/// there is memory for the input, the text, one line and the windows.
+/// Refused lines are named first, by number and cause, and change nothing else. Then come the
+/// instances, by engine id and name, each with its `n` newest samples, the oldest first, and at
+/// last the counts. Time is linear in the input; there is memory for the input, the text, one line
+/// and the windows.
 pub fn replay(alloc: Global, n: usize, input: &[u8]) -> Result<Vec<u8>, AllocError>
     requires positive { 1 ≤ n }
     requires small { n ≤ 64 }

@@ -16,9 +16,9 @@ use std::alloc::Global;
 /// How many failed waits in a row are passed over; the next one that fails ends the serving.
 const PASSED_OVER: u8 = 15;
 
-/// Serves this many datagrams: sends the agent's reply to where each came from, or nothing where the agent is silent. A reply that
-/// cannot be sent is lost. If memory runs out for a datagram that is reported, and the agent stays
-/// as it was.
+/// Serves this many datagrams: sends the agent's reply to where each came from, or nothing where
+/// the agent is silent. A reply that cannot be sent is lost. If memory runs out for a datagram that
+/// is reported, and the agent stays as it was.
 ///
 /// # Errors
 /// `SocketFault` if 16 waits in a row failed, with the reason of the last; `OutOfMemory` if there

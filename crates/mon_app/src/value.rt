@@ -70,8 +70,7 @@ impl ValueKind {
 }
 
 /// Returns the value that a text means for a kind. A decimal number only has digits, leading zeros
-/// allowed, and for an
-/// integer one `-` before them; `+5`, a blank and the empty text are none.
+/// allowed, and for an integer one `-` before them; `+5`, a blank and the empty text are none.
 ///
 /// # Errors
 /// `BadText` where the text means none, `OutOfMemory`.

@@ -65,8 +65,8 @@ pub record HaveBeenMade {G : Ghosts MemoryDisk} (core : Core) (stations : List (
   pub leads : LeadsTo core stations sent (λ now. AreMade settings count steps answers past now)
 
 -- The text of a rehearsal of these steps over this many stations: in a world whose stations began
--- their first lives on empty disks the steps are made one after
--- another, and a line says the answer of each; then follow the stations as that left them. Where no step forges a claim, none was
+-- their first lives on empty disks the steps are made one after another, and a line says the answer
+-- of each; then follow the stations as that left them. Where no step forges a claim, none was
 -- forged, and then what the stations say of their debts is true.
 pub record IsRehearsed (core : Core) (count : ℕ) (steps : List ScriptStep) (text : List ℕ) : Type 0 where
   pub first : List State

@@ -58,8 +58,9 @@ impl ScriptFault {
 }
 
 impl RehearsalFault {
-    /// The innermost fault: the world's or a station's, where the stations were not opened. A script is a text that the program was given, so its
-    /// faults are those of a text, as 1 and 7 of mon_app.
+    /// The innermost fault: the world's or a station's, where the stations were not opened. A
+    /// script is a text that the program was given, so its faults are those of a text, as 1 and 7
+    /// of mon_app.
     pub fn innermost(self) -> Innermost
         ensures part { result.part.now ≡ (innermost_of self).part }
         ensures number { result.number ≡ (innermost_of self).number }

@@ -31,8 +31,8 @@ pub enum ScriptStep {
     /// `forge S HEX`: these octets come to a station as if from a peer.
     Forge(u32, Octets),
     /// `stop S K keep` or `stop S K lose`: a station stops within a save after K calls of the disk,
-    /// and is opened again from what a
-    /// crash left: with all that was written since the last sync, or without it.
+    /// and is opened again from what a crash left: with all that was written since the last sync,
+    /// or without it.
     Stop(u32, u32, bool),
 }
 
@@ -60,8 +60,8 @@ impl ScriptStep {
 }
 
 /// Reads the steps of a script, one a line. LF ends a line; after the last one it may be missing.
-/// One blank separates fields. Numbers are
-/// decimal, without leading zeros, up to 4294967295; octets are hex digits in either case, at least one octet.
+/// One blank separates fields. Numbers are decimal, without leading zeros, up to 4294967295; octets
+/// are hex digits in either case, at least one octet.
 ///
 /// # Errors
 /// `BadScript` with the number of the first line that says no step, as an empty one; `OutOfMemory`.

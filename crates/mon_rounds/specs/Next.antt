@@ -17,8 +17,7 @@ use Rattle.mon_station.specs.declared.event.OwnedEvent.{OwnedEvent}
 use Rattle.mon_station.specs.declared.running.SourceFault.{SourceFault}
 
 -- what is known of a round: where targets and peers are reached, how long a wait is, its phase, the
--- next wait, how many datagrams, timeouts and
--- failures it may still have, and its events so far
+-- next wait, how many datagrams, timeouts and failures it may still have, and its events so far
 pub record RoundState : Type 0 where
   pub targets : List Addr
   pub peers : List ℕ

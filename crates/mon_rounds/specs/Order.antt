@@ -1,6 +1,5 @@
 -- The order of a round's events: each target is polled, what comes is received, each peer is
--- offered what it is owed, what comes is received, and
--- all is saved.
+-- offered what it is owed, what comes is received, and all is saved.
 use Rattle.std.specs.Prelude.{ℕ, zero, suc, ◌≡◌, ◌≤◌, ◌<◌, List, [], ◌∷◌, ◌++◌, All, map, take, length, sum_by}
 use Rattle.mon_rounds.specs.declared.round.Phase.{Phase}
 use Rattle.mon_rounds.specs.declared.round.Phase.TheVariants.{Polling, Hearing, Sharing, Listening, Over, Resting, Rested}

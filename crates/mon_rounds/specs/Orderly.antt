@@ -36,8 +36,8 @@ abbrev pub begun_rest : ℕ → RoundState → RoundState
 begun_rest milliseconds r = record r { phase = Resting; wait = Anew milliseconds; datagrams = 4096; timeouts = 512; failures = 16; events = [] }
 
 -- what every round has, with capacity for this many events: its events are in the order of a round,
--- it has at most 4096 datagrams and knows how many are left, and there is capacity for all
--- events that are still to come
+-- it has at most 4096 datagrams and knows how many are left, and there is capacity for all events
+-- that are still to come
 pub record IsOrderly (room : ℕ) (r : RoundState) : Type 0 where
   pub order : AreSoFar (length r.targets) r.peers r.phase r.events
   pub few : datagrams_in r.events + r.datagrams ≡ 4096

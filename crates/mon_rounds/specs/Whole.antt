@@ -25,8 +25,8 @@ abbrev pub view_of : RoundState → Option (List Reception) → RoundsView
 view_of r heard = record { round = r; heard = heard }
 
 -- A call for the next event returns what the round has next, by what the receiver got in it. Each
--- call but the last leaves fewer of them, and where nothing is given the
--- round, or the time between two, is over.
+-- call but the last leaves fewer of them, and where nothing is given the round, or the time between
+-- two, is over.
 pub record GivesOn (before : RoundsView) (oldest : Option ℕ) (result : Result (Option OwnedEvent) SourceFault) (after : RoundsView) : Type 0 where
   pub step : GoesOnBy (λ log. GivesNext before.round oldest log result after.round) before.heard after.heard
   pub turns : TakesTurn result (turns_left before.round) (turns_left after.round)
@@ -40,8 +40,8 @@ pub record HasSame (old new : RoundState) : Type 0 where
   pub wait_ms : new.wait_ms ≡ old.wait_ms
 
 -- These events are those of a whole round over the same targets and peers: each target is polled,
--- what comes is received and what is not answered times out, each peer is
--- offered what it is owed, what comes is received, and all is saved.
+-- what comes is received and what is not answered times out, each peer is offered what it is owed,
+-- what comes is received, and all is saved.
 pub record IsWholeRound (old new : RoundState) (given : List OwnedEvent) : Type 0 where
   pub same : HasSame old new
   pub over : new.phase ≡ Over

@@ -16,8 +16,7 @@ use std::alloc::Global;
 const TURNS: u64 = 5000;
 
 /// Runs a station through one round, and puts into `run` what was done, in place of what it held.
-/// What was refused or failed is counted, and the round
-/// goes on.
+/// What was refused or failed is counted, and the round goes on.
 ///
 /// # Errors
 /// `OutOfMemory` if there is no memory for the answers, before anything is asked.
@@ -48,8 +47,7 @@ pub fn run_round<D: Disk + Drop, R: Receiver + Drop, O: Outbox>(
 }
 
 /// Passes a station what comes between two rounds, for this many milliseconds, or until 4096
-/// datagrams came or 16 receptions failed, and puts into `run` what
-/// was done.
+/// datagrams came or 16 receptions failed, and puts into `run` what was done.
 ///
 /// # Errors
 /// As `run_round`.

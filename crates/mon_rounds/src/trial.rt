@@ -201,8 +201,9 @@ pub struct Trial {
     pub station: Station<MemoryDisk>,
 }
 
-/// Tries a station on a disk in memory. It polls an agent in memory, which counts 1000 octets a second, 100, 110 and 120 seconds after the agent's start, and
-/// saves. The trial has a good end where its report, and that of what its disk then holds, are what they must be.
+/// Tries a station on a disk in memory. It polls an agent in memory, which counts 1000 octets a
+/// second, 100, 110 and 120 seconds after the agent's start, and saves. The trial has a good end
+/// where its report, and that of what its disk then holds, are what they must be.
 ///
 /// # Errors
 /// `OutOfMemory`; `Refused` if the station refused, also if its disk in memory found no memory;

@@ -83,8 +83,8 @@ answer_in (Ok x) = None
 answer_in (Err fault) = Some fault
 
 -- what a refused event leaves as it was: of each instance the window, the marks on what is in it
--- and all that was taken; the known incarnations, the incarnation, and
--- the serial of the next offer. It may end an open poll.
+-- and all that was taken; the known incarnations, the incarnation, and the serial of the next
+-- offer. It may end an open poll.
 pub record IsLeftAlone (old new : State) : Type 0 where
   pub setting : setting_of new ≡ setting_of old
   pub windows : (i : ℕ) → window_of new.board i ≡ window_of old.board i

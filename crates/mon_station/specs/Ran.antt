@@ -51,8 +51,9 @@ faults_in (Refused f ∷ answers) = faults_in answers + 1
 faults_in (Keeper number ∷ answers) = faults_in answers + 1
 
 -- ---- turns, the newest first
--- One event: how it reads, if that is known; its answer; the samples that it offered, by the numbers of their instances; the target that gave up; what the
--- outbox was given; and the state that was left.
+-- One event: how it reads, if that is known; its answer; the samples that it offered, by the
+-- numbers of their instances; the target that gave up; what the outbox was given; and the state
+-- that was left.
 pub record Turn : Type 0 where
   pub event : OwnedEvent
   pub reading : Option ReadEvent
@@ -215,8 +216,9 @@ abbrev pub FindsAfter : State → OwnedEvent → Option StationFault → Type 0 
 FindsAfter s owned.Save answer Before file = FindsSaved s answer Before file
 FindsAfter s event answer Before file = Before
 
--- an opening of this file finds the last save among these turns that was answered without a fault, or what it would have found in one of the files
--- before them if there was none, or a later save that met the disk's fault
+-- an opening of this file finds the last save among these turns that was answered without a fault,
+-- or what it would have found in one of the files before them if there was none, or a later save
+-- that met the disk's fault
 abbrev pub FindsLast : State → (List ℕ → Type 0) → List Turn → List ℕ → Type 0
 FindsLast first outcomes [] file = FindsAs outcomes file
 FindsLast first outcomes (t ∷ turns) file = FindsAfter (state_after first turns) t.event t.answer (FindsLast first outcomes turns file) file
@@ -249,8 +251,8 @@ LiveOn before after more = (past : List (Entry × State)) → IsLived past → l
 
 -- ---- runs
 -- What calls did, from one sight of a station to another. They left the state, the view and what
--- the outbox was given; an honest disk stays so; a crash after
--- them leaves the last save, and a crash in the middle of them what was saved then.
+-- the outbox was given; an honest disk stays so; a crash after them leaves the last save, and a
+-- crash in the middle of them what was saved then.
 pub record Did {V X : Type 0} {G : Ghosts X} (Gives : V → Option ℕ → Result (Option OwnedEvent) SourceFault → V → Type 0) (before after : Seen V G) (calls : List (Call V)) : Type 0 where
   pub are : AreCalls Gives before.view before.state calls
   pub state : after.state ≡ state_after before.state (turns_of calls)

@@ -124,8 +124,8 @@ FoundAfter (FromPeer said) answer running before save = before save
 FoundAfter (Share peer) answer running before save = before save
 
 -- What an opening may find after a history on a disk that had no save, None if it finds none: the
--- last save that was acknowledged, which an opening's own is too,
--- or one after it that was running or failed. No older one is among them.
+-- last save that was acknowledged, which an opening's own is too, or one after it that was running
+-- or failed. No older one is among them.
 abbrev pub MayFind : {D : Type 0} → (D → List ℕ) → D → List (Happening × D) → Option State → Type 0
 MayFind seen first [] save = save ≡ None
 MayFind seen first ((Opened w s, disk) ∷ past) save = save ≡ Some s

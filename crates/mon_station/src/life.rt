@@ -64,8 +64,8 @@ impl Life {
     }
 
     /// Puts the image of the windows and the incarnation in a vector, behind space for the head
-    /// that a keeper writes, in place of what it holds. If it has the
-    /// capacity, nothing is allocated.
+    /// that a keeper writes, in place of what it holds. If it has the capacity, nothing is
+    /// allocated.
     pub(crate) fn image(&self, image: &mut Vec<u8>) -> Result<(), AllocError>
         ensures head { OnOk result (16 ≤ length image.new.items) }
         ensures written { OnOk result (drop 16 image.new.items ≡ saved_octets (state_of self.now)) }

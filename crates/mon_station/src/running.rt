@@ -132,8 +132,8 @@ impl Run {
 
 impl<D: Disk + Drop> Station<D> {
     /// Handles what a source returns, until it ends or was called this many times, and puts into
-    /// `run` what was done, in place of what it held. A fault of the
-    /// source and a refused event are counted, and a datagram that could not be sent is lost; the run goes on.
+    /// `run` what was done, in place of what it held. A fault of the source and a refused event are
+    /// counted, and a datagram that could not be sent is lost; the run goes on.
     ///
     /// # Errors
     /// `OutOfMemory` if there is no memory for the answers, which are allocated first if `run` has

@@ -20,8 +20,8 @@ pub struct Station<D: Disk + Drop> {
     pub(crate) life: Life,
     pub(crate) keeper: Keeper<D>,
     /// The last image that was saved behind the head that the keeper wrote, or the beginning of
-    /// one. Its capacity is kept from save to save: if it were freed each time,
-    /// its pages would be asked of the system again.
+    /// one. Its capacity is kept from save to save: if it were freed each time, its pages would be
+    /// asked of the system again.
     pub(crate) image: Vec<u8>,
 }
 
@@ -43,9 +43,9 @@ impl<D: Disk + Drop> Station<D> {
     /// Handles an event. All memory is taken before anything is changed.
     ///
     /// # Errors
-    /// `OutOfMemory`, which changes nothing; the refusal of a poll, a response, a claim or a share; at a save the keeper's fault. A
-    /// refusal changes nothing, except that a response may end its poll, and a save that met
-    /// `DiskFault` may have been saved or not.
+    /// `OutOfMemory`, which changes nothing; the refusal of a poll, a response, a claim or a share;
+    /// at a save the keeper's fault. A refusal changes nothing, except that a response may end its
+    /// poll, and a save that met `DiskFault` may have been saved or not.
     pub fn step(&mut self, alloc: Global, event: Event<'_>) -> Result<Told, StationFault>
         // However the event's datagram reads: the answer is the verdict, and this is what it
         // leaves, sends and reports.
@@ -151,8 +151,7 @@ impl<D: Disk + Drop> Station<D> {
     }
 
     /// Returns how many samples a peer is owed: of what is in the windows, all that no claim of it
-    /// in its known incarnation has said.
-    /// A station that is no peer is owed nothing.
+    /// in its known incarnation has said. A station that is no peer is owed nothing.
     pub fn owed(&self, peer: u32) -> u32
         ensures { result ≡ owed_count (state_of self.now.life) (slot_of (setting_of (state_of self.now.life)).peers peer) }
     {

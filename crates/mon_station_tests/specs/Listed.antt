@@ -21,8 +21,8 @@ GivesListed v oldest (Ok event) w =
 GivesListed v oldest (Err fault) w = (v.calls_to_fault ≡ 1) × (w.calls_to_fault ≡ 0) × (w.events ≡ v.events)
 
 -- A run over a list that leaves these events: it was given the others in their order, its answers
--- are theirs, and the outbox was given what they send.
--- Where it made fewer calls than it might, none is left.
+-- are theirs, and the outbox was given what they send. Where it made fewer calls than it might,
+-- none is left.
 pub record RanOver (events left : List OwnedEvent) (handed_before handed_now : Option (List Outgoing)) (turns : ℕ) (run : Run) : Type 0 where
   pub done : List Turn
   pub given : events ≡ events_of done ++ left

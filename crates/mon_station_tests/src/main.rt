@@ -1,5 +1,5 @@
-//! A station over a disk in memory: does what each line of standard input says, and prints what the station answers, to be compared
-//! with the expected lines.
+//! A station over a disk in memory: does what each line of standard input says, and prints what the
+//! station answers, to be compared with the expected lines.
 //!
 //!     new               an empty disk, without a station
 //!     open [SIZE]       opens the station from the disk, with windows of 8 or this many samples; a new one is empty

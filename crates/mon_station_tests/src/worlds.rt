@@ -5,8 +5,9 @@ use mon_world::{Step, World};
 use std::alloc::Global;
 
 /// What a line asks: `COUNT SHARES` is a world of COUNT stations, in which the first offers the
-/// second what it owes, SHARES times, and each of these datagrams is
-/// delivered; the steps are made in one run. It says how many of them were made and how many datagrams were sent, or why there is no such world.
+/// second what it owes, SHARES times, and each of these datagrams is delivered; the steps are made
+/// in one run. It says how many of them were made and how many datagrams were sent, or why there is
+/// no such world.
 pub fn world(alloc: Global, line: &str) -> Option<String> {
     let (count, shares) = line.split_once(' ')?;
     let core = core(alloc, "8")?;

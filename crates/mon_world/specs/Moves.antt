@@ -52,8 +52,8 @@ sent_in (m ∷ moves) = sent_in moves ++ letters_by (last_state (lives_of m.stat
 
 -- ---- lives from an honestly kept file
 -- An opening may find the save that has this many later ones, after an event with this answer:
--- after a save that was answered without a fault only this one,
--- and after a save that met the disk's fault this one too.
+-- after a save that was answered without a fault only this one, and after a save that met the
+-- disk's fault this one too.
 abbrev pub MayFindAfter : ReadEvent → Option StationFault → (ℕ → Type 0) → ℕ → Type 0
 MayFindAfter Save None before later = later ≡ 0
 MayFindAfter Save (Some f) before zero = f ≡ fault.Keeper keeper.DiskFault

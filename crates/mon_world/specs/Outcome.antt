@@ -71,8 +71,7 @@ IsStopOrigin false lives (Saved zero) = Unit {0}
 IsStopOrigin early lives origin = ⊥
 
 -- station x stops within a save after this many calls of the disk, of which what was written since
--- the last sync stays or is lost, and is opened again; the save met
--- the disk's fault
+-- the last sync stays or is lost, and is opened again; the save met the disk's fault
 pub record Stops (w : Setting) (x calls : ℕ) (keep : Bool) (past now : List Move) : Type 0 where
   pub running : State
   pub origin : Origin
@@ -134,8 +133,8 @@ pub record AreNumbers (past now : List Move) (sent : Sent) : Type 0 where
   pub count : length (sent_in past) + sent.count ≡ length (sent_in now)
 
 -- Of this many stations, a step that led from moves to moves is answered so: what it names is there
--- and its numbers are those of the datagrams that it sent, or its
--- fault has its cause and it sent none.
+-- and its numbers are those of the datagrams that it sent, or its fault has its cause and it sent
+-- none.
 pub record IsStepAnswer (stations : ℕ) (past now : List Move) (step : Step) (result : Result Sent WorldFault) : Type 0 where
   pub there : OnOk result (IsThere stations (length (sent_in past)) step)
   pub cause : IfErr result (IsCause stations (length (sent_in past)) step)

@@ -21,7 +21,6 @@ pub enum Step<'a> {
     /// These octets come to a station as if from a peer.
     Forge(u32, &'a [u8]),
     /// A station stops within a save after 0 to 6 calls of the disk, and is opened again from what
-    /// a crash left: with all
-    /// that was written since the last sync, or without it.
+    /// a crash left: with all that was written since the last sync, or without it.
     Stop(u32, u8, bool),
 }

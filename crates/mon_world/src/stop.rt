@@ -16,8 +16,7 @@ use mon_station::{Station, StationFault};
 use std::alloc::{AllocError, Global};
 
 /// Returns what a crash after these calls of a save leaves of a copy of a station's disk, with all
-/// that was written since the last sync or
-/// without it. The station runs on as it was.
+/// that was written since the last sync or without it. The station runs on as it was.
 ///
 /// # Errors
 /// `OutOfMemory`; and the keeper's fault where it refused the save before the first call.

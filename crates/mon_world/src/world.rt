@@ -241,9 +241,9 @@ impl World {
     /// Makes a step. It first allocates for the datagrams that it may send.
     ///
     /// # Errors
-    /// `NoSuchStation`, `NoSuchDatagram` or `BadStop` where the step names what is not there; `Refused` where the station refused, and a
-    /// station that was not opened runs on as it was, as at a stop whose save has no generation left; `OutOfMemory`, and everything is as
-    /// it was.
+    /// `NoSuchStation`, `NoSuchDatagram` or `BadStop` where the step names what is not there;
+    /// `Refused` where the station refused, and a station that was not opened runs on as it was, as
+    /// at a stop whose save has no generation left; `OutOfMemory`, and everything is as it was.
     pub fn step(&mut self, step: Step<'_>) -> Result<Sent, WorldFault>
         // Whatever moves led here, the step adds its own: what the station does about its event.
         ensures outcome { (past : List Move) → Shows self.old.core self.old.stations.items self.old.sent.items past
@@ -275,8 +275,7 @@ impl World {
     }
 
     /// Makes these steps in order; a refused one does not end it. It first allocates for their
-    /// results.
-    /// Each result has the cause and the numbers that `step` gives it.
+    /// results. Each result has the cause and the numbers that `step` gives it.
     ///
     /// # Errors
     /// `OutOfMemory` if there is no memory for the results: no step was made.

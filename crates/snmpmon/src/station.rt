@@ -263,8 +263,9 @@ fn out_of(alloc: Global, path: Option<&str>) -> Result<Option<String>, Failure> 
     }
 }
 
-/// The file and the socket of the settings. The socket is taken first, so that of two processes with the same settings the second neither makes the file nor writes
-/// it; yet the faults of an existing file are reported before the socket's.
+/// The file and the socket of the settings. The socket is taken first, so that of two processes
+/// with the same settings the second neither makes the file nor writes it; yet the faults of an
+/// existing file are reported before the socket's.
 fn opened<R: Files<File = File> + Net + Eprint + AllocGlobal>(
     rt: &R,
     settings: &StationSettings,
