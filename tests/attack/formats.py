@@ -1,4 +1,4 @@
-"""The formats of a report, written apart from the proved code: by the words of docs/OPERATE.md, RFC 8259 through Python's json, and
+"""The formats of a report, written apart from the proved code: by the words of docs/FORMATS.md, RFC 8259 through Python's json, and
 Prometheus' text exposition format 0.0.4.
 """
 import json

@@ -1,7 +1,7 @@
 """SNMPv2c messages by the published grammar alone (RFC 1901, RFC 3416 section 3, RFC 3417 section 8), read and written
 apart from the proved code.
 
-Where BER leaves a choice, docs/DEFINITIONS.md tells the choice made: a length is one octet below 80, or 81 to 84 with this many
+Where BER leaves a choice, docs/DECISIONS.md tells the choice made: a length is one octet below 80, or 81 to 84 with this many
 octets of length after it, leading zeros allowed; a number has 1 to 9 octets; octets after the message are ignored.
 """
 

@@ -1,4 +1,4 @@
-"""Polls by the rules alone (RFC 3416, and docs/DEFINITIONS.md where these leave a choice), apart from the proved code: what becomes of polls, of their
+"""Polls by the rules alone (RFC 3416, and docs/DECISIONS.md where these leave a choice), apart from the proved code: what becomes of polls, of their
 timeouts and of the responses to them; and responses that are right, such with one thing wrong, and mutated ones.
 """
 from messages import GET, NULL, OCTETS, PDUS, RESPONSE, NoMessage, OtherVersion, message, read, spelled, spelled_number

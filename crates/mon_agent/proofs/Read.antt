@@ -35,7 +35,7 @@ for_all R next each (a ∷ asked) = (each a.name, for_all R next each asked)
 above : (n m : ℕ) → ¬ (n ≤ m) → m < n
 above n m not_within = grind (arith, not_within)
 
--- a response whose beginning has no room for what comes next is above the limit
+-- a response whose beginning does not fit with what comes next is above the limit
 pub cut_above : (limit : ℤ) (head : Message) (all part : List Binding)
     → ((m : Message) (bindings more : List Binding)
     → length (written_message (with_bindings m bindings)) ≤ length (written_message (with_bindings m (bindings ++ more))))
@@ -51,7 +51,7 @@ first_same : (body : Body) (a b : List Binding) → first_of (body_with body a) 
 first_same (bodies.Pdu p) a b = refl
 first_same (bodies.Bulk p) a b = refl
 
--- what stands for a response that is too big has nothing of its variable bindings
+-- what is sent for a response that is too big has none of its variable bindings
 pub same_head : (head : Message) (a b : List Binding) → too_big (with_bindings head a) ≡ too_big (with_bindings head b)
 same_head head a b =
     ap (λ n. (let m : Message = record { community = head.community; body = response_body n (pos 1) (pos 0) [] } in m)) (first_same head.body a b)
@@ -62,7 +62,7 @@ module _ {E : Type 0} (limit : ℤ) (R : List ℕ → Binding → Type 0) (head 
       → IfOk r (IsSentFor limit R head asked)
   sent_for m r is out = if_ok r (λ x gone. (map next (names_of asked), for_all R next each asked, subst (λ q. IsOut limit q q x) is gone)) out
 
--- of the requests to read that have names alone, one that is no Get is a GetNext
+-- of the requests to read that only have names, one that is no Get is a GetNext
 pub of_kind : (k : Known) (sees : List ℕ → Type 0) (kind : PduKind) (asked answers : List Binding) → is_answered kind ≡ true
     → need_of_kind kind ≡ Read → ¬ (kind ≡ kinds.Get) → AreFor (IsNextAnswer k sees) asked answers → IsOfKind k sees kind asked answers
 of_kind k sees kinds.Get asked answers request read other each = absurd (other refl)

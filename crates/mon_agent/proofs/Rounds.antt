@@ -8,7 +8,7 @@ use Rattle.mon_agent.specs.Bulk.{names_of, is_last, rounds, full_list}
 use Rattle.mon_agent.specs.Growing.{Grown, FitsWith, IsCut, IsEnded, last, more_rounds}
 use Rattle.mon_agent.specs.Reply.{count_of}
 
--- the same head and limit make the same room
+-- an equal head and limit leave equal space
 pub fits_same : (g h : Grown) (bindings : List Binding) → h.head ≡ g.head → h.limit ≡ g.limit → FitsWith h bindings → FitsWith g bindings
 fits_same g h bindings head limit fits = rw (sym head, sym limit) fits
 
@@ -60,7 +60,7 @@ module _ (next : List ℕ → Binding) where
       ∙ ap (λ l. before ++ l) (ap (λ (x : Binding). answers (take i asked) ++ x ∷ []) one
       ∙ (sym (answers-append (take i asked) (get_or asked i d ∷ [])) ∙ ap answers (sym (take_more asked i d lt)))))
 
-  -- one that there is no room for
+  -- one that does not fit
   pub cut_at : (fits : List Binding → Type 0) (before asked reply : List Binding) (i : ℕ) (d b : Binding) → i < length asked
       → reply ≡ before ++ answers (take i asked) → b ≡ next (get_or asked i d).name → (fits (reply ++ b ∷ []) → ⊥)
       → IsCut fits (before ++ answers asked) reply
@@ -76,7 +76,7 @@ module _ (next : List ℕ → Binding) where
     full = full;
   }
 
-  -- the name so many places before the end is the one of the round before
+  -- the name this many places before the end is the one of the round before
   pub name_back : (before reply : List Binding) (width j : ℕ) (d : Binding) → width ≤ length before → j < width
       → reply ≡ before ++ answers (take j (last width before)) → get_or reply (length reply - width) d ≡ get_or (last width before) j d
   name_back before reply width j d wide lt is =

@@ -51,7 +51,7 @@ longer m = omega (arith, length-append (0x30 ∷ length_octets (length (message_
 pub too_long : (m : Message) (limit : ℤ) → count_of limit < 2 ^ 31 → 2 ^ 32 ≤ length (message_contents m) → IsWithinLimit limit m → ⊥
 too_long m limit small le fits = omega (arith, longer m, small, le, fits)
 
--- what is sent of a response depends on its request by community and request-id alone
+-- what is sent of a response only depends on its request by community and request-id
 sent_of : (m reply : Message) (limit : ℤ) (octets : List ℕ) → too_big reply ≡ too_big m → IsSent limit reply reply octets → IsSent limit m reply octets
 sent_of m reply limit octets same (inl sent) = inl sent
 sent_of m reply limit octets same (inr sent) = inr (sent.0, subst (λ t. IsWithinLimit limit t) same sent.1, sent.2 ∙ ap written_message same)
@@ -90,7 +90,7 @@ module _ {D : Type 0} (held : D → Held) (failed : D → ℕ) (refuses : D → 
   out_answers before after m reply (Silent BadCommunity) known request right same out = absurd out
   out_answers before after m reply (Silent NotARequest) known request right same out = absurd out
 
-  -- what is to be done about a Set of a community that may write is to be done about the message
+  -- what follows from a Set of a community that may write follows from the message
   pub set_ready : (device : D) (m : Message) (view : List ℕ) (r : Result Ready AgentFault) → need_of m.body ≡ Write
       → access_of policy m.community (need_of m.body) ≡ Ok view
       → IfOk r (IsReadyToSet held failed refuses k (IsInView policy.families view) device m)
@@ -160,7 +160,7 @@ module _ {D : Type 0} (held : D → Held) (failed : D → ℕ) (refuses : D → 
         ),
       )
 
--- what becomes of a message depends on it by its size, its community and its request-id alone
+-- what becomes of a message only depends on it by its size, its community and its request-id
 pub out_same : (limit : ℤ) (m n : Message) (r : Reply) → too_big m ≡ too_big n → IsAboveLimit limit m → IsAboveLimit limit n → IsOut limit m m r
     → IsOut limit n n r
 out_same limit m n (Send octets) same above other (inl sent) = absurd (omega (arith, above, sent.0))

@@ -1,4 +1,5 @@
--- The answer to each name in a GetNext is found: the variables are a finite list, and of those that are wanted one is least.
+-- The answer to each name in a GetNext is found: the variables are a finite list, and of those that
+-- are searched for one is least.
 use Rattle.std.proofs.Common.{◌≡◌, ◌≢◌, ℕ, zero, suc, List, [], ◌∷◌, Contains, ◌⊎◌, ◌↔◌, inl, inr, refl, sym, subst, arith}
 use Rattle.std.specs.declared.cmp.Ordering.{Ordering}
 use Rattle.std.specs.declared.cmp.Ordering.TheVariants.{Less, Equal, Greater}
@@ -25,7 +26,7 @@ is_less Greater = inr (λ e. cc)
 itself : (x : List ℕ) → name_cmp x x ≢ Less
 itself x is = let tied : name_cmp x x ≡ Equal = tied_itself nat_list_cmp_total x in cc
 
--- ---- the least of those in a list that are wanted
+-- ---- the least of those in a list that are searched for
 
 head_or_rest : {X : Type 0} (x y : X) (xs : List X) → Contains (x ∷ xs) y → (x ≡ y) ⊎ Contains xs y
 head_or_rest x y xs (zero, lt, is) = inl is
@@ -46,7 +47,7 @@ module _ (P : Binding → Type 0) where
   abbrev AreNone : List Binding → Type 0
   AreNone bs = (c : Binding) → Contains bs c → P c → ⊥
 
-  -- the first is not wanted
+  -- the first is not searched for
   passed : (b : Binding) (bs : List Binding) → ¬ (P b) → (a : Binding) → IsLowest bs a → IsLowest (b ∷ bs) a
   passed b bs not_it a is = record {
     listed = behind b a bs is.listed;
@@ -63,7 +64,7 @@ module _ (P : Binding → Type 0) where
     | inr rest ↦ none c rest wanted
   ]
 
-  -- the first is wanted, and none behind it
+  -- the first is searched for, and none behind it
   alone : (b : Binding) (bs : List Binding) → P b → AreNone bs → IsLowest (b ∷ bs) b
   alone b bs it none = record {
     listed = at_head b bs;
@@ -74,7 +75,7 @@ module _ (P : Binding → Type 0) where
     ];
   }
 
-  -- the first is wanted, and is below the lowest of the others
+  -- the first is searched for, and is below the lowest of the others
   lower : (b : Binding) (bs : List Binding) → P b → (a : Binding) → IsLowest bs a → name_cmp b.name a.name ≡ Less → IsLowest (b ∷ bs) b
   lower b bs it a is less = record {
     listed = at_head b bs;
@@ -85,7 +86,7 @@ module _ (P : Binding → Type 0) where
     ];
   }
 
-  -- the first is wanted, and is not below the lowest of the others
+  -- the first is searched for, and is not below the lowest of the others
   stays : (b : Binding) (bs : List Binding) (a : Binding) → IsLowest bs a → name_cmp b.name a.name ≢ Less → IsLowest (b ∷ bs) a
   stays b bs a is not_less = record {
     listed = behind b a bs is.listed;

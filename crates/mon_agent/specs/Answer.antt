@@ -113,7 +113,7 @@ cause_of faults.OutOfMemory = None
 cause_of (faults.BadVersion v) = Some BadVersion
 cause_of other = Some BadMessage
 
--- the counters that a reply raises, beside that of all messages (RFC 3418 section 2)
+-- the counters that a reply raises, after that of all messages (RFC 3418 section 2)
 abbrev pub raised_by : Reply → Counters → Counters
 raised_by (Send octets) counters = counters
 raised_by (Silent BadMessage) counters = counted counters ParseErrors

@@ -9,7 +9,7 @@ use Rattle.mon_mib.specs.Known.{Known}
 use Rattle.mon_agent.specs.Reply.{count_of}
 use Rattle.mon_agent.specs.Step.{IsNextAnswer}
 
--- next gives the answer to each name
+-- next answers each name
 abbrev pub IsStepper : Known → (List ℕ → Type 0) → (List ℕ → Binding) → Type 0
 IsStepper k sees next = (name : List ℕ) → IsNextAnswer k sees name (next name)
 

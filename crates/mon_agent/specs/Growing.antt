@@ -18,14 +18,14 @@ pub record Grown : Type 0 where
 abbrev pub FitsWith : Grown → List Binding → Type 0
 FitsWith grown bindings = IsWithinLimit grown.limit (with_bindings grown.head bindings)
 
--- the list goes on after this beginning, and the beginning has no room for what comes next
+-- the list goes on after this beginning, and what comes next does not fit
 pub record IsCut (fits : List Binding → Type 0) (all part : List Binding) : Type 0 where
   pub next : Binding
   pub rest : List Binding
   pub whole : all ≡ part ++ next ∷ rest
   pub full : ¬ (fits (part ++ next ∷ []))
 
--- all of the list, or a beginning that has no room for what comes next
+-- all of the list, or a beginning of it after which what comes next does not fit
 abbrev pub IsPut : (List Binding → Type 0) → List Binding → Bool → List Binding → Type 0
 IsPut fits all true part = part ≡ all
 IsPut fits all false part = IsCut fits all part
@@ -43,6 +43,6 @@ pub record IsSized (head : Message) (limit : ℤ) (bindings : List Binding) (lis
   pub size : list ≡ size_counted (length (list_contents bindings))
   pub within : (bindings ≡ []) ⊎ IsWithinLimit limit (with_bindings head bindings)
 
--- all of the list, or a beginning that has no room for what comes next
+-- all of the list is answered, or a beginning of it after which what comes next does not fit
 abbrev pub IsEnded : (List Binding → Type 0) → List Binding → List Binding → Type 0
 IsEnded fits all part = (part ≡ all) ⊎ IsCut fits all part

@@ -24,7 +24,7 @@ use Rattle.mon_agent.specs.Answer.{IsAnswer, IsAnswered, need_of}
 use Rattle.mon_agent.specs.Assigned.{IsSet, greatest, returned}
 use Rattle.mon_agent.specs.Reply.{IsWithinLimit, IsOut, too_big}
 
--- the response has room, with any of its errors: none is written longer than it is now
+-- there is capacity for the response, with any of its errors: none is written longer than it is now
 pub record HasRoomForErrors (a : Assigning) : Type 0 where
   pub greatest_is : a.response ≡ greatest a.response
   pub few : length (bindings_of a.response.body) < 2 ^ 31
@@ -33,7 +33,7 @@ pub record HasRoomForErrors (a : Assigning) : Type 0 where
   pub empty : a.room.items ≡ []
   pub room : length (written_message a.response) ≤ vec_capacity a.room
 
--- there is room for all that is about to be done
+-- there is capacity for all that is about to be done
 abbrev pub IsRoomy : Ready → Type 0
 IsRoomy (Answer reply) = Unit {0}
 IsRoomy (Assign a) = HasRoomForErrors a
@@ -45,7 +45,7 @@ pub record IsPlanned (k : Known) (sees : List ℕ → Type 0) (m : Message) (a :
   pub plan : IsSetPlan k (bindings_of m.body) a.plan
   pub is : a.response ≡ greatest m
 
--- the same of a message whose community may write
+-- what is ready of a message whose community may write
 pub record IsToAssign (policy : Lists) (k : Known) (m : Message) (a : Assigning) : Type 0 where
   pub view : List ℕ
   pub set : need_of m.body ≡ Write

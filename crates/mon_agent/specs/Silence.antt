@@ -3,7 +3,7 @@ use Rattle.std.specs.Prelude.{ℕ, List, codes}
 use Rattle.mon_agent.specs.declared.reply.Silence.{Silence}
 use Rattle.mon_agent.specs.declared.reply.Silence.TheVariants.{BadMessage, BadVersion, BadCommunity, NotARequest, TooBigTwice}
 
--- the number that a printed line gives a cause
+-- the number of a cause on a printed line
 abbrev pub number_of : Silence → ℕ
 number_of BadMessage = 1
 number_of BadVersion = 2
@@ -11,7 +11,7 @@ number_of BadCommunity = 3
 number_of NotARequest = 4
 number_of TooBigTwice = 5
 
--- its name
+-- the name of a cause on a printed line
 abbrev pub name_of : Silence → List ℕ
 name_of BadMessage = codes "BadMessage"
 name_of BadVersion = codes "BadVersion"

@@ -9,7 +9,7 @@ use Rattle.mon_agent.specs.declared.agent.Agent.{Agent}
 abbrev pub policy_of : {D : Type 0} → Agent D → Lists
 policy_of agent = agent.policy
 
--- what it serves as it was told at the start
+-- what it serves as given at the start
 abbrev pub settings_of : {D : Type 0} → Agent D → Settings
 settings_of agent = map_settings agent.mib
 

@@ -1,4 +1,4 @@
--- What stands in a response for a name that was asked for (RFC 3416 sections 4.2.1 and 4.2.2).
+-- What is in a response for a name that was asked for (RFC 3416 sections 4.2.1 and 4.2.2).
 use Rattle.std.specs.Prelude.{◌≡◌, ℕ, List, [], ◌∷◌, Some, None, ◌⊎◌}
 use Rattle.mon_ber.specs.declared.value.Value.{Value}
 use Rattle.mon_ber.specs.declared.value.Value.TheVariants.{NoSuchObject, NoSuchInstance, EndOfMibView}
@@ -29,7 +29,8 @@ pub record IsGetAnswer (k : Known) (sees : List ℕ → Type 0) (name : List ℕ
 abbrev pub at_end : List ℕ → Binding
 at_end name = record { name = name; value = EndOfMibView }
 
--- the answer to a name in a GetNext: the least variable in view beyond it, or where there is none the name with endOfMibView
+-- the answer to a name in a GetNext: the least variable in view beyond it, or if there is none the
+-- name with endOfMibView
 abbrev pub IsNextAnswer : Known → (List ℕ → Type 0) → List ℕ → Binding → Type 0
 IsNextAnswer k sees name answer = IsNext objects k sees name (Some answer) ⊎ (IsNext objects k sees name None × (answer ≡ at_end name))
 

@@ -74,9 +74,10 @@ impl<D: Device + Drop> Agent<D> {
         self.mib.device()
     }
 
-    /// What the agent does about a datagram at a moment. Every datagram counts in snmpInPkts before it is answered, and
-    /// then in the counter of its cause where it is not answered. A Set that is refused, or is too big, assigns nothing; all
-    /// memory of a Set, its response's too, is taken before the first assignment.
+    /// Answers a datagram at a moment, or is silent. Every datagram counts in snmpInPkts before it
+    /// is answered, and then in the counter of its cause where it is not answered. A Set that is
+    /// refused, or is too big, assigns nothing; all memory of a Set, its response's too, is taken
+    /// before the first assignment.
     ///
     /// # Errors
     /// `OutOfMemory`; then everything is as it was, the counters and the device too.
@@ -157,7 +158,7 @@ impl<D: Device + Drop> Agent<D> {
         Ok(Ready::Answer(self.read(alloc, access, message, moment)?))
     }
 
-    /// Does what it was about to do. Takes no memory.
+    /// Does what it was about to do. It allocates nothing.
     fn finish(&mut self, ready: Ready) -> Reply
         requires { IsRoomy ready }
         ensures answer { (policy : AnyLists) (k : AnyKnown) (datagram : List ℕ)
@@ -405,7 +406,7 @@ fn need_of(body: &Body) -> Need
     }
 }
 
-/// Whether a message is a request that is answered.
+/// Returns `true` if a message is a request that is answered.
 fn is_request(body: &Body) -> bool
     ensures { result ≡ is_request body.now }
 {
@@ -415,14 +416,14 @@ fn is_request(body: &Body) -> bool
     }
 }
 
-/// Whether access was denied since the community is unknown.
+/// Returns `true` if access was denied since the community is unknown.
 fn is_unknown(access: &Result<Access<'_>, Denied>) -> bool
     ensures { IsTrue result ↔ (access.now ≡ Err NoCommunity) }
 {
     matches!(access, Err(Denied::NoCommunity))
 }
 
-/// The value that stands for what was found.
+/// Returns the value of what was found.
 fn got_value(got: Got) -> Value
     ensures { result ≡ got_value got }
 {

@@ -65,7 +65,7 @@ impl<D: Device + Drop> Agent<D> {
         }
     }
 
-    /// Assigns what a Set asks for, and writes its response. Takes no memory.
+    /// Assigns what a Set asks for, and writes its response. It allocates nothing.
     pub(crate) fn assign(&mut self, set: Assigning) -> Vec<u8>
         requires { HasRoomForErrors set }
         ensures assigned { (outcome : AnyCommit) × IsCommitted D.held D.refuses set.plan (D.held (map_device self.old.mib)) (D.held (map_device self.new.mib)) outcome

@@ -52,7 +52,7 @@ impl<D: Device + Drop> Agent<D> {
         self.repeat_all(alloc, reply, &mut gaps, access, width, rounds - 1, moment)
     }
 
-    /// Adds an answer for each of these, and tells whether all of them are within the limit.
+    /// Adds an answer for each of these. Returns `true` if all of them are within the limit.
     pub(crate) fn extend(
         &self,
         alloc: Global,
@@ -112,7 +112,8 @@ impl<D: Device + Drop> Agent<D> {
         Ok(())
     }
 
-    /// Adds a round of answers to the names of the last `width`, and tells whether all of them are within the limit.
+    /// Adds a round of answers to the names of the last `width`. Returns `true` if all of them are
+    /// within the limit.
     fn repeat(
         &self,
         alloc: Global,

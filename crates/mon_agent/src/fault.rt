@@ -16,7 +16,7 @@ pub enum AgentFault {
 }
 
 impl AgentFault {
-    /// The number that a printed line gives the fault.
+    /// Returns the number of the fault on a printed line.
     pub fn number(self) -> u8
         ensures { result ≡ number_of self }
     {
@@ -25,7 +25,7 @@ impl AgentFault {
         }
     }
 
-    /// The name that a printed line gives the fault: the variant's.
+    /// Returns the name of the fault on a printed line: the variant's.
     pub fn name(self) -> &'static str
         ensures { result.now ≡ name_of self }
     {

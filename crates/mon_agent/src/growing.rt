@@ -52,7 +52,8 @@ impl Growing {
         }
     }
 
-    /// Adds a variable binding where the response is within its limit with it, and tells whether it is.
+    /// Adds a variable binding if the response is within its limit with it. Returns `true` if it
+    /// is.
     pub(crate) fn push(&mut self, binding: Binding) -> Result<bool, AllocError>
         ensures head { self.new.head ≡ self.old.head }
         ensures limit { self.new.limit ≡ self.old.limit }
@@ -78,7 +79,8 @@ impl Growing {
         &self.bindings[self.bindings.len() - places].name
     }
 
-    /// Whether each of the last variable bindings, this many of them, has the value endOfMibView.
+    /// Returns `true` if each of the last variable bindings, this many of them, has the value
+    /// endOfMibView.
     pub(crate) fn is_last(&self, width: usize) -> bool
         requires { width ≤ length self.now.bindings }
         ensures { result ≡ is_last (last width self.now.bindings) }
@@ -95,7 +97,7 @@ impl Growing {
     }
 }
 
-/// The same message with other variable bindings.
+/// Returns the message with other variable bindings.
 pub(crate) fn with_bindings(message: Message, bindings: Vec<Binding>) -> Message
     ensures { result ≡ with_bindings message bindings.items }
 {
@@ -105,7 +107,7 @@ pub(crate) fn with_bindings(message: Message, bindings: Vec<Binding>) -> Message
     }
 }
 
-/// The same PDU with other variable bindings.
+/// Returns the PDU with other variable bindings.
 fn body_with(body: Body, bindings: Bindings) -> Body
     ensures { result ≡ body_with body bindings }
 {
@@ -115,7 +117,7 @@ fn body_with(body: Body, bindings: Bindings) -> Body
     }
 }
 
-/// Whether each of these has the value endOfMibView.
+/// Returns `true` if each of these has the value endOfMibView.
 fn are_at_end(bindings: &[Binding]) -> bool
     ensures { result ≡ is_last bindings.now }
 {
@@ -127,14 +129,14 @@ fn are_at_end(bindings: &[Binding]) -> bool
     true
 }
 
-/// Whether a value is endOfMibView.
+/// Returns `true` if a value is endOfMibView.
 fn is_end(value: &Value) -> bool
     ensures { result ≡ is_end value.now }
 {
     matches!(value, Value::EndOfMibView)
 }
 
-/// Whether a size is within a limit; no size but 0 is within a limit below 1.
+/// Returns `true` if a size is within a limit; only size 0 is within a limit below 1.
 pub(crate) fn is_within(size: usize, limit: i32) -> bool
     ensures { IsTrue result ↔ (size ≤ count_of limit) }
 {

@@ -8,7 +8,7 @@ ghost use Rattle.mon_mib.specs.Known.{Known};
 ghost use Rattle.mon_agent.specs.Bulk.{IsStepper};
 ghost use Rattle.mon_agent.specs.Step.{IsNextAnswer};
 
-/// One answer alone is right for a name in a GetNext.
+/// Only one answer is right for a name in a GetNext.
 pub fn one_step()
     ensures { (k : Known) (families : List Family) (view name : List ℕ) (a b : Binding)
         → IsNextAnswer k (IsInView families view) name a → IsNextAnswer k (IsInView families view) name b → a ≡ b }

@@ -20,6 +20,6 @@ pub(crate) struct Assigning {
     pub plan: SetPlan,
     /// The response without an error, with the number of its variable bindings as its error index.
     pub response: Message,
-    /// Where the response is written, with room for it.
+    /// The buffer that the response is written to, with capacity for it.
     pub room: Vec<u8>,
 }

@@ -19,14 +19,14 @@ pub enum Silence {
 }
 
 impl Silence {
-    /// The number that a printed line gives the cause.
+    /// Returns the number of the cause on a printed line.
     pub fn number(self) -> u8
         ensures { result ≡ number_of self }
     {
         self as u8
     }
 
-    /// The name that a printed line gives the cause: the variant's.
+    /// Returns the name of the cause on a printed line: the variant's.
     pub fn name(self) -> &'static str
         ensures { result.now ≡ name_of self }
     {

@@ -24,8 +24,8 @@ fn sent(reply: &Reply) -> &[u8] {
     }
 }
 
-/// What an agent answers to a datagram, which comes again where memory was wanting the first time; and whether the agent had counted
-/// nothing then.
+/// Returns what an agent answers to a datagram, which comes again if memory ran out the first time;
+/// and whether the agent had counted nothing then.
 fn answer_again(
     alloc: Global,
     agent: &mut Agent<SimDevice>,
@@ -39,7 +39,8 @@ fn answer_again(
     Ok((answer(alloc, agent, datagram, moment(0)?)?, same))
 }
 
-/// Whether an agent had counted nothing where memory was wanting, and what it sent, in hex digits.
+/// Returns whether an agent had counted nothing when memory ran out, and what it sent, in hex
+/// digits.
 fn replied(alloc: Global, agent: &mut Agent<SimDevice>, set: &str) -> Result<String, Fail> {
     let set = hex::decode(alloc, set)?;
     let (reply, same) = answer_again(alloc, agent, set.as_slice())?;

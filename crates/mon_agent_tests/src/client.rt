@@ -17,7 +17,7 @@ use mon_pdu::write_message;
 use std::alloc::{AllocError, Global};
 use std::test::Fail;
 
-/// There is no room to write down what happened.
+/// There is no memory to write down what happened.
 const NO_ROOM: SocketFault = SocketFault {
     reason: SocketReason::Other,
 };
@@ -44,7 +44,8 @@ const OTHER_REQUEST: &str =
 const REPLY: &str =
     "302802010104067075626C6963A21B0201070201000201003010300E06082B0601020101050004027231";
 
-/// What a wire hears, in turn: each time something else, and then its datagrams. It writes down what happened.
+/// What a wire receives: each time something else, and then its datagrams. It writes down what
+/// happened.
 #[derive(Drop)]
 struct Memory {
     alloc: Global,
@@ -67,7 +68,7 @@ impl Memory {
         }
     }
 
-    /// Writes down what happened. It fails where there is no room for it.
+    /// Writes down what happened. It fails if there is no memory for it.
     fn note(&mut self, event: Event) -> Result<(), SocketFault>
         ensures noted { OnOk result (self.new.log.items ≡ self.old.log.items ++ event ∷ []) }
         ensures same { OnErr result (self.new.log.items ≡ self.old.log.items) }
@@ -98,7 +99,7 @@ impl Memory {
         self.note(Event::Heard(octets))
     }
 
-    /// The next datagram, at the front of the room.
+    /// Puts the next datagram at the front of the buffer.
     fn next(&mut self, room: &mut [u8]) -> Option<usize>
         ensures within { IfSome result (λ len. len ≤ length room.new) }
         ensures log { self.new.log ≡ self.old.log }

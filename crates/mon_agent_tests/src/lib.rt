@@ -1,5 +1,6 @@
-//! Tests of the agent, of what it stands on and of its clients: outside vectors, happy paths, and each fault once.
-//! They stand in one crate at the top, so that no crate below is proved a second time for its tests.
+//! Tests of the agent, of what it uses and of its clients: outside vectors, happy paths, and each
+//! fault once. They are in one crate at the top, so that no crate below is proved a second time for
+//! its tests.
 //! Contract: none; a test that fails ends the gate.
 #![tactic(auto)]
 

@@ -13,7 +13,7 @@ struct Same {
     reply: Vec<u8>,
 }
 
-/// Where the last octet of a request-id stands in a message of the community `public`.
+/// The place of the last octet of a request-id in a message of the community `public`.
 const ID: usize = 17;
 
 impl Wire for Same {

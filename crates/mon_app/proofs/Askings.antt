@@ -1,4 +1,4 @@
--- What is heard in a wait, one thing after another, and what asking comes to, wait by wait.
+-- What is received in a wait, one thing after another, and what asking comes to, wait by wait.
 use Rattle.std.proofs.Common.{◌≡◌, ◌≢◌, ℕ, true, false, ◌+◌, ◌^◌, ◌<◌, ◌≤◌, arith, List, [], ◌∷◌, ◌++◌, length, refl, sym, ap, ◌∙◌, subst, inl, inr, length-append, add-one}
 use Rattle.std.specs.Prelude.{◌⊎◌, All, IfNone, IfOk, IfSome, IsErrAnd, Option, Some, None, Result, Ok, Err}
 use Rattle.std.proofs.lemmas.List.Elements.{All-append, All-cons, All-nil}
@@ -20,11 +20,11 @@ use Rattle.mon_app.specs.Asking.{AreUnanswered, HoldsNone, HoldsReply, IsAsked, 
 use Rattle.mon_app.specs.AtWire.{AtWire, Heard, Quiet, Sent, heard_as, hearing}
 use Rattle.mon_app.specs.Question.{Asked, is_reply, request_of}
 
--- what a wire tells
+-- what a wire states
 abbrev pub Log : Type 0
 Log = Option (List AtWire)
 
--- what a wire tells of what it heard
+-- what a wire states of what it received
 pub happened : {F : Type 0} → (before after : Log) (room : List ℕ) (r : Result AnyHeard F) (h heard : AnyHeard) → after ≡ extended before (hearing room r)
     → r ≡ Ok h → h ≡ heard → after ≡ extended before (heard_as room heard)
 happened before after room r h heard told was is = told ∙ (ap (λ x. extended before (hearing room x)) was ∙ ap (λ x. extended before (heard_as room x)) is)
@@ -73,7 +73,7 @@ unread_gives_none q octets fault (Err e) is = tt
 unread_gives_none q octets fault (Ok None) is = tt
 unread_gives_none q octets fault (Ok (Some m)) is = let not : Some m ≡ None = is.0 in absurd (let never : ⊥ = cc in never)
 
--- so much was heard, and none of it is a reply
+-- this many were received, and none of them is a reply
 pub record AreHeard (q : Asked) (n : ℕ) (before after : Log) : Type 0 where
   pub strange : List AtWire
   pub none : All (IsStrange q) strange
@@ -136,14 +136,14 @@ failed reason q n before between after heard few told = record {
   told = told ∙ (extended_by_none between ∙ heard.told);
 }
 
--- so many sendings were not answered
+-- this many sendings were not answered
 abbrev pub AreSent : Asked → ℕ → Log → Log → Type 0
 AreSent q n before after = GoesOnBy (AreUnanswered q n) before after
 
 pub nothing_sent : (q : Asked) (told : Log) → AreSent q 0 told told
 nothing_sent q told = record { more = []; holds = refl; told = sym (extended_by_none told) }
 
--- a sending, and what was heard after it
+-- a sending, and what was received after it
 then_heard : (before between sent after : Log) (some heard : List AtWire) (octets : List ℕ) → between ≡ extended before some → sent ≡ extended between (Sent octets ∷ [])
     → after ≡ extended sent heard → after ≡ extended before (some ++ Sent octets ∷ heard)
 then_heard before between sent after some heard octets first second third =

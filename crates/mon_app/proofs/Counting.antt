@@ -88,7 +88,7 @@ held n taken rows is i (Err at) bound place =
     ap (λ s. contains s i) (sym (from_list-rising instance_cmp_total instance_cmp-IsAntisymmetric (instances taken)) ∙ ap from_list (sym (listed n taken rows is))) ∙ place.absent in
     ap not (sym absent)
 
--- at one engine instances are told apart by name
+-- at one engine instances differ by name
 same_engine : (engine a b : List ℕ) → eq_by_cmp instance_cmp (named engine a) (named engine b) ≡ eq_by_cmp (slice_cmp nat_cmp) a b
 unfolding instance_cmp
 same_engine engine a b = ap (λ o. is_eq (ordering_then o (slice_cmp nat_cmp a b))) (tied_itself nat_list_cmp_total engine)
@@ -189,7 +189,7 @@ pub offers_split : (stamp : Stamp) (bs : List Binding) (k : ℕ) → offers_of s
 unfolding offers_of
 offers_split stamp bs k = sym (filter_map-append (offer_in stamp) (take k bs) (drop k bs)) ∙ ap (filter_map (offer_in stamp)) (take-append-drop k bs)
 
--- where so many instances are counted among the first bindings, all bindings are of no fewer
+-- if this many instances are counted among the first bindings, all bindings are of no fewer
 pub counted_before : (taken : List Offer) (stamp : Stamp) (bs : List Binding) (k : ℕ) (engine : List ℕ) (rows : List Row) (fresh : List (Bor (List ℕ)))
     → Counted taken (offers_of stamp (take k bs)) engine rows fresh → length rows + length fresh ≤ len (instances (taken ++ offers_of stamp bs))
 counted_before taken stamp bs k engine rows fresh c =

@@ -30,7 +30,7 @@ use Rattle.mon_poller.specs.Stamp.{Stamp, engine_id_name, engine_boots_name, eng
 use Rattle.mon_app.specs.Offer.{Offer}
 use Rattle.mon_app.specs.Reading.{engine_in, number_in, engine_of, number_at, stamp_of, response_of, is_zero, body_reading, message_in, message_reading, hex_reading, offers_of}
 
--- ---- octets that hex digits stand for
+-- ---- octets that hex digits spell
 octets_all : (xs : List ℕ) → IsBytes xs → (k d : ℕ) → k < length xs → get_or xs k d < 256
 octets_all [] h k d lt = absurd (omega arith)
 octets_all (x ∷ xs) h zero d lt = h 0

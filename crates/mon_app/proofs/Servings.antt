@@ -13,11 +13,11 @@ use Rattle.mon_app.specs.declared.reason.SocketReason.{SocketReason}
 use Rattle.mon_app.specs.AtPort.{AtPort, Received, Failed, Replied, Unsent, Happens, failures_in, receiving, replying}
 use Rattle.mon_app.specs.Served.{AreFailures, AreServed, IsAwaited, IsCutOff, IsEnd, IsFailure, IsNext, IsTurn}
 
--- what a port tells
+-- what a port states
 abbrev pub Log : Type 0
 Log = Option (List AtPort)
 
--- failures are counted in turn
+-- failures are counted one after another
 failures_then : (earlier later : List AtPort) (count : ℕ) → failures_in (earlier ++ later) count ≡ failures_in later (failures_in earlier count)
 failures_then [] later count = refl
 failures_then (Received octets moment ∷ rest) later count = failures_then rest later count
@@ -84,7 +84,7 @@ came room result n told_0 told_1 told_2 count_0 count_1 count_2 received few fai
     (wait_happens room result told_1 told_2 count_1 count_2 wait))
     (λ first later are one. record { count = n; few = few; failed = first; failures = are; log_is = ap (λ (l : List AtPort). first ++ l) one })
 
--- the last wait that may be begun
+-- the last wait that may begin
 pub last_wait : (room : List ℕ) (result : Result AnyReceived SocketFault) (told_0 told_1 told_2 : Log) (count_0 count_1 count_2 : ℕ)
     → Happens (AreFailures 15) told_0 told_1 count_0 count_1 → IsWait room result told_1 told_2 count_1 count_2
     → Happens (λ log. IsAwaited room log result) told_0 told_2 count_0 count_2

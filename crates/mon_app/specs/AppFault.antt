@@ -9,7 +9,7 @@ use Rattle.mon_app.specs.declared.reason.SocketReason.{SocketReason}
 use Rattle.mon_app.specs.declared.reason.SocketReason.TheVariants as reasons
 use Rattle.mon_app.specs.declared.fault.AppFault.TheVariants.{OutOfMemory, Timeout, FileFault, SocketFault, NotIncreasing, AgentStatus, BadText}
 
--- the number that a printed line gives a fault
+-- the number of a fault on a printed line
 abbrev pub number_of : AppFault → ℕ
 number_of OutOfMemory = 1
 number_of Timeout = 2
@@ -19,7 +19,7 @@ number_of NotIncreasing = 5
 number_of (AgentStatus status index) = 6
 number_of BadText = 8
 
--- its name
+-- the name of a fault on a printed line
 abbrev pub name_of : AppFault → List ℕ
 name_of OutOfMemory = codes "OutOfMemory"
 name_of Timeout = codes "Timeout"

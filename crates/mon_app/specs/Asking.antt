@@ -28,7 +28,7 @@ IsStrange q (wire.Sent octets) = ⊥
 abbrev pub ArePassedOver : Asked → List AtWire → Type 0
 ArePassedOver q strange = All (IsStrange q) strange × (length strange ≤ 64)
 
--- a wait in which this reply was heard
+-- a wait in which this reply was received
 pub record HearsReply (q : Asked) (m : Message) (heard : List AtWire) : Type 0 where
   pub strange : List AtWire
   pub passed_over : ArePassedOver q strange
@@ -36,7 +36,7 @@ pub record HearsReply (q : Asked) (m : Message) (heard : List AtWire) : Type 0 w
   pub heard_is : heard ≡ strange ++ wire.Heard octets ∷ []
   pub reply : HoldsReply q octets m
 
--- a wait in which no reply was heard: it came to its end, or 65 others were heard
+-- a wait in which no reply was received: it came to its end, or 65 others were received
 pub record HearsNone (q : Asked) (heard : List AtWire) : Type 0 where
   pub strange : List AtWire
   pub none : All (IsStrange q) strange
@@ -61,7 +61,7 @@ IsWait q heard (Err other) = ⊥
 abbrev pub request_octets : Asked → List ℕ
 request_octets q = written_message (request_of q)
 
--- this many sendings of the request, and after each a wait in which no reply was heard
+-- this many sendings of the request, and after each a wait in which no reply was received
 abbrev pub AreUnanswered : Asked → ℕ → List AtWire → Type 0
 AreUnanswered q zero log = log ≡ []
 AreUnanswered q (suc n) log = (before : List AtWire) × (heard : List AtWire) × AreUnanswered q n before × HearsNone q heard
@@ -83,7 +83,8 @@ pub record IsCutShort (q : Asked) (log : List AtWire) : Type 0 where
   pub few : sendings < 3
   pub unanswered : AreUnanswered q sendings log
 
--- What asking comes to, and what happened at the wire: the reply that the last wait heard; no reply in three waits; or a fault.
+-- What asking comes to, and what happened at the wire: the reply that was received in the last
+-- wait; no reply in three waits; or a fault.
 abbrev pub IsAsked : Asked → List AtWire → Result Message AppFault → Type 0
 IsAsked q log (Ok m) = EndsWith q log (Ok (Some m))
 IsAsked q log (Err Timeout) = AreUnanswered q 3 log

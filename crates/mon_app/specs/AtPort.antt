@@ -6,15 +6,15 @@ use Rattle.mon_app.specs.declared.fault.SocketFault.{SocketFault}
 use Rattle.mon_app.specs.declared.port.Received.{Received as AnyReceived}
 use Rattle.mon_app.specs.declared.reason.SocketReason.{SocketReason}
 
--- a datagram came at a moment, in hundredths of a second of the agent's life; or a wait failed for a reason; octets were sent to
--- where the last datagram came from, or could not be sent there
+-- a datagram came at a moment, in hundredths of a second of the agent's life; or a wait failed for
+-- a reason; octets were sent to where the last datagram came from, or could not be sent there
 pub data AtPort : Type 0 where
   Received : List ℕ → ℕ → AtPort
   Failed : SocketReason → AtPort
   Replied : List ℕ → AtPort
   Unsent : List ℕ → AtPort
 
--- what happens in a wait, where this then stands in the room
+-- what happens in a wait, if this is then in the buffer
 abbrev pub receiving : List ℕ → Result AnyReceived SocketFault → List AtPort
 receiving room (Ok received) = Received (take received.len room) received.moment ∷ []
 receiving room (Err fault) = Failed fault.reason ∷ []
@@ -32,7 +32,8 @@ failures_in (Failed reason ∷ rest) count = failures_in rest (next_count count)
 failures_in (Replied octets ∷ rest) count = failures_in rest count
 failures_in (Unsent octets ∷ rest) count = failures_in rest (next_count count)
 
--- More happened, of which this holds: the port told it, where it tells anything, and counted what failed.
+-- More happened, of which this holds: the port states it, if it states anything, and counted what
+-- failed.
 pub record Happens (Holds : List AtPort → Type 0) (told_before told_after : Option (List AtPort)) (failures_before failures_after : ℕ) : Type 0 where
   pub more : List AtPort
   pub holds : Holds more

@@ -6,7 +6,7 @@ use Rattle.mon_app.specs.declared.fault.AppFault.TheVariants.{SocketFault}
 use Rattle.mon_app.specs.declared.wire.Heard.{Heard as AnyHeard}
 use Rattle.mon_app.specs.declared.wire.Heard.TheVariants as heard
 
--- octets were sent; a datagram of the agent's was heard, or something else; or the wait was over
+-- octets were sent; a datagram of the agent's was received, or something else; or the wait was over
 pub data AtWire : Type 0 where
   Sent : List ℕ → AtWire
   Heard : List ℕ → AtWire
@@ -18,7 +18,7 @@ abbrev pub sending : {A F : Type 0} → List ℕ → Result A F → List AtWire
 sending octets (Ok done) = Sent octets ∷ []
 sending octets (Err fault) = []
 
--- what was heard, where this then stands in the room
+-- what was received, if this is then in the buffer
 abbrev pub heard_as : List ℕ → AnyHeard → List AtWire
 heard_as room (heard.Datagram len) = Heard (take len room) ∷ []
 heard_as room heard.Other = Other ∷ []
@@ -29,7 +29,7 @@ abbrev pub hearing : {F : Type 0} → List ℕ → Result AnyHeard F → List At
 hearing room (Ok heard) = heard_as room heard
 hearing room (Err fault) = []
 
--- what was heard fits the room
+-- what was received fits the buffer
 abbrev pub FitsRoom : ℕ → AnyHeard → Type 0
 FitsRoom room (heard.Datagram len) = len ≤ room
 FitsRoom room heard.Other = Unit {0}

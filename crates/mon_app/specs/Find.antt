@@ -10,7 +10,7 @@ use Rattle.mon_app.specs.Instance.{instance_cmp}
 abbrev pub instances_of : List Row → List Instance
 instances_of rows = map (λ r. r.instance) rows
 
--- where the instance stands, or belongs
+-- the place where the instance is, or belongs
 abbrev pub StandsAt : List Instance → Instance → Result ℕ ℕ → Type 0
 StandsAt is i (Ok at) = HoldsAt (λ j. j ≡ i) is at
 StandsAt is i (Err at) = IsPlace instance_cmp is i at

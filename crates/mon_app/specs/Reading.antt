@@ -92,7 +92,7 @@ body_reading (Pdu p) =
     (if is_zero p.error_status then response_of p.bindings else Err AgentError)
     else Err NotAResponse
 
--- the message that hex digits stand for
+-- the message that hex digits spell
 unfoldable pub message_in : List ℕ → Result Message Refusal
 message_in text = do
   bytes ← or_refuse BadHex (decode_of text)

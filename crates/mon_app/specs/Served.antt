@@ -38,7 +38,7 @@ pub record IsEnd (reason : SocketReason) (log : List AtPort) : Type 0 where
   pub failures : AreFailures 15 failed
   pub log_is : log ≡ failed ++ Failed reason ∷ []
 
--- after fewer than 16 failed waits a datagram came, which stands in the room
+-- after fewer than 16 failed waits a datagram came, which is in the buffer
 pub record IsNext (room : List ℕ) (received : AnyReceived) (log : List AtPort) : Type 0 where
   pub count : ℕ
   pub few : count < 16
@@ -51,18 +51,18 @@ abbrev pub IsAwaited : List ℕ → List AtPort → Result AnyReceived SocketFau
 IsAwaited room log (Ok received) = IsNext room received log
 IsAwaited room log (Err fault) = IsEnd fault.reason log
 
--- An agent's counters and device, and how often it was told that memory ran out for a datagram.
+-- An agent's counters and device, and how often it was reported that memory ran out for a datagram.
 pub record Standing (D : Type 0) : Type 0 where
   pub counts : Counters
   pub device : D
   pub untaken : ℕ
 
--- how an agent stands, where that was told so often
+-- an agent's counters and device, if that was reported this often
 abbrev pub stands : {D : Type 0} → Agent D → ℕ → Standing D
 stands agent times = record { counts = counters_of agent; device = device_of agent; untaken = times }
 
--- The agent's reply to a datagram that came at a moment, and what became of its counters and its device, of which devices of one
--- kind hold, fail and refuse so.
+-- The agent's reply to a datagram that came at a moment, and what became of its counters and its
+-- device, of which devices of one kind hold, fail and refuse so.
 pub record AnswersIt {D : Type 0} (held : D → Held) (failed : D → ℕ) (refuses : D → Change → Type 0) (policy : Lists) (settings : Settings)
     (before after : Standing D) (datagram : List ℕ) (moment : ℕ) (reply : Reply) : Type 0 where
   pub answer : IsAnswer held failed refuses policy (known_of settings (counted before.counts InPackets) (held before.device) moment) before.device
@@ -82,14 +82,15 @@ pub record IsAnswered {S : Type 0} (Answers : S → S → List ℕ → ℕ → R
   pub answer : Answers before after datagram moment reply
   pub sent_for : IsSent reply sent
 
--- a datagram for which memory ran out: that was told, nothing was sent, and the agent stands as it stood
+-- a datagram for which memory ran out: that was reported, nothing was sent, and the agent is as it
+-- was
 pub record IsUntaken {D : Type 0} (before after : Standing D) (sent : List AtPort) : Type 0 where
   pub counts : after.counts ≡ before.counts
   pub device : after.device ≡ before.device
   pub untaken : after.untaken ≡ next_count before.untaken
   pub nothing : sent ≡ []
 
--- what becomes of an agent, and what happens at the port, when a datagram came at a moment
+-- what becomes of an agent, and what happens at the port, if a datagram came at a moment
 abbrev pub Takes : {D : Type 0} → (Standing D → Standing D → List ℕ → ℕ → Reply → Type 0) → Standing D → Standing D → List ℕ → ℕ → List AtPort → Type 0
 Takes Answers before after datagram moment sent = IsAnswered Answers before after datagram moment sent ⊎ IsUntaken before after sent
 

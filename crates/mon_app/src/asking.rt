@@ -16,25 +16,27 @@ use std::alloc::{AllocError, Global};
 /// How often a request is sent.
 const SENDS: u8 = 3;
 
-/// How much is heard after each sending: of what is no reply 64 are passed over, and the next one ends the wait.
+/// How much is received after each sending: of what is no reply 64 are passed over, and the next
+/// one ends the wait.
 const HEARINGS: u8 = 65;
 
 /// The greatest datagram that UDP carries over IPv4, in octets.
 const GREATEST_DATAGRAM: usize = 65_507;
 
-/// Room for the greatest datagram that UDP carries over IPv4, 65507 octets.
+/// Allocates a buffer for the greatest datagram that UDP carries over IPv4, 65507 octets.
 pub(crate) fn room(alloc: Global) -> Result<Vec<u8>, AllocError>
     ensures { IfOk result (λ room. length room.items ≡ 65507) }
 {
     zeros(alloc, GREATEST_DATAGRAM)
 }
 
-/// Asks: sends the request at most three times, and gives the first reply that is heard. After each sending it waits as long as
-/// the wire does, and passes over at most 64 datagrams that are no reply.
+/// Asks: sends the request at most three times, and returns the first reply that is received. After
+/// each sending it waits as long as the wire does, and passes over at most 64 datagrams that are no
+/// reply.
 ///
 /// # Errors
-/// `Timeout` where no reply came in three waits, `SocketFault` where the wire failed, `BadText` where the request needs 2^32
-/// octets or more, `OutOfMemory`.
+/// `Timeout` where no reply came in three waits, `SocketFault` where the wire failed, `BadText`
+/// where the request needs 2^32 octets or more, `OutOfMemory`.
 pub fn send_request<W: Wire>(
     alloc: Global,
     wire: &mut W,
@@ -54,10 +56,12 @@ pub fn send_request<W: Wire>(
     Err(AppFault::Timeout)
 }
 
-/// The first reply that is heard in the wait that the last sending began; none where the wait ends, or after 64 others.
+/// Returns the first reply that is received in the wait after the last sending, or None if the wait
+/// ends, or after 64 others.
 ///
 /// # Errors
-/// `SocketFault` where the wire failed, `OutOfMemory` where the message that was heard found no room.
+/// `SocketFault` if the wire failed, `OutOfMemory` if there was no memory for the message that was
+/// received.
 pub fn take_reply<W: Wire>(
     alloc: Global,
     wire: &mut W,

@@ -16,8 +16,8 @@ use mon_names::NameTexts;
 use mon_pdu::{Bindings, Body, Message, Pdu};
 use std::alloc::Global;
 
-/// Asks an agent, and gives its answer as text: a line for each variable binding of the reply. Names are printed as `names`
-/// has it, also those that are values.
+/// Asks an agent, and returns its answer as text: a line for each variable binding of the reply.
+/// Names are printed as `names` has it, also those that are values.
 ///
 /// # Errors
 /// `AgentStatus` where the reply has an error status; else as `send_request`.
@@ -34,7 +34,7 @@ pub fn answer_text<W: Wire, S: NameTexts>(
     Ok(bindings_text(alloc, bindings.as_slice(), names)?)
 }
 
-/// Asks an agent, and gives the variable bindings of its reply.
+/// Asks an agent, and returns the variable bindings of its reply.
 pub(crate) fn answers<W: Wire>(
     alloc: Global,
     wire: &mut W,

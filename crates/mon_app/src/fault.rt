@@ -12,7 +12,7 @@ use std::alloc::AllocError;
 use std::io;
 use thiserror::Error;
 
-/// A socket, or what stands for one, failed.
+/// A socket, or what is used in its place, failed.
 #[derive(Clone, Copy, Debug, PartialEq, Eq)]
 pub struct SocketFault {
     /// The system's reason.
@@ -42,7 +42,7 @@ pub enum AppFault {
 }
 
 impl AppFault {
-    /// The number that the line on standard error gives the fault: 1 to 6, or 8.
+    /// Returns the number of the fault on the line of standard error: 1 to 6, or 8.
     pub fn number(self) -> u8
         ensures { result ≡ number_of self }
     {
@@ -57,7 +57,7 @@ impl AppFault {
         }
     }
 
-    /// The name that the line on standard error gives the fault.
+    /// Returns the name of the fault on the line of standard error.
     pub fn name(self) -> &'static str
         ensures { result.now ≡ name_of self }
     {
@@ -112,7 +112,8 @@ impl From<io::Error> for AppFault {
     }
 }
 
-/// A message that finds no room is out of memory; one that is too long for a datagram cannot be sent.
+/// A message for which there is no memory is out of memory; one that is too long for a datagram
+/// cannot be sent.
 impl From<PduFault> for AppFault {
     ghost from_gives = { λ pdu fault. fault ≡ of_message pdu };
 

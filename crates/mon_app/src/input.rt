@@ -25,7 +25,8 @@ pub(crate) fn zeros(alloc: Global, len: usize) -> Result<Vec<u8>, AllocError>
 /// The octets of a reader to its end, in at most 1048576 reads of at most 65536 octets.
 ///
 /// # Errors
-/// `FileFault` where a read fails, or where this many reads came to no end; `OutOfMemory` where the octets find no room.
+/// `FileFault` if a read fails, or if this many reads came to no end; `OutOfMemory` if there is no
+/// memory for the octets.
 pub fn read_all<R: Read>(alloc: Global, reader: &mut Counted<R>) -> Result<Vec<u8>, AppFault>
     requires { reader.old.counts.reads < 2 ^ 63 }
     ensures whole { IfOk result (λ octets. IfSome (R.remaining reader.old.reader) (λ all. octets.items ≡ all)) }

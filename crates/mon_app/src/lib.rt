@@ -1,6 +1,8 @@
-//! What the program's commands compute: the text of a replay of recorded SNMPv2c responses, and an agent's answer to a question.
-//! Messages are those of RFC 1901 and RFC 3416; a sample is stamped by the objects of RFC 3411 section 5.
-//! Contract: what `replay` prints is given by its input and the grammar of messages; an answer is printed of a reply alone.
+//! What the program's commands compute: the text of a replay of recorded SNMPv2c responses, and an
+//! agent's answer to a question. Messages are those of RFC 1901 and RFC 3416; a sample is stamped
+//! by the objects of RFC 3411 section 5.
+//! Contract: what `replay` prints is fixed by its input and the grammar of messages; an answer is
+//! only printed of a reply.
 #![tactic(auto)]
 
 mod asking;

@@ -6,7 +6,7 @@ use mon_mib::Moment;
 /// A datagram that was received.
 #[derive(Clone, Copy, Debug, PartialEq, Eq)]
 pub struct Received {
-    /// How many octets it has, at the front of the room that was lent.
+    /// How many octets it has, at the front of the buffer that was lent.
     pub len: usize,
     /// When it came, in the life of the agent.
     pub moment: Moment,
@@ -19,13 +19,13 @@ pub trait Port {
     ghost use Rattle.mon_edge.specs.Told.{extended};
     ghost use Rattle.mon_app.specs.AtPort.{AtPort, receiving, replying};
 
-    // What happened at it, in turn, where the port tells that.
+    // What happened at it, in order, if the port states that.
     ghost told: { Self → Option (List AtPort) };
 
     // How often it failed, at most 2^64 - 1.
     ghost failures: { Self → ℕ };
 
-    /// Waits for a datagram, which is put into the room.
+    /// Waits for a datagram, which is put into the buffer.
     fn receive(&mut self, room: &mut [u8]) -> Result<Received, SocketFault>
         ensures told { told self.new ≡ extended (told self.old) (receiving room.new result) }
         ensures failures { failures self.new ≡ failed_after result (failures self.old) }

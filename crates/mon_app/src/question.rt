@@ -81,7 +81,8 @@ pub struct Question<'a> {
     pub names: &'a [Oid],
 }
 
-/// The request that asks: each name with the value that is to be assigned, or else `unSpecified` (RFC 3416 section 3).
+/// Returns the request that asks: each name with the value to assign, or else `unSpecified` (RFC
+/// 3416 section 3).
 pub fn request(alloc: Global, question: &Question<'_>) -> Result<Message, AllocError>
     ensures { IfOk result (λ m. m ≡ request_of (asked_in question.now)) }
 {
@@ -109,8 +110,9 @@ fn asked_bindings(
     Ok(bindings)
 }
 
-/// Whether a message replies to the question: a Response in its community with its request-id that has an error status or
-/// answers each name. To a Get or a Set the names are those asked for; to a GetNext there are as many; to a GetBulk there are any.
+/// Returns `true` if a message replies to the question: a Response in its community with its
+/// request-id that has an error status or answers each name. To a Get or a Set the names are those
+/// asked for; to a GetNext there are as many; to a GetBulk there are any.
 pub fn is_reply(question: &Question<'_>, message: &Message) -> bool
     ensures { result ≡ is_reply (asked_in question.now) message.now }
 {

@@ -29,7 +29,7 @@ fn first_line(text: &[u8]) -> (&[u8], Option<&[u8]>)
     }
 }
 
-/// Where the first LF stands.
+/// Returns the place of the first LF.
 fn line_end(text: &[u8]) -> Option<usize>
     ensures { result ≡ position (λ octet. octet == 10) text.now }
 {
@@ -46,7 +46,7 @@ fn without_cr(line: &[u8]) -> &[u8]
     }
 }
 
-/// The message that the hex digits of a line stand for.
+/// Reads the message that the hex digits of a line spell.
 #[tactic(auto, unfolding(crate::specs::Reading::message_in))]
 fn read_line(alloc: Global, line: &[u8]) -> Result<Message, Refusal>
     ensures { Gives (λ m. m) result (message_in line.now) }
@@ -73,7 +73,7 @@ fn take_message(alloc: Global, table: &mut Table, message: &Message) -> Result<(
     Ok(())
 }
 
-/// The same for the message that the hex digits of a line stand for.
+/// Takes the samples of the message that the hex digits of a line spell.
 #[tactic(auto, unfolding(crate::specs::Reading::hex_reading))]
 fn take_line(alloc: Global, table: &mut Table, line: &[u8]) -> Result<(), Refusal>
     ensures size { table.new.size ≡ table.old.size }
@@ -87,7 +87,7 @@ fn take_line(alloc: Global, table: &mut Table, line: &[u8]) -> Result<(), Refusa
     take_message(alloc, table, &message)
 }
 
-/// Takes the lines in turn, writes why lines are refused, and counts these.
+/// Takes the lines one after another, writes why lines are refused, and counts these.
 pub(crate) fn take_lines(
     alloc: Global,
     table: &mut Table,
@@ -124,11 +124,13 @@ pub(crate) fn take_lines(
     Ok(refused)
 }
 
-/// The text of what windows of `n` samples keep of the responses that the input records, one a line, in hex digits.
+/// The text of what windows of `n` samples keep of the responses that the input records, one a
+/// line, in hex digits.
 ///
-/// Refused lines are named first, by number and cause, and change nothing else. Then come the instances, by engine id
-/// and name, each with its `n` newest samples, the oldest first, and at last the counts. Time is linear in the input;
-/// beside the input and the text there is memory for one line and the windows.
+/// Refused lines are named first, by number and cause, and change nothing else. Then come the
+/// instances, by engine id and name, each with its `n` newest samples, the oldest first, and at
+/// last the counts. Time is linear in the input; there is memory for the input, the text, one line
+/// and the windows.
 pub fn replay(alloc: Global, n: usize, input: &[u8]) -> Result<Vec<u8>, AllocError>
     requires positive { 1 ≤ n }
     requires small { n ≤ 64 }

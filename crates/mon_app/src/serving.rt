@@ -16,11 +16,13 @@ use std::alloc::Global;
 /// How many failed waits in a row are passed over; the next one that fails ends the serving.
 const PASSED_OVER: u8 = 15;
 
-/// Serves this many datagrams: sends the agent's reply to where each came from, or nothing where the agent is silent. A reply that
-/// cannot be sent is lost. Where memory runs out for a datagram that is told, and the agent stays as it was.
+/// Serves this many datagrams: sends the agent's reply to where each came from, or nothing where
+/// the agent is silent. A reply that cannot be sent is lost. If memory runs out for a datagram that
+/// is reported, and the agent stays as it was.
 ///
 /// # Errors
-/// `SocketFault` where 16 waits in a row failed, with the reason of the last; `OutOfMemory` where there was no room to begin.
+/// `SocketFault` if 16 waits in a row failed, with the reason of the last; `OutOfMemory` if there
+/// was no memory to begin.
 pub fn serve<P: Port, D: Device + Drop, U: Untaken>(
     alloc: Global,
     port: &mut P,
@@ -28,7 +30,8 @@ pub fn serve<P: Port, D: Device + Drop, U: Untaken>(
     count: u32,
     untaken: &mut U,
 ) -> Result<(), AppFault>
-    // Each datagram is answered as the agent was then; what was sent, what failed and what was told is known.
+    // Each datagram is answered as the agent was then; what was sent, what failed and what was
+    // reported is known.
     ensures served { Happens (λ log. IsServing (Takes (AnswersIt D.held D.failed D.refuses (policy_of agent.old) (settings_of agent.old))) count
         (stands agent.old (U.times untaken.old)) (stands agent.new (U.times untaken.new)) log result)
         (P.told port.old) (P.told port.new) (P.failures port.old) (P.failures port.new) }
@@ -74,7 +77,8 @@ fn serve_one<P: Port, D: Device + Drop, U: Untaken>(
     }
 }
 
-/// Waits for the next datagram, which is put into the room. At most 15 waits in a row that fail are passed over.
+/// Waits for the next datagram, which is put into the buffer. At most 15 waits in a row that fail
+/// are passed over.
 ///
 /// # Errors
 /// `SocketFault` where 16 waits in a row failed, with the reason of the last.

@@ -35,7 +35,7 @@ impl<'a, R: Clock + Net> SocketWire<'a, R> {
     /// A wire to the agent at this address.
     ///
     /// # Errors
-    /// `SocketFault` where no socket is to be had, `OutOfMemory`.
+    /// `SocketFault` if the system gives no socket, `OutOfMemory`.
     pub fn open(rt: &'a R, agent: SocketAddrV4) -> Result<Self, AppFault>
         ensures agent { IfOk result (λ w. w.agent ≡ V4 agent) }
         ensures failures { IfOk result (λ w. w.failures ≡ 0) }
@@ -62,7 +62,7 @@ impl<R: Clock> SocketWire<'_, R> {
         Ok(())
     }
 
-    /// Hears something in the rest of the wait.
+    /// Receives something in the rest of the wait.
     fn hear(&self, room: &mut [u8]) -> Result<Heard, SocketFault>
         ensures { IfOk result (FitsRoom (length room.new)) }
     {
@@ -113,7 +113,8 @@ fn rest_of_wait(passed: Duration) -> Duration
     Duration::from_millis(WAIT).saturating_sub(passed)
 }
 
-/// What a datagram of this length is, from there, in this much room: the agent's, where it comes from the agent and fits.
+/// Says what a datagram of this length is, from there, in a buffer of this size: the agent's, if it
+/// comes from the agent and fits.
 fn heard_from(agent: SocketAddr, from: SocketAddr, len: usize, room: usize) -> Heard
     ensures { IsHeardFrom agent from len room result }
 {

@@ -14,7 +14,7 @@ use std::net::{Net, SocketAddr, SocketAddrV4, UdpSocket};
 use std::rt::Clock;
 use std::time::{Duration, Instant};
 
-/// How often a wait that a signal ended is begun anew.
+/// How often a wait that a signal ended begins again.
 const TRIES: u8 = 255;
 
 /// The agent's life is over, which is no failure of the system's.
@@ -57,7 +57,7 @@ impl<'a, R: Clock + Net> SocketPort<'a, R> {
 }
 
 impl<R: Clock> SocketPort<'_, R> {
-    /// The moment in the life of the agent, which is at most 2^31 seconds long.
+    /// Returns the time in the life of the agent, which is at most 2^31 seconds long.
     fn moment(&self) -> Result<Moment, SocketFault> {
         let now = Instant::now(self.rt).map_err(failed)?;
         moment_after(now.duration_since(self.began))
@@ -89,7 +89,8 @@ impl<R: Clock> SocketPort<'_, R> {
     }
 }
 
-/// The moment of a life of which this has passed, in whole hundredths of a second. At 2^31 seconds the life is over.
+/// Returns the time of a life of which this has passed, in whole hundredths of a second. At 2^31
+/// seconds the life is over.
 fn moment_after(passed: Duration) -> Result<Moment, SocketFault>
     ensures moment { IfOk result (λ moment. moment ≡ as_nanos passed / 10_000_000) }
     ensures over { IfErr result (λ _. 214_748_364_800 ≤ as_nanos passed / 10_000_000) }

@@ -63,7 +63,7 @@ impl Table {
         self.rows.as_slice()
     }
 
-    /// Whether no more instances than may be would be held with those of the response.
+    /// Returns `true` if no more instances than allowed would be held with those of the response.
     pub(crate) fn has_room(
         &self,
         alloc: Global,
@@ -154,7 +154,7 @@ fn first_row(
     Ok(Row { instance, window })
 }
 
-/// Where the object of this name at this engine stands among rising ones, or belongs.
+/// Returns where the object of this name at this engine is among rising ones, or belongs.
 fn find(rows: &[Row], engine: &Octets, name: &Oid) -> Result<usize, usize>
     ensures within { IfOk result (λ at. at < length rows.now) }
     ensures below { IfErr result (λ at. at ≤ length rows.now) }
@@ -164,7 +164,7 @@ fn find(rows: &[Row], engine: &Octets, name: &Oid) -> Result<usize, usize>
     rows.binary_search_by(|row| row.instance.compare(engine, name))
 }
 
-/// Whether neither a row nor one of the fresh names at the engine is of this name.
+/// Returns `true` if neither a row nor one of the fresh names at the engine is of this name.
 fn is_new(rows: &[Row], engine: &Octets, fresh: &[&Oid], name: &Oid) -> bool
     ensures { (n : ℕ) (taken : List Offer) → rows.now ≡ rows_of n taken
         → result ≡ not (contains (instances taken) (named engine.now name.now) || list_any (λ f. eq_by_cmp (slice_cmp nat_cmp) name.now f.now) fresh.now) }

@@ -1,4 +1,4 @@
-//! What is told where memory runs out for a datagram.
+//! What is told if memory runs out for a datagram.
 
 /// What is told that memory ran out for a datagram.
 pub trait Untaken {

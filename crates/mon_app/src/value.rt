@@ -69,8 +69,8 @@ impl ValueKind {
     }
 }
 
-/// The value that a text means for a kind. A decimal number is digits alone, leading zeros allowed, and for an
-/// integer one `-` before them; `+5`, a blank and the empty text are none.
+/// Returns the value that a text means for a kind. A decimal number only has digits, leading zeros
+/// allowed, and for an integer one `-` before them; `+5`, a blank and the empty text are none.
 ///
 /// # Errors
 /// `BadText` where the text means none, `OutOfMemory`.
@@ -91,7 +91,7 @@ pub fn value_of(alloc: Global, kind: ValueKind, text: &str) -> Result<Value, App
     })
 }
 
-/// Whether a plus stands in front, which `parse` takes and a decimal number here has not.
+/// Returns `true` if a plus is in front, which `parse` accepts and a decimal number here has not.
 fn has_plus(text: &str) -> bool
     ensures { result ≡ (slice_index text.now 0 == 43) }
 {

@@ -49,7 +49,8 @@ pub fn walk<W: Wire, S: NameTexts>(
     Ok(())
 }
 
-/// Adds the line of the variable after the last name, and gives its name; none where the walk is at its end.
+/// Adds the line of the variable after the last name, and returns its name, or None if the walk is
+/// at its end.
 fn walk_on<W: Wire, S: NameTexts>(
     alloc: Global,
     wire: &mut W,
@@ -101,7 +102,7 @@ fn step_of(start: &Oid, last: &Oid, found: &Binding) -> Step
     Step::Back
 }
 
-/// Whether there is no further variable.
+/// Returns `true` if there is no further variable.
 fn is_end(value: &Value) -> bool
     ensures { IsTrue result ↔ (value.now ≡ Value.EndOfMibView) }
 {

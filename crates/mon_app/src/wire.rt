@@ -1,26 +1,26 @@
-//! A wire to one agent: what is sent to it, and what is heard from it.
+//! A wire to one agent: what is sent to it, and what is received from it.
 
 use crate::fault::SocketFault;
 
-/// What a wire heard.
+/// What a wire received.
 #[derive(Clone, Copy, Debug, PartialEq, Eq)]
 pub enum Heard {
-    /// A datagram of the agent's, of this many octets at the front of the room that was lent.
+    /// A datagram of the agent's, of this many octets at the front of the buffer that was lent.
     Datagram(usize),
     /// Something else, as a datagram from another address; the wait goes on.
     Other,
-    /// Nothing more: the wait that the last sending began is over.
+    /// Nothing more: the wait after the last sending is over.
     Quiet,
 }
 
-/// A wire to one agent. Each sending begins a wait, and what is received is heard in the rest of it.
+/// A wire to one agent. Each sending begins a wait, and what comes is received in the rest of it.
 pub trait Wire {
     ghost use Rattle.std.specs.Prelude.{◌≡◌, ◌≤◌, ℕ, List, Option, length, IfOk};
     ghost use Rattle.mon_edge.specs.Counts.{failed_after};
     ghost use Rattle.mon_edge.specs.Told.{extended};
     ghost use Rattle.mon_app.specs.AtWire.{AtWire, FitsRoom, hearing, sending};
 
-    // What happened at it, in turn, where the wire tells that.
+    // What happened at it, in order, if the wire states that.
     ghost told: { Self → Option (List AtWire) };
 
     // How often it failed, at most 2^64 - 1.
@@ -31,7 +31,7 @@ pub trait Wire {
         ensures told { told self.new ≡ extended (told self.old) (sending octets.now result) }
         ensures failures { failures self.new ≡ failed_after result (failures self.old) };
 
-    /// Waits for a datagram, which is put into the room.
+    /// Waits for a datagram, which is put into the buffer.
     fn receive(&mut self, room: &mut [u8]) -> Result<Heard, SocketFault>
         ensures told { told self.new ≡ extended (told self.old) (hearing room.new result) }
         ensures failures { failures self.new ≡ failed_after result (failures self.old) }

@@ -28,7 +28,7 @@ innermost_of (Station f) = station.innermost_of f
 innermost_of (Trial f) = trial.innermost_of f
 innermost_of (Rehearsal f) = rehearsal.innermost_of f
 
--- a station's fault as a command's: one of its file is told as the file's own
+-- a station's fault as a command's: a fault of its file is the file's own
 abbrev pub station_fault : StationFault → Fault
 station_fault (of_station.Keeper f) = Keeper f
 station_fault (of_station.Image f) = Image f

@@ -17,7 +17,7 @@ use thiserror::Error;
 /// A fault of a command. As a text it says what was wrong, with no word of where.
 #[derive(Clone, Copy, Debug, PartialEq, Eq, Error)]
 pub enum Fault {
-    /// Of the words and streams of a command, of a question or of a script.
+    /// Of the arguments and streams of a command, of a question or of a script.
     #[error("{0}")]
     App(AppFault),
     /// Of names.
@@ -71,7 +71,7 @@ impl Fault {
     }
 }
 
-/// A fault of a station's file is told as the file's own.
+/// A fault of a station's file is the file's own.
 impl From<StationFault> for Fault {
     ghost from_gives = { λ part fault. fault ≡ station_fault part };
 

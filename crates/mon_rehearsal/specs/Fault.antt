@@ -19,7 +19,8 @@ abbrev pub name_of : ScriptFault → List ℕ
 name_of script.OutOfMemory = codes "OutOfMemory"
 name_of (script.BadScript line) = codes "BadScript"
 
--- the innermost fault: the world's or a station's, where the stations were not opened; a script's is told with those of other texts
+-- the innermost fault: the world's or a station's, if the stations were not opened; a script's is
+-- one of a text
 abbrev pub innermost_of : RehearsalFault → Told
 innermost_of rehearsal.OutOfMemory = record { part = codes "mon_app"; number = number_of script.OutOfMemory; name = name_of script.OutOfMemory }
 innermost_of (rehearsal.BadScript line) = record { part = codes "mon_app"; number = number_of (script.BadScript line); name = name_of (script.BadScript line) }
@@ -30,7 +31,7 @@ abbrev pub rehearsal_fault : ScriptFault → RehearsalFault
 rehearsal_fault script.OutOfMemory = rehearsal.OutOfMemory
 rehearsal_fault (script.BadScript line) = rehearsal.BadScript line
 
--- a world's fault as the rehearsal's: its want of memory is the rehearsal's own
+-- a world's fault as the rehearsal's: its lack of memory is the rehearsal's own
 abbrev pub not_opened : WorldFault → RehearsalFault
 not_opened world_fault.OutOfMemory = rehearsal.OutOfMemory
 not_opened fault = rehearsal.World fault

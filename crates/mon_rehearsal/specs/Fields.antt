@@ -4,12 +4,12 @@ use Rattle.std.specs.Str.{bytes_eq}
 use Rattle.std.specs.Str.Parse.{digits_value}
 use Rattle.hex.specs.Hex.{decode_of}
 
--- an octet in front of what stands before a mark
+-- an octet before what precedes a mark
 abbrev pub with_first : ℕ → Option (List ℕ × List ℕ) → Option (List ℕ × List ℕ)
 with_first c None = None
 with_first c (Some parts) = Some (c ∷ parts.0, parts.1)
 
--- what stands before the first octet of this value, and what stands after it
+-- what precedes the first octet of this value, and what follows it
 abbrev pub cut : ℕ → List ℕ → Option (List ℕ × List ℕ)
 cut mark [] = None
 cut mark (c ∷ cs) = if c == mark then Some ([], cs) else with_first c (cut mark cs)

@@ -14,7 +14,7 @@ use Rattle.mon_world.specs.Moves.{Move, lives_of}
 use Rattle.mon_world.specs.Places.{others_to}
 
 -- ---- of a step
--- so many numbers, from this one on, with a blank before each
+-- this many numbers, from this one on, with a blank before each
 abbrev pub numbers_from : ℕ → ℕ → List ℕ
 numbers_from first zero = []
 numbers_from first (suc n) = numbers_from first n ++ codes " " ++ decimal (first + n)
@@ -46,18 +46,19 @@ step_lines number (answer ∷ answers) = step_line number answer ++ step_lines (
 unfoldable pub owed_line : State → ℕ → List ℕ
 owed_line s peer = codes "owes " ++ decimal peer ++ codes " " ++ decimal (owed_count s (slot_of (setting_of s).peers peer)) ++ codes "\n"
 
--- station x of so many, in this state: its incarnation, what it owes each other one, and its report
+-- station x of this many, in this state: its incarnation, what it owes each other one, and its
+-- report
 unfoldable pub station_text : (count x : ℕ) → State → List ℕ
 station_text count x s =
     codes "station " ++ decimal x ++ codes " incarnation " ++ decimal s.incarnation ++ codes "\n" ++ flat_map (owed_line s) (others_to x count)
     ++ report s.board.watch (window_of s.board)
 
--- the same of a station that there is
+-- the text of a station that there is
 abbrev pub text_at : (count x : ℕ) → Option State → List ℕ
 text_at count x None = []
 text_at count x (Some s) = station_text count x s
 
--- the first so many stations of as many as there are, as these moves left them
+-- the first N stations of as many as there are, as these moves left them
 abbrev pub stations_text : ℕ → List Move → ℕ → List ℕ
 stations_text count moves zero = []
 stations_text count moves (suc n) = stations_text count moves n ++ text_at count (suc n) (last_state (lives_of (suc n) moves))

@@ -44,7 +44,8 @@ abbrev pub IsNoForge : ScriptStep → Type 0
 IsNoForge (Forge s octets) = ⊥
 IsNoForge said = Unit {0}
 
--- of so many stations with these settings, a step of a script, with this answer, led from moves to moves; it did not want memory
+-- of this many stations with these settings, a step of a script, with this answer, led from moves
+-- to moves; it did not run out of memory
 pub record IsMade (settings : ℕ → Setting) (stations : ℕ) (said : ScriptStep) (answer : Result Sent WorldFault) (past now : List Move) : Type 0 where
   pub made : Step
   pub is : IsStepOf said made
@@ -63,8 +64,9 @@ pub record HaveBeenMade {G : Ghosts MemoryDisk} (core : Core) (stations : List (
   pub text : new ≡ old ++ step_lines 1 answers
   pub leads : LeadsTo core stations sent (λ now. AreMade settings count steps answers past now)
 
--- The text of a rehearsal of these steps over so many stations: in a world whose stations began their first lives on empty disks the steps are made one after
--- another, and a line says the answer of each; then follow the stations as that left them. Where no step forges a claim, none was
+-- The text of a rehearsal of these steps over this many stations: in a world whose stations began
+-- their first lives on empty disks the steps are made one after another, and a line says the answer
+-- of each; then follow the stations as that left them. Where no step forges a claim, none was
 -- forged, and then what the stations say of their debts is true.
 pub record IsRehearsed (core : Core) (count : ℕ) (steps : List ScriptStep) (text : List ℕ) : Type 0 where
   pub first : List State

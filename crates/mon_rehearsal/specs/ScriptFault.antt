@@ -17,7 +17,7 @@ abbrev pub IsFaultOfScript : (List ℕ → ScriptStep → Type 0) → List (List
 IsFaultOfScript says lines OutOfMemory = Unit {0}
 IsFaultOfScript says lines (BadScript number) = IsFirstBad says lines number
 
--- why a script of these lines, read in this way, was not rehearsed over so many stations
+-- why a script of these lines, read in this way, was not rehearsed over this many stations
 abbrev pub IsFaultOfRehearsal : (List ℕ → ScriptStep → Type 0) → ℕ → List (List ℕ) → RehearsalFault → Type 0
 IsFaultOfRehearsal says count lines rehearsal.OutOfMemory = Unit {0}
 IsFaultOfRehearsal says count lines (rehearsal.BadScript number) = IsFirstBad says lines number

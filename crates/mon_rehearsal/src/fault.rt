@@ -36,7 +36,7 @@ pub enum RehearsalFault {
 }
 
 impl ScriptFault {
-    /// The number that the line on standard error gives the fault: 1 or 7.
+    /// Returns the number of the fault on the line of standard error: 1 or 7.
     pub fn number(self) -> u8
         ensures { result ≡ number_of self }
     {
@@ -46,7 +46,7 @@ impl ScriptFault {
         }
     }
 
-    /// The name that the line on standard error gives the fault.
+    /// Returns the name of the fault on the line of standard error.
     pub fn name(self) -> &'static str
         ensures { result.now ≡ name_of self }
     {
@@ -58,8 +58,9 @@ impl ScriptFault {
 }
 
 impl RehearsalFault {
-    /// The innermost fault: the world's or a station's, where the stations were not opened. A script is a text that the program was given, so its
-    /// faults are told with those of other texts, as 1 and 7 of mon_app.
+    /// The innermost fault: the world's or a station's, where the stations were not opened. A
+    /// script is a text that the program was given, so its faults are those of a text, as 1 and 7
+    /// of mon_app.
     pub fn innermost(self) -> Innermost
         ensures part { result.part.now ≡ (innermost_of self).part }
         ensures number { result.number ≡ (innermost_of self).number }
@@ -124,7 +125,7 @@ impl From<ScriptFault> for RehearsalFault {
     }
 }
 
-/// The world's want of memory is the rehearsal's own.
+/// The world's lack of memory is the rehearsal's own.
 impl From<WorldFault> for RehearsalFault {
     ghost from_gives = { λ part fault. fault ≡ not_opened part };
 

@@ -9,7 +9,7 @@ use itoa::Buffer;
 use mon_ber::Octets;
 use std::alloc::{AllocError, Global};
 
-/// What stands before the first octet of this value, and what stands after it.
+/// Returns what precedes the first octet of this value, and what follows it.
 pub(crate) fn cut(text: &[u8], mark: u8) -> Option<(&[u8], &[u8])>
     ensures { option_map (λ parts. (parts.0.now, parts.1.now)) result ≡ cut mark text.now }
 {
@@ -19,14 +19,14 @@ pub(crate) fn cut(text: &[u8], mark: u8) -> Option<(&[u8], &[u8])>
     }
 }
 
-/// Where the first octet of this value stands.
+/// Returns the place of the first octet of this value.
 fn place_of(text: &[u8], mark: u8) -> Option<usize>
     ensures { result ≡ position (λ octet. octet == mark) text.now }
 {
     text.iter().position(|octet| *octet == mark)
 }
 
-/// Whether a field is this word.
+/// Returns `true` if a field is this word.
 pub(crate) fn is(field: &[u8], word: &str) -> bool
     ensures { result ≡ bytes_eq field.now word.now }
 {
@@ -43,7 +43,7 @@ pub(crate) fn number(text: &[u8]) -> Option<u32>
     }
 }
 
-/// The same of a text.
+/// Returns the number that a field spells as a text.
 fn decimal(text: &str) -> Option<u32>
     ensures { result ≡ number_in text.now }
 {

@@ -70,7 +70,8 @@ fn put_refused(line: &mut String, fault: WorldFault) -> Result<(), AllocError>
     write!(line, "refused {innermost}")
 }
 
-/// The stations of a world of so many: of each its incarnation, how many samples it owes each other one, and its report.
+/// Writes the stations of a world of this many: of each its incarnation, how many samples it owes
+/// each other one, and its report.
 pub(crate) fn put_stations(
     alloc: Global,
     text: &mut Vec<u8>,
@@ -128,7 +129,7 @@ fn put_state(
     }
 }
 
-/// What the station of this number owes each other one of so many.
+/// Writes what the station of this number owes each other one of this many.
 fn put_debts(
     lines: &mut String,
     station: &Station<MemoryDisk>,

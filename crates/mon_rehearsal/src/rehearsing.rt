@@ -16,13 +16,16 @@ use mon_settings::Core;
 use mon_world::{World, WorldFault};
 use std::alloc::Global;
 
-/// Rehearses a script over a world of so many stations with this core's watch and targets, numbered from 1, on disks in memory. The whole
-/// script is read before the first step. A line says of each step what it sent, or why it was refused; then follows of each station its
-/// incarnation, what it owes each other station, and its report. Where no step forges a claim, what they say of their debts is true.
+/// Rehearses a script over a world of this many stations with this core's watch and targets,
+/// numbered from 1, on disks in memory. The whole script is read before the first step. A line says
+/// of each step what it sent, or why it was refused; then follows of each station its incarnation,
+/// what it owes each other station, and its report. Where no step forges a claim, what they say of
+/// their debts is true.
 ///
 /// # Errors
-/// `BadScript` with the number of the first line that says no step; `World` where the stations were not opened; `OutOfMemory`, also where a
-/// step wanted memory: what is printed never hangs on how much there is.
+/// `BadScript` with the number of the first line that says no step; `World` where the stations were
+/// not opened; `OutOfMemory`, also where a step ran out of memory: what is printed never depends on
+/// how much there is.
 pub fn rehearse(
     alloc: Global,
     core: &Core,

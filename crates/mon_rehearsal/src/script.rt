@@ -30,8 +30,9 @@ pub enum ScriptStep {
     Restart(u32),
     /// `forge S HEX`: these octets come to a station as if from a peer.
     Forge(u32, Octets),
-    /// `stop S K keep` or `stop S K lose`: a station stops within a save after so many calls of the disk, and is opened again from what a
-    /// crash left: with all that was written since the last sync, or without it.
+    /// `stop S K keep` or `stop S K lose`: a station stops within a save after K calls of the disk,
+    /// and is opened again from what a crash left: with all that was written since the last sync,
+    /// or without it.
     Stop(u32, u32, bool),
 }
 
@@ -58,8 +59,9 @@ impl ScriptStep {
     }
 }
 
-/// The steps of a script, one a line. LF ends a line; after the last one it may be missing. Between fields stands one blank. Numbers are
-/// decimal, without leading zeros, up to 4294967295; octets are hex digits in either case, at least one octet.
+/// Reads the steps of a script, one a line. LF ends a line; after the last one it may be missing.
+/// One blank separates fields. Numbers are decimal, without leading zeros, up to 4294967295; octets
+/// are hex digits in either case, at least one octet.
 ///
 /// # Errors
 /// `BadScript` with the number of the first line that says no step, as an empty one; `OutOfMemory`.
@@ -82,7 +84,7 @@ pub fn read_script(alloc: Global, text: &[u8]) -> Result<Vec<ScriptStep>, Script
     Ok(steps)
 }
 
-/// The first line of a text, without the LF that ends it, and what stands after that.
+/// Returns the first line of a text, without the LF that ends it, and what follows that.
 fn first_line(text: &[u8]) -> (&[u8], &[u8])
     ensures lines { 0 < length text.now → lines_of text.now ≡ result.0.now ∷ lines_of result.1.now }
     ensures shorter { 0 < length text.now → length result.1.now < length text.now }

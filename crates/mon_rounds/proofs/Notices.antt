@@ -1,4 +1,4 @@
--- What is told of events, one after another.
+-- The notices of events, one after another.
 use Rattle.std.proofs.Common.{◌≡◌, ◌≤◌, ◌<◌, ◌+◌, ℕ, suc, List, [], ◌∷◌, ◌++◌, length, take, get_or, refl, sym, ap, ◌∙◌, arith, append_assoc, length-take}
 use Rattle.std.specs.Prelude.{zero, min}
 use Rattle.std.proofs.lemmas.List.{append-nil, take_more}

@@ -70,7 +70,7 @@ shared_more n slot peers p events es shared at more =
           ∙ ap (λ l. shared.before ++ l) (sym (map-append Share (take slot peers) (p ∷ [])) ∙ ap shares_with (sym one));
     }
 
--- ---- what is heard once more
+-- ---- what is received after the shares
 pub listened_none : (n : ℕ) (peers : List ℕ) (events : List RoundEvent) → HasShared n peers events → HasListened n peers events
 listened_none n peers events shared = record { before = events; shared = shared; heard = []; each = All-nil IsDatagram; are = sym (append-nil events) }
 
@@ -255,7 +255,7 @@ share_past [] slot past = refl
 share_past (q ∷ peers) zero past = absurd cc
 share_past (q ∷ peers) (suc slot) past = share_past peers slot past
 
--- where there is no peer at the slot, all is saved next
+-- if there is no peer at the slot, all is saved next
 pub saving_past : (n slot : ℕ) (peers : List ℕ) (phase : Phase) (events : List RoundEvent) → IsSharing phase slot → AreSoFar n peers phase events → slice_get peers slot ≡ None → IsSaving phase peers
 saving_past n slot [] Hearing events at so_far past = refl
 saving_past n slot (q ∷ peers) Hearing events at so_far past =

@@ -24,12 +24,12 @@ abbrev pub goes_to : Addresses → To → Option Addr
 goes_to a (Target number) = slice_get a.targets.items number
 goes_to a (Peer station) = peer_address a.peers.items a.peer_addresses.items station
 
--- what is received where these octets stood in the room, so many of them, from there
+-- what is received if these octets are in the buffer, this many of them, from this address
 abbrev pub IsArrival : List ℕ → ℕ → SocketAddr → Arrival → Type 0
 IsArrival room len from (Datagram address octets) = (addr_in from ≡ Some address) × (octets ≡ take len room)
 IsArrival room len from Quiet = ⊥
 
--- how many nanoseconds a wait lasts, after one that lasted so many
+-- how many nanoseconds a wait lasts, after one that lasted this many
 abbrev pub nanos_of_wait : Wait → ℕ → ℕ
 nanos_of_wait (wait.Anew milliseconds) before = milliseconds * 1_000_000
 nanos_of_wait wait.Rest before = before

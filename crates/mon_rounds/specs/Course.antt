@@ -11,11 +11,12 @@ counted_on sum more = min (sum + more) (2 ^ 64 - 1)
 abbrev pub debts_to : State → List ℕ → List (ℕ × ℕ)
 debts_to s peers = map (λ peer. (peer, owed_count s (slot_of (setting_of s).peers peer))) peers
 
--- the report is due after the round of this number: after each so many, and never where that is 0
+-- the report is due after the round of this number: after every N rounds, and never if N is 0
 pub record IsDue (round every : ℕ) : Type 0 where
   pub asked : every ≢ 0
   pub whole : round % every ≡ 0
 
--- how many milliseconds of a time of so many nanoseconds are left when others have passed, at most a minute of them
+-- how many milliseconds of a time in nanoseconds are left when others have passed, at most a minute
+-- of them
 abbrev pub milliseconds_left : ℕ → ℕ → ℕ
 milliseconds_left whole passed = min ((whole - passed) / 1_000_000) 60_000

@@ -15,7 +15,8 @@ use Rattle.mon_station.specs.declared.fault.StationFault.{StationFault}
 use Rattle.mon_station.specs.declared.fault.StationFault.TheVariants as fault
 use Rattle.mon_station.specs.Saved.{IsFaultOfBody}
 
--- the windows of a body under a watch: empty ones where there is none, else what the watch keeps of the image that it spells
+-- the windows of a body under a watch: empty ones if there is no body, else what the watch keeps of
+-- the image that it spells
 abbrev pub FindsWindows : Watch → Option (List ℕ) → (ℕ → Samples) → Type 0
 FindsWindows watch None windows = (i : ℕ) → windows i ≡ set.empty
 FindsWindows watch (Some octets) windows =
@@ -39,12 +40,12 @@ IsFaultOfFound watch file (fault.Keeper keeper.Damaged) = is_undamaged file ≡ 
 IsFaultOfFound watch file (fault.Keeper f) = ⊥
 IsFaultOfFound watch file other = IsFaultOfImage watch (found_body file) other
 
--- the same of a file that was read into memory, where no disk fails
+-- an opening found this board of a file that was read into memory, where no disk fails
 abbrev pub IsFaultOfOctets : Watch → List ℕ → StationFault → Type 0
 IsFaultOfOctets watch file (fault.Keeper keeper.DiskFault) = ⊥
 IsFaultOfOctets watch file other = IsFaultOfFound watch file other
 
--- a fault over a disk in memory, which fails for want of memory alone
+-- a fault over a disk in memory, which only fails if memory runs out
 abbrev pub in_memory : StationFault → StationFault
 in_memory (fault.Keeper keeper.DiskFault) = fault.OutOfMemory
 in_memory other = other

@@ -16,8 +16,8 @@ use Rattle.mon_rounds.specs.Reception.{Reception}
 use Rattle.mon_station.specs.declared.event.OwnedEvent.{OwnedEvent}
 use Rattle.mon_station.specs.declared.running.SourceFault.{SourceFault}
 
--- what is known of a round: where targets and peers are reached, how long a wait is, where it stands, the next wait, how many datagrams, timeouts and
--- failures it may still have, and its events so far
+-- what is known of a round: where targets and peers are reached, how long a wait is, its phase, the
+-- next wait, how many datagrams, timeouts and failures it may still have, and its events so far
 pub record RoundState : Type 0 where
   pub targets : List Addr
   pub peers : List ℕ
@@ -45,11 +45,12 @@ is_hearing (Sharing slot) = false
 is_hearing Over = false
 is_hearing Rested = false
 
--- the wait in which a datagram is to be received next, where one is
+-- the wait in which a datagram must be received next, if one must be
 abbrev pub next_wait : RoundState → Option Wait
 next_wait r = cond (is_hearing r.phase && (nat_lt 0 r.datagrams && nat_lt 0 r.failures)) (Some r.wait) None
 
--- the wait after a datagram from this address: only a target's or a peer's begins it anew, and between two rounds none
+-- the wait after a datagram from this address: only a target's or a peer's begins it again, and
+-- between two rounds none
 abbrev pub wait_in : Phase → RoundState → Addr → Wait
 wait_in Resting r from = Rest
 wait_in phase r from = cond (stands_in r.targets from || stands_in r.peer_addresses from) (Anew r.wait_ms) Rest
@@ -66,8 +67,8 @@ after_datagram r from = record r { wait = wait_in r.phase r from; datagrams = r.
 abbrev pub after_failure : RoundState → RoundState
 after_failure r = record r { wait = Rest; failures = r.failures - 1 }
 
--- ---- where nothing is heard any more
--- a share with the peer of this slot; where there is none, a save
+-- ---- when nothing more is received
+-- a share with the peer of this slot, or a save if there is no such peer
 abbrev pub share_at : List ℕ → ℕ → RoundEvent
 share_at [] slot = Save
 share_at (p ∷ peers) zero = Share p
@@ -116,7 +117,7 @@ abbrev pub phase_ended : Phase → Phase
 phase_ended Resting = Rested
 phase_ended phase = phase
 
--- after the event that a round gave next, where it gave one; a wait that follows begins anew
+-- after the event that a round gave next, if it gave one; a wait that follows begins again
 abbrev pub after_event : RoundState → Option RoundEvent → RoundState
 after_event r None = record r { phase = phase_ended r.phase; wait = Anew r.wait_ms }
 after_event r (Some e) = record r { phase = phase_after r e; wait = Anew r.wait_ms; timeouts = timeouts_after r.timeouts e; events = r.events ++ e ∷ [] }

@@ -1,4 +1,4 @@
--- What an operator is told of a round.
+-- What is reported of a round to an operator.
 use Rattle.std.specs.Prelude.{ℕ, ◌-◌, ◌^◌, min, Bool, true, false, not, cond, List, [], ◌∷◌, ◌++◌, Option, Some, None, filter, length, sum_by}
 use Rattle.mon_poller.specs.declared.addr.Addr.{Addr}
 use Rattle.mon_rounds.specs.declared.reporting.Notice.{Notice}
@@ -23,11 +23,12 @@ is_stranger targets Save = false
 abbrev pub strangers_in : List Addr → List RoundEvent → ℕ
 strangers_in targets events = min (length (filter (is_stranger targets) events)) (2 ^ 32 - 1)
 
--- what is told of a refused datagram that is no peer's: of a stranger's nothing
+-- the notice of a refused datagram that is no peer's: none of a stranger's
 abbrev pub response_notice : List Addr → Addr → StationFault → Option Notice
 response_notice targets from fault = cond (stands_in targets from) (Some (notice.BadResponse from fault)) None
 
--- what is told of a refused event. A timeout and a save are not refused: they meet want of memory and the keeper's faults.
+-- the notice of a refused event. A timeout and a save are not refused: they run out of memory or
+-- have the keeper's faults.
 abbrev pub refusal_of : List Addr → RoundEvent → StationFault → Option Notice
 refusal_of targets (StartPoll target) fault = Some (notice.NotPolled target fault)
 refusal_of targets (FromAgent from) fault = response_notice targets from fault
@@ -36,7 +37,7 @@ refusal_of targets (Share peer) fault = Some (notice.NotShared peer fault)
 refusal_of targets (Timeout id) fault = None
 refusal_of targets Save fault = None
 
--- what is told of an event that was answered so, where anything is
+-- the notice of an event with this answer, if there is one
 abbrev pub notice_of : List Addr → RoundEvent → Answer → Option Notice
 notice_of targets e (answer.Handled n) = None
 notice_of targets e (answer.GaveUp target) = Some (notice.GaveUp target)
@@ -49,11 +50,11 @@ abbrev pub listed : Option Notice → List Notice
 listed None = []
 listed (Some told) = told ∷ []
 
--- what is told of an event that was answered so, as a list
+-- the notice of an event with this answer, as a list
 abbrev pub told_of : List Addr → RoundEvent → Answer → List Notice
 told_of targets e a = listed (notice_of targets e a)
 
--- what is told of events that were answered so, in order
+-- the notices of events with these answers, in order
 abbrev pub notices_of : List Addr → List RoundEvent → List Answer → List Notice
 notices_of targets [] answers = []
 notices_of targets (e ∷ events) [] = []

@@ -1,12 +1,12 @@
--- The order of a round's events: each target is polled, what comes is heard, each peer is offered what it is owed, what comes is heard once more, and
--- all is saved.
+-- The order of a round's events: each target is polled, what comes is received, each peer is
+-- offered what it is owed, what comes is received, and all is saved.
 use Rattle.std.specs.Prelude.{ℕ, zero, suc, ◌≡◌, ◌≤◌, ◌<◌, List, [], ◌∷◌, ◌++◌, All, map, take, length, sum_by}
 use Rattle.mon_rounds.specs.declared.round.Phase.{Phase}
 use Rattle.mon_rounds.specs.declared.round.Phase.TheVariants.{Polling, Hearing, Sharing, Listening, Over, Resting, Rested}
 use Rattle.mon_rounds.specs.declared.round.RoundEvent.{RoundEvent}
 use Rattle.mon_rounds.specs.declared.round.RoundEvent.TheVariants.{StartPoll, Timeout, FromAgent, FromPeer, Share, Save}
 
--- a poll of each of the first so many targets, in order
+-- a poll of each of the first N targets, in order
 abbrev pub polls_of : ℕ → List RoundEvent
 polls_of zero = []
 polls_of (suc n) = polls_of n ++ StartPoll n ∷ []
@@ -68,7 +68,7 @@ pub record IsRound (targets : ℕ) (peers : List ℕ) (events : List RoundEvent)
   pub are : events ≡ before ++ Save ∷ []
   pub few : datagrams_in events ≤ 4096
 
--- the events of a round, or of the time between two, that stands in this phase
+-- the events of a round, or of the time between two, that is in this phase
 abbrev pub AreSoFar : ℕ → List ℕ → Phase → List RoundEvent → Type 0
 AreSoFar targets peers (Polling target) events = (target < targets) × (events ≡ polls_of target)
 AreSoFar targets peers Hearing events = HasPolled targets events

@@ -31,19 +31,20 @@ first_phase (t ∷ targets) = Polling 0
 abbrev pub begun : RoundState → RoundState
 begun r = record r { phase = first_phase r.targets; wait = Anew r.wait_ms; datagrams = 4096; timeouts = 512; failures = 16; events = [] }
 
--- the time between two rounds as it begins, of so many milliseconds
+-- the time between two rounds as it begins, of this many milliseconds
 abbrev pub begun_rest : ℕ → RoundState → RoundState
 begun_rest milliseconds r = record r { phase = Resting; wait = Anew milliseconds; datagrams = 4096; timeouts = 512; failures = 16; events = [] }
 
--- what every round has, with room for so many events: its events are in the order of a round, it has at most 4096 datagrams and knows how many are left, and there is room for all
--- events that are still to come
+-- what every round has, with capacity for this many events: its events are in the order of a round,
+-- it has at most 4096 datagrams and knows how many are left, and there is capacity for all events
+-- that are still to come
 pub record IsOrderly (room : ℕ) (r : RoundState) : Type 0 where
   pub order : AreSoFar (length r.targets) r.peers r.phase r.events
   pub few : datagrams_in r.events + r.datagrams ≡ 4096
   pub space : length r.events + (events_left r.phase r + (r.datagrams + r.timeouts)) ≤ room
   pub whole : 4700 ≤ room
 
--- the peer of this slot is offered next, or all is saved where there is none
+-- the peer of this slot is offered next, or all is saved if there is no such peer
 abbrev pub IsSharing : Phase → ℕ → Type 0
 IsSharing Hearing slot = slot ≡ 0
 IsSharing (Sharing next) slot = slot ≡ next

@@ -8,6 +8,6 @@ abbrev pub address_at : List Addr → Option ℕ → Option Addr
 address_at addresses None = None
 address_at addresses (Some place) = slice_get addresses place
 
--- the address that stands at the first place of a number
+-- the address at the first place of a number
 abbrev pub peer_address : List ℕ → List Addr → ℕ → Option Addr
 peer_address numbers addresses station = address_at addresses (position (λ number. number == station) numbers)

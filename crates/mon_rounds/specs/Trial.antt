@@ -23,7 +23,7 @@ abbrev pub innermost_of : TrialFault → stations.Told
 innermost_of (Refused f) = stations.innermost_of f
 innermost_of f = record { part = codes "mon_rounds"; number = number_of f; name = name_of f }
 
--- a station's fault as the trial's: its want of memory is the trial's own
+-- a station's fault as the trial's: its lack of memory is the trial's own
 abbrev pub station_refusal : StationFault → TrialFault
 station_refusal station.OutOfMemory = OutOfMemory
 station_refusal f = Refused f

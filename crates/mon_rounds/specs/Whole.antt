@@ -14,7 +14,8 @@ use Rattle.mon_station.specs.declared.running.SourceFault.{SourceFault}
 use Rattle.mon_station.specs.Ran.{Ran, events_of, turns_of}
 use Rattle.mon_station.specs.Seen.{Seen}
 
--- what can be said of a station's rounds: the round, or the time between two, and what the receiver got, where that tells it
+-- what can be said of a station's rounds: the round, or the time between two, and what the receiver
+-- got, if it states that
 pub record RoundsView : Type 0 where
   pub round : RoundState
   pub heard : Option (List Reception)
@@ -23,29 +24,31 @@ pub record RoundsView : Type 0 where
 abbrev pub view_of : RoundState → Option (List Reception) → RoundsView
 view_of r heard = record { round = r; heard = heard }
 
--- A call for the next event gives what the round has next, by what the receiver got in it. Each call but the last leaves fewer of them, and where nothing is given the
--- round, or the time between two, is over.
+-- A call for the next event returns what the round has next, by what the receiver got in it. Each
+-- call but the last leaves fewer of them, and where nothing is given the round, or the time between
+-- two, is over.
 pub record GivesOn (before : RoundsView) (oldest : Option ℕ) (result : Result (Option OwnedEvent) SourceFault) (after : RoundsView) : Type 0 where
   pub step : GoesOnBy (λ log. GivesNext before.round oldest log result after.round) before.heard after.heard
   pub turns : TakesTurn result (turns_left before.round) (turns_left after.round)
   pub ended : result ≡ Ok None → IsEnded after.round.phase
 
--- targets and peers are reached where they were, and a quiet wait is as long
+-- targets and peers are reached where they were, and a wait is as long
 pub record HasSame (old new : RoundState) : Type 0 where
   pub targets : new.targets ≡ old.targets
   pub peers : new.peers ≡ old.peers
   pub peer_addresses : new.peer_addresses ≡ old.peer_addresses
   pub wait_ms : new.wait_ms ≡ old.wait_ms
 
--- These events are those of a whole round over the same targets and peers: each target is polled, what comes is heard and what is not answered timed out, each peer is
--- offered what it is owed, what comes is heard, and all is saved.
+-- These events are those of a whole round over the same targets and peers: each target is polled,
+-- what comes is received and what is not answered times out, each peer is offered what it is owed,
+-- what comes is received, and all is saved.
 pub record IsWholeRound (old new : RoundState) (given : List OwnedEvent) : Type 0 where
   pub same : HasSame old new
   pub over : new.phase ≡ Over
   pub order : IsRound (length old.targets) old.peers new.events
   pub are : AreGiven new.events given
 
--- these events are those of a whole time between two rounds: datagrams alone
+-- these events are those of a whole time between two rounds: only datagrams
 pub record IsWholeRest (old new : RoundState) (given : List OwnedEvent) : Type 0 where
   pub same : HasSame old new
   pub over : new.phase ≡ Rested

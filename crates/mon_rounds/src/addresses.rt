@@ -63,14 +63,14 @@ impl Addresses {
         )
     }
 
-    /// Whether a target has this address.
+    /// Returns `true` if a target has this address.
     pub fn is_target(&self, from: Addr) -> bool
         ensures { result ≡ stands_in self.now.targets.items from }
     {
         stands_in(self.targets.as_slice(), from)
     }
 
-    /// Whether a peer has this address.
+    /// Returns `true` if a peer has this address.
     pub fn is_peer(&self, from: Addr) -> bool
         ensures { result ≡ stands_in self.now.peer_addresses.items from }
     {
@@ -89,7 +89,7 @@ fn target_addresses(alloc: Global, targets: &[Target]) -> Result<Vec<Addr>, Allo
     Ok(addresses)
 }
 
-/// The address that stands at the place of a number.
+/// Returns the address at the place of a number.
 fn peer_address(numbers: &[u32], addresses: &[Addr], station: u32) -> Option<Addr>
     ensures { result ≡ peer_address numbers.now addresses.now station }
 {
@@ -106,14 +106,14 @@ fn place_of(numbers: &[u32], station: u32) -> Option<usize>
     numbers.iter().position(|number| *number == station)
 }
 
-/// Whether two addresses are one.
+/// Returns `true` if two addresses are equal.
 fn is_address(a: Addr, b: Addr) -> bool
     ensures { result ≡ is_address a b }
 {
     a.octets == b.octets && a.port == b.port
 }
 
-/// Whether an address is one of these.
+/// Returns `true` if an address is one of these.
 fn stands_in(addresses: &[Addr], from: Addr) -> bool
     ensures { result ≡ stands_in addresses.now from }
 {

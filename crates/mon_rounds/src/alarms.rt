@@ -1,4 +1,4 @@
-//! Alarms that change from one moment to another.
+//! Alarms that change from one board to a later one.
 
 ghost use Rattle.std.specs.Prelude.{◌≡◌, ◌++◌, IfOk, OnOk, string_bytes};
 ghost use Rattle.mon_rounds.specs.Alarms.{change_at, change_line, change_on, changes_from, instance_text, is_same, rule_line, states_of, thresholds_text};
@@ -62,7 +62,7 @@ fn put_change(
     Ok(())
 }
 
-/// Whether two states are one.
+/// Returns `true` if two states are equal.
 fn is_same(a: AlarmState, b: AlarmState) -> bool
     ensures { result ≡ is_same a b }
 {

@@ -15,10 +15,10 @@ use mon_station::Station;
 use std::alloc::{AllocError, Global};
 use std::time::Duration;
 
-/// The longest time between two rounds that is heard in one go, in milliseconds.
+/// The longest time between two rounds in which a station receives in one call, in milliseconds.
 const LONGEST_REST: u128 = 60_000;
 
-/// What a station did since it began.
+/// What a station did since it was started.
 #[derive(Drop)]
 pub struct Course {
     taken: u64,
@@ -64,10 +64,11 @@ impl Course {
         self.given_up = self.given_up.saturating_add(report.given_up);
     }
 
-    /// A line for each alarm of the board that has another state than when they were told last, as `alarm_line` has it.
+    /// Returns a line for each alarm of the board that has another state than at the last call, as
+    /// `alarm_line` has it.
     ///
     /// # Errors
-    /// `AllocError`: then nothing counts as told.
+    /// `AllocError`: then the next call returns these lines too.
     pub fn changed(&mut self, alloc: Global, board: &Board) -> Result<Vec<String>, AllocError>
         ensures lines { IfOk result (λ v. map string_bytes v.items ≡ map (change_line board.now.watch) (changes_from 0 self.old.alarms.items (states_of board.now))) }
         ensures told { OnOk result (self.new.alarms.items ≡ states_of board.now) }
@@ -113,7 +114,8 @@ pub fn debts_of<D: Disk + Drop>(
     Ok(debts)
 }
 
-/// Whether the report is due after the round of this number, where it is after each so many; with 0 it never is.
+/// Returns `true` if the report is due after the round of this number: after every N rounds, never
+/// if N is 0.
 pub fn is_due(round: u32, every: u32) -> bool
     ensures { IsTrue result ↔ IsDue round every }
 {

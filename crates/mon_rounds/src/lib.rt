@@ -1,10 +1,11 @@
-//! A station's rounds over sockets. It follows no standard.
-//!
-//! To run a station: `Addresses::of` its settings, a `SocketReceiver` and a `SocketOutbox` on one `Socket`, and `Rounds` over the receiver. `run_round` runs
-//! one round on a `Station`, `rest` hears between two rounds, and `RoundReport::of` says what an operator is to be told. `saved_board` gives the windows
-//! that a disk holds; `selftest` tries a station without a socket.
-//! Contract: a round polls each target, hears, offers each peer what it is owed, hears again and saves, in this order; what it gives
-//! a station is fixed by what its receiver got, and only a datagram from a target or a peer begins a wait anew.
+//! A station's rounds over sockets. It follows no standard.  To run a station: `Addresses::of` its
+//! settings, a `SocketReceiver` and a `SocketOutbox` on one `Socket`, and `Rounds` over the
+//! receiver. `run_round` runs one round on a `Station`, `rest` receives between two rounds, and
+//! `RoundReport::of` says what is reported of it. `saved_board` returns the windows that a disk
+//! holds; `selftest` tries a station without a socket.
+//! Contract: a round polls each target, receives, offers each peer what it is owed, receives again
+//! and saves, in this order; what it gives a station is fixed by what its receiver got, and only a
+//! datagram from a target or a peer begins a wait again.
 #![tactic(auto)]
 
 mod addresses;

@@ -9,7 +9,7 @@ use thiserror::Error;
 pub enum Wait {
     /// One that begins now and lasts this many milliseconds.
     Anew(u32),
-    /// The rest of the one that began last.
+    /// The rest of the last one.
     Rest,
 }
 
@@ -34,7 +34,7 @@ pub trait Receiver {
     ghost use Rattle.mon_edge.specs.Told.{extended};
     ghost use Rattle.mon_rounds.specs.Reception.{Reception, reception};
 
-    // All receptions, in turn, where it tells them.
+    // All receptions in order, if it states them.
     ghost heard: { Self → Option (List Reception) };
 
     // How often it failed, at most 2^64 - 1.

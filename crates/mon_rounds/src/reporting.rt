@@ -1,4 +1,4 @@
-//! What an operator is told of a round.
+//! What is reported of a round to an operator.
 
 ghost use Rattle.std.specs.Prelude.{◌≡◌, ◌++◌, IfOk, OnOk};
 ghost use Rattle.mon_rounds.specs.Noted.{gave_up, is_stranger, notice_of, notices_of, refusal_of, response_notice, samples_taken, strangers_in, told_of};
@@ -9,7 +9,7 @@ use mon_poller::Addr;
 use mon_station::{Answer, Run, StationFault};
 use std::alloc::{AllocError, Global};
 
-/// What an operator is told of an event.
+/// What is reported of an event to an operator.
 #[derive(Clone, Copy, Debug, PartialEq, Eq)]
 pub enum Notice {
     /// The target of this number answered none of its poll's datagrams.
@@ -28,7 +28,7 @@ pub enum Notice {
     NoMemory(RoundEvent),
 }
 
-/// What an operator is told of a round.
+/// What is reported of a round to an operator.
 #[derive(Drop)]
 pub struct RoundReport {
     /// What was refused, and which targets gave up, in order.
@@ -47,7 +47,7 @@ pub struct RoundReport {
     pub given_up: u64,
 }
 
-/// What is told of a refused event. A stranger's datagram is counted alone.
+/// Returns the notice of a refused event. A stranger's datagram is only counted.
 fn refused(round: &Round, event: RoundEvent, fault: StationFault) -> Option<Notice>
     ensures { result ≡ refusal_of round.now.targets event fault }
 {
@@ -60,7 +60,7 @@ fn refused(round: &Round, event: RoundEvent, fault: StationFault) -> Option<Noti
     }
 }
 
-/// What is told of a refused datagram from this address, where it is a target's.
+/// Returns the notice of a refused datagram from this address, if it is a target's.
 fn bad_response(round: &Round, from: Addr, fault: StationFault) -> Option<Notice>
     ensures { result ≡ response_notice round.now.targets from fault }
 {
@@ -84,7 +84,7 @@ fn count_strangers(round: &Round, events: &[RoundEvent]) -> u32
     count
 }
 
-/// Whether an event is a datagram from an address that is no target's and no peer's.
+/// Returns `true` if an event is a datagram from an address that is no target's and no peer's.
 fn is_stranger(round: &Round, event: RoundEvent) -> bool
     ensures { result ≡ is_stranger round.now.targets event }
 {
@@ -99,12 +99,13 @@ fn is_stranger(round: &Round, event: RoundEvent) -> bool
 }
 
 impl RoundReport {
-    /// What is to be told of a round, or of the time between two, that was run so.
+    /// Returns what is reported of a round, or of the time between two, after this run.
     ///
     /// # Errors
-    /// `AllocError` where there is no room for the notices.
+    /// `AllocError` if there is no memory for the notices.
     pub fn of(alloc: Global, round: &Round, run: &Run) -> Result<Self, AllocError>
-        // Of each event what its answer is to be told by, in order; a stranger's datagram that was refused is counted alone.
+        // The notice of each event's answer, in order; a stranger's datagram that was refused is
+        // only counted.
         ensures notices { IfOk result (λ r. r.notices.items ≡ notices_of round.now.targets round.now.events run.now.answers.items) }
         ensures datagrams { IfOk result (λ r. r.datagrams ≡ datagrams_in round.now.events) }
         ensures strangers { IfOk result (λ r. r.strangers ≡ strangers_in round.now.targets round.now.events) }
@@ -155,7 +156,7 @@ fn count_given_up(notices: &[Notice]) -> u64
     count
 }
 
-/// What is to be told of the events of a round that were answered so.
+/// Returns the notices of the events of a round with these answers.
 fn notices_of(alloc: Global, round: &Round, answers: &[Answer]) -> Result<Vec<Notice>, AllocError>
     ensures { IfOk result (λ notices. notices.items ≡ notices_of round.now.targets round.now.events answers.now) }
 {
@@ -167,7 +168,7 @@ fn notices_of(alloc: Global, round: &Round, answers: &[Answer]) -> Result<Vec<No
     Ok(notices)
 }
 
-/// Adds what is to be told of an event that was answered so.
+/// Adds the notice of an event with this answer.
 fn put_notice(
     round: &Round,
     notices: &mut Vec<Notice>,
@@ -182,7 +183,7 @@ fn put_notice(
     Ok(())
 }
 
-/// What is to be told of an event that was answered so, where anything is.
+/// Returns the notice of an event with this answer, if there is one.
 fn notice_of(round: &Round, event: RoundEvent, answer: Answer) -> Option<Notice>
     ensures { result ≡ notice_of round.now.targets event answer }
 {

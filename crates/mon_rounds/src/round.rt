@@ -23,23 +23,24 @@ const MOST_TIMEOUTS: u32 = 512;
 /// The most failures of the receiver in a round.
 const MOST_FAILURES: u32 = 16;
 
-/// How many events a round has room for, more than it can have: 64 polls, 15 shares and a save beside what is heard and timed out.
+/// For how many events a round has capacity, more than it can have: 64 polls, 15 shares and a save,
+/// and what is received and times out.
 const ROOM: usize = 4700;
 
-/// Where a round stands.
+/// The phase of a round.
 #[derive(Clone, Copy, Debug, PartialEq, Eq)]
 pub enum Phase {
     /// The target of this number is polled next.
     Polling(u16),
-    /// Datagrams are heard; after a quiet wait the oldest open poll is timed out.
+    /// Datagrams are received; if a wait times out, so does the oldest open poll.
     Hearing,
     /// The peer of this slot is offered next what it is owed.
     Sharing(u16),
-    /// Datagrams are heard once more; after a quiet wait all is saved.
+    /// Datagrams are received after the shares; if a wait times out, all is saved.
     Listening,
     /// The round is over.
     Over,
-    /// Between two rounds datagrams are heard.
+    /// Datagrams are received between two rounds.
     Resting,
     /// The time between two rounds is over.
     Rested,
@@ -110,7 +111,7 @@ impl Model for Round {
 }
 
 impl Round {
-    /// Between two rounds. A quiet wait is one of this many milliseconds.
+    /// Between two rounds. A wait times out after this many milliseconds.
     pub(crate) fn new(alloc: Global, addresses: Addresses, wait_ms: u32) -> Result<Self, AllocError>
         ensures state { IfOk result (λ r. r ≡ unbegun addresses.targets.items addresses.peers.items addresses.peer_addresses.items wait_ms) }
     {
@@ -143,7 +144,7 @@ impl Round {
         };
     }
 
-    /// Begins to hear between two rounds, for this many milliseconds.
+    /// Begins to receive between two rounds, for this many milliseconds.
     pub(crate) fn rest(&mut self, milliseconds: u32)
         ensures state { self.new ≡ begun_rest milliseconds self.old }
         ensures turns { turns_left self.new ≤ 4704 }
@@ -156,14 +157,14 @@ impl Round {
         self.phase = Phase::Resting;
     }
 
-    /// Where it stands.
+    /// Returns the phase.
     pub fn phase(&self) -> Phase
         ensures { result ≡ self.now.phase }
     {
         self.phase
     }
 
-    /// What it gave since it began, in order.
+    /// Returns the events that it gave since its beginning, in order.
     pub fn events(&self) -> &[RoundEvent]
         ensures events { result.now ≡ self.now.events }
         // They are in the order of a round; where it is over, they are those of a whole round.
@@ -172,21 +173,21 @@ impl Round {
         self.events.as_slice()
     }
 
-    /// How many datagrams came since it began, at most 4096.
+    /// Returns how many datagrams came since its beginning, at most 4096.
     pub fn datagrams(&self) -> u32
         ensures { result ≡ datagrams_in self.now.events }
     {
         MOST_DATAGRAMS - self.datagrams
     }
 
-    /// Whether a target has this address.
+    /// Returns `true` if a target has this address.
     pub fn is_target(&self, from: Addr) -> bool
         ensures { result ≡ stands_in self.now.targets from }
     {
         self.addresses.is_target(from)
     }
 
-    /// The wait in which a datagram is to be received next, where one is.
+    /// Returns the wait in which a datagram must be received next, if one must be.
     pub(crate) fn next_wait(&self) -> Option<Wait>
         ensures { result ≡ next_wait self.now }
     {
@@ -238,7 +239,8 @@ impl Round {
         self.wait = Wait::Rest;
     }
 
-    /// Nothing is heard any more: the next event, where there is one. It is told the request-id of the oldest open poll.
+    /// Returns the next event when nothing more is received, if there is one. It is given the
+    /// request-id of the oldest open poll.
     pub(crate) fn proceed(&mut self, oldest: Option<u32>) -> Option<OwnedEvent>
         ensures state { self.new ≡ after_event self.old (next_event self.old oldest) }
         ensures event { result ≡ option_map (λ e. with_octets e []) (next_event self.old oldest) }
@@ -302,7 +304,7 @@ impl Round {
         }
     }
 
-    /// Offers the peer of this slot what it is owed. Where there is none, all is saved.
+    /// Offers the peer of this slot what it is owed, or saves if there is no such peer.
     fn share(&mut self, slot: u16) -> OwnedEvent
         requires phase { IsSharing self.old.phase slot }
         ensures state { self.new ≡ after_event self.old (Some (share_at self.old.peers slot)) }
@@ -348,7 +350,7 @@ impl Round {
     }
 }
 
-/// Whether datagrams are received in a phase.
+/// Returns `true` if datagrams are received in a phase.
 fn is_hearing(phase: Phase) -> bool
     ensures { result ≡ is_hearing phase }
 {

@@ -15,11 +15,11 @@ use std::alloc::Global;
 /// How often a run asks for an event at most: more often than a round has one.
 const TURNS: u64 = 5000;
 
-/// Runs a station through one round, and tells in `run` what was done, in place of what stands there. What was refused or failed is counted, and the round
-/// goes on.
+/// Runs a station through one round, and puts into `run` what was done, in place of what it held.
+/// What was refused or failed is counted, and the round goes on.
 ///
 /// # Errors
-/// `OutOfMemory` where there is no room for the answers, before anything is asked.
+/// `OutOfMemory` if there is no memory for the answers, before anything is asked.
 pub fn run_round<D: Disk + Drop, R: Receiver + Drop, O: Outbox>(
     alloc: Global,
     station: &mut Station<D>,
@@ -35,7 +35,7 @@ pub fn run_round<D: Disk + Drop, R: Receiver + Drop, O: Outbox>(
     ensures outbox { OnOk result (HasFailed (O.failures outbox.old) (O.failures outbox.new) run.new.send_faults) }
     ensures fault { IfErr result (λ f. f ≡ StationFault.OutOfMemory) }
     ensures nothing { OnErr result (IsEmpty run.new) }
-    // A run that had the room once keeps it, and is not refused then.
+    // A run that had the capacity once keeps it, and is not refused then.
     ensures spared { 5000 ≤ vec_capacity run.old.answers → IsOk result }
     ensures room { OnOk result (5000 ≤ vec_capacity run.new.answers) }
     ensures same { OnErr result (station.new ≡ station.old) }
@@ -46,8 +46,8 @@ pub fn run_round<D: Disk + Drop, R: Receiver + Drop, O: Outbox>(
     Ok(())
 }
 
-/// Hands a station what comes between two rounds, for this many milliseconds, or until 4096 datagrams came or 16 receptions failed, and tells in `run` what
-/// was done.
+/// Passes a station what comes between two rounds, for this many milliseconds, or until 4096
+/// datagrams came or 16 receptions failed, and puts into `run` what was done.
 ///
 /// # Errors
 /// As `run_round`.
@@ -67,7 +67,7 @@ pub fn rest<D: Disk + Drop, R: Receiver + Drop, O: Outbox>(
     ensures outbox { OnOk result (HasFailed (O.failures outbox.old) (O.failures outbox.new) run.new.send_faults) }
     ensures fault { IfErr result (λ f. f ≡ StationFault.OutOfMemory) }
     ensures nothing { OnErr result (IsEmpty run.new) }
-    // A run that had the room once keeps it, and is not refused then.
+    // A run that had the capacity once keeps it, and is not refused then.
     ensures spared { 5000 ≤ vec_capacity run.old.answers → IsOk result }
     ensures room { OnOk result (5000 ≤ vec_capacity run.new.answers) }
     ensures same { OnErr result (station.new ≡ station.old) }

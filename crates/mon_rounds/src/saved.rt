@@ -23,7 +23,8 @@ pub fn saved_board<D: Disk + Drop>(
 ) -> Result<(Board, D), (StationFault, D)>
     // The windows are those of the body that is found in what a read gives.
     ensures found { D.is_honest disk → IfOk result (λ r. IsBoardOf watch.now (found_body (D.seen disk)) r.0) }
-    // Nothing is done to the disk but what each opening of it does: a crash at any moment leaves what an opening takes for one of the files before.
+    // Nothing is done to the disk except what each opening of it does: a crash at any time leaves
+    // what an opening takes for one of the files before.
     ensures opening { D.is_honest disk → IfOk result (λ r. IsOpening D.seen D.may_leave D.moment D.left_since disk r.1) }
     ensures opening_err { D.is_honest disk → IfErr result (λ e. IsOpening D.seen D.may_leave D.moment D.left_since disk e.1) }
     // Each fault is one of an opening and has its cause.
@@ -56,7 +57,7 @@ pub fn board_in(alloc: Global, watch: &Watch, octets: &[u8]) -> Result<Board, St
     }
 }
 
-/// A fault over a disk in memory, which fails for want of memory alone.
+/// Returns a fault over a disk in memory, which only fails if memory runs out.
 fn in_memory(fault: StationFault) -> StationFault
     ensures { result ≡ in_memory fault }
 {
@@ -66,7 +67,7 @@ fn in_memory(fault: StationFault) -> StationFault
     }
 }
 
-/// The windows in a body, empty ones where there is none.
+/// Returns the windows in a body, empty ones if there is no body.
 fn board_of(alloc: Global, watch: &Watch, body: Option<Vec<u8>>) -> Result<Board, StationFault>
     ensures found { IfOk result (λ board. IsBoardOf watch.now (option_map (λ v. v.items) body) board) }
     ensures fault { IfErr result (IsFaultOfImage watch.now (option_map (λ v. v.items) body)) }

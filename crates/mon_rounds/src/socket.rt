@@ -17,13 +17,14 @@ use std::net::{Ipv4Addr, Net, SocketAddr, SocketAddrV4, UdpSocket};
 use std::rt::Clock;
 use std::time::{Duration, Instant};
 
-/// The room for a datagram, in octets: no datagram of UDP over IPv4 has more.
+/// The capacity for a datagram, in octets: no datagram of UDP over IPv4 has more.
 const ROOM: usize = 65_535;
 
 /// How often a wait that a signal ended goes on.
 const TRIES: u8 = 255;
 
-/// How much longer than what is left of a wait the socket may wait, in milliseconds: below that its timeout is not set anew.
+/// How much longer than what is left of a wait the socket may wait, in milliseconds: below that its
+/// timeout is not set again.
 const SLACK: u64 = 1;
 
 /// A station's socket.
@@ -88,14 +89,15 @@ fn length_of(wait: Wait, before: Duration) -> Duration
     }
 }
 
-/// What is left at this moment of a wait that began then and lasts this long.
+/// Returns what is left now of a wait that was begun then and lasts this long.
 fn left_of(length: Duration, began: Instant, now: Instant) -> Duration
     ensures { as_nanos result ≡ as_nanos length - (instant_nanos now - instant_nanos began) }
 {
     length.saturating_sub(now.duration_since(began))
 }
 
-/// Whether a timeout does for what is left of a wait: it is as long, or at most `SLACK` longer.
+/// Returns `true` if a timeout does for what is left of a wait: it is as long, or at most `SLACK`
+/// longer.
 fn does_for(timeout: Duration, left: Duration) -> bool
     ensures { IsTrue result ↔ ((as_nanos left ≤ as_nanos timeout) × (as_nanos timeout ≤ as_nanos left + 1_000_000)) }
 {
@@ -122,7 +124,7 @@ impl<'a, R: Clock> SocketReceiver<'a, R> {
     /// A receiver by this socket, in no wait yet.
     ///
     /// # Errors
-    /// `OutOfMemory` where there is no room for a datagram, that of the system where the clock fails.
+    /// `OutOfMemory` if there is no memory for a datagram, the system's fault if the clock fails.
     pub fn new(rt: &'a R, alloc: Global, socket: &'a Socket) -> io::Result<Self> {
         Ok(SocketReceiver {
             rt,
@@ -138,7 +140,7 @@ impl<'a, R: Clock> SocketReceiver<'a, R> {
 }
 
 impl<R: Clock> SocketReceiver<'_, R> {
-    /// Begins a wait where that is asked for.
+    /// Begins a wait if asked to.
     fn begin(&mut self, wait: Wait) -> Result<(), ReceiverFault> {
         if let Wait::Anew(_) = wait {
             self.began = Instant::now(self.rt).map_err(failed)?;
@@ -166,7 +168,7 @@ impl<R: Clock> SocketReceiver<'_, R> {
         Ok(())
     }
 
-    /// Hears something in the rest of the wait.
+    /// Receives something in the rest of the wait.
     fn hear(&mut self) -> Result<Arrival, ReceiverFault> {
         for _ in 0..TRIES {
             let left = self.left()?;
@@ -188,7 +190,7 @@ impl<R: Clock> SocketReceiver<'_, R> {
         Err(ReceiverFault)
     }
 
-    /// The datagram at the front of the room.
+    /// Returns the datagram at the front of the buffer.
     fn arrival(&self, len: usize, from: SocketAddr) -> Result<Arrival, ReceiverFault>
         ensures { IfOk result (IsArrival self.now.room.items len from) }
     {

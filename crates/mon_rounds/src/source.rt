@@ -22,7 +22,8 @@ pub struct Rounds<R: Receiver + Drop> {
 }
 
 impl<R: Receiver + Drop> Rounds<R> {
-    /// Between two rounds: there is no event until one begins. A quiet wait is one of this many milliseconds.
+    /// Between two rounds: there is no event until one begins. A wait times out after this many
+    /// milliseconds.
     pub fn new(
         alloc: Global,
         addresses: Addresses,
@@ -63,23 +64,23 @@ impl<R: Receiver + Drop> Rounds<R> {
     pub fn begin(&mut self)
         ensures round { self.new.round ≡ begun self.old.round }
         ensures receiver { self.new.receiver ≡ self.old.receiver }
-        // It is over after at most so many calls for an event.
+        // It is over after at most this many calls for an event.
         ensures turns { turns_left self.new.round ≤ 4704 }
     {
         self.round.begin();
     }
 
-    /// Begins to hear between two rounds, for this many milliseconds.
+    /// Begins to receive between two rounds, for this many milliseconds.
     pub fn rest(&mut self, milliseconds: u32)
         ensures round { self.new.round ≡ begun_rest milliseconds self.old.round }
         ensures receiver { self.new.receiver ≡ self.old.receiver }
-        // It is over after at most so many calls for an event.
+        // It is over after at most this many calls for an event.
         ensures turns { turns_left self.new.round ≤ 4704 }
     {
         self.round.rest(milliseconds);
     }
 
-    /// Gives the next event, by what the receiver got.
+    /// Returns the next event, by what the receiver got.
     fn give(&mut self, oldest: Option<u32>) -> Result<Option<OwnedEvent>, SourceFault>
         ensures step { GoesOnBy (λ log. GivesNext self.old.round oldest log result self.new.round) (R.heard self.old.receiver) (R.heard self.new.receiver) }
         ensures failures { R.failures self.new.receiver ≡ failed_after result (R.failures self.old.receiver) }
@@ -112,7 +113,7 @@ impl<R: Receiver + Drop> Rounds<R> {
 }
 
 impl<R: Receiver + Drop> Source for Rounds<R> {
-    // The round, and what its receiver got, where that tells it.
+    // The round, and what its receiver got, if it states that.
     ghost View = { RoundsView };
 
     ghost view = { λ s. view_of s.round (R.heard s.receiver) };
@@ -121,7 +122,8 @@ impl<R: Receiver + Drop> Source for Rounds<R> {
 
     ghost failures = { λ s. R.failures s.receiver };
 
-    /// The next event, none where the round is over. It is told the request-id of the oldest open poll.
+    /// Returns the next event, or None if the round is over. It is given the request-id of the
+    /// oldest open poll.
     fn next(&mut self, oldest: Option<u32>) -> Result<Option<OwnedEvent>, SourceFault> {
         self.give(oldest)
     }

@@ -108,7 +108,7 @@ pub enum TrialFault {
     /// Memory was refused.
     #[error("out of memory")]
     OutOfMemory,
-    /// Something else was answered than what had to be.
+    /// Something else was answered than expected.
     #[error("something else was answered than what had to be")]
     Unexpected,
     /// The station refused a step, or was not opened.
@@ -124,7 +124,7 @@ impl From<AllocError> for TrialFault {
     }
 }
 
-/// No settings are to be refused here.
+/// No settings may be refused here.
 impl From<SettingsFault> for TrialFault {
     fn from(fault: SettingsFault) -> TrialFault {
         match fault {
@@ -134,7 +134,7 @@ impl From<SettingsFault> for TrialFault {
     }
 }
 
-/// A station's want of memory is the trial's own.
+/// A station's lack of memory is the trial's own.
 impl From<StationFault> for TrialFault {
     ghost from_gives = { λ part fault. fault ≡ station_refusal part };
 
@@ -201,11 +201,13 @@ pub struct Trial {
     pub station: Station<MemoryDisk>,
 }
 
-/// Tries a station on a disk in memory. It polls an agent in memory, which counts 1000 octets a second, 100, 110 and 120 seconds after the agent's start, and
-/// saves. The trial has a good end where its report, and that of what its disk then holds, are what they must be.
+/// Tries a station on a disk in memory. It polls an agent in memory, which counts 1000 octets a
+/// second, 100, 110 and 120 seconds after the agent's start, and saves. The trial has a good end
+/// where its report, and that of what its disk then holds, are what they must be.
 ///
 /// # Errors
-/// `OutOfMemory`; `Refused` where the station refused, also where its disk in memory found no room; `Unexpected` where anything else was answered.
+/// `OutOfMemory`; `Refused` if the station refused, also if its disk in memory found no memory;
+/// `Unexpected` if anything else was answered.
 pub fn selftest(alloc: Global) -> Result<Trial, TrialFault>
     // The text is one text, and it is the report of the station that was tried.
     ensures text { IfOk result (λ trial. trial.text.items ≡ trial_text) }
@@ -220,7 +222,7 @@ pub fn selftest(alloc: Global) -> Result<Trial, TrialFault>
     Ok(Trial { text, station })
 }
 
-/// A text, with a last line after it, where it is what it has to be.
+/// Returns a text, with a last line after it, if it is as expected.
 fn judged(text: Vec<u8>, wanted: &[u8], last: &[u8]) -> Result<Vec<u8>, TrialFault>
     ensures all { IfOk result (λ all. all.items ≡ wanted.now ++ last.now) }
     ensures wanted { OnOk result (text.items ≡ wanted.now) }
@@ -256,7 +258,7 @@ fn save(alloc: Global, station: &mut Station<MemoryDisk>) -> Result<(), TrialFau
     Ok(())
 }
 
-/// Polls an agent of these settings at each of the moments.
+/// Polls an agent of these settings at each of these times.
 fn poll_agent<D: Disk + Drop>(
     alloc: Global,
     station: &mut Station<D>,
@@ -270,7 +272,7 @@ fn poll_agent<D: Disk + Drop>(
     polled_at(alloc, station, &mut agent, &MOMENTS)
 }
 
-/// Polls the agent at each of these moments of its life.
+/// Polls the agent at each of these times of its life.
 fn polled_at<D: Disk + Drop, E: Device + Drop>(
     alloc: Global,
     station: &mut Station<D>,
@@ -330,7 +332,7 @@ fn station_settings(alloc: Global, text: &str) -> Result<StationSettings, TrialF
     Ok(read_station(alloc, text, &names)?)
 }
 
-/// Polls the agent at a moment of its life, and hands the station its response.
+/// Polls the agent at a time of its life, and passes its response to the station.
 fn polled<D: Disk + Drop, E: Device + Drop>(
     alloc: Global,
     station: &mut Station<D>,

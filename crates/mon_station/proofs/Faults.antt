@@ -58,7 +58,7 @@ ends_as response.WrongNames = refl
 ends_as response.BadStamp = refl
 ends_as response.OtherEngine = refl
 
--- a refusal that is no want of memory is none as the station's
+-- a refusal that is no lack of memory is none as the station's
 pub response_memory : (f : ResponseFault) → response_refusal f ≡ station.OutOfMemory → f ≡ response.OutOfMemory
 response_memory response.OutOfMemory is = refl
 response_memory response.BadMessage is = absurd cc

@@ -31,7 +31,7 @@ use Rattle.mon_station.proofs.Faults.{ends_as, response_lawful, response_memory,
 use Rattle.mon_poller.specs.declared.fault.ResponseFault.TheVariants as response
 use Rattle.mon_station.proofs.Quiet.{IsQuiet, quiet_after, quiet_fault}
 
--- the same state with this poller
+-- the state with this poller in place of its own
 abbrev pub with_poller : State → Poller → State
 with_poller s poller = record { board = s.board; poller = poller; peers = s.peers; incarnation = s.incarnation; serial = s.serial }
 
@@ -43,7 +43,7 @@ with_polls poller polls = record { targets = poller.targets; polls = polls }
 pub refused : (s : State) → IsSettled s → (e : ReadEvent) (f : StationFault) → s.poller.polls ≡ polls_after (setting_of s) e (Some f) s.poller.polls → IsLawfulFault (setting_of s) s.poller.polls e f → IsHandled e (Some f) s s
 refused s settled e f polls lawful = record { lawful = lawful; after = quiet_after s settled e (Some f) (quiet_fault s e f) s.poller.polls polls }
 
--- want of memory
+-- out of memory
 pub memory_polls : (w : Setting) (e : ReadEvent) (p : Polls) → p ≡ polls_after w e (Some station.OutOfMemory) p
 memory_polls w (StartPoll t) p = refl
 memory_polls w (Timeout id) p = refl

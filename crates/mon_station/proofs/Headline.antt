@@ -1,4 +1,4 @@
--- What is refused leaves alone, and how a lived history goes on.
+-- What is refused leaves as it was, and how a lived history goes on.
 use Rattle.std.proofs.Common.{ℕ, ◌≡◌, true, Bool, List, ◌∷◌, Option, Some, None, Result, Ok, Err, IfOk, IfErr, refl, sym, ap, subst, ◌∙◌}
 use Rattle.std.specs.Prelude.{◌&&◌}
 use Rattle.std.specs.FinSet as set
@@ -37,7 +37,7 @@ module _ (windows : (history : List (Entry × State)) (s : State) → IsLived hi
       let kept = windows past old lived is i in
       h.after.windows i ∙ ap (kept_by watch i) (union_none (window_of old.board i)) ∙ ap (kept_by watch i) kept ∙ kept_twice watch i _ ∙ sym kept
 
-  -- a mark on what stands in a window that stays
+  -- a mark on what is in a window that stays
   and_true : (m a b : Bool) → a ≡ true → b ≡ true → ((m && a) && b) ≡ m
   and_true Bool.true a b x y = (λ k. x k && y k)
   and_true Bool.false a b x y = refl
@@ -151,7 +151,7 @@ pub as_this : (watch : Watch) (event this : OwnedEvent) (old new : State) (r : R
     → (e : ReadEvent) → ReadsAs watch event e → IsAnswered old new e r
 as_this watch event this old new r is answered e reads = answered e (subst (λ (o : OwnedEvent). ReadsAs watch o e) is reads)
 
--- one that reads in one way alone
+-- one that only reads in one way
 pub as_one : (old new : State) (r : Result Told StationFault) (one : ReadEvent) → IsAnswered old new one r → (e : ReadEvent) → e ≡ one → IsAnswered old new e r
 as_one old new r one answered e is = subst (λ (x : ReadEvent). IsAnswered old new x r) (sym is) answered
 
@@ -176,7 +176,7 @@ never_keeper old new e P (Err f) other answered = λ of. absurd (no_keeper old n
 memory_keeper : (f : StationFault) → IsOfKeeper f → f ≡ fault.OutOfMemory → ⊥
 memory_keeper f of is = subst IsOfKeeper is of
 
--- the same, where it is known how it reads unless memory ran out
+-- a lived history goes on, if it is known how the event reads unless memory ran out
 pub never_unless : (old new : State) (said : Result Said ExchangeFault → Type 0) (P : Type 0) (r : Result Told StationFault)
     → IfErr r (λ f. (f ≡ fault.OutOfMemory → ⊥) → (s : Result Said ExchangeFault) × said s) → ((s : Result Said ExchangeFault) → said s → IsAnswered old new (FromPeer s) r) → IfErr r (λ f. IsOfKeeper f → P)
 never_unless old new said P (Ok told) read answered = tt

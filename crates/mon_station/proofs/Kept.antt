@@ -221,7 +221,7 @@ module _ {D : Type 0} (w : Setting) (seen : D → List ℕ) (may_leave : D → L
   first : LeavesSince moment left_since old mid Begun
   first = weaker moment left_since may_leave old mid (FindsAs (may_leave old)) Begun (λ c found. inl found) opened.any_moment
 
-  -- the keeper alone
+  -- only the keeper
   pub only_opened : IsBeginning w seen may_leave moment left_since old mid
   only_opened = record {
     any_moment = first;

@@ -57,7 +57,7 @@ one_claim_more s first serial xs p is all one =
     subst (AllByRecursion IsClaim) (sym (offers_more s first xs p))
     (claims_more (offers_from s first xs) (offer_of s (serial_past first xs) p) all (subst (λ k. IsClaim (offer_of s k p)) is one))
 
--- the instance of a number, as it stands in the watch
+-- the instance of a number, as it is in the watch
 pub instance_is : (watch : Watch) (i : ℕ) (w : Watched) → i < length watch.instances → w ≡ get_or watch.instances i w → instance_at watch i ≡ w.instance
 instance_is watch i w lt is = get_or-map (λ (x : Watched). x.instance) watch.instances i w (named [] []) lt ∙ ap (λ (x : Watched). x.instance) (sym is)
 

@@ -88,7 +88,7 @@ at_room xs passed after x at is = go at.rest at.whole (sym at.next ∙ is)
     go (y ∷ rest) whole e = omega (arith, ap length whole, length-append passed (y ∷ rest))
 
 -- ---- counting
--- so many of a list have been passed
+-- this many of a list have been passed
 pub record IsPast (xs : List ℕ) (count : ℕ) (after : Option ℕ) : Type 0 where
   pub passed : List ℕ
   pub count_is : count ≡ length passed

@@ -43,7 +43,7 @@ quiet_fault s (FromPeer (Err e)) f = record { nothing = refl; serial = refl; kno
 quiet_fault s (Share y) f = record { nothing = refl; serial = refl; known = λ y. refl; marks = λ k. refl }
 quiet_fault s Save f = record { nothing = refl; serial = refl; known = λ y. refl; marks = λ k. refl }
 
--- what such an event leaves: the same but for the polls
+-- what such an event leaves: everything except the polls
 pub quiet_after : (s : State) → IsSettled s → (e : ReadEvent) (answer : Option StationFault) → IsQuiet s e answer → (polls : Polls) → polls ≡ polls_after (setting_of s) e answer s.poller.polls → IsAfter e answer s (left_polls s polls)
 quiet_after s settled e answer quiet polls is = record {
   setting = refl;

@@ -65,7 +65,7 @@ as_saved s (Some (station.Keeper keeper.TooLarge)) P Q a b same f h = f h
 as_saved s (Some (station.Keeper keeper.Damaged)) P Q a b same f h = f h
 as_saved s (Some (station.Keeper keeper.Reopen)) P Q a b same f h = f h
 
--- the same after any event
+-- what an opening finds after any event
 pub as_after : (s : State) (event : OwnedEvent) (answer : Option StationFault) (P Q : Type 0) (a b : List ℕ) → IsAs a b → (Q → P) → FindsAfter s event answer Q b → FindsAfter s event answer P a
 as_after s own.Save answer P Q a b same f h = as_saved s answer P Q a b same f h
 as_after s (own.StartPoll t) answer P Q a b same f h = f h
@@ -81,7 +81,7 @@ as_last : (first : State) (outcomes : List ℕ → Type 0) (turns : List Turn) (
 as_last first outcomes [] a b same h = (h.0, h.1, as_then a b h.0 same h.2)
 as_last first outcomes (t ∷ turns) a b same h = as_after (state_after first turns) t.event t.answer _ _ a b same (as_last first outcomes turns a b same) h
 
--- ---- moments
+-- ---- what a crash in the middle leaves
 during_before : (s : State) (event : OwnedEvent) (P : Type 0) (c : List ℕ) → P → FindsDuring s event P c
 during_before s own.Save P c p = inl p
 during_before s (own.StartPoll t) P c p = p
@@ -121,7 +121,7 @@ after_during s (own.FromAgent from o) answer P c h = h
 after_during s (own.FromPeer o) answer P c h = h
 after_during s (own.Share y) answer P c h = h
 
--- what turns left is found at some moment of them
+-- what turns left is found in the middle of them
 last_amid : (first : State) (outcomes : List ℕ → Type 0) (turns : List Turn) (c : List ℕ) → FindsLast first outcomes turns c → FindsAmid first outcomes turns c
 last_amid first outcomes [] c h = h
 last_amid first outcomes (t ∷ turns) c h = inr (after_during (state_after first turns) t.event t.answer _ c h)
@@ -264,7 +264,7 @@ module _ {V X : Type 0} (G : Ghosts X) (Gives : V → Option ℕ → Result (Opt
       going_is = refl;
     }
 
-  -- what is told of one call more
+  -- what is said of one call more
   pub so_far_more : (a b c : Seen V G) (run mid new : Run) (going : Bool) → RanSoFar Gives a b run true → Called Gives b c mid new going
       → mid.answers.items ≡ run.answers.items → mid.source_faults ≡ run.source_faults → mid.turns ≡ run.turns + 1 → RanSoFar Gives a c new going
   so_far_more a b c run mid new going so called answers faults turns =
@@ -455,7 +455,7 @@ calls_few (c ∷ calls) = one_more c.gave (calls_few calls)
 pub few_told : {V : Type 0} (run : Run) (calls : List (Call V)) → Tells run calls → length run.answers.items + run.source_faults ≤ run.turns
 few_told run calls told = omega (arith, calls_few calls, ap length told.answers, told.source_faults, told.turns)
 
--- the same run with this many calls
+-- a run with this many calls
 abbrev pub with_turns : Run → ℕ → Run
 with_turns run turns = record { turns = turns; answers = run.answers; refused = run.refused; source_faults = run.source_faults; send_faults = run.send_faults }
 

@@ -51,7 +51,7 @@ says_claim watch octets c spells only (Ok said) says =
 
 -- octets that were not read as a claim
 module _ (s : State) (settled : IsSettled s) (octets : List ℕ) where
-  -- for any other fault than want of memory
+  -- for any other fault than out of memory
   module _ (f : ExchangeFault) (same : exchange_refusal f ≡ station.Exchange f) (fails : claim_at octets ≡ Err f) (none : (c : Claim) → SpellsClaim octets c → (let x : Result Claim ExchangeFault = Ok c in x ≡ Err f)) where
     no_claim : (c : Claim) → (let x : Result Claim ExchangeFault = Ok c in x ≡ Err f) → ⊥
     no_claim c e = cc

@@ -1,4 +1,4 @@
--- Stopped at any moment, over all lives of a station.
+-- Stopped at any time, over all lives of a station.
 use Rattle.std.proofs.Common.{ℕ, ◌≡◌, ◌≤◌, ◌<◌, ◌+◌, ◌++◌, ◌⊎◌, inl, inr, ⊎_elim, true, List, [], ◌∷◌, length, take, drop, Option, Some, None, refl, sym, ap, subst, ◌∙◌, arith}
 use Rattle.std.specs.Int.{w16, w32, to_be_bytes, from_be_bytes}
 use Rattle.std.specs.List.{AllByRecursion}
@@ -27,7 +27,7 @@ use Rattle.mon_station.specs.State.{State, IsHandled, setting_of}
 use Rattle.mon_station.specs.Stops.{FindsOneOf, FindsRunningIn, FindsSave, FoundAfter, GoesOn, Happening, IsDiskAfterIn, IsHistory, IsRaised, IsRunning, MayFind, Opened, Unopened, Handled, StoppedOpening, Stopped, begun_in, last_disk, running}
 use Rattle.mon_station.specs.Verdict.{Setting, added}
 
--- ---- the incarnation of an image stands in its octets, whatever the instances are
+-- ---- the incarnation of an image is in its octets, whatever the instances are
 incarnation_octets : (v : ImageVersion) (instances : List Instance) (image : Image) → take 4 (drop 3 (image_octets v instances image)) ≡ to_be_bytes w32 image.incarnation
 unfolding image_octets
 incarnation_octets v instances image = take_at (to_be_bytes w32 image.incarnation) (before_count v ++ (to_be_bytes w16 (length instances) ++ entries_octets v instances image.entries)) 4 refl
@@ -57,7 +57,8 @@ handled_whole e answer old new h i =
     kept_whole old.board.watch new.board i (set.union (window_of old.board i) (set_of i (added (setting_of old) old.poller.polls e answer))) (ap (λ (v : Setting). v.watch) h.after.setting) (h.after.windows i)
 
 -- ---- incarnations
--- what is known of a save that may be found after lives that began so: it is as late as each of them
+-- what is known of a save that may be found after lives with these beginnings: it is as late as
+-- each of them
 abbrev IsAsLate : List State → State → Type 0
 IsAsLate lives s = AreWhole s × AllByRecursion (λ (life : State). life.incarnation ≤ s.incarnation) lives
 
@@ -65,7 +66,7 @@ abbrev Bounds : List State → Option State → Type 0
 Bounds lives None = lives ≡ []
 Bounds lives (Some s) = IsAsLate lives s
 
--- the same of the life that is running, if one is
+-- what is known of it and of the life that is running, if one is
 abbrev RunsLate : List State → Option State → Type 0
 RunsLate lives None = Unit {0}
 RunsLate lives (Some s) = IsAsLate lives s
@@ -130,7 +131,7 @@ module _ (read_back : (watch : Watch) (board again : Board) (incarnation read : 
         λ same. (read_back w.watch old.board s.board old.incarnation restored.0 bound.0 same finds.spells r).1,
       )
 
-  -- and is later than each life that began before
+  -- and is later than each earlier life's beginning
   pub goes_later : (lives : List State) (w : Setting) (save : Option State) (s : State) → Bounds lives save → GoesOn w save s → AllByRecursion (λ (life : State). life.incarnation < s.incarnation) lives
   goes_later lives w None s bound on = subst (λ (l : List State). AllByRecursion (λ (life : State). life.incarnation < s.incarnation) l) (sym bound) tt
   goes_later lives w (Some old) s bound on = all_earlier lives old.incarnation s.incarnation on.0 bound.1

@@ -29,7 +29,7 @@ pub record IsAsTaken (s : State) (p : Past) : Type 0 where
   pub polls : s.poller.polls ≡ p.polls
   pub windows : (i : ℕ) → window_of s.board i ≡ kept_by p.setting.watch i (p.taken i)
 
--- a saved state as what stood in the save
+-- a saved state as what was in the save
 pub record IsAsSaved (s : State) (t : SavedTaken) : Type 0 where
   pub watch : s.board.watch ≡ t.watch
   pub windows : (i : ℕ) → window_of s.board i ≡ kept_by t.watch i (t.taken i)

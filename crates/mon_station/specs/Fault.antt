@@ -37,13 +37,13 @@ name_of (Keeper f) = codes "Keeper"
 name_of (Image f) = codes "Image"
 name_of NoMoreIncarnations = codes "NoMoreIncarnations"
 
--- a fault as a line tells it: the crate, and the fault's number and name there
+-- a fault as a line prints it: the crate, and the fault's number and name there
 pub record Told : Type 0 where
   pub part : List ℕ
   pub number : ℕ
   pub name : List ℕ
 
--- the line of such a fault, without what stands around it: CRATE NUMBER NAME
+-- the line of such a fault, without what is around it: CRATE NUMBER NAME
 abbrev pub told_text : Told → List ℕ
 told_text fault = fault.part ++ codes " " ++ decimal fault.number ++ codes " " ++ fault.name
 
@@ -56,7 +56,7 @@ innermost_of (Keeper f) = record { part = codes "mon_disk"; number = disk.number
 innermost_of (Image f) = record { part = codes "mon_saved"; number = saved.number_of f; name = saved.name_of f }
 innermost_of f = record { part = codes "mon_station"; number = number_of f; name = name_of f }
 
--- a fault of the poller as the station's: its want of memory is the station's own
+-- a fault of the poller as the station's: its lack of memory is the station's own
 abbrev pub poll_refusal : PollFault → StationFault
 poll_refusal poll.OutOfMemory = OutOfMemory
 poll_refusal f = Poll f

@@ -13,7 +13,7 @@ use Rattle.mon_station.specs.Taken.{Entry, Restart, Answered, Origin, Nothing, S
 use Rattle.mon_station.specs.Verdict.{Setting}
 use Rattle.mon_window.specs.Window.{In}
 
--- the state after a list of entries, each with the state that it left, of which the newest stands first
+-- the state after a list of entries, each with the state that it left, the newest first
 abbrev pub last_state : List (Entry × State) → Option State
 last_state [] = None
 last_state ((entry, s) ∷ past) = Some s
@@ -23,7 +23,8 @@ abbrev pub in_front : Option State → List State → List State
 in_front None states = states
 in_front (Some s) states = s ∷ states
 
--- the states that were saved, the last one first: each that a life began with, and each that a save found
+-- the states that were saved, the last one first: each with which a life begins, and each that a
+-- save found
 abbrev pub saved_states : List (Entry × State) → List State
 saved_states [] = []
 saved_states ((Restart origin w, s) ∷ past) = s ∷ saved_states past
@@ -81,8 +82,9 @@ abbrev pub answer_in : {A F : Type 0} → Result A F → Option F
 answer_in (Ok x) = None
 answer_in (Err fault) = Some fault
 
--- what a refused event leaves as it was: of each instance the window, the marks on what stands in it and all that was taken; the known incarnations, the incarnation, and
--- the serial of the next offer. It may end an open poll.
+-- what a refused event leaves as it was: of each instance the window, the marks on what is in it
+-- and all that was taken; the known incarnations, the incarnation, and the serial of the next
+-- offer. It may end an open poll.
 pub record IsLeftAlone (old new : State) : Type 0 where
   pub setting : setting_of new ≡ setting_of old
   pub windows : (i : ℕ) → window_of new.board i ≡ window_of old.board i
@@ -91,6 +93,6 @@ pub record IsLeftAlone (old new : State) : Type 0 where
   pub incarnation : new.incarnation ≡ old.incarnation
   pub serial : new.serial ≡ old.serial
 
--- the entries alone
+-- the entries without the states that they left
 abbrev pub entries_of : List (Entry × State) → List Entry
 entries_of history = map (λ x. x.0) history

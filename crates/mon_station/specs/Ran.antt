@@ -50,9 +50,10 @@ faults_in (Memory ∷ answers) = faults_in answers + 1
 faults_in (Refused f ∷ answers) = faults_in answers + 1
 faults_in (Keeper number ∷ answers) = faults_in answers + 1
 
--- ---- turns, of which the newest stands first
--- One event: how it reads, if that is known; its answer; the samples that it offered, by the numbers of their instances; the target that gave up; what the
--- outbox was handed; and the state that was left.
+-- ---- turns, the newest first
+-- One event: how it reads, if that is known; its answer; the samples that it offered, by the
+-- numbers of their instances; the target that gave up; what the outbox was given; and the state
+-- that was left.
 pub record Turn : Type 0 where
   pub event : OwnedEvent
   pub reading : Option ReadEvent
@@ -96,7 +97,8 @@ abbrev pub given_up_of : State → ReadEvent → Option StationFault → Option 
 given_up_of s e None = gave_up_in s e
 given_up_of s e (Some f) = None
 
--- an event that reads so was answered lawfully; its samples were taken, the target that gave up is known, and what it sends was handed to the outbox
+-- an event that reads so was answered lawfully; its samples were taken, the target that gave up is
+-- known, and what it sends was given to the outbox
 pub record IsAnswer (before : State) (e : ReadEvent) (t : Turn) : Type 0 where
   pub handled : IsHandled e t.answer before t.after
   pub taken : t.taken ≡ taken_of before e t.answer
@@ -115,20 +117,22 @@ pub record IsNothing (before : State) (t : Turn) : Type 0 where
   pub given_up : t.given_up ≡ None
   pub sent : t.sent ≡ []
 
--- a turn: its event was answered so in every way that it reads, it reads in one unless memory ran out, and want of memory does nothing
+-- a turn: its event was answered so in every way that it reads, it reads in one unless memory ran
+-- out, and out of memory does nothing
 pub record IsTurn (before : State) (t : Turn) : Type 0 where
   pub each : (e : ReadEvent) → ReadsAs before.board.watch t.event e → IsAnswer before e t
   pub known : IsKnown before.board.watch t.event t.answer t.reading
   pub memory : t.answer ≡ Some fault.OutOfMemory → IsNothing before t
 
--- ---- calls, of which the newest stands first
+-- ---- calls, the newest first
 -- what a call for the next event gave: an event, with the turn that it led to; the end; or a fault
 pub data Gave : Type 0 where
   Event : Turn → Gave
   End : Gave
   Fault : SourceFault → Gave
 
--- a call: the oldest open poll that the source was told, what it gave, and the view of it after that
+-- a call: the oldest open poll that the source was given, what it gave, and the view of it after
+-- that
 pub record Call (V : Type 0) : Type 0 where
   pub oldest : Option ℕ
   pub gave : Gave
@@ -173,7 +177,7 @@ goes_on (Event t) = true
 goes_on End = false
 goes_on (Fault f) = true
 
--- the same of the last call
+-- the facts of the last call
 abbrev pub go_on : {V : Type 0} → List (Call V) → Bool
 go_on [] = true
 go_on (c ∷ calls) = goes_on c.gave
@@ -189,7 +193,7 @@ IsMet s (Event t) = IsTurn s t
 IsMet s End = Unit {0}
 IsMet s (Fault f) = Unit {0}
 
--- a source that was told the oldest open poll gave this, and it was met
+-- a source that was given the oldest open poll gave this, and it was met
 pub record IsCall {V : Type 0} (Gives : V → Option ℕ → Result (Option OwnedEvent) SourceFault → V → Type 0) (before : V) (s : State) (c : Call V) : Type 0 where
   pub oldest : IsOldest s.poller.polls.open_polls c.oldest
   pub gives : Gives before c.oldest (result_of c.gave) c.view
@@ -207,13 +211,14 @@ FindsSaved s None Before file = FindsState s file
 FindsSaved s (Some (fault.Keeper keeper.DiskFault)) Before file = FindsState s file ⊎ Before
 FindsSaved s (Some f) Before file = Before
 
--- the same after any event
+-- what an opening of this file finds after any event
 abbrev pub FindsAfter : State → OwnedEvent → Option StationFault → Type 0 → List ℕ → Type 0
 FindsAfter s owned.Save answer Before file = FindsSaved s answer Before file
 FindsAfter s event answer Before file = Before
 
--- an opening of this file finds the last save among these turns that was answered without a fault, or what it would have found in one of the files
--- before them where there was none, or a later save that met the disk's fault
+-- an opening of this file finds the last save among these turns that was answered without a fault,
+-- or what it would have found in one of the files before them if there was none, or a later save
+-- that met the disk's fault
 abbrev pub FindsLast : State → (List ℕ → Type 0) → List Turn → List ℕ → Type 0
 FindsLast first outcomes [] file = FindsAs outcomes file
 FindsLast first outcomes (t ∷ turns) file = FindsAfter (state_after first turns) t.event t.answer (FindsLast first outcomes turns file) file
@@ -223,7 +228,8 @@ abbrev pub FindsDuring : State → OwnedEvent → Type 0 → List ℕ → Type 0
 FindsDuring s owned.Save Before file = Before ⊎ FindsState s file
 FindsDuring s event Before file = Before
 
--- at some moment of these turns, an opening of this file finds what the turns until then left, or the state that a save was saving
+-- in the middle of these turns, an opening of this file finds what the turns until then left, or
+-- the state that a save was saving
 abbrev pub FindsAmid : State → (List ℕ → Type 0) → List Turn → List ℕ → Type 0
 FindsAmid first outcomes [] file = FindsAs outcomes file
 FindsAmid first outcomes (t ∷ turns) file = FindsAmid first outcomes turns file ⊎ FindsDuring (state_after first turns) t.event (FindsLast first outcomes turns file) file
@@ -244,8 +250,9 @@ abbrev pub LiveOn : State → State → List (Entry × State) → Type 0
 LiveOn before after more = (past : List (Entry × State)) → IsLived past → last_state past ≡ Some before → IsLived (more ++ past) × (last_state (more ++ past) ≡ Some after)
 
 -- ---- runs
--- What calls did, from one sight of a station to another. They left the state, the view and what the outbox was handed; an honest disk stays so; a crash after
--- them leaves the last save, and a crash at any moment of them what was saved then.
+-- What calls did, from one sight of a station to another. They left the state, the view and what
+-- the outbox was given; an honest disk stays so; a crash after them leaves the last save, and a
+-- crash in the middle of them what was saved then.
 pub record Did {V X : Type 0} {G : Ghosts X} (Gives : V → Option ℕ → Result (Option OwnedEvent) SourceFault → V → Type 0) (before after : Seen V G) (calls : List (Call V)) : Type 0 where
   pub are : AreCalls Gives before.view before.state calls
   pub state : after.state ≡ state_after before.state (turns_of calls)
@@ -255,7 +262,8 @@ pub record Did {V X : Type 0} {G : Ghosts X} (Gives : V → Option ℕ → Resul
   pub file : G.is_honest before.disk → Leaves (G.may_leave after.disk) (FindsLast before.state (G.may_leave before.disk) (turns_of calls))
   pub any_moment : G.is_honest before.disk → LeavesSince G.moment G.left_since before.disk after.disk (FindsAmid before.state (G.may_leave before.disk) (turns_of calls))
 
--- what is told of calls: how many they were, how their events were answered, in order, and how often the source failed
+-- what is said of calls: how many they were, how their events were answered, in order, and how
+-- often the source failed
 pub record Tells (run : Run) {V : Type 0} (calls : List (Call V)) : Type 0 where
   pub turns : run.turns ≡ length calls
   pub answers : run.answers.items ≡ answers_of (turns_of calls)
@@ -265,7 +273,8 @@ pub record Tells (run : Run) {V : Type 0} (calls : List (Call V)) : Type 0 where
 abbrev pub AreAsked : {V : Type 0} → ℕ → List (Call V) → Type 0
 AreAsked turns calls = (length calls ≡ turns) ⊎ ((length calls ≤ turns) × (go_on calls ≡ false))
 
--- a run of at most so many calls: what they did and what is told of them; and they are the next entries of any life of the station
+-- a run of at most this many calls: what they did and what is said of them; and they are the next
+-- entries of any life of the station
 pub record Ran {V X : Type 0} {G : Ghosts X} (Gives : V → Option ℕ → Result (Option OwnedEvent) SourceFault → V → Type 0) (before after : Seen V G) (turns : ℕ) (run : Run) : Type 0 where
   pub calls : List (Call V)
   pub did : Did Gives before after calls
@@ -274,7 +283,7 @@ pub record Ran {V X : Type 0} {G : Ghosts X} (Gives : V → Option ℕ → Resul
   pub lived : LiveOn before.state after.state (entries_by (turns_of calls))
 
 -- ---- counts
--- a count of failures after so many more
+-- a count of failures after this many more
 abbrev pub failures_after : ℕ → ℕ → ℕ
 failures_after zero n = n
 failures_after (suc times) n = next_count (failures_after times n)

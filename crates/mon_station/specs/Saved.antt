@@ -53,9 +53,11 @@ pub record IsBegun (w : Setting) (body : Option (List ℕ)) (s : State) : Type 0
 abbrev pub FindsBegun : Setting → Option (List ℕ) → List ℕ → Type 0
 FindsBegun w body file = (s : State) × IsBegun w body s × FindsState s file
 
--- What an opening of a station does to its disk, whether it succeeds or not. A crash at any moment of it leaves a file in which an
--- opening meets what it would have met in one of those that a crash might have left before, or finds the life that begins from the body
--- that was found. After it a crash leaves one of those, or an opening always meets what this one met, or finds that life: never an older one.
+-- What an opening of a station does to its disk, whether it succeeds or not. A crash in the middle
+-- of it leaves a file in which an opening meets what it would have met in one of those that a crash
+-- might have left before, or finds the life that begins from the body that was found. After it a
+-- crash leaves one of those, or an opening always meets what this one met, or finds that life:
+-- never an older one.
 pub record IsBeginning {D : Type 0} (w : Setting) (seen : D → List ℕ) (may_leave : D → List ℕ → Type 0) (moment : D → ℕ) (left_since : D → ℕ → List ℕ → Type 0) (old new : D) : Type 0 where
   pub any_moment : LeavesSince moment left_since old new (λ c. FindsAs (may_leave old) c ⊎ FindsBegun w (found_body (seen old)) c)
   pub settled : Leaves (may_leave new) (may_leave old) ⊎ Leaves (may_leave new) (λ c. IsAs c (seen old) ⊎ FindsBegun w (found_body (seen old)) c)
@@ -94,7 +96,8 @@ IsForItsBody (fault.Image f) = Unit {0}
 IsForItsBody fault.NoMoreIncarnations = Unit {0}
 IsForItsBody other = ⊥
 
--- A save is refused for want of memory, or by the keeper: where the disk failed in it or in an earlier one, or at the greatest generation. An image fits always.
+-- A save is refused if memory runs out, or by the keeper: if the disk failed in it or in an earlier
+-- one, or at the greatest generation. An image always fits.
 abbrev pub IsSaveFault : StationFault → Type 0
 IsSaveFault fault.OutOfMemory = Unit {0}
 IsSaveFault (fault.Keeper keeper.DiskFault) = Unit {0}
@@ -102,7 +105,8 @@ IsSaveFault (fault.Keeper keeper.NoMoreGenerations) = Unit {0}
 IsSaveFault (fault.Keeper keeper.Reopen) = Unit {0}
 IsSaveFault other = ⊥
 
--- The same at a keeper that was opened just now, and knew of this generation: the disk failed in no earlier save.
+-- Why a save is refused at a keeper that was just opened, and knew of this generation: the disk
+-- failed in no earlier save.
 abbrev pub IsFirstSaveFault : ℕ → StationFault → Type 0
 IsFirstSaveFault generation fault.OutOfMemory = Unit {0}
 IsFirstSaveFault generation (fault.Keeper keeper.DiskFault) = Unit {0}
@@ -114,7 +118,7 @@ abbrev pub IsOfKeeper : StationFault → Type 0
 IsOfKeeper (fault.Keeper f) = Unit {0}
 IsOfKeeper other = ⊥
 
--- the disk's fault is told only where its count of failures rose, or stood at its end
+-- the disk's fault is only answered if its count of failures rose, or was at its end
 abbrev pub IsCausedBy : (before now : ℕ) → StationFault → Type 0
 IsCausedBy before now (fault.Keeper f) = HasDiskCause before now f
 IsCausedBy before now other = before ≤ now

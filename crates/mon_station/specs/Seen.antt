@@ -6,13 +6,13 @@ use Rattle.mon_station.specs.declared.event.Outgoing.{Outgoing}
 use Rattle.mon_station.specs.declared.station.Station.{Station}
 use Rattle.mon_station.specs.State.{State, state_of}
 
--- its state, the view of its source, what its outbox was handed, and its disk
+-- its state, the view of its source, what its outbox was given, and its disk
 pub record Seen (V : Type 0) {X : Type 0} (G : Ghosts X) : Type 0 where
   pub state : State
   pub view : V
   pub handed : Option (List Outgoing)
   pub disk : X
 
--- a station beside a source of this view, and an outbox that was handed this
+-- a station with a source of this view, and an outbox that was given this
 abbrev pub seen : {V X : Type 0} {G : Ghosts X} → Station X G → V → Option (List Outgoing) → Seen V G
 seen s view handed = record { state = state_of s.life; view = view; handed = handed; disk = device_of s.keeper }

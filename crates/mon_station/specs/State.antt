@@ -37,11 +37,11 @@ abbrev pub known_of : State → ℕ → Option ℕ
 known_of s y = known_incarnation s.peers.peers y
 
 -- ---- what is owed
--- what is owed to the peer in a slot, of each instance: what stands in its window and is not marked
+-- what is owed to the peer in a slot, of each instance: what is in its window and is not marked
 abbrev pub owed_to : State → ℕ → ℕ → Samples
 owed_to s slot = owed_in (window_of s.board) (is_marked s.board slot)
 
--- how many samples that is, of the first so many instances
+-- how many samples that is, of the first N instances
 abbrev pub owed_below : (ℕ → Samples) → ℕ → ℕ
 owed_below owed zero = 0
 owed_below owed (suc i) = owed_below owed i + length (rising (owed i))

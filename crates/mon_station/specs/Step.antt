@@ -17,12 +17,12 @@ abbrev pub IsRead : Watch → OwnedEvent → Result Told StationFault → Type 0
 IsRead watch event (Ok told) = (e : ReadEvent) × ReadsAs watch event e
 IsRead watch event (Err f) = (f ≡ fault.OutOfMemory → ⊥) → (e : ReadEvent) × ReadsAs watch event e
 
--- the same state with these open polls
+-- the state with these open polls in place of its own
 abbrev pub left_polls : State → Polls → State
 left_polls s polls = record { board = s.board; poller = record { targets = s.poller.targets; polls = polls }; peers = s.peers; incarnation = s.incarnation; serial = s.serial }
 
--- what holds of every state: windows hold no more than the watch keeps of them, only what stands in them is marked, no window has more than 64 samples, and at most 256
--- instances are watched
+-- what holds of every state: windows hold no more than the watch keeps of them, only what is in
+-- them is marked, no window has more than 64 samples, and at most 256 instances are watched
 pub record IsSettled (s : State) : Type 0 where
   pub whole : (i : ℕ) → IsWhole s.board.watch (window_of s.board) i
   pub entries : MarksEntries s.board

@@ -1,4 +1,5 @@
--- What happens to a station's disk over its lives, one call or stop after another, and which states an opening may find after it. In all lists the newest stands first.
+-- What happens to a station's disk over its lives, one call or stop after another, and which states
+-- an opening may find after it. In all lists the newest is first.
 use Rattle.std.specs.Prelude.{ℕ, ◌≡◌, ◌+◌, ◌⊎◌, List, [], ◌∷◌, Option, Some, None}
 use Rattle.std.specs.FinSet as set
 use Rattle.mon_board.specs.Board.{window_of}
@@ -34,7 +35,8 @@ FindsRunningIn outcomes (Some s) file = FindsRunning outcomes s file
 
 -- ---- what happens, as the clauses of `open` and `step` give it
 module _ {D : Type 0} (seen : D → List ℕ) (may_leave : D → List ℕ → Type 0) (moment : D → ℕ) (left_since : D → ℕ → List ℕ → Type 0) where
-  -- a stop at some moment of calls after which `then` is the disk: a crash then left this file, of which P holds, and the next disk has it and nothing else
+  -- a stop in the middle of calls after which `then` is the disk: a crash then left this file, of
+  -- which P holds, and the next disk has it and nothing else
   pub record IsStopped (P : List ℕ → Type 0) (old new : D) : Type 0 where
     pub then : D
     pub any_moment : LeavesSince moment left_since old then P
@@ -58,7 +60,7 @@ module _ {D : Type 0} (seen : D → List ℕ) (may_leave : D → List ℕ → Ty
   IsDiskAfter s (FromPeer said) answer old new = new ≡ old
   IsDiskAfter s (Share peer) answer old new = new ≡ old
 
-  -- the same, of the life that is running, if one is
+  -- the states that may be found, and that of the life that is running, if one is
   abbrev pub IsDiskAfterIn : Option State → ReadEvent → Option StationFault → D → D → Type 0
   IsDiskAfterIn None e answer old new = ⊥
   IsDiskAfterIn (Some s) e answer old new = IsDiskAfter s e answer old new
@@ -86,7 +88,7 @@ abbrev pub last_disk : {D : Type 0} → D → List (Happening × D) → D
 last_disk first [] = first
 last_disk first ((h, disk) ∷ past) = disk
 
--- the states with which lives began that were handed out: no other life sent anything
+-- the states with which those lives begin that were handed out: no other life sent anything
 abbrev pub begun_in : {D : Type 0} → List (Happening × D) → List State
 begun_in [] = []
 begun_in ((Opened w s, disk) ∷ past) = s ∷ begun_in past
@@ -106,7 +108,7 @@ module _ {D : Type 0} (is_honest : D → Type 0) (seen : D → List ℕ) (may_le
 abbrev pub IsRunning : Option State → Option State → Type 0
 IsRunning running save = (s : State) × (running ≡ Some s) × (save ≡ Some s)
 
--- it is the life that an opening of this setting begins, or would have begun, from this file
+-- it is the life that an opening of this setting begins, or would have begun with, from this file
 abbrev pub IsRaised : Setting → List ℕ → Option State → Type 0
 IsRaised w file save = (s : State) × (save ≡ Some s) × IsBegun w (found_body file) s
 
@@ -121,8 +123,9 @@ FoundAfter (FromAgent from read) answer running before save = before save
 FoundAfter (FromPeer said) answer running before save = before save
 FoundAfter (Share peer) answer running before save = before save
 
--- What an opening may find after a history that began on a disk with no save, None where it finds none: the last save that was acknowledged, which an opening's own is too,
--- or one after it that was running or failed. No older one is among them.
+-- What an opening may find after a history on a disk that had no save, None if it finds none: the
+-- last save that was acknowledged, which an opening's own is too, or one after it that was running
+-- or failed. No older one is among them.
 abbrev pub MayFind : {D : Type 0} → (D → List ℕ) → D → List (Happening × D) → Option State → Type 0
 MayFind seen first [] save = save ≡ None
 MayFind seen first ((Opened w s, disk) ∷ past) save = save ≡ Some s

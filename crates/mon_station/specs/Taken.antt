@@ -22,12 +22,13 @@ pub data Entry : Type 0 where
   Restart : Origin → Setting → Entry
   Answered : ReadEvent → Option StationFault → Entry
 
--- what stood in a save: the watch, and of each instance what was taken
+-- what was in a save: the watch, and of each instance what was taken
 pub record SavedTaken : Type 0 where
   pub watch : Watch
   pub taken : ℕ → Samples
 
--- what a list of entries leaves: the setting, the polls, of each instance what was taken, and what stood in each save, the last one first
+-- what a list of entries leaves: the setting, the polls, of each instance what was taken, and what
+-- was in each save, the last one first
 pub record Past : Type 0 where
   pub setting : Setting
   pub polls : Polls
@@ -53,7 +54,8 @@ at_place (suc n) (x ∷ xs) = at_place n xs
 abbrev pub has_sizes : Watch → Watch → ℕ → Bool
 has_sizes a b i = (size_of a i == size_of b i) && (share_of a i == share_of b i)
 
--- what a life of this watch has from a save: of an instance whose sizes are the same all that was taken, else what stood in its window
+-- what a life of this watch has from a save: of an instance whose sizes are the same all that was
+-- taken, else what was in its window
 abbrev pub from_save : Watch → Option SavedTaken → ℕ → Samples
 from_save watch None i = set.empty
 from_save watch (Some save) i = if has_sizes watch save.watch i then save.taken i else kept_by save.watch i (save.taken i)
@@ -88,7 +90,7 @@ past_after (Answered e answer) p = record {
   saves = saves_after e p;
 }
 
--- what entries leave, of which the newest stands first
+-- what entries leave, the newest first
 abbrev pub past_of : List Entry → Past
 past_of [] = no_past
 past_of (entry ∷ entries) = past_after entry (past_of entries)

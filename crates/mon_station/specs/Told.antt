@@ -1,4 +1,4 @@
--- What an event sends and tells.
+-- What an event sends and reports.
 use Rattle.std.specs.Prelude.{ℕ, ◌≡◌, ◌+◌, List, [], ◌∷◌, Option, Some, None, Result, Ok, Err, map, slice_index_or}
 use Rattle.std.specs.List.{AllByRecursion}
 use Rattle.mon_board.specs.declared.instance.Instance.{Instance}
@@ -102,7 +102,7 @@ abbrev pub gave_up_in : State → ReadEvent → Option ℕ
 gave_up_in s (Timeout id) = given_up_by (timeout_verdict s.poller.targets s.poller.polls id)
 gave_up_in s e = None
 
--- what is told of an event that was handled
+-- what is reported of an event that was handled
 pub record IsTold (s : State) (e : ReadEvent) (told : Told) : Type 0 where
   pub taken : told.taken ≡ offers (setting_of s) s.poller.polls e
   pub sent : told.sends.items ≡ sends s e

@@ -61,7 +61,7 @@ IsSave (FromPeer said) = ⊥
 IsSave (Share peer) = ⊥
 IsSave Save = Unit {0}
 
--- the fault is the verdict, or want of memory, or at a save the keeper's
+-- the fault is the verdict, or out of memory, or at a save the keeper's
 abbrev pub IsLawfulFault : Setting → Polls → ReadEvent → StationFault → Type 0
 IsLawfulFault w p e fault.OutOfMemory = Unit {0}
 IsLawfulFault w p e (fault.Keeper f) = IsSave e

@@ -1,4 +1,4 @@
-//! What a station is handed, and what it tells.
+//! What a station is given, and what it reports.
 
 ghost use Rattle.std.specs.Prelude.{◌≡◌};
 
@@ -24,7 +24,7 @@ pub enum Event<'a> {
     Save,
 }
 
-/// The same, with its own datagram: what a source gives.
+/// An event with its own datagram: what a source returns.
 #[derive(Debug, Drop)]
 pub enum OwnedEvent {
     /// To poll the target of this number.
@@ -68,7 +68,7 @@ pub enum To {
     Peer(u32),
 }
 
-/// A datagram that is to be sent.
+/// A datagram to send.
 #[derive(Debug, Drop)]
 pub struct Outgoing {
     /// Where it goes.
@@ -77,12 +77,12 @@ pub struct Outgoing {
     pub octets: Octets,
 }
 
-/// What a station tells of an event that it did not refuse.
+/// What a station reports of an event that it did not refuse.
 #[derive(Drop)]
 pub struct Told {
     /// The samples that were offered, each with the number of its instance: in the order of the target's objects, or of the claim.
     pub taken: Pairs,
-    /// What is to be sent, in this order.
+    /// What it sends, in this order.
     pub sends: Vec<Outgoing>,
     /// What became of a peer's claim.
     pub noted: Option<Noted>,

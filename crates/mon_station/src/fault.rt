@@ -12,7 +12,7 @@ use std::alloc::AllocError;
 use std::fmt;
 use thiserror::Error;
 
-/// Why a station refused an event, or was not opened. A part's want of memory is the station's own.
+/// Why a station refused an event, or was not opened. A part's lack of memory is the station's own.
 #[derive(Clone, Copy, Debug, PartialEq, Eq, Error)]
 pub enum StationFault {
     /// Memory was refused.
@@ -96,14 +96,14 @@ impl StationFault {
     }
 }
 
-/// Of nested faults the innermost, as a line tells it: `CRATE NUMBER NAME`.
+/// The innermost of nested faults, as a line prints it: `CRATE NUMBER NAME`.
 #[derive(Clone, Copy, Debug)]
 pub struct Innermost {
     /// The crate whose fault it is, as `mon_disk`.
     pub part: &'static str,
     /// Its number in that crate, from 1.
     pub number: u8,
-    /// Its name in that crate, as `DiskFault`.
+    /// The fault's name in that crate, as `DiskFault`.
     pub name: &'static str,
 }
 

@@ -63,8 +63,9 @@ impl Life {
         let _ = self.poller.targets();
     }
 
-    /// Puts the image of the windows and the incarnation in a vector, behind room for the head that a keeper writes, in place of what it holds. Where it has the
-    /// room, no memory is taken.
+    /// Puts the image of the windows and the incarnation in a vector, behind space for the head
+    /// that a keeper writes, in place of what it holds. If it has the capacity, nothing is
+    /// allocated.
     pub(crate) fn image(&self, image: &mut Vec<u8>) -> Result<(), AllocError>
         ensures head { OnOk result (16 ≤ length image.new.items) }
         ensures written { OnOk result (drop 16 image.new.items ≡ saved_octets (state_of self.now)) }
@@ -98,7 +99,7 @@ impl Life {
         }
     }
 
-    /// The poll of this request-id was not answered in time. It takes no memory where it is not sent again.
+    /// The poll of this request-id timed out. It allocates nothing if it is not sent again.
     pub(crate) fn timeout(&mut self, alloc: Global, id: u32) -> Result<Told, StationFault>
         ensures answered { IsAnswered (state_of self.old) (state_of self.new) (read.Timeout id) result }
         ensures spared { ¬ (IsSentAgain (timeout_verdict self.old.poller.targets self.old.poller.polls id)) → IsOk result }
@@ -110,7 +111,7 @@ impl Life {
         Ok(Self::told_timeout(alloc, room, timed_out))
     }
 
-    /// Room for the datagram of a timeout, where one is sent.
+    /// Allocates for the datagram of a timeout, if one is sent.
     fn room_to_send_again(&self, alloc: Global, id: u32) -> Result<Vec<Outgoing>, AllocError>
         ensures room { IfOk result (λ room. IsSentAgain (timeout_verdict self.now.poller.targets self.now.poller.polls id) → 1 ≤ vec_capacity room) }
         ensures empty { IfOk result (λ room. room.items ≡ []) }
@@ -123,7 +124,7 @@ impl Life {
         }
     }
 
-    /// What a timeout leads to. There is room for its datagram, where one is sent.
+    /// What a timeout leads to. There is capacity for its datagram, if one is sent.
     fn told_timeout(alloc: Global, room: Vec<Outgoing>, timed_out: TimedOut) -> Told
         requires room { IsSentAgain timed_out → 1 ≤ vec_capacity room }
         requires empty { room.items ≡ [] }
@@ -269,7 +270,7 @@ fn pairs_of(alloc: Global, number: u16, samples: &[Sample]) -> Result<Pairs, All
     Ok(pairs)
 }
 
-/// Room for one datagram.
+/// Allocates for one datagram.
 fn room_for_one(alloc: Global) -> Result<Vec<Outgoing>, AllocError>
     ensures room { IfOk result (λ room. 1 ≤ vec_capacity room) }
     ensures empty { IfOk result (λ room. room.items ≡ []) }
@@ -311,7 +312,7 @@ fn told_taken(alloc: Global, taken: Pairs) -> Told
     }
 }
 
-/// Nothing is told.
+/// Nothing is reported.
 pub(crate) fn told_none(alloc: Global) -> Told
     ensures taken { result.taken ≡ [] }
     ensures sends { result.sends.items ≡ [] }

@@ -45,7 +45,8 @@ impl<D: Disk + Drop> Station<D> {
         // It is a step of the law of stops.
         ensures happens { D.is_honest disk → (running : Option State) → IfOk result (λ s. Happens D.seen D.may_leave D.moment D.left_since running (Opened (setting_in core) (state_of s.life)) disk (device_of s.keeper)) }
         ensures happens_err { D.is_honest disk → (running : Option State) → IfErr result (λ e. Happens D.seen D.may_leave D.moment D.left_since running (Unopened (setting_in core)) disk e.1) }
-        // At each moment of it a crash leaves what was there, or the raised incarnation; and no older one later.
+        // In the middle of it a crash leaves what was there, or the raised incarnation; and no
+        // older one later.
         ensures beginning { D.is_honest disk → IfOk result (λ s. IsBeginning (setting_in core) D.seen D.may_leave D.moment D.left_since disk (device_of s.keeper)) }
         ensures beginning_err { D.is_honest disk → IfErr result (λ e. IsBeginning (setting_in core) D.seen D.may_leave D.moment D.left_since disk e.1) }
         // Each fault is one of an opening and has its cause.

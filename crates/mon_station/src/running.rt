@@ -39,13 +39,14 @@ pub trait Source {
     // The view of this one.
     ghost view: { Self → View };
 
-    // From this view, a call that is told this oldest open poll gives this and leaves that view.
+    // From this view, a call that is given this oldest open poll returns this and leaves that view.
     ghost gives: { View → Option ℕ → Result (Option AnyEvent) AnySourceFault → View → Type 0 };
 
     // How often it failed, at most 2^64 - 1.
     ghost failures: { Self → ℕ };
 
-    /// The next event; none where the source ends. It is told the request-id of the oldest open poll.
+    /// Returns the next event, or None if the source has ended. It is given the request-id of the
+    /// oldest open poll.
     fn next(&mut self, oldest: Option<u32>) -> Result<Option<OwnedEvent>, SourceFault>
         ensures gives { gives (view self.old) oldest result (view self.new) }
         ensures failures { failures self.new ≡ failed_after result (failures self.old) };
@@ -58,13 +59,13 @@ pub trait Outbox {
     ghost use Rattle.mon_edge.specs.Told.{extended};
     ghost use Rattle.mon_station.specs.declared.event.Outgoing.{Outgoing as AnyOutgoing};
 
-    // The datagrams that it was handed, where it tells them.
+    // The datagrams that it was given, if it states them.
     ghost handed: { Self → Option (List AnyOutgoing) };
 
     // How often it failed, at most 2^64 - 1.
     ghost failures: { Self → ℕ };
 
-    /// Sends a datagram. One that could not be sent was handed too.
+    /// Sends a datagram. One that could not be sent counts as given too.
     fn send(&mut self, out: &Outgoing) -> Result<(), OutboxFault>
         ensures handed { handed self.new ≡ extended (handed self.old) (out.now ∷ []) }
         ensures failures { failures self.new ≡ failed_after result (failures self.old) };
@@ -73,7 +74,7 @@ pub trait Outbox {
 /// What became of an event.
 #[derive(Clone, Copy, Debug, PartialEq, Eq)]
 pub enum Answer {
-    /// It was handled, and offered so many samples.
+    /// It was handled, and offered this many samples.
     Handled(u64),
     /// It was a timeout, and the target of this number gave up.
     GaveUp(u16),
@@ -85,7 +86,7 @@ pub enum Answer {
     Keeper(u8),
 }
 
-/// What a run did. The room of its answers is kept from run to run.
+/// What a run did. The capacity of its answers is kept from run to run.
 #[derive(Drop)]
 pub struct Run {
     /// How often the source was asked.
@@ -114,7 +115,7 @@ impl Run {
         }
     }
 
-    /// Forgets what was done, and takes the room for so many answers where there is less.
+    /// Forgets what was done, and allocates for this many answers if there is capacity for less.
     fn begin(&mut self, turns: u64) -> Result<(), AllocError>
         ensures empty { IsEmpty self.new }
         ensures room { OnOk result (turns ≤ vec_capacity self.new.answers) }
@@ -130,11 +131,13 @@ impl Run {
 }
 
 impl<D: Disk + Drop> Station<D> {
-    /// Handles what a source gives, until it ends or was asked so many times, and tells in `run` what was done, in place of what stands there. A fault of the
-    /// source and a refused event are counted, and a datagram that could not be sent is lost; the run goes on.
+    /// Handles what a source returns, until it ends or was called this many times, and puts into
+    /// `run` what was done, in place of what it held. A fault of the source and a refused event are
+    /// counted, and a datagram that could not be sent is lost; the run goes on.
     ///
     /// # Errors
-    /// `OutOfMemory` where there is no room for the answers, which is taken first where `run` has less; then nothing was asked.
+    /// `OutOfMemory` if there is no memory for the answers, which are allocated first if `run` has
+    /// capacity for less; then nothing was asked.
     pub fn run<S: Source, O: Outbox>(
         &mut self,
         alloc: Global,
@@ -150,7 +153,7 @@ impl<D: Disk + Drop> Station<D> {
         ensures outbox { OnOk result (HasFailed (O.failures outbox.old) (O.failures outbox.new) run.new.send_faults) }
         ensures fault { IfErr result (λ f. f ≡ StationFault.OutOfMemory) }
         ensures nothing { OnErr result (IsEmpty run.new) }
-        // Where the run has the room it is not refused, and it keeps it.
+        // If the run has the capacity it is not refused, and it keeps it.
         ensures spared { turns ≤ vec_capacity run.old.answers → IsOk result }
         ensures room { OnOk result (turns ≤ vec_capacity run.new.answers) }
         ensures same { OnErr result (self.new ≡ self.old) }
@@ -197,7 +200,7 @@ impl<D: Disk + Drop> Station<D> {
         }
     }
 
-    /// Asks the source for the next event, and tells it the oldest open poll.
+    /// Asks the source for the next event, and gives it the oldest open poll.
     #[tactic(auto, using(crate::proofs::Runs::oldest_of))]
     fn ask<S: Source>(&self, source: &mut S) -> Result<Option<OwnedEvent>, SourceFault>
         ensures asked { (oldest : Option ℕ) × IsOldest self.now.life.poller.polls.open_polls oldest × S.gives (S.view source.old) oldest result (S.view source.new) }
@@ -249,7 +252,7 @@ fn hand<O: Outbox>(outbox: &mut O, sends: &[Outgoing], send_faults: &mut u64)
     }
 }
 
-/// What is told of an event as a run shows it.
+/// Returns what a run shows of an event.
 fn answered(told: &Told) -> Answer
     ensures { result ≡ ran.shown None told.now.taken told.now.given_up }
 {

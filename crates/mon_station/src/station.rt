@@ -19,8 +19,9 @@ use std::alloc::Global;
 pub struct Station<D: Disk + Drop> {
     pub(crate) life: Life,
     pub(crate) keeper: Keeper<D>,
-    /// The last image that was saved behind the head that the keeper wrote, or the beginning of one. Its room is kept from save to save: given back each time, its
-    /// pages would be asked of the system anew.
+    /// The last image that was saved behind the head that the keeper wrote, or the beginning of
+    /// one. Its capacity is kept from save to save: if it were freed each time, its pages would be
+    /// asked of the system again.
     pub(crate) image: Vec<u8>,
 }
 
@@ -42,10 +43,12 @@ impl<D: Disk + Drop> Station<D> {
     /// Handles an event. All memory is taken before anything is changed.
     ///
     /// # Errors
-    /// `OutOfMemory`, which changes nothing; the refusal of a poll, a response, a claim or a share; at a save the keeper's fault. A
-    /// refusal changes nothing, but that a response may end its poll, and a save that met `DiskFault` may have been saved or not.
+    /// `OutOfMemory`, which changes nothing; the refusal of a poll, a response, a claim or a share;
+    /// at a save the keeper's fault. A refusal changes nothing, except that a response may end its
+    /// poll, and a save that met `DiskFault` may have been saved or not.
     pub fn step(&mut self, alloc: Global, event: Event<'_>) -> Result<Told, StationFault>
-        // However the event's datagram reads: the answer is the verdict, and this is what it leaves, sends and tells.
+        // However the event's datagram reads: the answer is the verdict, and this is what it
+        // leaves, sends and reports.
         ensures answered { (e : ReadEvent) → ReadsAs self.old.life.board.watch (owned event.entry) e → IsAnswered (state_of self.old.life) (state_of self.new.life) e result }
         ensures read { IsRead self.old.life.board.watch (owned event.entry) result }
         ensures setting { setting_of (state_of self.new.life) ≡ setting_of (state_of self.old.life) }
@@ -53,11 +56,11 @@ impl<D: Disk + Drop> Station<D> {
         // At most 512 datagrams are sent.
         ensures few { IfOk result (λ told. length told.sends.items ≤ 512) }
 
-        // What is refused changes nothing but the open polls, and want of memory nothing at all.
+        // What is refused changes nothing except the open polls, and out of memory nothing at all.
         ensures refused { OnErr result (state_of self.new.life ≡ left_polls (state_of self.old.life) self.new.life.poller.polls) }
         ensures memory { result ≡ Err StationFault.OutOfMemory → (state_of self.new.life ≡ state_of self.old.life) × (self.new.keeper ≡ self.old.keeper) }
 
-        // A timeout at which nothing is sent takes no memory.
+        // A timeout at which nothing is sent allocates nothing.
         ensures spared { (id : ℕ) → owned event.entry ≡ OwnedEvent.Timeout id → ¬ (IsSentAgain (timeout_verdict self.old.life.poller.targets self.old.life.poller.polls id)) → IsOk result }
 
         // A lived history goes on: with the event, as it reads, its answer and the state that it left.
@@ -74,7 +77,8 @@ impl<D: Disk + Drop> Station<D> {
         ensures disk { (event.entry ≡ Event.Save → ⊥) → self.new.keeper ≡ self.old.keeper }
         ensures saved { D.is_honest (device_of self.old.keeper) → event.entry ≡ Event.Save → OnOk result (Leaves (D.may_leave (device_of self.new.keeper)) (FindsState (state_of self.old.life))) }
         ensures unsaved { IfErr result (λ f. (f ≡ StationFault.Keeper KeeperFault.DiskFault → ⊥) → self.new.keeper ≡ self.old.keeper) }
-        // A crash at any moment leaves a file in which an opening meets what it might have met before, or finds this save.
+        // A crash in the middle leaves a file in which an opening meets what it might have met
+        // before, or finds this save.
         ensures any_moment { D.is_honest (device_of self.old.keeper) → LeavesSince D.moment D.left_since (device_of self.old.keeper) (device_of self.new.keeper)
             (FindsRunning (D.may_leave (device_of self.old.keeper)) (state_of self.old.life)) }
         ensures honest { D.is_honest (device_of self.old.keeper) → D.is_honest (device_of self.new.keeper) }
@@ -146,8 +150,8 @@ impl<D: Disk + Drop> Station<D> {
         self.life.peers.known(peer)
     }
 
-    /// How many samples a peer is owed: of what stands in the windows, all that no claim of it in the incarnation that is known has said.
-    /// A station that is no peer is owed nothing.
+    /// Returns how many samples a peer is owed: of what is in the windows, all that no claim of it
+    /// in its known incarnation has said. A station that is no peer is owed nothing.
     pub fn owed(&self, peer: u32) -> u32
         ensures { result ≡ owed_count (state_of self.now.life) (slot_of (setting_of (state_of self.now.life)).peers peer) }
     {

@@ -1,4 +1,4 @@
--- A source that gives a list of events, and a run over it.
+-- A source that returns a list of events, and a run over it.
 use Rattle.std.specs.Prelude.{ℕ, ◌≡◌, ◌<◌, ◌-◌, List, [], ◌++◌, Option, None, Result, Ok, Err}
 use Rattle.std.specs.Option.{option_to_list}
 use Rattle.mon_edge.specs.Told.{extended}
@@ -13,14 +13,16 @@ pub record Listing : Type 0 where
   pub events : List OwnedEvent
   pub calls_to_fault : ℕ
 
--- each call gives the next event, none where none is left; the one that fails gives none, and the events stay
+-- each call returns the next event, none if none is left; the one that fails returns none, and the
+-- events stay
 abbrev pub GivesListed : Listing → Option ℕ → Result (Option OwnedEvent) SourceFault → Listing → Type 0
 GivesListed v oldest (Ok event) w =
     (v.calls_to_fault ≡ 1 → ⊥) × (w.calls_to_fault ≡ v.calls_to_fault - 1) × (v.events ≡ option_to_list event ++ w.events) × (event ≡ None → w.events ≡ [])
 GivesListed v oldest (Err fault) w = (v.calls_to_fault ≡ 1) × (w.calls_to_fault ≡ 0) × (w.events ≡ v.events)
 
--- A run over a list that leaves these events: it was given the others in their order, its answers are theirs, and the outbox was handed what they send.
--- Where it made fewer calls than it might, none is left.
+-- A run over a list that leaves these events: it was given the others in their order, its answers
+-- are theirs, and the outbox was given what they send. Where it made fewer calls than it might,
+-- none is left.
 pub record RanOver (events left : List OwnedEvent) (handed_before handed_now : Option (List Outgoing)) (turns : ℕ) (run : Run) : Type 0 where
   pub done : List Turn
   pub given : events ≡ events_of done ++ left

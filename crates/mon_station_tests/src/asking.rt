@@ -68,7 +68,7 @@ fn asked(
     Some((Stage::Open(station), text))
 }
 
-/// Saves while only so many calls pass, and keeps what a crash leaves.
+/// Saves while only N calls pass, and keeps what a crash leaves.
 fn stopped(
     alloc: Global,
     station: Station<FuseDisk<MemoryDisk>>,

@@ -1,5 +1,5 @@
-//! A station over a disk in memory: does what each line of standard input says, and prints what the station answers, to be compared
-//! with the expected lines.
+//! A station over a disk in memory: does what each line of standard input says, and prints what the
+//! station answers, to be compared with the expected lines.
 //!
 //!     new               an empty disk, without a station
 //!     open [SIZE]       opens the station from the disk, with windows of 8 or this many samples; a new one is empty
@@ -14,11 +14,13 @@
 //!     report            the report
 //!     interrupted       the report, by a writer of which every other call is interrupted
 //!     run TURNS S O: EVENT; EVENT   runs the station over these events, lines as above; call S of the source and call O of the outbox fail
-//!     stop CALLS KEEP   saves while only so many calls of the disk pass, and goes on with what a crash leaves: `keep` or `lose`
+//!     stop CALLS KEEP   saves while only CALLS calls of the disk pass, and goes on with what a
+//! crash leaves: `keep` or `lose`
 //!
-//! Beside the station, on a line of its own:
+//! Without the station, on a line of its own:
 //!
-//!     world COUNT SHARES   a world of so many stations in which so many offers are made and delivered in one run
+//!     world COUNT SHARES   a world of COUNT stations in which SHARES offers are made and delivered
+//! in one run
 #![tactic(auto)]
 
 mod asking;

@@ -58,7 +58,7 @@ impl Source for Listed {
     }
 }
 
-/// Writes down what it is handed. The call of one number fails; what it was handed is lost.
+/// Writes down what it is given. The call of one number fails; what it was given is lost.
 #[derive(Drop)]
 struct Noting {
     alloc: Global,
@@ -131,7 +131,7 @@ pub fn run(
     )
 }
 
-/// What an earlier run might have left, of which nothing is to be told.
+/// What an earlier run might have left, of which nothing may be reported.
 fn used(alloc: Global) -> Option<Run> {
     let mut answers = Vec::new(alloc);
     answers.push(Answer::Memory).ok()?;

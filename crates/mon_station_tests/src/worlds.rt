@@ -4,8 +4,10 @@ use crate::setting::core;
 use mon_world::{Step, World};
 use std::alloc::Global;
 
-/// What a line asks: `COUNT SHARES` is a world of so many stations, in which the first offers the second what it owes, so often, and each of these datagrams is
-/// delivered; the steps are made in one run. It says how many of them were made and how many datagrams were sent, or why there is no such world.
+/// What a line asks: `COUNT SHARES` is a world of COUNT stations, in which the first offers the
+/// second what it owes, SHARES times, and each of these datagrams is delivered; the steps are made
+/// in one run. It says how many of them were made and how many datagrams were sent, or why there is
+/// no such world.
 pub fn world(alloc: Global, line: &str) -> Option<String> {
     let (count, shares) = line.split_once(' ')?;
     let core = core(alloc, "8")?;
@@ -15,7 +17,7 @@ pub fn world(alloc: Global, line: &str) -> Option<String> {
     }
 }
 
-/// Runs the steps of so many shares.
+/// Runs the steps of this many shares.
 fn run(alloc: Global, world: World, shares: u64) -> Option<String> {
     let mut world = world;
     let steps = steps(alloc, shares)?;

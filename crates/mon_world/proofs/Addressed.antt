@@ -101,7 +101,7 @@ pub letter_addressed : {G : Ghosts MemoryDisk} (core : Core) (stations : List (S
 letter_addressed core stations sent past was zero l there = absurd there
 letter_addressed core stations sent past was (suc n) l there = one_at (λ (l : Letter). IsNumberTo (length stations) l.to) (sent_in past) n l (addressed core (length stations) past was.shown.are) there
 
--- what its station was handed is the delivery
+-- what its station was given is the delivery
 pub as_delivery : (core : Core) (count number x : ℕ) (past : List Move) (l : Letter) → HasNumber (sent_in past) number l → l.to ≡ x → (octets : List ℕ) → claim_octets l.claim ≡ octets → (answer : Option StationFault) (now : List Move)
     → Hands (setting_at core count x) x (own.FromPeer octets) answer past now → Delivers (setting_at core count) number answer past now
 as_delivery core count number x past l there to octets says answer now hands = record {

@@ -85,7 +85,7 @@ module _ {G : Ghosts MemoryDisk} (core : Core) (count : ℕ) where
   first_sent k [] = refl
   first_sent k (t ∷ stations) = (λ i. first_sent (k + 1) stations i ++ no_letters (last_state (lives_of k (first_of (k + 1) stations))) (setting_at core count k) i)
 
-  -- so many stations on their first disks, before any step
+  -- this many stations on their first disks, before any step
   pub first_shown : (stations : List (Station MemoryDisk G)) (sent : List Datagram) → sent ≡ [] → length stations ≡ count → AreFirst core count stations → Shows core stations sent (first_of 1 stations)
   first_shown stations sent none counted first = record {
     shown = record {

@@ -1,4 +1,5 @@
--- What a station heard is true of its peers, unless claims were forged; so what it does not owe was taken.
+-- What a station received is true of its peers, unless claims were forged; so what it does not owe
+-- was taken.
 use Rattle.std.proofs.Common.{ℕ, zero, suc, ◌≡◌, ◌∙◌, inl, inr, Bool, true, false, List, [], ◌∷◌, Option, Some, None, Ok, Err, refl, sym, ap, subst, arith}
 use Rattle.std.specs.Prelude.{◌==◌, not, Contains}
 use Rattle.std.specs.List.{AllByRecursion, list_any}
@@ -41,7 +42,7 @@ one_passes P test (d ∷ claims) all is = elim (or_cases (test d) (list_any test
 module _ (one_image : (octets : List ℕ) (instances : List Instance) (a b : Image) → SpellsImage octets instances a → SpellsImage octets instances b → a ≡ b)
     (windows_taken : (h : List (Entry × State)) (s : State) → IsLived h → last_state h ≡ Some s → (i : ℕ) → window_of s.board i ≡ kept_by s.board.watch i (taken (entries_of h) i))
     (core : Core) (count : ℕ) (are_watch : IsWatch core.watch) where
-  -- what was heard is true of who said it
+  -- what was received is true of who said it
   abbrev pub IsTrueOf : List Move → Heard → Type 0
   IsTrueOf moves d = IsTrue one_image (lives_of d.station moves) d
 

@@ -25,16 +25,16 @@ one_station stations (suc n) s t here there = some_same (sym there ∙ here)
 still : {G : Ghosts MemoryDisk} (f : WorldFault) (s t : Station MemoryDisk G) → t ≡ s → IsKept f s t
 still f s t same = subst (λ u. IsKept f s u) (sym same) (record { state = refl; disk = λ _. refl; memory = λ _. refl })
 
--- the same stations
+-- the stations stay
 pub kept_same : {G : Ghosts MemoryDisk} (old new : List (Station MemoryDisk G)) (f : WorldFault) → new ≡ old → AreKept old new f
 kept_same old new f same x s t here there = still f s t (one_station old x s t here (subst (λ l. HasNumber l x t) same there))
 
--- the same stations where a call failed
+-- the stations stay if a call failed
 pub kept_on : {A : Type 0} {G : Ghosts MemoryDisk} (r : Result A WorldFault) (old new : List (Station MemoryDisk G)) → OnErr r (new ≡ old) → IfErr r (AreKept old new)
 kept_on (Ok x) old new same = tt
 kept_on (Err f) old new same = kept_same old new f same
 
--- the world's want of memory is the station's
+-- the world's lack of memory is the station's
 own_memory : (f : StationFault) → station_refusal f ≡ OutOfMemory → f ≡ station.OutOfMemory
 own_memory station.OutOfMemory e = refl
 own_memory (station.Poll f) e = cc

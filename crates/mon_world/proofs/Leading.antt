@@ -89,7 +89,7 @@ leads_as core stations sent past makes others result f leads = record { now = le
     by (Ok x) is = f None leads.now is
     by (Err g) is = by_or (refusal_in g) is
 
--- the same core and datagrams
+-- core and datagrams stay
 pub leads_same : {G : Ghosts MemoryDisk} (core new_core : Core) (stations : List (Station MemoryDisk G)) (sent new_sent : List Datagram) (P : List Move → Type 0) → new_core ≡ core → new_sent ≡ sent
     → LeadsTo core stations sent P → LeadsTo new_core stations new_sent P
 leads_same core new_core stations sent new_sent P same_core same_sent leads =

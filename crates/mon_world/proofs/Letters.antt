@@ -103,7 +103,7 @@ module _ (one_image : (octets : List ℕ) (instances : List Instance) (a b : Ima
   IsTrueClaim moves c = (i : ℕ) → IsWatchedAs core.watch c.engine c.name i → IsTrue one_image (lives_of c.station moves) (said_in c i)
 
   -- ---- what is sent
-  -- what stands in a window was taken
+  -- what is in a window was taken
   window_was_taken : (h : List (Entry × State)) (s : State) → IsLived h → last_state h ≡ Some s → (i k : ℕ) → In k (window_of s.board i) → In k (taken (entries_of h) i)
   window_was_taken h s lived is i k there =
       kept_within s.board.watch i (taken (entries_of h) i) k (subst (λ a. In k a) (windows_taken h s lived is i) there)

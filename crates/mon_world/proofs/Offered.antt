@@ -45,7 +45,7 @@ paired_has n i k (t ∷ samples) h = elim (cases_Bool (n == i)) [
   | inr not ↦ let rest = paired_has n i k samples (rw not at h) in (rest.0, in_tail k t samples rest.1)
 ]
 
--- what stands in a set has P, by instance
+-- what is in a set has P, by instance
 abbrev pub Within : (ℕ → ℕ → Type 0) → (ℕ → Samples) → Type 0
 Within P sets = (i k : ℕ) → In k (sets i) → P i k
 

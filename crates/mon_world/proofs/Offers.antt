@@ -47,7 +47,7 @@ has_paired i k (t ∷ samples) h =
     ])
 
 -- ---- portions
--- what a portion holds stands in the window of its instance, which is one of these
+-- what a portion holds is in the window of its instance, which is one of these
 abbrev pub IsFrom : (ℕ → Samples) → ℕ → Portion → Type 0
 IsFrom windows n p = (k : ℕ) → In k (set.from_list {R = nat_cmp} p.samples) → (p.instance < n) × In k (windows p.instance)
 

@@ -1,4 +1,4 @@
--- What the clauses of a step say of the moves that it led to. Crates above cite this file alone.
+-- What the clauses of a step say of the moves that it led to. Crates above only cite this file.
 use Rattle.std.proofs.Common.{ℕ, ◌≡◌, ◌+◌, ◌∙◌, List, Result, Ok, Err, length, sym, ap, subst, arith}
 use Rattle.std.specs.Prelude.{IfErr, IfOk, OnErr, OnOk}
 use Rattle.std.proofs.lemmas.List.{length-map}

@@ -69,7 +69,7 @@ module _ (taking : (watch : Watch) (y : ℕ) (old new : List (ℕ × ℕ)) (clai
           paid one_image windows_taken core count are_watch moves are unforged x y i k t as_well (sym debts.tells.known_is ∙ known) no_debt
     ]
 
-    -- where nothing is owed, all that stands in the windows
+    -- if nothing is owed, all that is in the windows
     module _ (x y : ℕ) (s t : State) (is : last_state (lives_of x moves) ≡ Some s) (as_well : last_state (lives_of y moves) ≡ Some t) (known : known_of s y ≡ Some t.incarnation)
         (nothing : owed_count s (slot_of (setting_of s).peers y) ≡ 0) where
       pub all_paid : (i k : ℕ) → In k (window_of s.board i) → In k (taken (entries_of (lives_of y moves)) i)

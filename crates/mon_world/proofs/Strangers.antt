@@ -6,7 +6,7 @@ use Rattle.std.proofs.lemmas.List.{length-map}
 use Rattle.mon_poller.specs.declared.addr.Addr.{Addr}
 use Rattle.mon_poller.specs.declared.target.Target.{Target}
 
--- the number stands in the list
+-- the number is in the list
 abbrev Stands_in : ℕ → List ℕ → Type 0
 Stands_in x [] = ⊥
 Stands_in x (y ∷ ys) = (y ≡ x) ⊎ Stands_in x ys

@@ -1,4 +1,4 @@
--- A station's marks tell what the claims that it accepted in its present life have said.
+-- A station's marks say what the claims that it accepted in its present life have said.
 use Rattle.std.proofs.Common.{ℕ, ◌≡◌, ◌∙◌, inl, inr, Bool, true, false, List, [], ◌∷◌, ◌++◌, Option, Some, None, Ok, Err, refl, sym, ap, subst}
 use Rattle.std.specs.Prelude.{◌==◌, ◌≢◌, ◌&&◌, if◌then◌else◌}
 use Rattle.std.specs.FinSet as set
@@ -67,7 +67,8 @@ module _ (taking : (watch : Watch) (y : ℕ) (old new : List (ℕ × ℕ)) (clai
   abbrev watch : Watch
   watch = w.watch
 
-  -- a state whose windows hold what is kept of some pairs, of which its marks for the peer tell the debts
+  -- a state whose windows hold what is kept of some pairs, of which its marks for the peer say the
+  -- debts
   pub record Knows (s : State) (claims : List Heard) : Type 0 where
     pub pairs : List (ℕ × ℕ)
     pub windows : (i : ℕ) → window_of s.board i ≡ window watch pairs i

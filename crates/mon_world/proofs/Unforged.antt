@@ -49,7 +49,7 @@ claim_there (m ∷ letters) (suc n) l is all =
     let rest = claim_there letters n l is all.1 in
     (rest.0, (suc rest.1.0, omega (arith, rest.1.1), rest.1.2))
 
--- ---- what a move was handed
+-- ---- what a move was given
 -- an event that is no claim
 harmless : (letters : List Letter) (watch : Watch) (event : OwnedEvent) (e : ReadEvent) (answer : Option StationFault) → ((octets : List ℕ) → event ≡ own.FromPeer octets → ⊥) → ReadsAs watch event e → WasSent letters (Answered e answer)
 harmless letters watch (own.StartPoll target) e answer no_claim is = subst (λ r. WasSent letters (Answered r answer)) (sym is) tt
@@ -151,7 +151,7 @@ module _ (meaning : (octets : List ℕ) (c d : Claim) → SpellsClaim octets c �
   pub unforged_outcome : (s : Step) (r : Result Sent WorldFault) (past now : List Move) → IsUnforged s → AreClaims now → IsStepOutcome settings s r past now → AreUnforged past → AreUnforged now
   unforged_outcome s r past now unforged all h = (outcome_both s r past now unforged all h).1
 
--- so many stations, before any step
+-- this many stations, before any step
 pub unforged_first : (settings : ℕ → Setting) (x : ℕ) (states : List State) → AreUnforged (first_lives settings x states)
 unforged_first settings x [] = tt
 unforged_first settings x (s ∷ states) = (tt, unforged_first settings (x + 1) states)

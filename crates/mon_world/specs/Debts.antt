@@ -18,7 +18,7 @@ abbrev pub heard_of_claim : Claim → Option ℕ → List Heard
 heard_of_claim c None = []
 heard_of_claim c (Some i) = record { station = c.station; incarnation = c.incarnation; instance = i; samples = c.samples } ∷ []
 
--- what is heard by an event with this answer: an accepted claim
+-- what is received by an event with this answer: an accepted claim
 abbrev pub heard_by : ReadEvent → Option StationFault → List Heard
 heard_by (FromPeer (Ok said)) None = heard_of_claim said.claim said.number
 heard_by e answer = []
@@ -29,7 +29,8 @@ heard_in [] = []
 heard_in ((Restart origin w, s) ∷ past) = []
 heard_in ((Answered e answer, s) ∷ past) = heard_by e answer ++ heard_in past
 
--- what a station in this state owes station y: of what stands in its windows, what no claim of y, of the incarnation that it knows and accepted in its present life, has said
+-- what a station in this state owes station y: of what is in its windows, what no claim of y, of
+-- the incarnation that it knows and accepted in its present life, has said
 abbrev pub owed_by : State → List (Entry × State) → ℕ → ℕ → Samples
 owed_by s lives y i = set.retain (window_of s.board i) (λ k. is_owed y (heard_in lives) i k)
 

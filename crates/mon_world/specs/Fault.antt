@@ -34,7 +34,7 @@ abbrev pub innermost_of : WorldFault → stations.Told
 innermost_of (Refused f) = stations.innermost_of f
 innermost_of f = record { part = codes "mon_world"; number = number_of f; name = name_of f }
 
--- a station's fault as the world's: its want of memory is the world's own
+-- a station's fault as the world's: its lack of memory is the world's own
 abbrev pub station_refusal : StationFault → WorldFault
 station_refusal station.OutOfMemory = OutOfMemory
 station_refusal f = Refused f
@@ -55,14 +55,14 @@ abbrev pub IsFaultOfFirst : StationFault → Type 0
 IsFaultOfFirst (station.Keeper keeper.DiskFault) = Unit {0}
 IsFaultOfFirst f = ⊥
 
--- why a world of so many stations was not opened
+-- why a world of this many stations was not opened
 abbrev pub IsFaultOfNew : ℕ → WorldFault → Type 0
 IsFaultOfNew count OutOfMemory = Unit {0}
 IsFaultOfNew count BadCount = IsNoCount count
 IsFaultOfNew count (Refused f) = IsFaultOfFirst f
 IsFaultOfNew count f = ⊥
 
--- what a step names is there, of so many stations and datagrams
+-- what a step names is there, of this many stations and datagrams
 abbrev pub IsThere : (stations datagrams : ℕ) → Step → Type 0
 IsThere n m (step.StartPoll s t) = IsNumberTo n s
 IsThere n m (step.AgentSays s t octets) = IsNumberTo n s
@@ -96,7 +96,7 @@ IsStopCause n s calls (Refused f) = IsNumberTo n s × (calls ≤ 6)
 IsStopCause n s calls BadStop = IsNumberTo n s × (6 < calls)
 IsStopCause n s calls f = ⊥
 
--- why a step has a fault, of so many stations and datagrams
+-- why a step has a fault, of this many stations and datagrams
 abbrev pub IsCause : (stations datagrams : ℕ) → Step → WorldFault → Type 0
 IsCause n m (step.StartPoll s t) f = IsStationCause n s f
 IsCause n m (step.AgentSays s t octets) f = IsStationCause n s f

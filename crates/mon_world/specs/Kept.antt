@@ -11,8 +11,9 @@ use Rattle.mon_world.specs.declared.fault.WorldFault.TheVariants.{OutOfMemory, R
 use Rattle.mon_world.specs.Places.{HasNumber}
 use Rattle.mon_world.specs.Shows.{state_in}
 
--- With this fault a station stayed as it was, but that a response may have ended its poll: its windows, marks, known incarnations, incarnation and serial. Its disk
--- is as it was unless a save met the disk's fault, and want of memory left the polls too.
+-- With this fault a station stayed as it was, except that a response may have ended its poll: its
+-- windows, marks, known incarnations, incarnation and serial. Its disk is as it was unless a save
+-- met the disk's fault, and out of memory left the polls too.
 pub record IsKept {G : Ghosts MemoryDisk} (f : WorldFault) (old new : Station MemoryDisk G) : Type 0 where
   pub state : state_in new ≡ left_polls (state_in old) (state_in new).poller.polls
   pub disk : (f ≡ Refused (station.Keeper keeper.DiskFault) → ⊥) → new.keeper ≡ old.keeper

@@ -18,7 +18,8 @@ pub record Move : Type 0 where
   pub entry : Entry
   pub after : State
 
--- the lives of a station: what happened to it, each with the state that it left. Here, and in all lists of moves, the newest stands first.
+-- the lives of a station: what happened to it, each with the state that it left. Here, and in all
+-- lists of moves, the newest is first.
 abbrev pub lives_of : ℕ → List Move → List (Entry × State)
 lives_of x [] = []
 lives_of x (m ∷ moves) = if m.station == x then (m.entry, m.after) ∷ lives_of x moves else lives_of x moves
@@ -50,8 +51,9 @@ sent_in [] = []
 sent_in (m ∷ moves) = sent_in moves ++ letters_by (last_state (lives_of m.station moves)) m.entry
 
 -- ---- lives from an honestly kept file
--- An opening may find the save that has so many later ones, after an event with this answer: after a save that was answered without a fault this one
--- alone, and after a save that met the disk's fault this one too.
+-- An opening may find the save that has this many later ones, after an event with this answer:
+-- after a save that was answered without a fault only this one, and after a save that met the
+-- disk's fault this one too.
 abbrev pub MayFindAfter : ReadEvent → Option StationFault → (ℕ → Type 0) → ℕ → Type 0
 MayFindAfter Save None before later = later ≡ 0
 MayFindAfter Save (Some f) before zero = f ≡ fault.Keeper keeper.DiskFault
@@ -62,7 +64,8 @@ MayFindAfter (FromAgent from read) answer before later = before later
 MayFindAfter (FromPeer said) answer before later = before later
 MayFindAfter (Share peer) answer before later = before later
 
--- an opening may find the save that has so many later ones: the last that was answered without a fault or with which a life began, or one after it that met the disk's fault
+-- an opening may find the save that has this many later ones: the last that was answered without a
+-- fault or with which a life began, or one after it that met the disk's fault
 abbrev pub MayFind : List (Entry × State) → ℕ → Type 0
 MayFind [] later = ⊥
 MayFind ((Restart origin w, s) ∷ past) later = later ≡ 0

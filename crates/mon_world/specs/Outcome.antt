@@ -22,7 +22,7 @@ use Rattle.mon_world.specs.Moves.{MayFind, Move, Letter, lives_of, sent_in}
 use Rattle.mon_world.specs.Places.{HasNumber, IsNumberTo, IsNoNumberTo}
 
 -- ---- moves
--- station x was handed an event, and this is its answer and what it left
+-- station x was given an event, and this is its answer and what it left
 abbrev pub answers : ℕ → ReadEvent → Option StationFault → State → Move
 answers x e answer s = record { station = x; entry = Answered e answer; after = s }
 
@@ -40,7 +40,8 @@ first_lives settings x (s ∷ states) = life_begins x Nothing (settings x) s ∷
 abbrev pub target_number : ℕ → ℕ
 target_number t = if nat_lt 0 t && nat_lt t 65536 then t - 1 else 65535
 
--- the address of the target of this number, counted from 1, or an address of no target where there is no such target
+-- the address of the target of this number, counted from 1, or an address of no target if there is
+-- no such target
 pub record IsSpeaker (targets : List Target) (t : ℕ) (from : Addr) : Type 0 where
   pub target : IsNumberTo (length targets) t → from ≡ (target_at targets (t - 1)).address
   pub stranger : IsNoNumberTo (length targets) t → All (λ target. ¬ (target.address ≡ from)) targets
@@ -69,8 +70,8 @@ IsStopOrigin true lives (Saved (suc later)) = MayFind lives later
 IsStopOrigin false lives (Saved zero) = Unit {0}
 IsStopOrigin early lives origin = ⊥
 
--- station x stops within a save after so many calls of the disk, of which what was written since the last sync stays or is lost, and is opened again; the save met
--- the disk's fault
+-- station x stops within a save after this many calls of the disk, of which what was written since
+-- the last sync stays or is lost, and is opened again; the save met the disk's fault
 pub record Stops (w : Setting) (x calls : ℕ) (keep : Bool) (past now : List Move) : Type 0 where
   pub running : State
   pub origin : Origin
@@ -83,7 +84,7 @@ abbrev pub StopsAndOpens : (settings : ℕ → Setting) → (x calls : ℕ) → 
 StopsAndOpens settings x calls keep None past now = Stops (settings x) x calls keep past now
 StopsAndOpens settings x calls keep (Some f) past now = now ≡ past
 
--- station x hears octets from the address of the target of this number, or from a strange one
+-- station x receives octets from the address of the target of this number, or from a strange one
 pub record Hears (w : Setting) (x t : ℕ) (octets : List ℕ) (answer : Option StationFault) (past now : List Move) : Type 0 where
   pub from : Addr
   pub speaks : IsSpeaker w.targets t from
@@ -131,15 +132,16 @@ pub record AreNumbers (past now : List Move) (sent : Sent) : Type 0 where
   pub first : sent.first ≡ length (sent_in past) + 1
   pub count : length (sent_in past) + sent.count ≡ length (sent_in now)
 
--- Of so many stations, a step that led from moves to moves is answered so: what it names is there and its numbers are those of the datagrams that it sent, or its
--- fault has its cause and it sent none.
+-- Of this many stations, a step that led from moves to moves is answered so: what it names is there
+-- and its numbers are those of the datagrams that it sent, or its fault has its cause and it sent
+-- none.
 pub record IsStepAnswer (stations : ℕ) (past now : List Move) (step : Step) (result : Result Sent WorldFault) : Type 0 where
   pub there : OnOk result (IsThere stations (length (sent_in past)) step)
   pub cause : IfErr result (IsCause stations (length (sent_in past)) step)
   pub numbers : IfOk result (AreNumbers past now)
   pub none : OnErr result (length (sent_in now) ≡ length (sent_in past))
 
--- of so many stations with these settings, a step with this result leads from moves to moves
+-- of this many stations with these settings, a step with this result leads from moves to moves
 pub record IsStepMade (settings : ℕ → Setting) (stations : ℕ) (step : Step) (result : Result Sent WorldFault) (past now : List Move) : Type 0 where
   pub outcome : IsStepOutcome settings step result past now
   pub answer : IsStepAnswer stations past now step result

@@ -21,7 +21,7 @@ abbrev pub others_to : ℕ → ℕ → List ℕ
 others_to x zero = []
 others_to x (suc n) = if suc n == x then others_to x n else others_to x n ++ suc n ∷ []
 
--- what station x of so many is set up with: all others are its peers
+-- what station x of this many is set up with: all others are its peers
 abbrev pub setting_at : Core → ℕ → ℕ → Setting
 setting_at core count x = record { watch = core.watch; targets = core.targets; own = x; peers = others_to x count }
 

@@ -103,21 +103,21 @@ pub record IsStationAsked {G : Ghosts MemoryDisk} (core : Core) (x : ℕ) (event
   pub shown : AreShown core stations (answers x read answer after ∷ past)
   pub letters : AreSent sends (letters_by (last_state (lives_of x past)) (Answered read answer))
 
--- the same where a fault was answered: for want of memory nothing happened
+-- what a step with a fault led to: if memory ran out nothing happened
 abbrev pub IsStationRefused : {G : Ghosts MemoryDisk} → Core → ℕ → OwnedEvent → Option StationFault → List Move → List (Station MemoryDisk G) → Type 0
 IsStationRefused core x event None past stations = AreShown core stations past
 IsStationRefused core x event (Some f) past stations = IsStationAsked core x event (Some f) [] past stations
 
--- station x of so many is in its first life, which will be found
+-- station x of this many is in its first life, which will be found
 pub record IsFirst {G : Ghosts MemoryDisk} (core : Core) (count x : ℕ) (s : Station MemoryDisk G) : Type 0 where
   pub begun : IsBegun (setting_at core count x) None (state_in s)
   pub kept : Leaves (disk_leaves s) (FindsState (state_in s))
 
--- each of these stations, of so many, is
+-- each of these stations, of this many, is
 abbrev pub AreFirst : {G : Ghosts MemoryDisk} → Core → ℕ → List (Station MemoryDisk G) → Type 0
 AreFirst {G} core count stations = (x : ℕ) (s : Station MemoryDisk G) → HasNumber stations x s → IsFirst core count x s
 
--- a station at this place of a world of so many began a life from this body, and will be found
+-- a station at this place of a world of this many began a life from this body, and will be found
 pub record IsReplaced {G : Ghosts MemoryDisk} (core : Core) (place : ℕ) (body : Option (List ℕ)) (old new : List (Station MemoryDisk G)) : Type 0 where
   pub station : Station MemoryDisk G
   pub is : new ≡ slice_set old place station

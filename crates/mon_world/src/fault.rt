@@ -8,7 +8,7 @@ use mon_station::{Innermost, StationFault};
 use std::alloc::{AllocError, AllocFailed};
 use thiserror::Error;
 
-/// Why a step was not made, or a world not opened. A station's want of memory is the world's own.
+/// Why a step was not made, or a world not opened. A station's lack of memory is the world's own.
 #[derive(Clone, Copy, Debug, PartialEq, Eq, Error)]
 pub enum WorldFault {
     /// Memory was refused.

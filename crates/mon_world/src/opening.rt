@@ -13,7 +13,7 @@ use mon_settings::Core;
 use mon_station::Station;
 use std::alloc::{AllocError, Global};
 
-/// Opens each of so many stations on an empty disk.
+/// Opens each of this many stations on an empty disk.
 pub(crate) fn open_all(
     alloc: Global,
     core: &Core,
@@ -32,7 +32,7 @@ pub(crate) fn open_all(
     Ok(stations)
 }
 
-/// Opens one of so many stations on an empty disk.
+/// Opens one of this many stations on an empty disk.
 fn open_first(
     alloc: Global,
     core: &Core,
@@ -55,7 +55,7 @@ fn open_first(
     }
 }
 
-/// What one of so many stations is set up with: its peers are all others.
+/// Returns what one of this many stations is set up with: its peers are all others.
 pub(crate) fn core_at(
     alloc: Global,
     core: &Core,

@@ -25,7 +25,7 @@ pub struct Sent {
     ghost numbered: { first + count < 2 ^ 64 },
 }
 
-/// Appends what goes to peers, in order. It takes no memory.
+/// Appends what goes to peers, in order. It allocates nothing.
 pub(crate) fn append(sent: &mut Vec<Datagram>, sends: Vec<Outgoing>) -> Sent
     requires room { vec_len sent.old + length sends.items ≤ vec_capacity sent.old }
     ensures appended { sent.new.items ≡ sent.old.items ++ to_peers sends.items }
@@ -44,7 +44,7 @@ pub(crate) fn append(sent: &mut Vec<Datagram>, sends: Vec<Outgoing>) -> Sent
     sent_between(before, sent.len())
 }
 
-/// The numbers of what was sent after so many datagrams, until there were so many.
+/// Returns the numbers of what was sent after the datagrams before it.
 pub(crate) fn sent_between(before: usize, now: usize) -> Sent
     requires more { before ≤ now }
     requires small { now < 2 ^ 63 }

@@ -8,7 +8,8 @@ use mon_poller::{Addr, Target};
 /// How many addresses are tried for a strange one: there are at most 64 targets.
 const STRANGERS: u16 = 65;
 
-/// The address of the target of this number, counted from 1, or an address of no target where there is no such target.
+/// Returns the address of the target of this number, counted from 1, or an address of no target if
+/// there is no such target.
 pub(crate) fn speaker(targets: &[Target], number: u32) -> Addr
     requires few { length targets.now ≤ 64 }
     ensures { IsSpeaker targets.now number result }
@@ -36,7 +37,7 @@ fn stranger(targets: &[Target]) -> Addr
     unreachable!()
 }
 
-/// Whether a target has this address.
+/// Returns `true` if a target has this address.
 fn is_target(targets: &[Target], address: Addr) -> bool
     ensures { IsTrue result ↔ Any (λ target. target.address ≡ address) targets.now }
 {

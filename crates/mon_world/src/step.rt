@@ -5,7 +5,8 @@
 pub enum Step<'a> {
     /// A station starts a poll of a target.
     StartPoll(u32, u32),
-    /// These octets come to a station from the address of a target, or from a strange one where there is no such target.
+    /// These octets come to a station from the address of a target, or from a strange one if there
+    /// is no such target.
     AgentSays(u32, u32, &'a [u8]),
     /// A station's poll of this request-id was not answered in time.
     Timeout(u32, u32),
@@ -19,7 +20,7 @@ pub enum Step<'a> {
     Restart(u32),
     /// These octets come to a station as if from a peer.
     Forge(u32, &'a [u8]),
-    /// A station stops within a save after so many calls of the disk, 0 to 6, and is opened again from what a crash left: with all
-    /// that was written since the last sync, or without it.
+    /// A station stops within a save after 0 to 6 calls of the disk, and is opened again from what
+    /// a crash left: with all that was written since the last sync, or without it.
     Stop(u32, u8, bool),
 }

@@ -15,8 +15,8 @@ use mon_saved::write_image;
 use mon_station::{Station, StationFault};
 use std::alloc::{AllocError, Global};
 
-/// What a crash after so many calls of a save leaves of a copy of a station's disk, with all that was written since the last sync or
-/// without it. The station runs on as it was.
+/// Returns what a crash after these calls of a save leaves of a copy of a station's disk, with all
+/// that was written since the last sync or without it. The station runs on as it was.
 ///
 /// # Errors
 /// `OutOfMemory`; and the keeper's fault where it refused the save before the first call.
@@ -45,7 +45,7 @@ pub(crate) fn stopped(
     Ok(left)
 }
 
-/// The image behind room for its head.
+/// Returns the image behind space for its head.
 fn behind_room(alloc: Global, image: &[u8]) -> Result<Vec<u8>, AllocError>
     ensures room { IfOk result (λ octets. 16 ≤ length octets.items) }
     ensures image { IfOk result (λ octets. drop 16 octets.items ≡ image.now) }

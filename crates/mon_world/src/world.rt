@@ -46,7 +46,8 @@ pub struct World {
 }
 
 impl World {
-    /// A world of so many stations, 1 to 16, numbered from 1, with this core's watch and targets; each is opened on an empty disk.
+    /// Makes a world of 1 to 16 stations, numbered from 1, with this core's watch and targets; each
+    /// is opened on an empty disk.
     ///
     /// # Errors
     /// `BadCount` unless they are 1 to 16; `Refused` where an opening was refused; `OutOfMemory`.
@@ -175,7 +176,7 @@ impl World {
         self.handle(number, Event::FromAgent(from, octets))
     }
 
-    /// Opens the station at a place from this disk. It takes the place of the one that stood there.
+    /// Opens the station at a place from this disk, in place of the one that was there.
     fn reopen(&mut self, place: usize, disk: MemoryDisk) -> Result<Sent, WorldFault>
         requires { place < length self.old.stations.items }
         ensures opened { OnOk result (IsReplaced self.old.core place (found_body (memory_octets disk)) self.old.stations.items self.new.stations.items) }
@@ -237,12 +238,12 @@ impl World {
         self.reopen(place, disk)
     }
 
-    /// Makes a step. Room for the datagrams that it may send is taken first.
+    /// Makes a step. It first allocates for the datagrams that it may send.
     ///
     /// # Errors
-    /// `NoSuchStation`, `NoSuchDatagram` or `BadStop` where the step names what is not there; `Refused` where the station refused, and a
-    /// station that was not opened runs on as it was, as at a stop whose save has no generation left; `OutOfMemory`, and everything is as
-    /// it was.
+    /// `NoSuchStation`, `NoSuchDatagram` or `BadStop` where the step names what is not there;
+    /// `Refused` where the station refused, and a station that was not opened runs on as it was, as
+    /// at a stop whose save has no generation left; `OutOfMemory`, and everything is as it was.
     pub fn step(&mut self, step: Step<'_>) -> Result<Sent, WorldFault>
         // Whatever moves led here, the step adds its own: what the station does about its event.
         ensures outcome { (past : List Move) → Shows self.old.core self.old.stations.items self.old.sent.items past
@@ -273,11 +274,11 @@ impl World {
         }
     }
 
-    /// Makes these steps in order; a refused one does not end it. Room for their results is taken first.
-    /// Each result has the cause and the numbers that `step` gives it.
+    /// Makes these steps in order; a refused one does not end it. It first allocates for their
+    /// results. Each result has the cause and the numbers that `step` gives it.
     ///
     /// # Errors
-    /// `OutOfMemory` where there is no room for the results: no step was made.
+    /// `OutOfMemory` if there is no memory for the results: no step was made.
     pub fn run(&mut self, steps: &[Step<'_>]) -> Result<Vec<Result<Sent, WorldFault>>, WorldFault>
         ensures outcomes { IfOk result (λ results. (past : List Move) → Shows self.old.core self.old.stations.items self.old.sent.items past
             → LeadsTo self.new.core self.new.stations.items self.new.sent.items (λ now. AreStepOutcomes (setting_at self.old.core (length self.old.stations.items)) (length self.old.stations.items) steps.now results.items past now)) }

@@ -1,5 +1,7 @@
 //! The client commands: `get`, `next`, `bulk`, `walk` and `set`.
 
+ghost use Rattle.std.specs.Prelude.{◌↔◌, ◌≤◌, IsTrue, length};
+
 use crate::failure::Failure;
 use crate::files::print;
 use crate::naming::{asked_for, names_of};
@@ -16,8 +18,8 @@ use std::alloc::{AllocError, Global};
 use std::net::{Net, SocketAddrV4};
 use std::rt::{Clock, Files};
 
-/// The longest community, in octets.
-const LONGEST_COMMUNITY: usize = 512;
+/// The maximum length of a community, in octets.
+const MAX_COMMUNITY: usize = 512;
 
 /// Prints variables of an agent.
 pub fn get<R: Clock + Files + Net + Print + AllocGlobal>(
@@ -69,7 +71,7 @@ pub fn walk<R: Clock + Files + Net + Print + AllocGlobal>(
     walked
 }
 
-/// Asks the agent that the words name, and prints its answer.
+/// Asks the agent that the arguments name, and prints its answer.
 fn ask<R: Clock + Files + Net + Print + AllocGlobal>(
     rt: &R,
     request: Request<'_, '_>,
@@ -96,7 +98,8 @@ struct AgentAt<'a> {
     address: SocketAddrV4,
 }
 
-/// Whom the words ask, and about which variables. Their faults are found from left to right, then those of the modules, then those of the names.
+/// Reads whom the arguments ask, and about which variables. Their faults are found from left to
+/// right, then those of the modules, then those of the names.
 fn query_of<'a, R: Files + AllocGlobal>(
     rt: &R,
     request: Request<'_, 'a>,
@@ -124,11 +127,17 @@ fn agent_at<'a>(alloc: Global, word: &'a str) -> Result<AgentAt<'a>, Failure> {
 
 /// The octets of a community.
 fn community<'a>(alloc: Global, word: &'a str) -> Result<&'a [u8], Failure> {
-    let community = word.as_bytes();
-    if community.is_empty() || community.len() > LONGEST_COMMUNITY {
-        return Err(Failure::text(alloc, "COMMUNITY", "a text of 1 to 512 octets"));
+    if is_community(word) {
+        return Ok(word.as_bytes());
     }
-    Ok(community)
+    Err(Failure::text(alloc, "COMMUNITY", "a text of 1 to 512 octets"))
+}
+
+/// Returns `true` if the word can be a community, which has 1 to 512 octets.
+fn is_community(word: &str) -> bool
+    ensures { IsTrue result ↔ ((1 ≤ length word.now) × (length word.now ≤ 512)) }
+{
+    1 <= word.len() && word.len() <= MAX_COMMUNITY
 }
 
 /// The identifiers that words name.
@@ -140,7 +149,7 @@ fn asked(alloc: Global, words: &[&str], known: &Names) -> Result<Vec<Oid>, Failu
     Ok(asked)
 }
 
-/// The value that a word gives a variable, by the word for its kind.
+/// Reads the value of a variable, by its kind.
 fn read_value(alloc: Global, kind: &str, word: &str) -> Result<Value, Failure> {
     let Some(kind) = ValueKind::named(kind) else {
         return Err(Failure::text(alloc, kind, "a kind of value"));
@@ -152,7 +161,7 @@ fn read_value(alloc: Global, kind: &str, word: &str) -> Result<Value, Failure> {
     }
 }
 
-/// What is wanted as a value of a kind.
+/// Says what a value of a kind must be.
 fn wanted_of(kind: ValueKind) -> &'static str {
     match kind {
         ValueKind::Integer => "an integer, -2147483648 to 2147483647,",

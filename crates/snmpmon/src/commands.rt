@@ -19,7 +19,7 @@ use std::net::Net;
 use std::rt::{Clock, Env, Files};
 use std::{env, io};
 
-/// Runs the command that the words name, and answers the status.
+/// Runs the command that the arguments name, and returns the exit status.
 pub fn start<R: Env + Clock + Files<File = File> + Net + Input + Print + Eprint + AllocGlobal>(
     rt: &R,
 ) -> u8 {
@@ -42,7 +42,8 @@ pub fn start<R: Env + Clock + Files<File = File> + Net + Input + Print + Eprint 
     }
 }
 
-/// Prints why the words were refused, or the help that they asked for, and answers the status.
+/// Prints why the arguments were refused, or the help that they asked for, and returns the exit
+/// status.
 fn refused<R: Print + Eprint + AllocGlobal>(rt: &R, error: &clap::Error) -> u8 {
     if error.kind() == ErrorKind::OutOfMemory {
         return failed(rt, &Failure::from(AllocError));
@@ -63,13 +64,14 @@ fn unreadable(rt: &impl Eprint) -> u8 {
     2
 }
 
-/// Says why a command failed, and answers the status. Where printing fails too, the status alone tells.
+/// Prints why a command failed, and returns the exit status. If printing fails too, only the status
+/// says so.
 fn failed(rt: &impl Eprint, failure: &Failure) -> u8 {
     failure.tell(rt);
     1
 }
 
-/// Does what the words ask for.
+/// Does what the arguments ask for.
 fn run<R: Clock + Files<File = File> + Net + Input + Print + Eprint + AllocGlobal>(
     rt: &R,
     asked: Asked<'_, '_>,
@@ -92,14 +94,14 @@ fn run<R: Clock + Files<File = File> + Net + Input + Print + Eprint + AllocGloba
     }
 }
 
-/// The size of a window that the words name. The command line takes 1 to 64 alone.
+/// Returns the size of a window that the arguments name. The command line only takes 1 to 64.
 fn window_of(size: u32) -> u8
     ensures { (1 ≤ result) × (result ≤ 64) }
 {
     size.clamp(1, 64) as u8
 }
 
-/// Prints the windows of the responses on standard input, or their report where the words ask for one.
+/// Prints the windows of the responses on standard input, or their report if asked to.
 fn replaying<R: Files + Input + Print + Eprint + AllocGlobal>(
     rt: &R,
     words: ReplayWords<'_, '_>,

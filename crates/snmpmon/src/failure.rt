@@ -11,7 +11,8 @@ use std::alloc::{AllocError, AllocFailed, Global};
 use std::fmt::Display;
 use std::io;
 
-/// A fault, and what else is known of it: the file, the address or the word in which it arose, and what is wanted there.
+/// A fault, and what else is known of it: the file, the address or the argument in which it arose,
+/// and what must be there.
 #[derive(Debug, Drop)]
 pub struct Failure {
     pub fault: Fault,
@@ -37,7 +38,7 @@ impl Failure {
         Failure::said(fault, format!(in alloc; "{place}: {fault}"))
     }
 
-    /// A word or a text that is not what is wanted in its place.
+    /// Makes the failure of an argument or a text that is not what must be in its place.
     pub fn text(alloc: Global, place: &str, wanted: &str) -> Self {
         let fault = Fault::App(AppFault::BadText);
         Failure::said(fault, format!(in alloc; "{place}: {wanted} is wanted"))
@@ -70,7 +71,7 @@ impl Failure {
         )
     }
 
-    /// Whether memory was refused.
+    /// Returns `true` if memory was refused.
     pub fn is_of_memory(&self) -> bool {
         self.fault.innermost().number == OUT_OF_MEMORY
     }

@@ -22,7 +22,8 @@ pub fn print<R: Print + AllocGlobal>(rt: &R, octets: &[u8]) -> Result<(), Failur
     }
 }
 
-/// Replaces a file whole: a new one is written beside it and given its name, so that a reader finds the old text or the new one.
+/// Replaces a file whole: a new one is written next to it and renamed, so that a reader finds the
+/// old text or the new one.
 pub fn replace_file<R: Files<File = File> + AllocGlobal>(
     rt: &R,
     path: &str,
@@ -72,7 +73,7 @@ pub fn read_text<R: Files + AllocGlobal>(rt: &R, path: &str) -> Result<String, F
     }
 }
 
-/// The first so many octets of a file, or all of a shorter one.
+/// Reads the first octets of a file, at most this many.
 pub fn read_first<R: Files<File = File> + AllocGlobal>(
     rt: &R,
     path: &str,
@@ -89,7 +90,7 @@ pub fn read_first<R: Files<File = File> + AllocGlobal>(
     }
 }
 
-/// A file that could not be read to its end. Of a folder the cause is told.
+/// Returns the failure of a file that could not be read to its end. Of a folder it names the cause.
 fn unread_file<R: Files + AllocGlobal>(rt: &R, path: &str, fault: AppFault) -> Failure {
     let alloc = rt.alloc();
     match fs::metadata(rt, path) {

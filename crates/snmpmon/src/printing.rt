@@ -24,7 +24,8 @@ pub struct Printing {
 }
 
 impl Printing {
-    /// What the words ask for. These names are known, of the modules in these files, and those of the modules that the words give.
+    /// Reads what the arguments ask for. These names are known, of the modules in these files, and
+    /// those of the modules that the arguments give.
     pub fn of<R: Files + AllocGlobal>(
         rt: &R,
         printed: Printed<'_, '_>,
@@ -43,12 +44,12 @@ impl Printing {
         })
     }
 
-    /// Whether the format is lines of text.
+    /// Returns `true` if the format is lines of text.
     pub fn is_text(&self) -> bool {
         self.format == Format::Text
     }
 
-    /// Whether the format is lines of text with names in numbers.
+    /// Returns `true` if the format is lines of text with names in numbers.
     pub fn is_plain(&self) -> bool {
         self.is_text() && self.names.is_none()
     }
@@ -93,12 +94,12 @@ impl Printing {
     }
 }
 
-/// Whether one of the files is this one.
+/// Returns `true` if one of the files is this one.
 fn is_among(files: &[String], path: &str) -> bool {
     files.iter().any(|file| file.as_str() == path)
 }
 
-/// The format of reports that the words want.
+/// Returns the format of reports that the arguments ask for.
 fn format_of(wanted: ReportFormat) -> Format
     ensures { result ≡ format_of wanted }
 {

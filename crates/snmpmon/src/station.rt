@@ -1,6 +1,6 @@
 //! The commands of stations: `station`, `report`, `selftest` and `rehearse`.
 
-ghost use Rattle.std.specs.Prelude.{◌≤◌};
+ghost use Rattle.std.specs.Prelude.{◌↔◌, ◌<◌, ◌≤◌, IsTrue};
 
 use crate::failure::Failure;
 use crate::files::{print, read_first, read_input, read_text};
@@ -43,7 +43,7 @@ struct Running<S: Receiver + Drop, O: Outbox + Drop> {
     reports: Reports,
 }
 
-/// What a station hears and sends by, and where its targets and peers are reached.
+/// What a station receives and sends by, and where its targets and peers are reached.
 #[derive(Drop)]
 struct Lines<S: Receiver + Drop, O: Outbox + Drop> {
     rounds: Rounds<S>,
@@ -59,7 +59,7 @@ struct Reports {
     out: Option<String>,
 }
 
-/// How a report is printed where the words do not say.
+/// How a report is printed if the arguments do not say.
 const PLAIN: Printed<'static, 'static> = Printed {
     format: ReportFormat::Text,
     named: Named {
@@ -68,7 +68,7 @@ const PLAIN: Printed<'static, 'static> = Printed {
     },
 };
 
-/// The most times that a station goes on hearing between two rounds.
+/// How often a station goes on receiving between two rounds, at most.
 const MOST_RESTS: u32 = u32::MAX;
 
 /// Runs the station of the settings through its rounds, and prints its report.
@@ -86,7 +86,7 @@ pub fn station<R: Clock + Files<File = File> + Net + Print + Eprint + AllocGloba
     run_rounds(rt, running, words.timing)
 }
 
-/// What the station of the settings hears and sends by, over this socket.
+/// Makes what the station of the settings receives and sends by, over this socket.
 fn lines_of<'a, R: Clock + AllocGlobal>(
     rt: &'a R,
     settings: &StationSettings,
@@ -102,7 +102,7 @@ fn lines_of<'a, R: Clock + AllocGlobal>(
     Ok(lines_by(alloc, settings, receiver, outbox)?)
 }
 
-/// What the station of the settings hears and sends by.
+/// Makes what the station of the settings receives and sends by.
 fn lines_by<S: Receiver + Drop, O: Outbox + Drop>(
     alloc: Global,
     settings: &StationSettings,
@@ -143,7 +143,7 @@ fn run_rounds<
     print_report(rt, &running)
 }
 
-/// Runs one round, and tells what there is to tell of it.
+/// Runs one round, and prints its notices.
 fn one_round<R: Eprint + AllocGlobal, S: Receiver + Drop, O: Outbox + Drop>(
     rt: &R,
     running: &mut Running<S, O>,
@@ -174,7 +174,8 @@ fn between<R: Clock + Print + Eprint + AllocGlobal, S: Receiver + Drop, O: Outbo
     pause(rt, running, number, began, interval)
 }
 
-/// Prints the report of the windows in the file of the settings. The station is not started, and the file is read alone.
+/// Prints the report of the windows in the file of the settings. The station is not started, and
+/// the file is only read.
 pub fn report<R: Files<File = File> + Print + AllocGlobal>(
     rt: &R,
     words: ReportWords<'_, '_>,
@@ -186,7 +187,7 @@ pub fn report<R: Files<File = File> + Print + AllocGlobal>(
     print(rt, text.as_slice())
 }
 
-/// The windows in the file of the settings, which is read alone.
+/// Reads the windows in the file of the settings, which is only read.
 fn saved_in<R: Files<File = File> + AllocGlobal>(
     rt: &R,
     settings: &StationSettings,
@@ -216,7 +217,7 @@ pub fn rehearsal<R: Files + Input + Print + AllocGlobal>(
     print(rt, text.as_slice())
 }
 
-/// How many stations the words name. The command line takes 1 to 16 alone.
+/// Returns how many stations the arguments name. The command line only takes 1 to 16.
 fn count_of(stations: u32) -> u32
     ensures { (1 ≤ result) × (result ≤ 16) }
 {
@@ -254,7 +255,7 @@ fn settings_of<R: Files + AllocGlobal>(
     }
 }
 
-/// The file for each round's report, if there is to be one.
+/// Returns the file for each round's report, if there is one.
 fn out_of(alloc: Global, path: Option<&str>) -> Result<Option<String>, Failure> {
     match path {
         Some(path) => Ok(Some(String::from_str(alloc, path)?)),
@@ -262,8 +263,9 @@ fn out_of(alloc: Global, path: Option<&str>) -> Result<Option<String>, Failure> 
     }
 }
 
-/// The file and the socket of the settings. The socket is taken first, so that of two processes with the same settings the second neither makes the file nor writes
-/// it; yet the faults of a file that is there are told before the socket's.
+/// The file and the socket of the settings. The socket is taken first, so that of two processes
+/// with the same settings the second neither makes the file nor writes it; yet the faults of an
+/// existing file are reported before the socket's.
 fn opened<R: Files<File = File> + Net + Eprint + AllocGlobal>(
     rt: &R,
     settings: &StationSettings,
@@ -290,7 +292,7 @@ fn opened<R: Files<File = File> + Net + Eprint + AllocGlobal>(
 /// Says of a file that is shorter than a station's, and not empty, that it will be laid out.
 fn warn_of_short<R: Eprint>(rt: &R, path: &str, size: Result<u64, DiskError>) {
     if let Ok(size) = size {
-        if size > 0 && size < 2 * SLOT_SIZE {
+        if is_short(size) {
             let _ = eprintln!(rt;
                 "snmpmon: {path} has {size} octets, so it is no station's file yet: it is laid out as one"
             );
@@ -298,7 +300,14 @@ fn warn_of_short<R: Eprint>(rt: &R, path: &str, size: Result<u64, DiskError>) {
     }
 }
 
-/// Opens the station, and says where it stands.
+/// Returns `true` if a file of this size is laid out as a station's though it isn't empty.
+fn is_short(size: u64) -> bool
+    ensures { IsTrue result ↔ ((1 ≤ size) × (size < 2097152)) }
+{
+    size > 0 && size < 2 * SLOT_SIZE
+}
+
+/// Opens the station, and prints where it is.
 fn begun<R: Eprint + AllocGlobal, S: Receiver + Drop, O: Outbox + Drop>(
     rt: &R,
     settings: StationSettings,
@@ -328,7 +337,8 @@ fn begun<R: Eprint + AllocGlobal, S: Receiver + Drop, O: Outbox + Drop>(
     })
 }
 
-/// Tells what a round, or the time after it, had to be told of. Where memory runs out that is told, and the station goes on.
+/// Prints the notices of a round, or of the time after it. If memory runs out that is reported, and
+/// the station goes on.
 fn after<R: Eprint + AllocGlobal, S: Receiver + Drop, O: Outbox + Drop>(
     rt: &R,
     running: &mut Running<S, O>,
@@ -397,7 +407,8 @@ fn now<R: Clock + AllocGlobal>(rt: &R) -> Result<Instant, Failure> {
     }
 }
 
-/// Prints the report between two rounds. Where memory runs out that is told, and the station goes on.
+/// Prints the report between two rounds. If memory runs out that is reported, and the station goes
+/// on.
 fn print_between<R: Print + Eprint + AllocGlobal, S: Receiver + Drop, O: Outbox + Drop>(
     rt: &R,
     running: &Running<S, O>,
@@ -412,7 +423,7 @@ fn print_between<R: Print + Eprint + AllocGlobal, S: Receiver + Drop, O: Outbox 
     Ok(())
 }
 
-/// Prints the report of a station's windows. Lines of text with names in numbers take no memory.
+/// Prints the report of a station's windows. Lines of text with names in numbers need no memory.
 fn print_report<R: Print + AllocGlobal, S: Receiver + Drop, O: Outbox + Drop>(
     rt: &R,
     running: &Running<S, O>,
@@ -429,7 +440,8 @@ fn print_report<R: Print + AllocGlobal, S: Receiver + Drop, O: Outbox + Drop>(
     print(rt, text.as_slice())
 }
 
-/// Prints the report of a board as lines of text: many at once, or piece by piece where there is no memory for them.
+/// Prints the report of a board as lines of text: many at once, or piece by piece if there is no
+/// memory for them.
 fn print_lines<R: Print + AllocGlobal>(rt: &R, board: &Board) -> Result<(), Failure> {
     let is_printed = match BufWriter::new(rt.alloc(), io::writer(rt)) {
         Ok(mut lines) => write_report(board, &mut lines).is_ok() && lines.flush().is_ok(),
@@ -445,7 +457,8 @@ fn print_lines<R: Print + AllocGlobal>(rt: &R, board: &Board) -> Result<(), Fail
     ))
 }
 
-/// Writes the report to the file that the words name, if they name one. What goes wrong is told, and the station goes on.
+/// Writes the report to the file that the arguments name, if they name one. What goes wrong is
+/// reported, and the station goes on.
 fn write_out<R: Files<File = File> + Eprint + AllocGlobal, S: Receiver + Drop, O: Outbox + Drop>(
     rt: &R,
     running: &Running<S, O>,

@@ -4,7 +4,7 @@ use mon_poller::Addr;
 use mon_rounds::{Addresses, Notice, RoundReport};
 use std::net::{Ipv4Addr, SocketAddrV4};
 
-/// Tells what a round had to be told of, a line each.
+/// Prints the notices of a round, a line each.
 pub fn tell_notices(rt: &impl Eprint, round: u32, addresses: &Addresses, report: &RoundReport) {
     for notice in report.notices.as_slice() {
         tell_notice(rt, round, addresses, *notice);

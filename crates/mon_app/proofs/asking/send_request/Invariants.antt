@@ -3,7 +3,7 @@ use Rattle.mon_app.specs.Question.{asked_in}
 use Rattle.mon_app.proofs.Askings.{AreSent}
 use Rattle.mon_app.proofs.asking.send_request.Given as goal
 
--- so often was sent, and no reply was heard
+-- it was sent this often, and no reply was received
 abbrev pub invariant-loop : goal.invariant-loop
 invariant-loop g l = record {
   sent : AreSent (asked_in l.question) l.counter (g.W.Wire.told l.fn.wire) (g.W.Wire.told l.wire);

@@ -3,7 +3,7 @@ use Rattle.mon_app.specs.Question.{asked_in}
 use Rattle.mon_app.proofs.Askings.{AreHeard}
 use Rattle.mon_app.proofs.asking.take_reply.Given as goal
 
--- what was heard is no reply, and the wire did not fail
+-- what was received is no reply, and the wire did not fail
 abbrev pub invariant-loop : goal.invariant-loop
 invariant-loop g l = record {
   heard : AreHeard (asked_in l.question) l.counter (g.W.Wire.told l.fn.wire) (g.W.Wire.told l.wire);

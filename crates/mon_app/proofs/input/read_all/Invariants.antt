@@ -2,7 +2,8 @@ use Rattle.std.proofs.Common.{◌≡◌, ◌+◌, length}
 use Rattle.std.specs.Io.KnownBytes.{Consumes}
 use Rattle.mon_app.proofs.input.read_all.Given as goal
 
--- what was read so far is what the reader lost, in so many reads that came to no end and did not fail
+-- what was read so far is what the reader lost, in this many reads that came to no end and did not
+-- fail
 abbrev pub invariant-loop : goal.invariant-loop
 invariant-loop g l = record {
   room : length l.chunk.items ≡ 65536;

@@ -4,7 +4,7 @@ use Rattle.mon_app.specs.AtPort.{Happens}
 use Rattle.mon_app.specs.Served.{AnswersIt, AreServed, Takes, stands}
 use Rattle.mon_app.proofs.serving.serve.Given as goal
 
--- so many datagrams came
+-- this many datagrams came
 abbrev pub invariant-loop : goal.invariant-loop
 invariant-loop g l = record {
   served : Happens (AreServed (Takes (AnswersIt g.D.Device.held g.D.Device.failed g.D.Device.refuses (policy_of l.fn.agent) (settings_of l.fn.agent))) l.counter

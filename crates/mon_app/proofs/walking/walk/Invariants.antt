@@ -3,7 +3,7 @@ use Rattle.std.specs.Prelude.{string_bytes}
 use Rattle.mon_app.proofs.Walks.{IsAt}
 use Rattle.mon_app.proofs.walking.walk.Given as goal
 
--- so many turns added a line each, and the wire did not fail
+-- this many turns added a line each, and the wire did not fail
 abbrev pub invariant-loop-request_id : goal.invariant-loop-request_id
 invariant-loop-request_id g l = record {
   walked : IsAt (g.S.NameTexts.shown l.names) l.community l.start (string_bytes l.fn.text) l.request_id (string_bytes l.text) l.last (g.W.Wire.told l.fn.wire) (g.W.Wire.told l.wire);

@@ -7,7 +7,7 @@ use Rattle.mon_agent.specs.Bulk.{IsStepper}
 use Rattle.mon_agent.specs.Growing.{last, more_rounds}
 use Rattle.mon_agent.proofs.agent.Agent.repeat_all.Given as goal
 
--- what was to be added at first is what was added, and then what is to be added to that
+-- what had to be added at first is what was added, and then what must be added to that
 abbrev pub invariant-loop : goal.invariant-loop
 invariant-loop g l = record {
   head : l.reply.head ≡ l.fn.reply.head;
