@@ -1,4 +1,4 @@
--- What is told of an agent that recorded datagrams come to.
+-- What is printed for recorded datagrams, and how they leave an agent.
 use Rattle.std.specs.Prelude.{◌≡◌, ℕ, zero, suc, ◌-◌, ◌==◌, Bool, false, not, List, [], ◌∷◌, ◌++◌, codes, Result, Ok, Err}
 use Rattle.std.specs.List.{filter}
 use Rattle.std.specs.Str.Lines.{lines}
@@ -8,43 +8,45 @@ use Rattle.mon_agent.specs.declared.reply.Reply.{Reply}
 use Rattle.mon_answers.specs.declared.scene.Scene.{Scene}
 use Rattle.mon_answers.specs.Shown.{reply_text}
 
--- whether a line says something: it is not empty, and does not begin with `#`
-abbrev pub says : List ℕ → Bool
-says [] = false
-says (c ∷ rest) = not (c == 35)
+-- whether a line is neither empty nor a comment, which begins with `#`
+abbrev pub is_read : List ℕ → Bool
+is_read [] = false
+is_read (c ∷ rest) = not (c == 35)
 
--- the lines of a text that say something
-abbrev pub said_in : List ℕ → List (List ℕ)
-said_in text = filter says (lines text)
+-- the lines of a text that are neither empty nor comments
+abbrev pub lines_read : List ℕ → List (List ℕ)
+lines_read text = filter is_read (lines text)
 
--- a datagram came this many times, one after another, with any replies
-abbrev pub AreComings : {S : Type 0} → (S → S → Reply → Type 0) → ℕ → S → S → Type 0
-AreComings Comes zero before after = after ≡ before
-AreComings {S = S} Comes (suc n) before after = (between : S) × (reply : Reply) × AreComings Comes n before between × Comes between after reply
+-- how one datagram is answered when it arrives at a time
+abbrev pub arrives : {S : Type 0} → (S → S → List ℕ → ℕ → Reply → Type 0) → List ℕ → ℕ → S → S → Reply → Type 0
+arrives Answers datagram moment before after reply = Answers before after datagram moment reply
 
--- The reply to the last of so many comings, each of which found what those before it left; 0 stands for once.
-pub record IsLastReply {S : Type 0} (Comes : S → S → Reply → Type 0) (times : ℕ) (before after : S) (reply : Reply) : Type 0 where
+-- a datagram arrived this many times, one after another, with any replies
+abbrev pub AreArrivals : {S : Type 0} → (S → S → Reply → Type 0) → ℕ → S → S → Type 0
+AreArrivals Arrives zero before after = after ≡ before
+AreArrivals {S = S} Arrives (suc n) before after = (between : S) × (reply : Reply) × AreArrivals Arrives n before between × Arrives between after reply
+
+-- The reply to the last of this many arrivals, each of which finds what those before it left; 0
+-- counts as 1.
+pub record IsLastReply {S : Type 0} (Arrives : S → S → Reply → Type 0) (times : ℕ) (before after : S) (reply : Reply) : Type 0 where
   pub between : S
-  pub earlier : AreComings Comes (times - 1) before between
-  pub last : Comes between after reply
+  pub earlier : AreArrivals Arrives (times - 1) before between
+  pub last : Arrives between after reply
 
--- how one datagram is answered when it comes at a moment
-abbrev pub comes : {S : Type 0} → (S → S → List ℕ → ℕ → Reply → Type 0) → List ℕ → ℕ → S → S → Reply → Type 0
-comes Answers datagram moment before after reply = Answers before after datagram moment reply
+-- What is printed for a line whose hex digits are these octets: they arrive as often as the scene
+-- says, and the last reply is printed.
+-- If the line is not in hex digits, that is printed, and nothing arrives.
+abbrev pub IsPrinted : {S : Type 0} → (S → S → List ℕ → ℕ → Reply → Type 0) → Scene → Result (List ℕ) FromHexError → S → S → List ℕ → Type 0
+IsPrinted Answers scene (Ok datagram) before after printed = (reply : Reply)
+    × IsLastReply (arrives Answers datagram scene.at) scene.times before after reply × (printed ≡ reply_text scene.labels reply)
+IsPrinted Answers scene (Err fault) before after printed = (after ≡ before) × (printed ≡ codes "refused BadHex\n")
 
--- What is told of a line, by the octets that its hex digits stand for: they come as often as the scene says, and the last reply is told.
--- Where the line is not in hex digits that is told, and nothing comes.
-abbrev pub IsTold : {S : Type 0} → (S → S → List ℕ → ℕ → Reply → Type 0) → Scene → Result (List ℕ) FromHexError → S → S → List ℕ → Type 0
-IsTold Answers scene (Ok datagram) before after told = (reply : Reply) × IsLastReply (comes Answers datagram scene.at) scene.times before after reply
-    × (told ≡ reply_text scene.labels reply)
-IsTold Answers scene (Err fault) before after told = (after ≡ before) × (told ≡ codes "refused BadHex\n")
+-- What is printed for lines, one after another, each of which finds what those before it left.
+abbrev pub ArePrinted : {S : Type 0} → (S → S → List ℕ → ℕ → Reply → Type 0) → Scene → List (List ℕ) → S → S → List ℕ → Type 0
+ArePrinted Answers scene [] before after printed = (after ≡ before) × (printed ≡ [])
+ArePrinted {S = S} Answers scene (line ∷ rest) before after printed = (between : S) × (first : List ℕ) × (later : List ℕ)
+    × IsPrinted Answers scene (decode_of line) before between first × ArePrinted Answers scene rest between after later × (printed ≡ first ++ later)
 
--- What is told of lines, one after another, each of which finds what those before it left.
-abbrev pub AreTold : {S : Type 0} → (S → S → List ℕ → ℕ → Reply → Type 0) → Scene → List (List ℕ) → S → S → List ℕ → Type 0
-AreTold Answers scene [] before after told = (after ≡ before) × (told ≡ [])
-AreTold {S = S} Answers scene (line ∷ rest) before after told = (between : S) × (first : List ℕ) × (later : List ℕ)
-    × IsTold Answers scene (decode_of line) before between first × AreTold Answers scene rest between after later × (told ≡ first ++ later)
-
--- a text went on by something of which this holds
-abbrev pub TellsOn : (List ℕ → Type 0) → List ℕ → List ℕ → Type 0
-TellsOn Holds before after = (more : List ℕ) × Holds more × (after ≡ before ++ more)
+-- a text with something appended for which this holds
+abbrev pub Appends : (List ℕ → Type 0) → List ℕ → List ℕ → Type 0
+Appends Holds before after = (more : List ℕ) × Holds more × (after ≡ before ++ more)

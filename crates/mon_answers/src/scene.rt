@@ -1,15 +1,16 @@
-//! How recorded datagrams come, and how their replies are told.
+//! How recorded datagrams arrive, and how their replies are printed.
 
 use mon_mib::Moment;
 use mon_smi::Labels;
 
-/// How datagrams come, and by which names their replies are told.
+/// How datagrams arrive, and how their replies are printed.
 #[derive(Clone, Copy)]
 pub struct Scene<'a, 'n> {
-    /// When each of them comes.
+    /// The time at which each of them arrives.
     pub at: Moment,
-    /// How many times each of them comes; 0 stands for once.
+    /// How many times each of them arrives; 0 counts as 1.
     pub times: u32,
-    /// The names by which a reply is told as a client prints it; without them it is told in hex digits.
+    /// The names with which a reply is printed as a client prints it; if absent, it is printed in
+    /// hex digits.
     pub labels: Option<&'a Labels<'n>>,
 }
