@@ -486,4 +486,84 @@ BUGS = {
         "        self.failures = failed_after(self.failures, &sent);",
         "        self.failures = failed_after(self.failures, &Ok::<(), ()>(()));",
     ),
+    "prints_opaque_as_a_string": (
+        "src/printed.rt",
+        "    let shown = hex_text(alloc, octets)?;",
+        "    let shown = string_text(alloc, octets)?;",
+    ),
+    "escapes_no_backslash": (
+        "src/printed.rt",
+        '        if *octet == b\'"\' || *octet == b\'\\\\\' {',
+        '        if *octet == b\'"\' {',
+    ),
+    "prints_delete_as_a_character": (
+        "src/printed.rt",
+        "(32..=126).contains(octet)",
+        "(32..=127).contains(octet)",
+    ),
+    "names_a_counter64_counter32": (
+        "src/printed.rt",
+        'put_number(text, "Counter64", *number)',
+        'put_number(text, "Counter32", *number)',
+    ),
+    "counts_a_repeated_name_twice": (
+        "src/table.rt",
+        "    find(rows, engine, name).is_err() && !is_among(fresh, name)",
+        "    find(rows, engine, name).is_err()",
+    ),
+    "takes_the_first_sample_alone": (
+        "src/table.rt",
+        "                self.take_sample(alloc, response.engine, &binding.name, sample)?;",
+        "                self.take_sample(alloc, response.engine, &binding.name, sample)?;\n                break;",
+    ),
+    "begins_with_an_empty_window": (
+        "src/table.rt",
+        "    window.insert(sample);\n    let instance",
+        "    let instance",
+    ),
+    "keeps_one_sample_of_each_boots": (
+        "src/table.rt",
+        "Window::new(alloc, size, size)?",
+        "Window::new(alloc, size, 1)?",
+    ),
+    "long_engines": (
+        "src/line.rt",
+        "            if len < 5 || len > 32 {",
+        "            if len < 5 || len > 33 {",
+    ),
+    "takes_the_time_for_the_boots": (
+        "src/line.rt",
+        "number_at(&ENGINE_BOOTS, second)?",
+        "number_at(&ENGINE_TIME, second)?",
+    ),
+    "takes_a_request_for_a_response": (
+        "src/line.rt",
+        "            if pdu.kind != PduKind::Response {",
+        "            if pdu.kind == PduKind::Get {",
+    ),
+    "counts_interrupted_reads_as_failed": (
+        "src/counted.rt",
+        "                if error.kind() != ErrorKind::Interrupted {",
+        "                if error.kind() != ErrorKind::WouldBlock {",
+    ),
+    "reports_the_first_instance_alone": (
+        "src/reporting.rt",
+        "            entries.push(entry_of(row))?;",
+        "            if entries.is_empty() {\n                entries.push(entry_of(row))?;\n            }",
+    ),
+    "sends_at_most_484_octets": (
+        "src/asking.rt",
+        "        wire.send(octets.as_slice())?;",
+        "        wire.send(&octets.as_slice()[..octets.len().min(484)])?;",
+    ),
+    "takes_replies_of_any_community": (
+        "src/question.rt",
+        "        && message.community.as_slice() == question.community\n",
+        "",
+    ),
+    "takes_too_few_names": (
+        "src/question.rt",
+        "question.names.len() == bindings.len()",
+        "question.names.len() >= bindings.len()",
+    ),
 }
