@@ -1,10 +1,10 @@
 """Bugs of mon_answers for planted_bugs: by a name the file, what stands there once, and the bug in its place."""
 
 BUGS = {
-    "reads_no_line": (
+    "stops_after_one_line": (
         "src/answering.rt",
-        "    for line in text.lines() {",
-        '    for line in "".lines() {',
+        "        put_line(&mut printed, alloc, agent, line, scene)?;",
+        "        put_line(&mut printed, alloc, agent, line, scene)?;\n        break;",
     ),
     "reads_comments": (
         "src/answering.rt",
