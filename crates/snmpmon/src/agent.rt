@@ -1,11 +1,11 @@
 //! The commands of an agent: `agent` and `answer`.
 
-use crate::answering::answers;
 use crate::failure::Failure;
 use crate::files::{print, read_input_text, read_text};
 use crate::naming::names_of;
 use crate::settings::unset;
 use mon_agent::Agent;
+use mon_answers::{Scene, answer_lines};
 use mon_app::{AppFault, SocketPort, Untaken, serve};
 use mon_faults::Fault;
 use mon_mib::{Device, FuseDevice, Moment, SimDevice};
@@ -130,16 +130,22 @@ fn moment_of(alloc: Global, hundredths: u64) -> Result<Moment, Failure> {
     }
 }
 
-/// What an agent answers to the datagrams of a text at a moment, each of which comes so many times, and by which names it is told.
+/// Answers the datagrams of a text, which arrive at a time and so many times each, and returns what
+/// is printed, with the names that are given.
 fn told_answers<D: Device + Drop>(
     alloc: Global,
     agent: &mut Agent<D>,
     (at, times): (Moment, u32),
     names: Option<&Names>,
     text: &str,
-) -> Result<String, Failure> {
+) -> Result<String, AllocError> {
     let labels = labels_of(alloc, names)?;
-    answers(alloc, agent, text, at, times, labels.as_ref())
+    let scene = Scene {
+        at,
+        times,
+        labels: labels.as_ref(),
+    };
+    answer_lines(alloc, agent, text, &scene)
 }
 
 /// The labels of names, if there are any.

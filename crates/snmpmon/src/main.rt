@@ -5,7 +5,6 @@
 #![tactic(auto)]
 
 mod agent;
-mod answering;
 mod client;
 mod commands;
 mod failure;
