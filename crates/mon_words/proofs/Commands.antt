@@ -114,7 +114,7 @@ module _ (lists : Lists) (words : List Text) (command : Text × List Row) where
   by_stop None away none is = cc
   by_stop (Some p) away none is = by_shape p (find (λ s. answers_to p.0 (label_of s)) (map (leaf lists) choices ++ built_leaf help_shape ∷ [])) refl away none is
 
-  -- the command that the words name is one of the table's
+  -- the command that the arguments name is one of the table's
   pub met : fault_of (program lists) words ≡ [] → subcommand_of (program lists) words ≡ Some command → Result
   met none is =
       let top : Shape = (built (program lists)).top in
@@ -274,7 +274,7 @@ fits lists commands.Report = (tt, (tt, (tt, (tt, (tt, tt)))))
 fits lists commands.SelfTest = tt
 fits lists commands.Rehearse = (tt, ((λ v e. or_false _ e, by_sign), tt))
 
--- what the table says must stand must be given
+-- what the table requires must be given
 wanted : (lists : Lists) (choice : Choice) → list_all (λ a. not a.needed || is_wanted (leaf lists choice).rules a.id) (arguments choice) ≡ true
 wanted lists commands.Replay = refl
 wanted lists commands.Get = refl
@@ -290,7 +290,7 @@ wanted lists commands.Report = refl
 wanted lists commands.SelfTest = refl
 wanted lists commands.Rehearse = refl
 
--- and nothing is wanted of a command with another command below it
+-- and nothing is required of a command with another command below it
 leaves : (lists : Lists) (choice : Choice) → (list_all has_values (leaf lists choice).rules ≡ true) × ((leaf lists choice).subcommand_negates_reqs ≡ false)
 leaves lists commands.Replay = (refl, refl)
 leaves lists commands.Get = (refl, refl)

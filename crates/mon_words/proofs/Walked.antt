@@ -59,7 +59,7 @@ same_reading _ _ = false
 abbrev pub is_read_as : List Rule → Text → Reading → Bool
 is_read_as c id how = some_with c id (λ a. same_reading (reading_by a) how)
 
--- a use of the argument has a value, or one stands for it, or it asks for help or the version
+-- a use of the argument has a value, or a default value, or it asks for help or the version
 abbrev pub has_values : Rule → Bool
 has_values a = is_request (action_of a) || not (is_empty a.missing) || nat_lt 0 (unwrap_or_range a.range).start_inclusive
 
@@ -144,7 +144,7 @@ still_full : (xs ys : List Text) → is_empty xs ≡ false → is_empty (xs ++ y
 still_full [] ys e = cc
 still_full (x ∷ xs) ys e = not_empty x (xs ++ ys)
 
--- values that are enough, or what stands for none
+-- values that are enough, or the default if there are none
 enough : (a : Rule) (values : List Text) → has_values a ≡ true → range_kinds (unwrap_or_range a.range).start_inclusive (most_values a) (length values) ≡ []
     → is_request (action_of a) ≡ false → is_empty (values_or_missing a values) ≡ false
 enough a (v ∷ vs) full none ask = not_empty v vs

@@ -13,7 +13,7 @@ use Rattle.mon_words.specs.declared.lines.Form.TheVariants.{Place, Long, Short, 
 
 -- ---- kinds of arguments
 
--- a word that must stand: `ID`
+-- a required argument: `ID`
 abbrev pub word : List ℕ → Value → Argument
 word id value = record { id = id; form = Place; takes = One value; needed = true }
 
@@ -29,7 +29,7 @@ option id value = record { id = id; form = Long; takes = One value; needed = fal
 abbrev pub flag : List ℕ → Argument
 flag id = record { id = id; form = Long; takes = Nothing; needed = false }
 
--- an option that may be given as often as wanted, with a value each time: `[--id VALUE]..`
+-- an option that may be given any number of times, with a value each time: `[--id VALUE]..`
 abbrev pub repeated : List ℕ → Argument
 repeated id = record { id = id; form = Long; takes = Each Text; needed = false }
 
@@ -102,7 +102,7 @@ arguments commands.Rehearse = settings ∷ word (codes "K") (up_to 1 16) ∷ []
 abbrev pub first_arguments : List Argument
 first_arguments = flag (codes "version") ∷ []
 
--- ---- what a value has to be
+-- ---- what a value must be
 
 -- each value of an argument that takes this; of one that takes none, any text
 abbrev pub taken : Takes → Value
