@@ -1,5 +1,5 @@
 -- What the words ask for, by the matches that clap gives for them: rows, each under the id of an argument.
-use Rattle.std.specs.Prelude.{◌≡◌, ◌≢◌, ◌⊎◌, ◌<◌, ◌^◌, FitsSigned, ◌||◌, ℕ, ℤ, pos, Bool, List, [], Option, Some, None, codes, unwrap_or, is_some, ⊤, true, false, option_map}
+use Rattle.std.specs.Prelude.{◌≡◌, ◌≢◌, ◌⊎◌, ◌<◌, ◌≤◌, ◌≤ℤ◌, ◌^◌, FitsSigned, IfSome, IsSome, ◌||◌, ℕ, ℤ, pos, Bool, List, [], ◌∷◌, Option, Some, None, codes, unwrap_or, is_some, ⊤, true, false, option_map}
 use Rattle.std.specs.Option.{option_map_or}
 use Rattle.std.specs.Str.{bytes_eq}
 use Rattle.std.specs.Str.Parse.{IsNumeral, digits_value, signed_digits_value, without_leading_plus, without_leading_sign}
@@ -9,6 +9,10 @@ use Rattle.clap.specs.Walk.{texts}
 use Rattle.std.specs.Borrow.{Bor}
 use Rattle.mon_words.specs.Choice.{word_of}
 use Rattle.mon_words.specs.Format.{format_word}
+use Rattle.mon_words.specs.Line.{Argument}
+use Rattle.mon_words.specs.Table.{taken, value_of}
+use Rattle.mon_words.specs.declared.lines.Value.{Value}
+use Rattle.mon_words.specs.declared.lines.Value.TheVariants as value
 use Rattle.mon_words.specs.declared.choice.Choice.{Choice}
 use Rattle.mon_words.specs.declared.choice.Choice.TheVariants as commands
 use Rattle.mon_words.specs.declared.format.ReportFormat.{ReportFormat}
@@ -144,9 +148,60 @@ Says commands.SelfTest rows asked.SelfTest = ⊤
 Says commands.Rehearse rows (asked.Rehearse w) = IsSettings rows w.settings × IsNumberOr 32 1 (one_of (codes "K") rows) w.stations
 Says _ rows _ = ⊥
 
--- What all the words ask for, by three things: whether --version was given, the rows before any command, and the command that was met, with its rows. The program has
--- no command but those of the table.
+-- What all the words ask for, by three things: whether --version was given, the rows before any command, and the command that was met, with its rows.
 abbrev pub AsksFor : Bool → List Row → Option (Text × List Row) → Asked → Type 0
 AsksFor true rows command a = a ≡ asked.Version
 AsksFor false rows None a = Says commands.Replay rows a
-AsksFor false rows (Some command) a = ((choice : Choice) × (command.0 ≡ word_of choice) × Says choice command.1 a) ⊎ ((choice : Choice) → command.0 ≢ word_of choice)
+AsksFor false rows (Some command) a = (choice : Choice) × (command.0 ≡ word_of choice) × Says choice command.1 a
+
+-- ---- bounds
+
+-- the text spells a decimal number of these bounds, both among them
+abbrev pub IsBetween : ℕ → ℕ → Text → Type 0
+IsBetween low high t = IsNumeral 10 (without_leading_plus t)
+    × (low ≤ digits_value 10 (without_leading_plus t)) × (digits_value 10 (without_leading_plus t) ≤ high)
+
+-- the text spells a number within the bounds of such a value, if that has bounds
+abbrev pub IsAllowed : Value → Text → Type 0
+IsAllowed (value.Number (pos low) (pos high)) t = IsBetween low high t
+IsAllowed (value.Natural low high) t = IsBetween low high t
+IsAllowed _ t = ⊤
+
+-- what the rows give for each of these arguments is allowed
+abbrev pub AreAllowed : List Argument → List Row → Type 0
+AreAllowed [] rows = ⊤
+AreAllowed (a ∷ rest) rows = IfSome (one_of a.id rows) (IsAllowed (taken a.takes)) × AreAllowed rest rows
+
+-- the rows give something for each of these arguments that must stand
+abbrev pub AreThere : List Argument → List Row → Type 0
+AreThere [] rows = ⊤
+AreThere (a ∷ rest) rows = (a.needed ≡ true → IsSome (one_of a.id rows)) × AreThere rest rows
+
+-- the number is within the bounds of such a value
+abbrev pub IsIn : Value → ℕ → Type 0
+IsIn (value.Number (pos low) (pos high)) n = (low ≤ n) × (n ≤ high)
+IsIn (value.Natural low high) n = (low ≤ n) × (n ≤ high)
+IsIn _ n = ⊥
+
+-- the same of a number with a sign, where there is one
+abbrev pub IsSignedIn : Value → ℤ → Type 0
+IsSignedIn (value.Number low high) n = (low ≤ℤ n) × (n ≤ℤ high)
+IsSignedIn _ n = ⊥
+
+-- when rounds are run: 0 stands for an interval or a report that is left out
+abbrev pub IsTimingIn : Timing → Type 0
+IsTimingIn t = IsIn (value_of commands.Station (codes "rounds")) t.rounds
+    × ((t.interval ≡ 0) ⊎ IsIn (value_of commands.Station (codes "interval")) t.interval)
+    × ((t.report_every ≡ 0) ⊎ IsIn (value_of commands.Station (codes "report-every")) t.report_every)
+
+-- Each number is within the bounds of its argument in the table, whether it was given or stands for one that was left out.
+abbrev pub IsWithin : Asked → Type 0
+IsWithin (asked.Replay w) = IsIn (value_of commands.Replay (codes "N")) w.size
+IsWithin (asked.Bulk w) = IsSignedIn (value_of commands.Bulk (codes "non-repeaters")) w.non_repeaters
+    × IsSignedIn (value_of commands.Bulk (codes "max-repetitions")) w.max_repetitions
+IsWithin (asked.Agent w) = IfSome w.boots (IsSignedIn (value_of commands.Agent (codes "boots"))) × IsIn (value_of commands.Agent (codes "count")) w.count
+IsWithin (asked.Answer w) = IfSome w.boots (IsSignedIn (value_of commands.Answer (codes "boots")))
+    × IsIn (value_of commands.Answer (codes "at")) w.scene.at × IsIn (value_of commands.Answer (codes "times")) w.scene.times
+IsWithin (asked.Station w) = IsTimingIn w.timing
+IsWithin (asked.Rehearse w) = IsIn (value_of commands.Rehearse (codes "K")) w.stations
+IsWithin _ = ⊤

@@ -99,8 +99,16 @@ program lists = fold (with_command lists) (with_arguments lists (new_app (codes 
 abbrev pub IsProgram : Command → Type 0
 IsProgram command = (lists : Lists) × IsLists lists × HasApp (program lists) command
 
+-- the matches are those that the program gives of these words, which it takes
+abbrev pub IsParseOf : List Text → ArgMatches → Type 0
+IsParseOf words m = (lists : Lists) × IsLists lists × (fault_of (program lists) words ≡ [])
+    × (rows_of (found_of m) ≡ matches_of (program lists) words) × (subcommand_rows_of m ≡ subcommand_of (program lists) words)
+
+-- and so of some words
+abbrev pub IsParse : ArgMatches → Type 0
+IsParse m = (words : List Text) × IsParseOf words m
+
 -- what is made of the words: the program's matches of them, or an error of a kind that the program gives at them, or memory ran out
 abbrev pub Reads : List Text → Result ArgMatches Error → Type 0
-Reads words (Ok m) = (lists : Lists) × IsLists lists × (fault_of (program lists) words ≡ [])
-    × (rows_of (found_of m) ≡ matches_of (program lists) words) × (subcommand_rows_of m ≡ subcommand_of (program lists) words)
+Reads words (Ok m) = IsParseOf words m
 Reads words (Err e) = (kind_of e ≡ OutOfMemory) ⊎ ((lists : Lists) × IsLists lists × IsAmong (kind_of e) (fault_of (program lists) words))

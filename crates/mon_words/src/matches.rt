@@ -3,7 +3,11 @@
 ghost use Rattle.std.specs.Prelude.{◌≡◌, codes, option_map};
 ghost use Rattle.clap.specs.Words.{first_of, found_of, one_of, rows_of, subcommand_rows_of};
 ghost use Rattle.clap.specs.Walk.{texts};
-ghost use Rattle.mon_words.specs.Asked.{AsksFor, IsAgent, IsAnswer, IsFormat, IsInteger, IsNamed, IsNumber, IsNumberOr, IsPrinted, IsRequest, IsScene, IsStation, IsTiming, Says, all_in, is_on, text_in, wants_report};
+ghost use Rattle.mon_words.specs.Asked.{AreAllowed, AreThere, AsksFor, IsAgent, IsAnswer, IsFormat, IsInteger, IsNamed, IsNumber, IsNumberOr, IsPrinted, IsRequest, IsScene, IsStation, IsTiming, IsWithin, Says, all_in, is_on, text_in, wants_report};
+ghost use Rattle.mon_words.specs.Program.{IsParse};
+ghost use Rattle.mon_words.specs.Table.{arguments};
+ghost use Rattle.mon_words.specs.declared.choice.Choice.TheVariants as commands;
+ghost use Rattle.mon_words.specs.declared.meaning.Asked.TheVariants as asked;
 
 use crate::choice::Choice;
 use crate::format::ReportFormat;
@@ -181,16 +185,28 @@ fn station<'m, 'a>(words: &'m ArgMatches<'a>) -> StationWords<'m, 'a>
     }
 }
 
+/// What the words have printed of recorded responses.
+fn replay<'m, 'a>(words: &'m ArgMatches<'a>) -> ReplayWords<'m, 'a>
+    requires { AreAllowed (arguments commands.Replay) (rows_of (found_of words.now)) }
+    ensures says { Says commands.Replay (rows_of (found_of words.now)) (asked.Replay result) }
+    ensures within { IsWithin (asked.Replay result) }
+{
+    ReplayWords {
+        size: number_or(words, "N", USUAL_SIZE),
+        reports: reports(words),
+        printed: printed(words),
+    }
+}
+
 /// What the words of a command ask for.
 fn asked_by<'m, 'a>(choice: Choice, words: &'m ArgMatches<'a>) -> Asked<'m, 'a>
-    ensures { Says choice (rows_of (found_of words.now)) result }
+    requires allowed { AreAllowed (arguments choice) (rows_of (found_of words.now)) }
+    requires there { AreThere (arguments choice) (rows_of (found_of words.now)) }
+    ensures says { Says choice (rows_of (found_of words.now)) result }
+    ensures within { IsWithin result }
 {
     match choice {
-        Choice::Replay => Asked::Replay(ReplayWords {
-            size: number_or(words, "N", USUAL_SIZE),
-            reports: reports(words),
-            printed: printed(words),
-        }),
+        Choice::Replay => Asked::Replay(replay(words)),
         Choice::Get => Asked::Get(request(words)),
         Choice::Next => Asked::Next(request(words)),
         Choice::Bulk => Asked::Bulk(BulkWords {
@@ -222,7 +238,9 @@ fn asked_by<'m, 'a>(choice: Choice, words: &'m ArgMatches<'a>) -> Asked<'m, 'a>
 
 /// What the words ask for. With no command they ask for a replay, all of whose arguments are left out.
 pub fn asked<'m, 'a>(words: &'m ArgMatches<'a>) -> Asked<'m, 'a>
-    ensures { AsksFor (is_on (codes "version") (rows_of (found_of words.now))) (rows_of (found_of words.now)) (subcommand_rows_of words.now) result }
+    requires { IsParse words.now }
+    ensures says { AsksFor (is_on (codes "version") (rows_of (found_of words.now))) (rows_of (found_of words.now)) (subcommand_rows_of words.now) result }
+    ensures within { IsWithin result }
 {
     if is_on(words, "version") {
         return Asked::Version;
@@ -231,8 +249,8 @@ pub fn asked<'m, 'a>(words: &'m ArgMatches<'a>) -> Asked<'m, 'a>
         Some((name, below)) => match Choice::named(name) {
             Some(choice) => asked_by(choice, below),
             // The command line knows no other commands.
-            None => Asked::SelfTest,
+            None => unreachable!(),
         },
-        None => asked_by(Choice::Replay, words),
+        None => Asked::Replay(replay(words)),
     }
 }
