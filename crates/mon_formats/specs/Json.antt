@@ -52,7 +52,7 @@ alarm_data items rule = object
     (member (codes "rising") (exact_signed rule.rising)
     no_members)))
 
--- a rate in thousandths; null where there is none
+-- a rate in thousandths; null if there is none
 abbrev pub rate_data : Option ℕ → Data
 rate_data None = null
 rate_data (Some q) = exact q

@@ -27,7 +27,8 @@ pub enum Format {
     Columns,
 }
 
-/// The report of instances in a format, with their names as `names` has them. Prometheus is also told what the station says of itself.
+/// Makes the report of instances in a format, with their names as `names` has them. Prometheus'
+/// text also has what the station says of itself.
 pub fn format_report<S: NameTexts>(
     alloc: Global,
     format: Format,

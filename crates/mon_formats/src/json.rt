@@ -155,7 +155,7 @@ fn sample_value(alloc: Global, sample: &Sample) -> Result<Value, AllocError>
     })
 }
 
-/// The rate of an instance in thousandths; null where there is none.
+/// The rate of an instance in thousandths; null if there is none.
 fn rate_value(alloc: Global, entry: &Entry) -> Result<Value, AllocError>
     ensures { IfOk result (λ v. view v ≡ rate_data (rate_of entry.now.items)) }
 {
