@@ -1,6 +1,6 @@
 ghost use Rattle.mon_exchange.specs.Claim.{IsSendable, claim_of};
 
-use mon_exchange::{Claim, ClaimRef, ExchangeFault, claim_size, read_claim, write_claim};
+use mon_exchange::{Claim, ClaimRef, ExchangeFault, read_claim, write_claim};
 use mon_sample::Sample;
 use std::alloc::Global;
 
@@ -60,5 +60,5 @@ fn put_written(text: &mut String, alloc: Global, claim: &ClaimRef) -> Option<()>
 {
     let octets = write_claim(alloc, claim).ok()?;
     let digits = hex::encode(alloc, octets.as_slice()).ok()?;
-    write!(text, " {} {digits}", claim_size(claim)).ok()
+    write!(text, " {} {digits}", octets.len()).ok()
 }

@@ -59,7 +59,7 @@ fn sizes(alloc: Global, watch: &Watch, octets: &[u8]) -> Option<String> {
     Some(text)
 }
 
-/// The image of a board in hex digits, where both ways of writing it give the same.
+/// The image of a board in hex digits, if both ways of writing it agree.
 fn written(alloc: Global, board: &Board, incarnation: u32) -> Option<String> {
     if incarnation == 0 {
         return None;

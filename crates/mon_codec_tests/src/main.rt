@@ -1,5 +1,6 @@
-//! Tests of what is read and written, by agents and by stations: does what each line of standard input says, and prints a line for each, to be
-//! compared with the expected ones, which tests/attack/codec_rows writes from readers of another make.
+//! Tests of what is read and written, by agents and by stations: does what each line of standard
+//! input says, and prints a line for each, to be compared with the expected ones, which
+//! tests/attack/codec_rows writes from independent readers.
 //!
 //!     value HEX         the value that these octets begin with, how many spell it, its size and its octets as they are written; or the fault
 //!     message HEX       the same of a message, by its fields
@@ -14,7 +15,8 @@
 //! usage: mon_codec_tests                                   as above
 //!        mon_codec_tests image-times N                     reads the image of the first line, WATCH HEX, and writes it, so often, for bench/image
 //!        mon_codec_tests message-times N                   the same of a message, HEX, for bench/codec
-//!        mon_codec_tests track-times ORDER SHARE N         inserts so many samples into a track, for bench/track
+//!        mon_codec_tests track-times ORDER SHARE N         inserts N samples into a track, for
+//! bench/track
 #![tactic(auto)]
 
 mod claims;
@@ -56,7 +58,7 @@ fn timed<R: Input + Print + AllocGlobal>(rt: &R, word: &str, words: &[String]) -
     }
 }
 
-/// Prints what is told of each line.
+/// Prints the answer to each line.
 fn rows<R: Input + Print>(rt: &R, alloc: Global) -> Option<()> {
     let mut station = Station::new(alloc)?;
     for line in BufReader::new(alloc, rt.reader()).ok()?.lines(alloc) {
@@ -66,7 +68,7 @@ fn rows<R: Input + Print>(rt: &R, alloc: Global) -> Option<()> {
     Some(())
 }
 
-/// What is told of a line.
+/// The answer to a line.
 fn row(alloc: Global, station: &mut Station, line: &str) -> Option<String> {
     let (command, word) = line.split_once(' ')?;
     match command {

@@ -19,7 +19,7 @@ enum Order {
     Mixed,
 }
 
-/// What the words ask for.
+/// What the arguments ask for.
 #[derive(Clone, Copy)]
 struct Asked {
     order: Order,
@@ -36,8 +36,9 @@ struct Tally {
     places: u64,
 }
 
-/// Inserts samples as the words ORDER SHARE TIMES say: ORDER is `rising`, `falling` or `mixed`, SHARE is 1 to 64. Prints how many
-/// samples were added, known and too old, the sum of the places of those added, and the totals.
+/// Inserts samples as the arguments ORDER SHARE TIMES say: ORDER is `rising`, `falling` or `mixed`,
+/// SHARE is 1 to 64. Prints how many samples were added, known and too old, the sum of the places
+/// of those added, and the totals.
 pub fn times<R: Print>(rt: &R, alloc: Global, words: &[String]) -> Option<()> {
     let asked = words_of(words)?;
     if asked.share < 1 || asked.share > SIZE {

@@ -141,7 +141,7 @@ numbers_again parts rest all = one_by_one_again next_number (to_be_bytes w32) Fi
     chain last [] a = tt
     chain last (k ∷ ks) a = (a.0, chain (Some k) ks a.1)
 
--- what stands before does not matter
+-- what is before does not matter
 pub unlinked : (a b : Option ℕ) (n : ℕ) (octets : List ℕ) → one_by_one next_number a n octets ≡ one_by_one next_number b n octets
 unfolding one_by_one
 unlinked a b zero octets = refl

@@ -22,7 +22,7 @@ position_mapped f q xs =
     let long = length-map xs f in
     sym (λ j. cond (nat_lt (place j) (long j)) (Some (place j)) None)
 
--- a slot is a place, and there stands the number
+-- a slot is a place, and the number is there
 module _ (peers : List Peer) (station slot : ℕ) (is : peer_slot peers station ≡ Some slot) where
   pub slot_within : slot < length peers
   slot_within = let p = position-Some (λ n. n == station) (peer_numbers peers) slot 0 is in omega (arith, p.0, length-map peers (λ (p : Peer). p.number))
@@ -79,7 +79,7 @@ module _ (old new : List Peer) (same : peer_numbers new ≡ peer_numbers old) (s
     | inr ne ↦ other_known y ne (peer_slot old y) refl ∙ rw (ne_eqb y station ne) refl
   ]
 
--- the same, where the incarnation is the later of the known one and the claim's
+-- the known incarnation, if it is the later of the known one and the claim's
 pub by_latest : (old new : List Peer) → peer_numbers new ≡ peer_numbers old → (station slot j : ℕ) → peer_slot old station ≡ Some slot
     → ((k : ℕ) → incarnation_in new k ≡ (if k == slot then Some (latest (incarnation_in old slot) j) else incarnation_in old k))
     → (y : ℕ) → known_incarnation new y ≡ (if y == station then Some (latest (known_incarnation old y) j) else known_incarnation old y)

@@ -18,7 +18,7 @@ pub record Heard : Type 0 where
 abbrev pub said_of : Heard → Samples
 said_of c = set.from_list {R = nat_cmp} c.samples
 
--- the greatest incarnation that claims of a station name; the newest claim stands first
+-- the greatest incarnation that claims of a station name; the newest claim is first
 abbrev pub latest_heard : ℕ → List Heard → Option ℕ
 latest_heard y [] = None
 latest_heard y (c ∷ claims) = if c.station == y then Some (latest (latest_heard y claims) c.incarnation) else latest_heard y claims
@@ -40,7 +40,8 @@ is_owed y claims i s = is_owed_at y claims i s (latest_heard y claims)
 abbrev pub WereTaken : List (ℕ × ℕ) → List Heard → Type 0
 WereTaken pairs claims = AllByRecursion (λ c. (s : ℕ) → In s (said_of c) → Has pairs c.instance s) claims
 
--- the known incarnation and the marks for a station tell, of what stands in the windows, what its claims have said
+-- the known incarnation and the marks for a station say, of what is in the windows, what its claims
+-- have said
 pub record TellsDebts (y : ℕ) (windows : ℕ → Samples) (claims : List Heard) (known : Option ℕ) (marked : ℕ → ℕ → Bool) : Type 0 where
   pub known_is : known ≡ latest_heard y claims
   pub marked_is : (i s : ℕ) → In s (windows i) → marked i s ≡ not (is_owed y claims i s)

@@ -56,7 +56,8 @@ latest (Some known) incarnation = max known incarnation
 abbrev pub IsWatchedAs : Watch → List ℕ → List ℕ → ℕ → Type 0
 IsWatchedAs watch engine name i = slice_get (instances_of watch.instances) i ≡ Some (named engine name)
 
--- whether a sample of an instance is one of those claimed of the instance of this number, and stands in its window
+-- whether a sample of an instance is one of those claimed of the instance of this number, and is in
+-- its window
 abbrev pub is_claimed : ℕ → List ℕ → (ℕ → Samples) → ℕ → ℕ → Bool
 is_claimed number samples windows i s = (i == number) && (set.contains (set.from_list {R = nat_cmp} samples) s && set.contains (windows i) s)
 

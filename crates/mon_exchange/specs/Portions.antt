@@ -29,7 +29,7 @@ abbrev pub portions_from : (ℕ → Samples) → ℕ → ℕ → List Portion
 portions_from owed i zero = []
 portions_from owed i (suc n) = portions_of owed i ++ portions_from owed (i + 1) n
 
--- these portions, or one without samples for the first instance where there is none
+-- these portions, or one without samples for the first instance if there are none
 abbrev pub or_empty : List Portion → List Portion
 or_empty [] = portion 0 [] ∷ []
 or_empty (p ∷ portions) = p ∷ portions

@@ -44,7 +44,7 @@ pub struct Claim {
 }
 
 impl Claim {
-    /// The same claim, with what it owns lent.
+    /// Lends the claim, with what it owns.
     pub fn lend(&self) -> ClaimRef
         ensures { claim_of result ≡ self.now }
     {

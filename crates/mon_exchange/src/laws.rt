@@ -1,4 +1,5 @@
-//! Laws of claims, of marks as what tells what they said, and of the pieces that are offered. Each is a function that does nothing.
+//! Laws of claims, of marks as what claims said, and of the pieces that are offered. Each is a
+//! function that does nothing.
 
 ghost use Rattle.std.specs.Prelude.{◌≡◌, ◌≢◌, ◌≤◌, ◌<◌, ◌+◌, ◌∷◌, ℕ, Bool, List, Option, Some, length, slice_index_or};
 ghost use Rattle.std.specs.FinSet as set;
@@ -21,15 +22,17 @@ pub fn one_spelling()
     mon_layout::laws::samples();
 }
 
-/// Marks that tell what a station's claims have said still tell it after more samples were taken, where they stay with their
-/// entries: what fell out of a window does not come back, and what is new there was not said.
+/// Marks that say what a station's claims have said still say it after more samples were taken, if
+/// they stay with their entries: what fell out of a window does not come back, and what is new
+/// there was not said.
 pub fn taking()
     ensures { (watch : Watch) (y : ℕ) (old new : List (ℕ × ℕ)) (claims : List Heard) (known : Option ℕ) (marked : ℕ → ℕ → Bool)
         → IsPartOf old new → WereTaken old claims → TellsDebts y (window watch old) claims known marked
         → TellsDebts y (window watch new) claims known (kept_marks (window watch old) (window watch new) marked) }
 {}
 
-/// They tell it with one claim more, marked as it was noted; a claim of another station changes nothing of them.
+/// They say it with one claim more, marked as it was noted; a claim of another station changes
+/// nothing of them.
 pub fn noting()
     ensures own { (y : ℕ) (windows : ℕ → Samples) (claims : List Heard) (known : Option ℕ) (marked : ℕ → ℕ → Bool) (c : Heard)
         → c.station ≡ y → TellsDebts y windows claims known marked

@@ -1,6 +1,7 @@
-//! What stations say to one another: claims of samples that they have taken, and what is noted of them.
-//! All numbers stand with the greatest octet first. A station's incarnation tells its lives apart.
-//! Contract: octets are a claim exactly where its one spelling is these octets; a claim that is noted marks exactly what it claims.
+//! What stations say to one another: claims of samples that they have taken, and what is noted of
+//! them. All numbers are big-endian. A station's lives differ by its incarnation.
+//! Contract: octets are a claim exactly where its one spelling is these octets; a claim that is
+//! noted marks exactly what it claims.
 #![tactic(auto)]
 
 mod claim;
@@ -19,4 +20,4 @@ pub use noted::Noted;
 pub use peers::Peers;
 pub use reading::read_claim;
 pub use sharing::{Portion, portions, serial_after};
-pub use writing::{claim_size, write_claim, write_within};
+pub use writing::{write_claim, write_within};

@@ -41,7 +41,7 @@ pub(crate) fn mark_noted(
     }
 }
 
-/// Marks the samples that stand in the instance's window for the slot.
+/// Marks the samples that are in the instance's window for the slot.
 fn mark_all(board: &mut Board, slot: u8, instance: u16, samples: &[Sample])
     requires slot { slot < 15 }
     requires instance { instance < length board.old.watch.instances }

@@ -8,7 +8,8 @@ pub enum Noted {
     Counted,
     /// It is of an older incarnation: its samples were taken, and none was marked.
     OlderIncarnation,
-    /// It is of the first incarnation that is heard of, or of a newer one: the marks of earlier claims are gone.
+    /// It is of the first incarnation that is received, or of a newer one: the marks of earlier
+    /// claims are gone.
     NewIncarnation,
 }
 

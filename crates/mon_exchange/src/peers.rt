@@ -41,8 +41,8 @@ impl Model for Peers {
 impl Peers {
     ghost use Rattle.mon_exchange.specs.Peers.{IsWatchedAs, incarnation_in, known_incarnation, latest as latest_of, marks_after, noted_as as noted_of, peer_numbers, peer_slot, unheard};
 
-    /// The peers of these numbers, each in its place, of the station whose number is `own`. Of none an incarnation is known.
-    /// Of a number that stands there twice the first place is its slot.
+    /// The peers of these numbers, each in its place, of the station whose number is `own`. Of none
+    /// an incarnation is known. Of a number that is there twice the first place is its slot.
     pub fn new(alloc: Global, own: u32, numbers: &[u32]) -> Result<Self, AllocError>
         requires own { 1 ≤ own }
         requires few { length numbers.now ≤ 15 }
@@ -90,10 +90,11 @@ impl Peers {
         self.peers[usize::from(slot)].known
     }
 
-    /// Takes a claim's samples into the board, and then marks those that stand in the window for the claim's peer. A first or
-    /// greater incarnation of the peer takes its earlier marks away and is the known one from then on; of a smaller one
-    /// nothing is marked. `UnknownPeer` where the station is no peer, else `UnknownInstance` where the instance is not
-    /// watched; both change nothing.
+    /// Takes a claim's samples into the board, and then marks those that are in the window for the
+    /// claim's peer. A first or greater incarnation of the peer takes its earlier marks away and is
+    /// the known one from then on; of a smaller one nothing is marked. `UnknownPeer` where the
+    /// station is no peer, else `UnknownInstance` where the instance is not watched; both change
+    /// nothing.
     pub fn note(&mut self, board: &mut Board, claim: &Claim) -> Result<Noted, ExchangeFault>
         ensures unknown_peer { (result ≡ Err ExchangeFault.UnknownPeer) ↔ (peer_slot self.old.peers claim.now.station ≡ None) }
         ensures unknown_instance { (result ≡ Err ExchangeFault.UnknownInstance)
@@ -102,7 +103,7 @@ impl Peers {
         ensures refused { OnErr result ((self.new ≡ self.old) × (board.new ≡ board.old)) }
         ensures noted { IfOk result (λ n. n ≡ noted_of (known_incarnation self.old.peers claim.now.station) claim.now.incarnation) }
 
-        // The peers stay, and of the claim's station alone another incarnation may be known.
+        // The peers stay, and only of the claim's station another incarnation may be known.
         ensures own { self.new.own ≡ self.old.own }
         ensures numbers { peer_numbers self.new.peers ≡ peer_numbers self.old.peers }
         ensures known { OnOk result ((y : ℕ) → known_incarnation self.new.peers y

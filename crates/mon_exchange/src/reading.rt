@@ -1,4 +1,5 @@
-//! Reading claims from left to right. Each reader gives what it read and what follows it, or the first fault.
+//! Reading claims from left to right. Each reader returns what it read and what follows it, or the
+//! first fault.
 
 ghost use Rattle.std.specs.Prelude.{◌≡◌, ◌≢◌, ◌≤◌, ◌<◌, IfOk, IfErr, Ok, length};
 ghost use Rattle.mon_oid.specs.Oid.{IsOid};
@@ -111,7 +112,8 @@ fn sub_identifiers_at(
     Ok((numbers, rest))
 }
 
-/// Whether the first two numbers are out of the range of an identifier's (RFC 2578 section 3.5).
+/// Returns `true` if the first two numbers are out of the range of an identifier's (RFC 2578
+/// section 3.5).
 #[tactic(auto, unfolding(crate::specs::Reading::is_unrooted))]
 fn is_unrooted(parts: &[u32]) -> bool
     requires { 2 ≤ length parts.now }

@@ -24,8 +24,9 @@ pub struct Portion {
     pub samples: SampleList,
 }
 
-/// What is offered to the peer in the slot, in the order in which it is sent: of each instance in turn what is owed, the oldest
-/// sample first, at most 40 a portion; where nothing is owed, one portion without samples of the first instance.
+/// Returns what is offered to the peer in the slot, in the order in which it is sent: of each
+/// instance what is owed, the oldest sample first, at most 40 a portion; where nothing is owed, one
+/// portion without samples of the first instance.
 pub fn portions(alloc: Global, board: &Board, slot: u8) -> Result<Vec<Portion>, AllocError>
     requires { slot < 15 }
     ensures portions { IfOk result (λ p. p.items ≡ offered_portions (owed_in (window_of board.now) (is_marked board.now slot)) (length board.now.watch.instances)) }

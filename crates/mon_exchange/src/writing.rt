@@ -1,4 +1,5 @@
-//! Writing claims. Their size is known before, so that they are written into room that was taken before.
+//! Writing claims. Their size is known before, so that they are written within capacity that was
+//! allocated before.
 
 ghost use Rattle.std.specs.Prelude.{◌≡◌, ◌≤◌, ◌<◌, ◌+◌, ◌++◌, IfOk, length, vec_len, vec_capacity};
 ghost use Rattle.std.specs.List.Sorted.{IsStrictlySortedBy};
@@ -13,7 +14,7 @@ use std::alloc::{AllocError, Global};
 
 /// How many octets the claim takes, at most 1403.
 #[tactic(auto, using(crate::proofs::Claims::claim_octets_length))]
-pub fn claim_size(claim: &ClaimRef) -> usize
+pub(crate) fn claim_size(claim: &ClaimRef) -> usize
     requires { IsSendable (claim_of claim.now) }
     ensures size { result ≡ length (claim_octets (claim_of claim.now)) }
     ensures few { result ≤ 1403 }
@@ -21,7 +22,7 @@ pub fn claim_size(claim: &ClaimRef) -> usize
     17 + instance_size(claim.engine, claim.name) + samples_size(claim.samples)
 }
 
-/// Appends the claim. The room for it was taken before, so this cannot fail.
+/// Appends the claim. Its capacity was allocated before, so this cannot fail.
 #[tactic(auto, unfolding(crate::specs::Claim::claim_octets, crate::specs::Claim::counted_samples))]
 pub fn write_within(out: &mut Vec<u8>, claim: &ClaimRef)
     requires sendable { IsSendable (claim_of claim.now) }

@@ -5,7 +5,7 @@ use Rattle.mon_sample.specs.Key.{kind_of, sample_value}
 use Rattle.mon_rates.specs.Totals.{totals, thousandths}
 use Rattle.mon_report.specs.Report.{newest}
 
--- the newest of samples that stand from the oldest on
+-- the newest of samples, the oldest of which is first
 abbrev pub newest_of : List ℕ → Option ℕ
 newest_of [] = None
 newest_of (first ∷ rest) = Some (newest first rest)

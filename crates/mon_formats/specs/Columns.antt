@@ -12,11 +12,11 @@ use Rattle.mon_report.specs.Report.{Entry, rate_text, samples_in}
 use Rattle.mon_formats.specs.declared.columns.Widths.{Widths}
 use Rattle.mon_formats.specs.Cells.{newest_of, value_of, rate_of}
 
--- so many spaces
+-- N spaces
 abbrev pub spaces : ℕ → List ℕ
 spaces n = repeat n (32 ∷ [])
 
--- a text at the right end of a column; two spaces stand before the next column
+-- a text at the right end of a column; two spaces are before the next column
 abbrev pub to_right : ℕ → List ℕ → List ℕ
 to_right width text = spaces (width - length text) ++ text ++ codes "  "
 
@@ -24,12 +24,12 @@ to_right width text = spaces (width - length text) ++ text ++ codes "  "
 abbrev pub to_left : ℕ → List ℕ → List ℕ
 to_left width text = text ++ spaces (width - length text) ++ codes "  "
 
--- the newest value; a dash where there is no sample
+-- the newest value; a dash if there is no sample
 abbrev pub value_cell : Option ℕ → List ℕ
 value_cell None = codes "-"
 value_cell (Some s) = signed_decimal (value_of s)
 
--- the rate a second; a dash where there is none
+-- the rate a second; a dash if there is none
 abbrev pub rate_cell : Option ℕ → List ℕ
 rate_cell None = codes "-"
 rate_cell (Some q) = rate_text (Some q) ++ codes "/s"
@@ -39,7 +39,7 @@ abbrev pub is_raised : AlarmState → Bool
 is_raised Clear = false
 is_raised (Raised boots time) = true
 
--- whether an alarm is raised, of those that there are; a dash where there are none
+-- whether an alarm is raised, of those that there are; a dash if there are none
 abbrev pub alarm_cell : List ℕ → List Rule → List ℕ
 alarm_cell items [] = codes "-"
 alarm_cell items (r ∷ rs) = if list_any (λ rule. is_raised (state_by rule items)) (r ∷ rs) then codes "RAISED" else codes "clear"

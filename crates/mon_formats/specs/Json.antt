@@ -1,8 +1,9 @@
 -- A report as JSON (RFC 8259), on one line. Whole numbers beyond 2^53, which many readers round, are texts.
-use Rattle.std.specs.Prelude.{ℕ, ℤ, pos, negsuc, ◌^◌, List, ◌++◌, Option, Some, None, codes, decimal, map, nat_le, nat_lt, if◌then◌else◌}
+use Rattle.std.specs.Prelude.{◌≡◌, ℕ, ℤ, pos, negsuc, ◌^◌, List, ◌++◌, Option, Some, None, codes, decimal, map, nat_le, nat_lt, if◌then◌else◌}
 use Rattle.std.specs.Fmt.{signed_decimal}
 use Rattle.hex.specs.Hex.{encode_lower}
 use Rattle.serde_json.specs.Data.{Data, null, number, unsigned, negative, string, array, object, no_members, member}
+use Rattle.serde_json.specs.Read.{read}
 use Rattle.serde_json.specs.View.{items_of}
 use Rattle.serde_json.specs.Written.{compact_text}
 use Rattle.mon_sample.specs.Kind.{kind_name}
@@ -51,7 +52,7 @@ alarm_data items rule = object
     (member (codes "rising") (exact_signed rule.rising)
     no_members)))
 
--- a rate in thousandths; null where there is none
+-- a rate in thousandths; null if there is none
 abbrev pub rate_data : Option ℕ → Data
 rate_data None = null
 rate_data (Some q) = exact q
@@ -81,3 +82,7 @@ report_data shown entries = object
 -- the text, with a line feed behind it
 unfoldable pub json_report : (List ℕ → List ℕ) → List Entry → List ℕ
 json_report shown entries = compact_text (report_data shown entries) ++ codes "\n"
+
+-- the text is a line that reads as the report's value, and a line feed
+abbrev pub ReadsAsReport : (List ℕ → List ℕ) → List Entry → List ℕ → Type 0
+ReadsAsReport shown entries text = (line : List ℕ) × (text ≡ line ++ codes "\n") × (read line ≡ Some (report_data shown entries))

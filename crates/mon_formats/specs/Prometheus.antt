@@ -23,8 +23,9 @@ use Rattle.mon_formats.specs.Cells.{newest_of, value_of, rate_of}
 abbrev pub escaped : ℕ → List ℕ
 escaped c = if c == 92 then 92 ∷ 92 ∷ [] else if c == 34 then 92 ∷ 34 ∷ [] else if c == 10 then 92 ∷ 110 ∷ [] else c ∷ []
 
--- A label's value as a reader of the format takes it, from behind its opening quote up to its closing one, and what follows that: a backslash
--- stands before a backslash, a quote, and the n that stands for a line feed; none where it isn't closed.
+-- A label's value as a reader of the format takes it, from behind its opening quote up to its
+-- closing one, and what follows that: a backslash is before a backslash, a quote, and the n of a
+-- line feed; None if it isn't closed.
 abbrev pub read_value : List ℕ → Option (List ℕ × List ℕ)
 read_value [] = None
 read_value (c ∷ []) = if c == 34 then Some ([], []) else None
@@ -41,7 +42,7 @@ label_text label value = label ++ codes "=\"" ++ flat_map escaped value ++ codes
 unfoldable pub metric_line : List ℕ → List ℕ → List ℕ → List ℕ
 metric_line metric labels value = metric ++ codes "{" ++ labels ++ codes "} " ++ value ++ codes "\n"
 
--- a line that tells Prometheus something of a metric
+-- a line that says something of a metric to Prometheus
 unfoldable pub comment_line : List ℕ → List ℕ → List ℕ → List ℕ
 comment_line keyword metric content = codes "# " ++ keyword ++ codes " " ++ metric ++ codes " " ++ content ++ codes "\n"
 
@@ -176,13 +177,13 @@ debt_line d = metric_line (station_name Debt) (label_text (codes "peer") (decima
 unfoldable pub debts_text : List (ℕ × ℕ) → List ℕ
 debts_text debts = station_head Debt ++ flat_map debt_line debts
 
--- what a station says of itself: its incarnation, how many samples it took and how many polls it gave up since it began, and by the number
--- of each peer how many samples it owes that peer
+-- what a station says of itself: its incarnation, how many samples it took and how many polls it
+-- gave up since its start, and by the number of each peer how many samples it owes that peer
 unfoldable pub station_text : Figures → List ℕ
 station_text f =
     plain_metric Incarnation f.incarnation ++ plain_metric Taken f.taken ++ plain_metric GivenUp f.given_up ++ debts_text f.debts.items
 
--- nothing where there is no station
+-- nothing if there is no station
 abbrev pub station_text_if : Option Figures → List ℕ
 station_text_if None = []
 station_text_if (Some f) = station_text f

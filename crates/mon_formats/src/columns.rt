@@ -166,7 +166,7 @@ fn value_cell(alloc: Global, newest: Option<&Sample>) -> Result<String, AllocErr
     }
 }
 
-/// A rate, given in thousandths, with three digits after the point; a dash where there is none.
+/// Writes a rate, given in thousandths, with three digits after the point; a dash if there is none.
 fn rate_cell(alloc: Global, rate: Option<u128>) -> Result<String, AllocError>
     ensures { IfOk result (λ text. string_bytes text ≡ rate_cell rate) }
 {
@@ -191,7 +191,7 @@ fn rate_text(alloc: Global, rate: u128) -> Result<String, AllocError>
     }
 }
 
-/// Whether an alarm is raised, of those of the rules on an instance; a dash where there are none.
+/// Says whether an alarm is raised, of those of the rules on an instance; a dash if there are none.
 fn alarm_cell(alloc: Global, entry: &Entry) -> Result<&'static str, AllocError>
     ensures { IfOk result (λ text. text.now ≡ alarm_cell entry.now.items entry.now.rules) }
 {
@@ -205,14 +205,14 @@ fn alarm_cell(alloc: Global, entry: &Entry) -> Result<&'static str, AllocError>
     Ok("clear")
 }
 
-/// Whether the alarm of a rule is raised over the samples.
+/// Returns `true` if the alarm of a rule is raised over the samples.
 fn is_any_raised(samples: &[Sample], rules: &[Rule]) -> bool
     ensures { result ≡ list_any (λ rule. is_raised (state_by rule samples.now)) rules.now }
 {
     rules.iter().any(|rule| is_raised(state(rule, samples)))
 }
 
-/// Whether an alarm is raised.
+/// Returns `true` if an alarm is raised.
 fn is_raised(alarm: AlarmState) -> bool
     ensures { result ≡ is_raised alarm }
 {

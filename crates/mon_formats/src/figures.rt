@@ -5,9 +5,9 @@
 pub struct Figures {
     /// How often it was started over its file.
     pub incarnation: u32,
-    /// How many samples it took since it began.
+    /// How many samples it took since its start.
     pub taken: u64,
-    /// How many polls it gave up since it began.
+    /// How many polls it gave up since its start.
     pub given_up: u64,
     /// By the station number of each peer how many samples it owes that peer.
     pub debts: Vec<(u32, u32)>,

@@ -2,6 +2,8 @@
 
 ghost use Rattle.std.specs.Prelude.{◌≡◌, IfOk, option_map};
 ghost use Rattle.mon_formats.specs.Formats.{formatted};
+ghost use Rattle.mon_formats.specs.Json.{ReadsAsReport};
+ghost use Rattle.mon_formats.specs.declared.format.Format.TheVariants.{Json};
 
 use crate::columns::columns_report;
 use crate::figures::Figures;
@@ -25,7 +27,8 @@ pub enum Format {
     Columns,
 }
 
-/// The report of instances in a format, with their names as `names` has them. Prometheus is also told what the station says of itself.
+/// Makes the report of instances in a format, with their names as `names` has them. Prometheus'
+/// text also has what the station says of itself.
 pub fn format_report<S: NameTexts>(
     alloc: Global,
     format: Format,
@@ -33,7 +36,9 @@ pub fn format_report<S: NameTexts>(
     entries: &[Entry],
     station: Option<&Figures>,
 ) -> Result<Vec<u8>, AllocError>
-    ensures { IfOk result (λ text. text.items ≡ formatted format (S.shown names.now) entries.now (option_map (λ f. f.now) station.entry)) }
+    ensures text { IfOk result (λ text. text.items ≡ formatted format (S.shown names.now) entries.now (option_map (λ f. f.now) station.entry)) }
+    // JSON reads back as the value of the report (RFC 8259).
+    ensures read_back { format ≡ Json → IfOk result (λ text. ReadsAsReport (S.shown names.now) entries.now text.items) }
 {
     match format {
         Format::Text => named_report(alloc, names, entries),

@@ -1,12 +1,11 @@
 //! A report as JSON.
 
-ghost use Rattle.std.specs.Prelude.{◌≡◌, ◌++◌, ℕ, IfOk, List, Some, codes, map};
+ghost use Rattle.std.specs.Prelude.{◌≡◌, IfOk, map};
 ghost use Rattle.serde_json.specs.Data.{array};
-ghost use Rattle.serde_json.specs.Read.{read};
 ghost use Rattle.serde_json.specs.View.{view, items_of};
 ghost use Rattle.mon_report.specs.Report.{samples_in};
 ghost use Rattle.mon_formats.specs.Cells.{rate_of};
-ghost use Rattle.mon_formats.specs.Json.{exact, exact_signed, sample_data, raised_data, alarm_data, rate_data, totals_data, entry_data, report_data, json_report};
+ghost use Rattle.mon_formats.specs.Json.{exact, exact_signed, sample_data, raised_data, alarm_data, rate_data, totals_data, entry_data, report_data, json_report, ReadsAsReport};
 
 use mon_alarms::{AlarmState, Rule, state};
 use mon_names::NameTexts;
@@ -25,8 +24,7 @@ pub(crate) fn json_report<S: NameTexts>(
     entries: &[Entry],
 ) -> Result<Vec<u8>, AllocError>
     ensures text { IfOk result (λ text. text.items ≡ json_report (S.shown names.now) entries.now) }
-    // It is a line that reads as JSON as the report's value (RFC 8259), and a line feed.
-    ensures read_back { IfOk result (λ text. (line : List ℕ) × (text.items ≡ line ++ codes "\n") × (read line ≡ Some (report_data (S.shown names.now) entries.now))) }
+    ensures read_back { IfOk result (λ text. ReadsAsReport (S.shown names.now) entries.now text.items) }
 {
     let report = report_value(alloc, names, entries)?;
     let mut text = report.to_string(alloc)?;
@@ -157,7 +155,7 @@ fn sample_value(alloc: Global, sample: &Sample) -> Result<Value, AllocError>
     })
 }
 
-/// The rate of an instance in thousandths; null where there is none.
+/// The rate of an instance in thousandths; null if there is none.
 fn rate_value(alloc: Global, entry: &Entry) -> Result<Value, AllocError>
     ensures { IfOk result (λ v. view v ≡ rate_data (rate_of entry.now.items)) }
 {

@@ -14,7 +14,7 @@ ghost use Rattle.mon_formats.specs.Formats.{report_in};
 ghost use Rattle.mon_formats.specs.Named.{named_report};
 ghost use Rattle.mon_formats.specs.Prometheus.{escaped, read_value};
 
-/// The lines of text in which names stand in numbers are those of `mon_report`.
+/// The lines of text with names in numbers are those of `mon_report`.
 pub fn names_in_numbers()
     ensures { (entries : List Entry) → named_report dotted entries ≡ report_of entries }
 {}

@@ -7,7 +7,7 @@ use Rattle.mon_oid.specs.Steps.{◌>>=◌}
 use Rattle.mon_ber.proofs.Promised.{IsBytes, IsBytes-after, bind_ok, pair_is}
 use Rattle.mon_layout.specs.Reading.{one_by_one, with_front}
 
--- each stands so to the one before it
+-- each is so to the one before it
 abbrev pub Chain : {A : Type 0} → (Option A → A → Type 0) → Option A → List A → Type 0
 Chain V last [] = Unit {0}
 Chain V last (x ∷ xs) = V last x × Chain V (Some x) xs

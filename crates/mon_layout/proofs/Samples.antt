@@ -33,7 +33,7 @@ unfolding is_sample_number
 is_sample_when k is =
     and_from _ _ (eq-eqb _ _ is.tag) (and_from _ _ (lt-ltb _ _ is.stamp.boots) (and_from _ _ (lt-ltb _ _ is.stamp.time) is.value))
 
--- a sample that stands so to the one before it
+-- a sample that is so to the one before it
 abbrev pub Follows : Option ℕ → ℕ → Type 0
 Follows last s = IsSample s × (rises last s ≡ true)
 

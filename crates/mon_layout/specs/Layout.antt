@@ -1,4 +1,4 @@
--- The layouts of fields. All numbers stand with the greatest octet first.
+-- The layouts of fields. All numbers are big-endian.
 use Rattle.std.specs.Prelude.{ℕ, ◌^◌, Bool, List, ◌∷◌, ◌++◌, length, nat_lt, ◌==◌, ◌&&◌}
 use Rattle.std.specs.List.{flat_map, AllByRecursion}
 use Rattle.std.specs.List.Sorted.{IsStrictlySortedBy}

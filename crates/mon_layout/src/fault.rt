@@ -1,4 +1,5 @@
-//! Why fields could not be read. It becomes a fault of the claim or the image that the fields stand in, which has a number.
+//! Why fields could not be read. It becomes a fault of the claim or the image that has the fields,
+//! which has a number.
 
 ghost use Rattle.std.specs.Prelude.{◌≡◌};
 ghost use Rattle.mon_layout.specs.declared.fault.LayoutFault.TheVariants.{OutOfMemory};

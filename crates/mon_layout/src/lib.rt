@@ -1,7 +1,7 @@
-//! Fields of a fixed layout, which claims and saved images share: octets, numbers of four octets, instances, and rising
-//! samples. All numbers stand with the greatest octet first.
-//! Contract: a field is read exactly where the octets begin with its layout, and written in that layout into room that was
-//! taken before.
+//! Fields of a fixed layout, which claims and saved images share: octets, numbers of four octets,
+//! instances, and rising samples. All numbers are big-endian.
+//! Contract: a field is read exactly if the octets begin with its layout, and written in that
+//! layout within capacity that was taken before.
 #![tactic(auto)]
 
 mod fault;
@@ -14,6 +14,5 @@ pub use fault::LayoutFault;
 pub use list::SampleList;
 pub use reading::{field_at, octet_at, samples_at, u32_at};
 pub use writing::{
-    instance_size, look_at_samples, put_instance, put_octet, put_octets, put_samples, put_u32,
-    samples_size,
+    instance_size, put_instance, put_octet, put_octets, put_samples, put_u32, samples_size,
 };

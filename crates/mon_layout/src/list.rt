@@ -20,7 +20,7 @@ impl Model for SampleList {
 }
 
 impl SampleList {
-    /// The samples of a vector, which is taken over. It takes no memory.
+    /// Takes over the samples of a vector. It allocates nothing.
     pub fn new(items: Vec<Sample>) -> Self
         ensures { result ≡ items.items }
     {

@@ -1,4 +1,5 @@
-//! Reading fields. Each reader gives what it read and what follows it, or the first fault from the left.
+//! Reading fields. Each reader returns what it read and what follows it, or the first fault from
+//! the left.
 
 ghost use Rattle.std.specs.Prelude.{◌≡◌, ◌≢◌, ◌≤◌, ◌<◌, IfOk, length};
 ghost use Rattle.mon_layout.specs.Reading.{Gives, octet_at, field_at, u32_at, sample_of, rises, samples_at};
@@ -11,7 +12,7 @@ use std::alloc::Global;
 /// The octets of a sample's record.
 const RECORD: usize = 21;
 
-/// One octet, and what follows it. `Truncated` where there is none.
+/// Reads one octet, and returns what follows it. `Truncated` if there is none.
 #[tactic(auto, unfolding(crate::specs::Reading::octet_at))]
 pub fn octet_at(octets: &[u8]) -> Result<(u8, &[u8]), LayoutFault>
     ensures gives { Gives (λ x. (x.0, x.1.now)) result (octet_at octets.now) }
@@ -63,7 +64,7 @@ fn sample_of(octets: &[u8]) -> Result<Sample, LayoutFault>
     }
 }
 
-/// Whether a sample exceeds the one before it, where there is one.
+/// Returns `true` if a sample exceeds the one before it, if there is one.
 fn rises(last: Option<Sample>, sample: &Sample) -> bool
     ensures { result ≡ rises last sample.now }
 {
@@ -73,9 +74,10 @@ fn rises(last: Option<Sample>, sample: &Sample) -> bool
     }
 }
 
-/// `count` rising samples, a record each, and what follows them. Of each sample in turn: `Truncated` where its record is cut
-/// short, `BadSample` where the record is no sample's, `NotRising` where it does not exceed the sample before. The room is
-/// taken once, before the first sample is read; `OutOfMemory` where it is refused.
+/// Reads `count` rising samples, a record each, and returns what follows them. Of each sample, one
+/// after another: `Truncated` if its record is cut short, `BadSample` if the record is no sample's,
+/// `NotRising` if it does not exceed the sample before. The capacity is taken once, before the
+/// first sample is read; `OutOfMemory` where it is refused.
 #[tactic(auto, unfolding(crate::specs::Reading::samples_at))]
 pub fn samples_at(
     alloc: Global,

@@ -1,4 +1,4 @@
-//! Writing fields into room that was taken before, so that no writer can fail.
+//! Writing fields within capacity that was allocated before, so that no writer can fail.
 
 ghost use Rattle.std.specs.Prelude.{◌≡◌, ◌≤◌, ◌<◌, ◌+◌, ◌*◌, ◌^◌, ◌++◌, ◌∷◌, [], length, vec_len, vec_capacity};
 ghost use Rattle.std.specs.Int.{w32, to_be_bytes};
@@ -86,15 +86,6 @@ pub fn samples_size(samples: &[Sample]) -> usize
     ensures { result ≡ length (samples_octets samples.now) }
 {
     21 * samples.len()
-}
-
-/// Looks at samples, which are then known to be in range. It changes nothing.
-pub fn look_at_samples(samples: &[Sample])
-    ensures { AllByRecursion IsSample samples.now }
-{
-    for sample in samples {
-        let _ = sample.to_record();
-    }
 }
 
 /// Appends samples, a record of 21 octets each.

@@ -138,7 +138,7 @@ saved_again again window epoch samples rest few are shared =
     rw (within_again 0 window BadImage (length samples) (samples_octets samples ++ rest) (omega arith) few, again samples rest are, shared_when epoch samples shared) refl
 
 -- ---- entries
--- the one window of a version, 0 where there is none
+-- the one window of a version, or 0 if it has none
 abbrev pub one_window : ImageVersion → ℕ
 one_window (One window) = window
 one_window Two = 0
@@ -434,7 +434,7 @@ pub is_only : (again : SamplesAgain) (instances : List Instance) (octets : List 
     → Gives (λ x. x) r (Ok image)
 is_only again instances octets r image gives is = subst (λ (read : Result Image ImageFault). Gives (λ x. x) r read) (image_again again instances octets image is) gives
 
--- a fault where there is an image is want of memory
+-- a fault though there is an image is out of memory
 pub fails_only : {Y : Type 0} (e : ImageFault) (y : Y) → Fails e (Ok y) → e ≡ OutOfMemory
 fails_only OutOfMemory y h = refl
 fails_only Truncated y h = absurd cc

@@ -1,4 +1,4 @@
--- Samples of one boots number stand side by side in a rising list.
+-- Samples of one boots number are neighbours in a rising list.
 use Rattle.std.proofs.Common.{◌≡◌, ℕ, zero, suc, ◌+◌, ◌<◌, ◌≤◌, true, false, List, [], ◌∷◌, length, get_or, refl, sym, ap, subst, ◌∙◌, ◌⊎◌, inl, inr, arith, ◌/◌, ◌^◌}
 use Rattle.std.specs.Prelude.{nat_lt, not}
 use Rattle.std.specs.declared.cmp.Ordering.TheVariants.{Less, Equal, Greater}

@@ -18,12 +18,12 @@ abbrev pub version_octet : ImageVersion → ℕ
 version_octet (One window) = 1
 version_octet Two = 2
 
--- what stands before the count of instances: in version 1 the window
+-- what is before the count of instances: in version 1 the window
 abbrev pub before_count : ImageVersion → List ℕ
 before_count (One window) = window ∷ []
 before_count Two = []
 
--- what stands before an instance: in version 2 its window and its epoch
+-- what is before an instance: in version 2 its window and its epoch
 abbrev pub before_entry : ImageVersion → Entry → List ℕ
 before_entry (One window) e = []
 before_entry Two e = e.window ∷ e.epoch ∷ []

@@ -1,4 +1,4 @@
--- What an image gives back.
+-- What is restored from an image.
 use Rattle.std.specs.Prelude.{ℕ, ◌≡◌, ◌+◌, false, List, [], ◌++◌, ◌∷◌}
 use Rattle.mon_board.specs.Board.{Board, window_of, is_marked}
 use Rattle.mon_board.specs.Instance.{instances_of}
@@ -21,7 +21,8 @@ saved_pairs image = pairs_from 0 image.entries
 abbrev pub IsUnmarked : Board → Type 0
 IsUnmarked board = (slot i s : ℕ) → is_marked board slot i s ≡ false
 
--- the octets spell an image of the watch's instances with this incarnation, and the board has of each instance what the watch keeps of the image's samples, none of them marked
+-- the octets spell an image of the watch's instances with this incarnation, and the board has of
+-- each instance what the watch keeps of the image's samples, none of them marked
 pub record IsRestored (watch : Watch) (octets : List ℕ) (board : Board) (incarnation : ℕ) : Type 0 where
   pub image : Image
   pub spelled : SpellsImage octets (instances_of watch.instances) image

@@ -32,7 +32,7 @@ impl Model for Entries {
 }
 
 impl Entries {
-    /// These entries, in this order. It takes no memory.
+    /// Takes over these entries, in this order. It allocates nothing.
     pub fn new(items: Vec<Entry>) -> Self
         ensures { result ≡ items.items }
     {

@@ -1,4 +1,5 @@
-//! Reading images, from left to right. Each reader gives what it read and what follows it, or the first fault.
+//! Reading images, from left to right. Each reader returns what it read and what follows it, or the
+//! first fault.
 
 ghost use Rattle.std.specs.Prelude.{◌≡◌, ◌≤◌, ◌<◌, ◌↔◌, ℕ, List, Ok, IfOk, IfErr, IsTrue, length};
 ghost use Rattle.std.specs.Int.{w16, to_be_bytes};
@@ -130,8 +131,8 @@ fn sizes_at(window: u8, octets: &[u8]) -> Result<(Sizes, &[u8]), ImageFault>
     Ok((Sizes { window, epoch }, rest))
 }
 
-/// Whether no boots number has more than `epoch` of rising samples: those of one boots number stand side by side, so none
-/// of them is `epoch` places after another.
+/// Returns `true` if no boots number has more than `epoch` of rising samples: those of one boots
+/// number are neighbours, so none of them is `epoch` places after another.
 fn is_shared(samples: &[Sample], epoch: usize) -> bool
     requires rising { IsStrictlySortedBy nat_cmp samples.now }
     ensures { result ≡ is_shared epoch samples.now }

@@ -1,4 +1,5 @@
-//! Writing images, in version 2. Their size is known before, so they are written once, into room that was taken once.
+//! Writing images, in version 2. Their size is known before, so they are written once, within
+//! capacity that was allocated once.
 
 ghost use Rattle.std.specs.Prelude.{◌≡◌, ◌≤◌, ◌<◌, ◌+◌, ◌++◌, ℕ, IfOk, length, get_or, vec_len, vec_capacity};
 ghost use Rattle.std.specs.List.{AllByRecursion};
@@ -78,8 +79,8 @@ pub fn image_size(board: &Board) -> usize
     size
 }
 
-/// Appends the image of the board and the incarnation, which is not 0, where room for it was taken before; so it cannot
-/// fail.
+/// Appends the image of the board and the incarnation, which is not 0, within capacity that was
+/// allocated before; so it cannot fail.
 #[tactic(auto, unfolding(crate::specs::Image::image_octets))]
 pub fn write_within(out: &mut Vec<u8>, board: &Board, incarnation: u32)
     requires positive { 1 ≤ incarnation }

@@ -9,20 +9,16 @@ ghost use Rattle.mon_settings.specs.Keys.{Reads};
 ghost use Rattle.mon_settings.specs.Text.{IsReadAs, IsRefusal, Says};
 ghost use Rattle.toml.specs.View.{table_view};
 
-use crate::fault::SettingsFault;
+use crate::fault::{Read, SettingsFault};
 use crate::grammar::{Kind, top_keys};
-use crate::interfaces::read_interfaces;
 use crate::key::Key;
-use crate::keys::only;
-use crate::leaf::{addr_at, int_at, int_or, oid_at};
-use crate::octets::{hex_octets_at, octets_at};
-use crate::tables::read_policy;
+use crate::leaf::Reader;
+use crate::tables::{read_interfaces, read_policy};
 use crate::text::tree;
 use mon_mib::{Interface, Settings, SysTexts};
 use mon_poller::Addr;
 use mon_vacm::Policy;
 use std::alloc::Global;
-use toml::Table;
 
 /// What an agent is told at its start.
 #[derive(Drop)]
@@ -48,19 +44,19 @@ pub(crate) struct System {
 }
 
 #[tactic(auto, unfolding(crate::specs::Agent::system_of))]
-fn read_system(alloc: Global, table: &Table) -> Result<System, SettingsFault>
-    ensures { Reads (λ s. s) (system_of (table_view table.now)) result }
+fn read_system(reader: &Reader<'_>) -> Read<System>
+    ensures { Reads (λ s. s) (system_of (table_view reader.now.table.now)) result }
 {
-    let listen = addr_at(table, Key::Listen)?;
-    let limit = int_at(table, Key::Limit, 484, 8192)?;
-    let engine = hex_octets_at(alloc, table, Key::Engine, 5, 32)?;
-    let boots = int_or(table, Key::Boots, 1, 1, 2147483647)?;
-    let descr = octets_at(alloc, table, Key::Descr, 0, 255)?;
-    let object_id = oid_at(alloc, table, Key::ObjectId)?;
-    let contact = octets_at(alloc, table, Key::Contact, 0, 255)?;
-    let name = octets_at(alloc, table, Key::Name, 0, 255)?;
-    let location = octets_at(alloc, table, Key::Location, 0, 255)?;
-    let services = int_at(table, Key::Services, 0, 127)?;
+    let listen = reader.addr(Key::Listen)?;
+    let limit = reader.int(Key::Limit, 484, 8192)?;
+    let engine = reader.hex(Key::Engine, 5, 32)?;
+    let boots = reader.int_or(Key::Boots, 1, 1, 2147483647)?;
+    let descr = reader.octets(Key::Descr, 0, 255)?;
+    let object_id = reader.oid(Key::ObjectId)?;
+    let contact = reader.octets(Key::Contact, 0, 255)?;
+    let name = reader.octets(Key::Name, 0, 255)?;
+    let location = reader.octets(Key::Location, 0, 255)?;
+    let services = reader.int(Key::Services, 0, 127)?;
     Ok(System {
         listen,
         settings: Settings {
@@ -80,18 +76,18 @@ fn read_system(alloc: Global, table: &Table) -> Result<System, SettingsFault>
 }
 
 #[tactic(auto, unfolding(crate::specs::Agent::agent_of))]
-fn read_tree(alloc: Global, table: &Table) -> Result<AgentSettings, SettingsFault>
-    ensures gives { Reads (λ s. agent_view s) (agent_of (table_view table.now)) result }
+fn read_tree(reader: &Reader<'_>) -> Read<AgentSettings>
+    ensures gives { Reads (λ s. agent_view s) (agent_of (table_view reader.now.table.now)) result }
     ensures indexes { IfOk result (λ s. AreIndexes (indexes_of s.interfaces.items)) }
 {
-    only(table, top_keys(Kind::Agent))?;
+    reader.only(top_keys(Kind::Agent))?;
     let System {
         listen,
         settings,
         texts,
-    } = read_system(alloc, table)?;
-    let policy = read_policy(alloc, table)?;
-    let interfaces = read_interfaces(alloc, table)?;
+    } = read_system(reader)?;
+    let policy = read_policy(reader)?;
+    let interfaces = read_interfaces(reader)?;
     Ok(AgentSettings {
         listen,
         settings,
@@ -117,7 +113,10 @@ pub fn read_agent(alloc: Global, text: &str) -> Result<AgentSettings, SettingsFa
     ensures indexes { IfOk result (λ s. AreIndexes (indexes_of s.interfaces.items)) }
 {
     match tree(alloc, text) {
-        Ok(table) => read_tree(alloc, &table),
+        Ok(table) => read_tree(&Reader {
+            alloc,
+            table: &table,
+        }),
         Err(fault) => Err(fault),
     }
 }

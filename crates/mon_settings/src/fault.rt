@@ -26,6 +26,9 @@ pub enum SettingsFault {
     UnknownObject(Place),
 }
 
+/// What is read, or why it is not.
+pub(crate) type Read<T> = Result<T, SettingsFault>;
+
 impl SettingsFault {
     /// The number of the fault, 1 to 6.
     pub fn number(self) -> u8

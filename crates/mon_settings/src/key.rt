@@ -1,5 +1,5 @@
 ghost use Rattle.std.specs.Prelude.{◌≡◌};
-ghost use Rattle.mon_settings.specs.Key.{key_name};
+ghost use Rattle.mon_settings.specs.Key.{inner_key_name, key_name};
 
 use std::fmt;
 
@@ -78,6 +78,24 @@ impl Key {
             Key::Access => "access",
             Key::View => "view",
             Key::Interface => "interface",
+            Key::Station => "station",
+            Key::File => "file",
+            Key::Window => "window",
+            Key::Epoch => "epoch",
+            Key::WaitMs => "wait_ms",
+            Key::Modules => "modules",
+            Key::Target => "target",
+            Key::Peer => "peer",
+            Key::Alarm => "alarm",
+            _ => self.inner_name(),
+        }
+    }
+
+    /// How a key is written that stands in no top table.
+    fn inner_name(self) -> &'static str
+        ensures { result.now ≡ inner_key_name self }
+    {
+        match self {
             Key::Security => "security",
             Key::Model => "model",
             Key::Read => "read",
@@ -97,21 +115,13 @@ impl Key {
             Key::OutPackets => "out_packets",
             Key::Start => "start",
             Key::Rate => "rate",
-            Key::Station => "station",
-            Key::File => "file",
-            Key::Window => "window",
-            Key::Epoch => "epoch",
-            Key::WaitMs => "wait_ms",
-            Key::Modules => "modules",
-            Key::Target => "target",
-            Key::Peer => "peer",
-            Key::Alarm => "alarm",
             Key::Address => "address",
             Key::Tries => "tries",
             Key::Objects => "objects",
             Key::Mark => "mark",
             Key::Rising => "rising",
             Key::Falling => "falling",
+            _ => "",
         }
     }
 }

@@ -1,17 +1,14 @@
 //! The keys of a table.
 
-ghost use Rattle.std.specs.Prelude.{◌≡◌, not, IfErr, IfOk, None, Some, option_copied, option_map, string_bytes};
+ghost use Rattle.std.specs.Prelude.{◌≡◌, not, option_copied, option_map, string_bytes};
 ghost use Rattle.std.specs.List.{find};
 ghost use Rattle.std.specs.Map.{keys_of};
 ghost use Rattle.toml.specs.Data.{get_member};
 ghost use Rattle.toml.specs.View.{view, table_view};
 ghost use Rattle.mon_settings.specs.Key.{key_name};
-ghost use Rattle.mon_settings.specs.Keys.{first_unknown, is_one_of, only};
-ghost use Rattle.mon_settings.specs.SettingsFault.{missing_key};
+ghost use Rattle.mon_settings.specs.Keys.{first_unknown, is_one_of};
 
-use crate::fault::SettingsFault;
 use crate::key::Key;
-use crate::place::Place;
 use toml::{Table, Value};
 
 /// The value at a key, if there is one.
@@ -19,14 +16,6 @@ pub(crate) fn find(table: &Table, key: Key) -> Option<&Value>
     ensures { option_map (λ v. view v.now) result ≡ get_member (key_name key) (table_view table.now) }
 {
     table.get(key.name())
-}
-
-/// The value at a key, which must be there.
-pub(crate) fn needed(table: &Table, key: Key) -> Result<&Value, SettingsFault>
-    ensures there { IfOk result (λ v. get_member (key_name key) (table_view table.now) ≡ Some (view v.now)) }
-    ensures missing { IfErr result (λ e. (get_member (key_name key) (table_view table.now) ≡ None) × (e ≡ missing_key key)) }
-{
-    find(table, key).ok_or(SettingsFault::missing(key))
 }
 
 /// Whether a name is that of one of the keys.
@@ -52,15 +41,4 @@ pub(crate) fn first_unknown<'t>(table: &'t Table, keys: &[Key]) -> Option<&'t St
     ensures { option_map (λ n. string_bytes n.now) result ≡ first_unknown keys.now (table_view table.now) }
 {
     found(table, keys)
-}
-
-/// Refuses a table that has a key besides these.
-#[tactic(auto, unfolding(crate::specs::Keys::only))]
-pub(crate) fn only(table: &Table, keys: &[Key]) -> Result<(), SettingsFault>
-    ensures { result ≡ only keys.now (table_view table.now) }
-{
-    match first_unknown(table, keys) {
-        Some(_) => Err(SettingsFault::UnknownKey(Place::Whole)),
-        None => Ok(()),
-    }
 }

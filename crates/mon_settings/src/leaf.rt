@@ -1,29 +1,209 @@
-//! What the values of keys give.
+//! What the keys of a table give.
 
-ghost use Rattle.std.specs.Prelude.{◌≡◌, ◌≢◌, ◌<◌, ◌≤◌, ◌^◌, [], option_map, IfSome, IfOk, Err};
-ghost use Rattle.toml.specs.Data.{as_bool, as_integer};
+ghost use Rattle.std.specs.Prelude.{◌≡◌, ◌≢◌, ◌<◌, ◌≤◌, ◌^◌, [], IfErr, IfOk, IfSome, None, Some, option_map, Err};
+ghost use Rattle.toml.specs.Data.{as_bool, as_integer, get_member};
 ghost use Rattle.toml.specs.View.{view, table_view};
-ghost use Rattle.mon_settings.specs.Keys.{needed_at, default_at, or_bad, Reads};
-ghost use Rattle.mon_settings.specs.Leaf.{bounded, number_in, int_in, text_in, hex_of, hex_in, oid_of, oid_in, refused, addr_in, model_of, model_in};
+ghost use Rattle.mon_settings.specs.Key.{key_name};
+ghost use Rattle.mon_settings.specs.Keys.{needed_at, default_at, only, optional_at, or_bad, Reads};
+ghost use Rattle.mon_settings.specs.Leaf.{number_in, int_in, text_in, hex_of, hex_in, oid_of, oid_in, refused, addr_in, model_of, model_in};
+ghost use Rattle.mon_settings.specs.Resolving.{resolution, or_unknown, unresolved, name_at, name_or_none};
+ghost use Rattle.mon_settings.specs.SettingsFault.{missing_key};
 
-use crate::fault::SettingsFault;
+use crate::fault::{Read, SettingsFault};
 use crate::key::Key;
-use crate::keys::{find, needed};
+use crate::keys::{find, first_unknown};
+use crate::place::{Place, Step};
 use hex::FromHexError;
+use mon_ber::Octets;
 use mon_oid::{Oid, OidFault};
 use mon_poller::Addr;
+use mon_smi::{Names, NamesFault};
 use mon_vacm::SecurityModel;
 use std::alloc::Global;
 use toml::{Table, Value};
 
-fn bounded(number: i64, least: u64, most: u64) -> Option<u64>
-    ensures value { result ≡ bounded least most number }
-    ensures great { IfSome result (λ n. least ≤ n) }
-    ensures small { IfSome result (λ n. n ≤ most) }
-{
-    match u64::try_from(number) {
-        Ok(n) if least <= n && n <= most => Some(n),
-        _ => None,
+/// A table that is read, and the memory for what it gives.
+#[derive(Clone, Copy)]
+pub(crate) struct Reader<'t> {
+    pub(crate) alloc: Global,
+    pub(crate) table: &'t Table,
+}
+
+impl<'t> Reader<'t> {
+    /// Refuses a table that has a key besides these.
+    #[tactic(auto, unfolding(crate::specs::Keys::only))]
+    pub(crate) fn only(&self, keys: &[Key]) -> Read<()>
+        ensures { result ≡ only keys.now (table_view self.now.table.now) }
+    {
+        match first_unknown(self.table, keys) {
+            Some(_) => Err(SettingsFault::UnknownKey(Place::Whole)),
+            None => Ok(()),
+        }
+    }
+
+    /// The value at a key, which must be there.
+    pub(crate) fn needed(&self, key: Key) -> Read<&'t Value>
+        ensures there { IfOk result (λ v. get_member (key_name key) (table_view self.now.table.now) ≡ Some (view v.now)) }
+        ensures missing { IfErr result (λ e. (get_member (key_name key) (table_view self.now.table.now) ≡ None) × (e ≡ missing_key key)) }
+    {
+        find(self.table, key).ok_or(SettingsFault::missing(key))
+    }
+
+    /// The number at a key, from least to most.
+    pub(crate) fn number(&self, key: Key, least: u64, most: u64) -> Read<u64>
+        ensures value { result ≡ needed_at key (number_in least most) (table_view self.now.table.now) }
+        ensures great { IfOk result (λ n. least ≤ n) }
+        ensures small { IfOk result (λ n. n ≤ most) }
+    {
+        match number_in(self.needed(key)?, least, most) {
+            Some(n) => Ok(n),
+            None => Err(SettingsFault::bad(key)),
+        }
+    }
+
+    /// The same from 1, or another number where the key is left out.
+    pub(crate) fn size_or(&self, key: Key, default: usize, most: usize) -> Read<usize>
+        ensures { result ≡ default_at key default (number_in 1 most) (table_view self.now.table.now) }
+    {
+        match find(self.table, key) {
+            Some(_) => Ok(self.number(key, 1, most as u64)? as usize),
+            None => Ok(default),
+        }
+    }
+
+    /// The number at a key, from least to most, as a signed one.
+    pub(crate) fn int(&self, key: Key, least: u64, most: u64) -> Read<i32>
+        requires { most < 2 ^ 31 }
+        ensures { result ≡ needed_at key (int_in least most) (table_view self.now.table.now) }
+    {
+        int_in(self.needed(key)?, least, most).ok_or(SettingsFault::bad(key))
+    }
+
+    /// The same, or another number where the key is left out.
+    pub(crate) fn int_or(&self, key: Key, default: i32, least: u64, most: u64) -> Read<i32>
+        requires { most < 2 ^ 31 }
+        ensures { result ≡ default_at key default (int_in least most) (table_view self.now.table.now) }
+    {
+        match find(self.table, key) {
+            Some(_) => self.int(key, least, most),
+            None => Ok(default),
+        }
+    }
+
+    /// The integer at a key, whichever.
+    pub(crate) fn long(&self, key: Key) -> Read<i64>
+        ensures { result ≡ needed_at key as_integer (table_view self.now.table.now) }
+    {
+        self.needed(key)?
+            .as_integer()
+            .ok_or(SettingsFault::bad(key))
+    }
+
+    /// The truth value at a key.
+    pub(crate) fn truth(&self, key: Key) -> Read<bool>
+        ensures { result ≡ needed_at key as_bool (table_view self.now.table.now) }
+    {
+        self.needed(key)?.as_bool().ok_or(SettingsFault::bad(key))
+    }
+
+    /// The address at a key.
+    pub(crate) fn addr(&self, key: Key) -> Read<Addr>
+        ensures { result ≡ needed_at key addr_in (table_view self.now.table.now) }
+    {
+        let text = self.needed(key)?.as_str();
+        text.and_then(Addr::parse).ok_or(SettingsFault::bad(key))
+    }
+
+    /// The security model at a key.
+    pub(crate) fn model(&self, key: Key) -> Read<SecurityModel>
+        ensures { result ≡ needed_at key model_in (table_view self.now.table.now) }
+    {
+        let number = self.needed(key)?.as_integer();
+        number.and_then(model_of).ok_or(SettingsFault::bad(key))
+    }
+
+    /// The text at a key, of least to most octets.
+    pub(crate) fn text(&self, key: Key, least: usize, most: usize) -> Read<&'t str>
+        ensures gives { Reads (λ s. s.now) (needed_at key (text_in least most) (table_view self.now.table.now)) result }
+        ensures no_memory { result ≢ Err SettingsFault.OutOfMemory }
+    {
+        match text_in(self.needed(key)?, least, most) {
+            Some(text) => Ok(text),
+            None => Err(SettingsFault::bad(key)),
+        }
+    }
+
+    /// The octets of the text at a key, least to most of them.
+    pub(crate) fn octets(&self, key: Key, least: usize, most: usize) -> Read<Octets>
+        ensures { Reads (λ o. o) (needed_at key (text_in least most) (table_view self.now.table.now)) result }
+    {
+        let text = self.text(key, least, most)?;
+        Ok(Octets::from_slice(self.alloc, text.as_bytes())?)
+    }
+
+    /// The name at a key, of 1 to this many octets, or nothing where the key is left out.
+    pub(crate) fn name_or_none(&self, key: Key, most: usize) -> Read<Option<Octets>>
+        ensures { Reads (λ o. o) (optional_at key (text_in 1 most) (table_view self.now.table.now)) result }
+    {
+        match find(self.table, key) {
+            Some(value) => match text_in(value, 1, most) {
+                Some(text) => Ok(Some(Octets::from_slice(self.alloc, text.as_bytes())?)),
+                None => Err(SettingsFault::bad(key)),
+            },
+            None => Ok(None),
+        }
+    }
+
+    /// The octets of the hex text at a key, least to most of them.
+    pub(crate) fn hex(&self, key: Key, least: usize, most: usize) -> Read<Octets>
+        ensures { Reads (λ o. o) (needed_at key (hex_in least most) (table_view self.now.table.now)) result }
+    {
+        match self.needed(key)?.as_str() {
+            Some(text) => decoded(self.alloc, text, key, least, most),
+            None => Err(SettingsFault::bad(key)),
+        }
+    }
+
+    /// The same up to most, or none where the key is left out.
+    pub(crate) fn hex_or_none(&self, key: Key, most: usize) -> Read<Octets>
+        ensures { Reads (λ o. o) (default_at key [] (hex_in 0 most) (table_view self.now.table.now)) result }
+    {
+        match find(self.table, key) {
+            Some(_) => self.hex(key, 0, most),
+            None => Ok(Octets::new(Vec::new(self.alloc))),
+        }
+    }
+
+    /// The dotted object identifier at a key.
+    pub(crate) fn oid(&self, key: Key) -> Read<Oid>
+        ensures { Reads (λ o. o) (needed_at key oid_in (table_view self.now.table.now)) result }
+    {
+        match self.needed(key)?.as_str() {
+            Some(text) => parsed(self.alloc, text, key),
+            None => Err(SettingsFault::bad(key)),
+        }
+    }
+
+    /// The identifier that a key names.
+    #[tactic(auto, unfolding(crate::specs::Resolving::name_at))]
+    pub(crate) fn object(&self, names: &Names, key: Key) -> Read<Oid>
+        ensures { Reads (λ o. o) (name_at (resolution names.now) key (table_view self.now.table.now)) result }
+    {
+        match self.needed(key)?.as_str() {
+            Some(text) => resolved(self.alloc, names, key, text),
+            None => Err(SettingsFault::bad(key)),
+        }
+    }
+
+    /// The identifier that a key names, or nothing where the key is left out.
+    #[tactic(auto, unfolding(crate::specs::Resolving::name_at, crate::specs::Resolving::name_in, crate::specs::Resolving::name_in_some))]
+    pub(crate) fn object_or_none(&self, names: &Names, key: Key) -> Read<Option<Oid>>
+        ensures { Reads (λ o. o) (name_or_none (resolution names.now) key (table_view self.now.table.now)) result }
+    {
+        match find(self.table, key) {
+            Some(_) => Ok(Some(self.object(names, key)?)),
+            None => Ok(None),
+        }
     }
 }
 
@@ -32,23 +212,9 @@ fn number_in(value: &Value, least: u64, most: u64) -> Option<u64>
     ensures great { IfSome result (λ n. least ≤ n) }
     ensures small { IfSome result (λ n. n ≤ most) }
 {
-    bounded(value.as_integer()?, least, most)
-}
-
-/// The number at a key, from least to most.
-pub(crate) fn number_at(
-    table: &Table,
-    key: Key,
-    least: u64,
-    most: u64,
-) -> Result<u64, SettingsFault>
-    ensures value { result ≡ needed_at key (number_in least most) (table_view table.now) }
-    ensures great { IfOk result (λ n. least ≤ n) }
-    ensures small { IfOk result (λ n. n ≤ most) }
-{
-    match number_in(needed(table, key)?, least, most) {
-        Some(n) => Ok(n),
-        None => Err(SettingsFault::bad(key)),
+    match u64::try_from(value.as_integer()?) {
+        Ok(n) if least <= n && n <= most => Some(n),
+        _ => None,
     }
 }
 
@@ -59,36 +225,14 @@ fn int_in(value: &Value, least: u64, most: u64) -> Option<i32>
     i32::try_from(number_in(value, least, most)?).ok()
 }
 
-/// The number at a key, from least to most, as a signed one.
-pub(crate) fn int_at(table: &Table, key: Key, least: u64, most: u64) -> Result<i32, SettingsFault>
-    requires { most < 2 ^ 31 }
-    ensures { result ≡ needed_at key (int_in least most) (table_view table.now) }
+fn model_of(number: i64) -> Option<SecurityModel>
+    ensures { result ≡ model_of number }
 {
-    int_in(needed(table, key)?, least, most).ok_or(SettingsFault::bad(key))
-}
-
-/// The same, or another number where the key is left out.
-pub(crate) fn int_or(
-    table: &Table,
-    key: Key,
-    default: i32,
-    least: u64,
-    most: u64,
-) -> Result<i32, SettingsFault>
-    requires { most < 2 ^ 31 }
-    ensures { result ≡ default_at key default (int_in least most) (table_view table.now) }
-{
-    match find(table, key) {
-        Some(value) => int_in(value, least, most).ok_or(SettingsFault::bad(key)),
-        None => Ok(default),
+    match number {
+        0 => Some(SecurityModel::Any),
+        2 => Some(SecurityModel::V2c),
+        _ => None,
     }
-}
-
-/// The truth value at a key.
-pub(crate) fn bool_at(table: &Table, key: Key) -> Result<bool, SettingsFault>
-    ensures { result ≡ needed_at key as_bool (table_view table.now) }
-{
-    needed(table, key)?.as_bool().ok_or(SettingsFault::bad(key))
 }
 
 /// The text that a value is, of least to most octets.
@@ -101,83 +245,18 @@ pub(crate) fn text_in(value: &Value, least: usize, most: usize) -> Option<&str>
     }
 }
 
-/// The text at a key, of least to most octets.
-pub(crate) fn text_at(
-    table: &Table,
-    key: Key,
-    least: usize,
-    most: usize,
-) -> Result<&str, SettingsFault>
-    ensures gives { Reads (λ s. s.now) (needed_at key (text_in least most) (table_view table.now)) result }
-    ensures no_memory { result ≢ Err SettingsFault.OutOfMemory }
-{
-    match text_in(needed(table, key)?, least, most) {
-        Some(text) => Ok(text),
-        None => Err(SettingsFault::bad(key)),
-    }
-}
-
-fn decoded(
-    alloc: Global,
-    text: &str,
-    key: Key,
-    least: usize,
-    most: usize,
-) -> Result<Vec<u8>, SettingsFault>
-    ensures { Reads (λ v. v.items) (or_bad key (hex_of least most text.now)) result }
+fn decoded(alloc: Global, text: &str, key: Key, least: usize, most: usize) -> Read<Octets>
+    ensures { Reads (λ o. o) (or_bad key (hex_of least most text.now)) result }
 {
     match hex::decode(alloc, text) {
-        Ok(octets) if least <= octets.len() && octets.len() <= most => Ok(octets),
+        Ok(octets) if least <= octets.len() && octets.len() <= most => Ok(Octets::new(octets)),
         Ok(_) => Err(SettingsFault::bad(key)),
         Err(FromHexError::OutOfMemory) => Err(SettingsFault::OutOfMemory),
         Err(_) => Err(SettingsFault::bad(key)),
     }
 }
 
-fn hex_in(
-    alloc: Global,
-    value: &Value,
-    key: Key,
-    least: usize,
-    most: usize,
-) -> Result<Vec<u8>, SettingsFault>
-    ensures { Reads (λ v. v.items) (or_bad key (hex_in least most (view value.now))) result }
-{
-    match value.as_str() {
-        Some(text) => decoded(alloc, text, key, least, most),
-        None => Err(SettingsFault::bad(key)),
-    }
-}
-
-/// The octets of the hex text at a key, least to most of them.
-pub(crate) fn hex_at(
-    alloc: Global,
-    table: &Table,
-    key: Key,
-    least: usize,
-    most: usize,
-) -> Result<Vec<u8>, SettingsFault>
-    ensures { Reads (λ v. v.items) (needed_at key (hex_in least most) (table_view table.now)) result }
-{
-    hex_in(alloc, needed(table, key)?, key, least, most)
-}
-
-/// The same, or none where the key is left out.
-pub(crate) fn hex_or_none(
-    alloc: Global,
-    table: &Table,
-    key: Key,
-    most: usize,
-) -> Result<Vec<u8>, SettingsFault>
-    ensures { Reads (λ v. v.items) (default_at key [] (hex_in 0 most) (table_view table.now)) result }
-{
-    match find(table, key) {
-        Some(value) => hex_in(alloc, value, key, 0, most),
-        None => Ok(Vec::new(alloc)),
-    }
-}
-
-fn parsed(alloc: Global, text: &str, key: Key) -> Result<Oid, SettingsFault>
+fn parsed(alloc: Global, text: &str, key: Key) -> Read<Oid>
     ensures { Reads (λ o. o) (or_bad key (oid_of text.now)) result }
 {
     match Oid::parse(alloc, text) {
@@ -195,104 +274,23 @@ fn refused(fault: OidFault, key: Key) -> SettingsFault
     }
 }
 
-fn oid_in(alloc: Global, value: &Value, key: Key) -> Result<Oid, SettingsFault>
-    ensures { Reads (λ o. o) (or_bad key (oid_in (view value.now))) result }
+/// What the text at a key resolves to.
+fn resolved(alloc: Global, names: &Names, key: Key, text: &str) -> Read<Oid>
+    ensures { Reads (λ o. o) (or_unknown key (resolution names.now text.now)) result }
 {
-    match value.as_str() {
-        Some(text) => parsed(alloc, text, key),
-        None => Err(SettingsFault::bad(key)),
+    crate::laws::resolving();
+    match names.resolve(alloc, text) {
+        Ok(oid) => Ok(oid),
+        Err(fault) => Err(unresolved(fault, key)),
     }
 }
 
-/// The dotted object identifier at a key.
-pub(crate) fn oid_at(alloc: Global, table: &Table, key: Key) -> Result<Oid, SettingsFault>
-    ensures { Reads (λ o. o) (needed_at key oid_in (table_view table.now)) result }
+/// What a name at a key that does not resolve is to the settings.
+fn unresolved(fault: NamesFault, key: Key) -> SettingsFault
+    ensures { result ≡ unresolved key fault }
 {
-    oid_in(alloc, needed(table, key)?, key)
-}
-
-fn addr_in(value: &Value) -> Option<Addr>
-    ensures { result ≡ addr_in (view value.now) }
-{
-    Addr::parse(value.as_str()?)
-}
-
-/// The address at a key.
-pub(crate) fn addr_at(table: &Table, key: Key) -> Result<Addr, SettingsFault>
-    ensures { result ≡ needed_at key addr_in (table_view table.now) }
-{
-    addr_in(needed(table, key)?).ok_or(SettingsFault::bad(key))
-}
-
-fn model_of(number: i64) -> Option<SecurityModel>
-    ensures { result ≡ model_of number }
-{
-    match number {
-        0 => Some(SecurityModel::Any),
-        2 => Some(SecurityModel::V2c),
-        _ => None,
+    match fault {
+        NamesFault::OutOfMemory => SettingsFault::OutOfMemory,
+        _ => SettingsFault::UnknownObject(Place::At(Step::Value(key))),
     }
-}
-
-fn model_in(value: &Value) -> Option<SecurityModel>
-    ensures { result ≡ model_in (view value.now) }
-{
-    model_of(value.as_integer()?)
-}
-
-/// The security model at a key.
-pub(crate) fn model_at(table: &Table, key: Key) -> Result<SecurityModel, SettingsFault>
-    ensures { result ≡ needed_at key model_in (table_view table.now) }
-{
-    model_in(needed(table, key)?).ok_or(SettingsFault::bad(key))
-}
-
-/// The number at a key, from least to most, in 32 bits.
-pub(crate) fn u32_at(table: &Table, key: Key, least: u64, most: u64) -> Result<u32, SettingsFault>
-    requires { most < 2 ^ 32 }
-    ensures value { result ≡ needed_at key (number_in least most) (table_view table.now) }
-    ensures great { IfOk result (λ n. least ≤ n) }
-{
-    Ok(number_at(table, key, least, most)? as u32)
-}
-
-/// How often a poll is sent, 1 to 8.
-pub(crate) fn tries_at(table: &Table) -> Result<u8, SettingsFault>
-    ensures { result ≡ needed_at Key.Tries (number_in 1 8) (table_view table.now) }
-{
-    Ok(number_at(table, Key::Tries, 1, 8)? as u8)
-}
-
-/// The size at a key, from 1 to most.
-pub(crate) fn size_at(table: &Table, key: Key, most: usize) -> Result<usize, SettingsFault>
-    ensures { result ≡ needed_at key (number_in 1 most) (table_view table.now) }
-{
-    Ok(number_at(table, key, 1, most as u64)? as usize)
-}
-
-/// The same, or another size where the key is left out.
-pub(crate) fn size_or(
-    table: &Table,
-    key: Key,
-    default: usize,
-    most: usize,
-) -> Result<usize, SettingsFault>
-    ensures { result ≡ default_at key default (number_in 1 most) (table_view table.now) }
-{
-    match find(table, key) {
-        Some(value) => match number_in(value, 1, most as u64) {
-            Some(n) => Ok(n as usize),
-            None => Err(SettingsFault::bad(key)),
-        },
-        None => Ok(default),
-    }
-}
-
-/// The integer at a key, whichever.
-pub(crate) fn long_at(table: &Table, key: Key) -> Result<i64, SettingsFault>
-    ensures { result ≡ needed_at key as_integer (table_view table.now) }
-{
-    needed(table, key)?
-        .as_integer()
-        .ok_or(SettingsFault::bad(key))
 }

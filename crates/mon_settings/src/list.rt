@@ -1,18 +1,18 @@
 //! Lists of tables.
 
 ghost use Rattle.std.specs.Prelude.{◌≡◌, option_map};
-ghost use Rattle.toml.specs.Data.{no_items};
 ghost use Rattle.toml.specs.View.{view, table_view, items_view};
 ghost use Rattle.mon_settings.specs.Leaf.{between, list_between};
-ghost use Rattle.mon_settings.specs.Keys.{Reads, needed_at, default_at};
-ghost use Rattle.mon_settings.specs.Lists.{row, rows};
+ghost use Rattle.mon_settings.specs.Keys.{Reads};
+ghost use Rattle.mon_settings.specs.Lists.{list_at, row, rows, rows_between, rows_up_to};
 
-use crate::fault::SettingsFault;
+use crate::fault::{Read, SettingsFault};
 use crate::key::Key;
-use crate::keys::{find, needed};
+use crate::keys::find;
+use crate::leaf::Reader;
 use crate::place::{Place, Step};
 use std::alloc::Global;
-use toml::{Table, Value};
+use toml::Value;
 
 /// What a table of a list is read as, by what is around the list.
 pub(crate) trait Row<C>: Drop {
@@ -26,32 +26,24 @@ pub(crate) trait Row<C>: Drop {
     ghost row_of: { C → Members → Result Self AnyFault };
 
     /// Reads one table.
-    fn read(alloc: Global, around: &C, table: &Table) -> Result<Self, SettingsFault>
-        ensures { Reads (λ r. r) (row_of around.now (table_view table.now)) result };
+    fn read(around: &C, reader: &Reader<'_>) -> Read<Self>
+        ensures { Reads (λ r. r) (row_of around.now (table_view reader.now.table.now)) result };
 }
 
 #[tactic(auto, unfolding(crate::specs::Lists::row))]
-fn read_row<C, R: Row<C>>(
-    alloc: Global,
-    around: &C,
-    step: Step,
-    value: &Value,
-) -> Result<R, SettingsFault>
+fn read_row<C, R: Row<C>>(alloc: Global, around: &C, step: Step, value: &Value) -> Read<R>
     ensures { Reads (λ r. r) (row step (R.row_of around.now) (view value.now)) result }
 {
     match value.as_table() {
-        Some(table) => R::read(alloc, around, table).map_err(|fault| fault.within(step)),
+        Some(table) => {
+            R::read(around, &Reader { alloc, table }).map_err(|fault| fault.within(step))
+        }
         None => Err(SettingsFault::BadValue(Place::At(step))),
     }
 }
 
 /// The tables of these values, which are the list at a key.
-pub(crate) fn read_rows<C, R: Row<C>>(
-    alloc: Global,
-    around: &C,
-    key: Key,
-    values: &[Value],
-) -> Result<Vec<R>, SettingsFault>
+fn read_rows<C, R: Row<C>>(alloc: Global, around: &C, key: Key, values: &[Value]) -> Read<Vec<R>>
     ensures { Reads (λ rs. rs.items) (rows key (R.row_of around.now) 1 (items_view values.now)) result }
 {
     let mut read = Vec::new(alloc);
@@ -80,34 +72,45 @@ pub(crate) fn list_between(value: &Value, least: usize, most: usize) -> Option<&
     between(value.as_array()?.as_slice(), least, most)
 }
 
-/// The values of the list at a key, least to most of them.
-pub(crate) fn values_at(
-    table: &Table,
-    key: Key,
-    least: usize,
-    most: usize,
-) -> Result<&[Value], SettingsFault>
-    ensures { Reads (λ vs. items_view vs.now) (needed_at key (list_between least most) (table_view table.now)) result }
-{
-    match list_between(needed(table, key)?, least, most) {
-        Some(values) => Ok(values),
-        None => Err(SettingsFault::bad(key)),
-    }
-}
-
-/// The values of the list at a key, at most this many, and none where the key is left out.
-pub(crate) fn values_or_none(
-    table: &Table,
-    key: Key,
-    most: usize,
-) -> Result<&[Value], SettingsFault>
-    ensures { Reads (λ vs. items_view vs.now) (default_at key no_items (list_between 0 most) (table_view table.now)) result }
-{
-    match find(table, key) {
-        Some(value) => match list_between(value, 0, most) {
-            Some(values) => Ok(values),
+impl Reader<'_> {
+    /// The tables of the list at a key, least to most of them.
+    #[tactic(auto, unfolding(crate::specs::Lists::rows_between))]
+    pub(crate) fn rows<C, R: Row<C>>(
+        &self,
+        around: &C,
+        key: Key,
+        least: usize,
+        most: usize,
+    ) -> Read<Vec<R>>
+        ensures { Reads (λ rs. rs.items) (rows_between key least most (R.row_of around.now) (table_view self.now.table.now)) result }
+    {
+        match list_between(self.needed(key)?, least, most) {
+            Some(values) => read_rows(self.alloc, around, key, values),
             None => Err(SettingsFault::bad(key)),
-        },
-        None => Ok(&[]),
+        }
+    }
+
+    /// The same up to most, and none where the key is left out.
+    #[tactic(auto, unfolding(crate::specs::Lists::rows, crate::specs::Lists::rows_between, crate::specs::Lists::rows_up_to))]
+    pub(crate) fn rows_or_none<C, R: Row<C>>(
+        &self,
+        around: &C,
+        key: Key,
+        most: usize,
+    ) -> Read<Vec<R>>
+        ensures { Reads (λ rs. rs.items) (rows_up_to key most (R.row_of around.now) (table_view self.now.table.now)) result }
+    {
+        match find(self.table, key) {
+            Some(_) => self.rows(around, key, 0, most),
+            None => Ok(Vec::new(self.alloc)),
+        }
+    }
+
+    /// The tables of the list at a key, at most 256 of them.
+    #[tactic(auto, unfolding(crate::specs::Lists::list_at, crate::specs::Lists::rows_between))]
+    pub(crate) fn list<R: Row<()>>(&self, key: Key) -> Read<Vec<R>>
+        ensures { Reads (λ rs. rs.items) (list_at key (R.row_of tt) (table_view self.now.table.now)) result }
+    {
+        self.rows(&(), key, 0, 256)
     }
 }

@@ -8,16 +8,16 @@ ghost use Rattle.mon_settings.specs.Station.{modules_at};
 ghost use Rattle.mon_settings.specs.Text.{IsReadAs, IsRefusal, Says};
 ghost use Rattle.toml.specs.View.{view, table_view, items_view};
 
-use crate::fault::SettingsFault;
+use crate::fault::{Read, SettingsFault};
 use crate::key::Key;
 use crate::keys::find;
-use crate::leaf::text_in;
+use crate::leaf::{Reader, text_in};
 use crate::list::list_between;
 use crate::text::tree;
 use std::alloc::Global;
-use toml::{Table, Value};
+use toml::Value;
 
-fn text_of(alloc: Global, value: &Value) -> Result<String, SettingsFault>
+fn text_of(alloc: Global, value: &Value) -> Read<String>
     ensures { Reads (λ s. string_bytes s) (or_bad Key.Modules (text_in 0 4095 (view value.now))) result }
 {
     match text_in(value, 0, 4095) {
@@ -26,7 +26,7 @@ fn text_of(alloc: Global, value: &Value) -> Result<String, SettingsFault>
     }
 }
 
-fn texts_of(alloc: Global, values: &[Value]) -> Result<Vec<String>, SettingsFault>
+fn texts_of(alloc: Global, values: &[Value]) -> Read<Vec<String>>
     ensures { Reads (λ v. map string_bytes v.items) (or_bad Key.Modules (texts_of (items_view values.now))) result }
 {
     let mut texts = Vec::new(alloc);
@@ -36,22 +36,16 @@ fn texts_of(alloc: Global, values: &[Value]) -> Result<Vec<String>, SettingsFaul
     Ok(texts)
 }
 
-fn texts_in(alloc: Global, value: &Value) -> Result<Vec<String>, SettingsFault>
-    ensures { Reads (λ v. map string_bytes v.items) (or_bad Key.Modules (texts_in (view value.now))) result }
-{
-    match list_between(value, 0, 256) {
-        Some(values) => texts_of(alloc, values),
-        None => Err(SettingsFault::bad(Key::Modules)),
-    }
-}
-
 /// The module files, none where the key is left out.
-pub(crate) fn modules_at(alloc: Global, table: &Table) -> Result<Vec<String>, SettingsFault>
-    ensures { Reads (λ v. map string_bytes v.items) (modules_at (table_view table.now)) result }
+pub(crate) fn modules_at(reader: &Reader<'_>) -> Read<Vec<String>>
+    ensures { Reads (λ v. map string_bytes v.items) (modules_at (table_view reader.now.table.now)) result }
 {
-    match find(table, Key::Modules) {
-        Some(value) => texts_in(alloc, value),
-        None => Ok(Vec::new(alloc)),
+    let Some(value) = find(reader.table, Key::Modules) else {
+        return Ok(Vec::new(reader.alloc));
+    };
+    match list_between(value, 0, 256) {
+        Some(values) => texts_of(reader.alloc, values),
+        None => Err(SettingsFault::bad(Key::Modules)),
     }
 }
 
@@ -65,7 +59,10 @@ pub fn module_files(alloc: Global, text: &str) -> Result<Vec<String>, SettingsFa
     ensures refused { IfErr result (IsRefusal modules_at text.now) }
 {
     match tree(alloc, text) {
-        Ok(table) => modules_at(alloc, &table),
+        Ok(table) => modules_at(&Reader {
+            alloc,
+            table: &table,
+        }),
         Err(fault) => Err(fault),
     }
 }

@@ -7,13 +7,12 @@ ghost use Rattle.mon_settings.specs.StationCore.{ArePeersOf};
 ghost use Rattle.std.specs.List.{list_any};
 ghost use Rattle.toml.specs.View.{table_view};
 
-use crate::fault::SettingsFault;
+use crate::fault::{Read, SettingsFault};
 use crate::key::Key;
-use crate::list::{read_rows, values_or_none};
+use crate::leaf::Reader;
 use crate::station_tables::{PeerRow, TargetRow};
 use mon_poller::Addr;
 use std::alloc::{AllocError, Global};
-use toml::Table;
 
 /// The most peers of a station.
 const MOST_PEERS: usize = 15;
@@ -75,22 +74,14 @@ fn are_apart(targets: &[TargetRow], peers: &[PeerRow]) -> bool
 pub(crate) fn stations_of(alloc: Global, peers: &[PeerRow]) -> Result<Vec<u32>, AllocError>
     ensures { IfOk result (λ v. v.items ≡ map (λ p. p.station) peers.now) }
 {
-    let mut numbers = Vec::with_capacity(alloc, peers.len())?;
-    for peer in peers {
-        numbers.push(peer.station)?;
-    }
-    Ok(numbers)
+    peers.iter().map(|peer| peer.station).collect(alloc)
 }
 
 /// The addresses of peers, in their order.
 pub(crate) fn addresses_of(alloc: Global, peers: &[PeerRow]) -> Result<Vec<Addr>, AllocError>
     ensures { IfOk result (λ v. v.items ≡ map (λ p. p.address) peers.now) }
 {
-    let mut addresses = Vec::with_capacity(alloc, peers.len())?;
-    for peer in peers {
-        addresses.push(peer.address)?;
-    }
-    Ok(addresses)
+    peers.iter().map(|peer| peer.address).collect(alloc)
 }
 
 fn checked_peers(
@@ -98,7 +89,7 @@ fn checked_peers(
     own: u32,
     targets: &[TargetRow],
     peers: Vec<PeerRow>,
-) -> Result<Vec<PeerRow>, SettingsFault>
+) -> Read<Vec<PeerRow>>
     ensures gives { Reads (λ v. v.items) (checked_peers own targets.now peers.items) result }
     ensures others { IfOk result (λ v. ArePeersOf own (map (λ p. p.station) v.items)) }
 {
@@ -113,17 +104,11 @@ fn checked_peers(
 }
 
 /// The peers: at most 15 other stations, none twice, and none at the address of a target.
-#[tactic(auto, unfolding(crate::specs::Station::peers_at, crate::specs::Lists::rows_up_to))]
-pub(crate) fn peers_at(
-    alloc: Global,
-    own: u32,
-    targets: &[TargetRow],
-    table: &Table,
-) -> Result<Vec<PeerRow>, SettingsFault>
-    ensures gives { Reads (λ v. v.items) (peers_at own targets.now (table_view table.now)) result }
+#[tactic(auto, unfolding(crate::specs::Station::peers_at))]
+pub(crate) fn peers_at(reader: &Reader<'_>, own: u32, targets: &[TargetRow]) -> Read<Vec<PeerRow>>
+    ensures gives { Reads (λ v. v.items) (peers_at own targets.now (table_view reader.now.table.now)) result }
     ensures others { IfOk result (λ v. ArePeersOf own (map (λ p. p.station) v.items)) }
 {
-    let values = values_or_none(table, Key::Peer, MOST_PEERS)?;
-    let peers = read_rows(alloc, &(), Key::Peer, values)?;
-    checked_peers(alloc, own, targets, peers)
+    let peers = reader.rows_or_none(&(), Key::Peer, MOST_PEERS)?;
+    checked_peers(reader.alloc, own, targets, peers)
 }

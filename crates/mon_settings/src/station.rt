@@ -3,22 +3,17 @@
 ghost use Rattle.std.specs.Prelude.{◌≡◌, ◌≤◌, IfErr, IfOk, length, map};
 ghost use Rattle.mon_settings.specs.Watching.{object_from, target_from};
 ghost use Rattle.mon_settings.specs.Keys.{Reads};
-ghost use Rattle.mon_settings.specs.Lists.{rows_between};
 ghost use Rattle.mon_settings.specs.Resolving.{resolution};
 ghost use Rattle.mon_settings.specs.Station.{rules_at, scalars_of, scalars_view, station_of};
 ghost use Rattle.mon_settings.specs.StationAccepted.{IsStation, core_from, station_view};
 ghost use Rattle.mon_settings.specs.StationCore.{IsCore};
-ghost use Rattle.mon_settings.specs.StationTables.{target_of};
 ghost use Rattle.mon_settings.specs.Text.{IsReadAs, IsRefusal, Says};
-ghost use Rattle.mon_smi.specs.Names.{AreDistinct};
 ghost use Rattle.toml.specs.View.{table_view};
 
-use crate::fault::SettingsFault;
+use crate::fault::{Read, SettingsFault};
 use crate::grammar::{Kind, top_keys};
 use crate::key::Key;
-use crate::keys::only;
-use crate::leaf::{addr_at, size_at, size_or, text_at, u32_at};
-use crate::list::{read_rows, values_at, values_or_none};
+use crate::leaf::Reader;
 use crate::modules::modules_at;
 use crate::peers::{addresses_of, peers_at, stations_of};
 use crate::placing::{instances_of, number_of, rules_of};
@@ -32,7 +27,6 @@ use mon_board::{Watch, Watched};
 use mon_poller::{Addr, Object, Objects, Target};
 use mon_smi::Names;
 use std::alloc::{AllocError, Global};
-use toml::Table;
 
 /// What a station is told at its start.
 #[derive(Drop)]
@@ -62,20 +56,20 @@ pub(crate) struct Scalars {
 }
 
 #[tactic(auto, unfolding(crate::specs::Station::scalars_of))]
-fn read_scalars(alloc: Global, table: &Table) -> Result<Scalars, SettingsFault>
-    ensures gives { Reads scalars_view (scalars_of (table_view table.now)) result }
+fn read_scalars(reader: &Reader<'_>) -> Read<Scalars>
+    ensures gives { Reads scalars_view (scalars_of (table_view reader.now.table.now)) result }
     ensures station { IfOk result (λ s. 1 ≤ s.station) }
 {
-    let station = u32_at(table, Key::Station, 1, 4294967295)?;
-    let listen = addr_at(table, Key::Listen)?;
-    let file = text_at(table, Key::File, 0, 4095)?;
-    let window = size_at(table, Key::Window, 64)?;
-    let epoch = size_or(table, Key::Epoch, window, window)?;
-    let wait_ms = u32_at(table, Key::WaitMs, 1, 60000)?;
+    let station = reader.number(Key::Station, 1, 4294967295)? as u32;
+    let listen = reader.addr(Key::Listen)?;
+    let file = reader.text(Key::File, 0, 4095)?;
+    let window = reader.number(Key::Window, 1, 64)? as usize;
+    let epoch = reader.size_or(Key::Epoch, window, window)?;
+    let wait_ms = reader.number(Key::WaitMs, 1, 60000)? as u32;
     Ok(Scalars {
         station,
         listen,
-        file: String::from_str(alloc, file)?,
+        file: String::from_str(reader.alloc, file)?,
         sizes: Sizes { window, epoch },
         wait_ms,
     })
@@ -174,53 +168,34 @@ fn core_from(
     Ok(Core::new(station, watch, numbered, numbers))
 }
 
-/// The targets, 1 to 64 of them.
-#[tactic(auto, unfolding(crate::specs::Lists::rows_between))]
-fn targets_at(
-    alloc: Global,
-    around: &Around<'_>,
-    table: &Table,
-) -> Result<Vec<TargetRow>, SettingsFault>
-    ensures { Reads (λ v. v.items) (rows_between Key.Target 1 64 (target_of (resolution around.now.names.now) around.now.sizes) (table_view table.now)) result }
-{
-    let values = values_at(table, Key::Target, 1, 64)?;
-    read_rows(alloc, around, Key::Target, values)
-}
-
 /// The alarm rules, in the order of a watch.
-#[tactic(auto, unfolding(crate::specs::Station::rules_at, crate::specs::Lists::rows_up_to))]
-fn rules_at(
-    alloc: Global,
-    around: &Around<'_>,
-    instances: &[Watched],
-    table: &Table,
-) -> Result<Vec<Rule>, SettingsFault>
+#[tactic(auto, unfolding(crate::specs::Station::rules_at))]
+fn rules_at(reader: &Reader<'_>, around: &Around<'_>, instances: &[Watched]) -> Read<Vec<Rule>>
     requires { length instances.now ≤ 256 }
-    ensures { Reads (λ v. v.items) (rules_at (resolution around.now.names.now) around.now.sizes instances.now (table_view table.now)) result }
+    ensures { Reads (λ v. v.items) (rules_at (resolution around.now.names.now) around.now.sizes instances.now (table_view reader.now.table.now)) result }
 {
-    let values = values_or_none(table, Key::Alarm, 256)?;
-    let alarms: Vec<AlarmRow> = read_rows(alloc, around, Key::Alarm, values)?;
-    rules_of(alloc, instances, alarms.as_slice())
+    let alarms: Vec<AlarmRow> = reader.rows_or_none(around, Key::Alarm, 256)?;
+    rules_of(reader.alloc, instances, alarms.as_slice())
 }
 
 #[tactic(auto, unfolding(crate::specs::Station::station_of))]
-fn read_tree(alloc: Global, table: &Table, names: &Names) -> Result<StationSettings, SettingsFault>
-    ensures { Reads station_view (station_of (resolution names.now) (table_view table.now)) result }
+fn read_tree(reader: &Reader<'_>, names: &Names) -> Read<StationSettings>
+    ensures { Reads station_view (station_of (resolution names.now) (table_view reader.now.table.now)) result }
 {
-    only(table, top_keys(Kind::Station))?;
-    let scalars = read_scalars(alloc, table)?;
+    reader.only(top_keys(Kind::Station))?;
+    let scalars = read_scalars(reader)?;
     let around = Around {
         names,
         sizes: scalars.sizes,
     };
-    let modules = modules_at(alloc, table)?;
-    let targets = targets_at(alloc, &around, table)?;
-    let instances = instances_of(alloc, targets.as_slice())?;
-    let peers = peers_at(alloc, scalars.station, targets.as_slice(), table)?;
-    let rules = rules_at(alloc, &around, instances.as_slice(), table)?;
-    let peer_addresses = addresses_of(alloc, peers.as_slice())?;
+    let modules = modules_at(reader)?;
+    let targets: Vec<TargetRow> = reader.rows(&around, Key::Target, 1, 64)?;
+    let instances = instances_of(reader.alloc, targets.as_slice())?;
+    let peers = peers_at(reader, scalars.station, targets.as_slice())?;
+    let rules = rules_at(reader, &around, instances.as_slice())?;
+    let peer_addresses = addresses_of(reader.alloc, peers.as_slice())?;
     let core = core_from(
-        alloc,
+        reader.alloc,
         scalars.station,
         targets.as_slice(),
         peers.as_slice(),
@@ -253,14 +228,20 @@ pub fn read_station(
     text: &str,
     names: &Names,
 ) -> Result<StationSettings, SettingsFault>
-    // Memory aside, settings are read exactly where the text is a station's, and then they are what it says. No `Names` defines a name
-    // twice: `resolve` says so.
-    ensures accepted { AreDistinct names.now → IsReadAs station_view (Says (IsStation names.now) text.now) result }
+    // Memory aside, settings are read exactly where the text is a station's, and then they are what it says.
+    ensures accepted { IsReadAs station_view (Says (IsStation names.now) text.now) result }
     ensures refused { IfErr result (IsRefusal (station_of (resolution names.now)) text.now) }
 {
+    names.settled();
     crate::laws::resolving();
     match tree(alloc, text) {
-        Ok(table) => read_tree(alloc, &table, names),
+        Ok(table) => read_tree(
+            &Reader {
+                alloc,
+                table: &table,
+            },
+            names,
+        ),
         Err(fault) => Err(fault),
     }
 }

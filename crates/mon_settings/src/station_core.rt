@@ -118,15 +118,7 @@ impl Core {
     pub fn try_clone(&self, alloc: Global) -> Result<Self, AllocError>
         ensures { IfOk result (λ c. c ≡ self.now) }
     {
-        let watch = self.watch.try_clone(alloc)?;
-        let targets = copied(alloc, self.targets.as_slice())?;
-        let peers = numbers(alloc, self.peers.as_slice())?;
-        Ok(Core {
-            station: self.station,
-            watch,
-            targets,
-            peers,
-        })
+        self.with(alloc, self.station(), self.peers())
     }
 
     /// The same watch and targets for the station of another number, not 0, with these peers: at most 15 other stations, none twice.

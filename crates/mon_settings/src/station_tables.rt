@@ -2,22 +2,17 @@
 
 ghost use Rattle.std.specs.Prelude.{◌≡◌};
 
-use crate::fault::SettingsFault;
+use crate::fault::Read;
 use crate::grammar::table_keys;
 use crate::key::Key;
-use crate::keys::only;
-use crate::leaf::{addr_at, long_at, size_or, tries_at, u32_at};
-use crate::list::{Row, read_rows, values_at};
-use crate::octets::{hex_octets_at, octets_at};
-use crate::resolving::{name_at, name_or_none};
+use crate::leaf::Reader;
+use crate::list::Row;
 use crate::sizes::Sizes;
 use mon_ber::Octets;
 use mon_oid::Oid;
 use mon_poller::Addr;
 use mon_smi::Names;
-use std::alloc::Global;
 use std::marker::Model;
-use toml::Table;
 
 /// What is around the lists of a station: the names of objects, and the sizes of windows.
 #[derive(Clone, Copy)]
@@ -92,12 +87,12 @@ impl Row<Around<'_>> for ObjectRow {
     ghost row_of = { λ a. object_of (resolution a.names.now) a.sizes };
 
     #[tactic(auto, unfolding(crate::specs::StationTables::object_of))]
-    fn read(alloc: Global, around: &Around<'_>, table: &Table) -> Result<Self, SettingsFault> {
-        only(table, table_keys(Key::Objects))?;
-        let name = name_at(alloc, around.names, table, Key::Name)?;
-        let mark = name_or_none(alloc, around.names, table, Key::Mark)?;
-        let window = size_or(table, Key::Window, around.sizes.window, 64)?;
-        let epoch = size_or(table, Key::Epoch, around.sizes.epoch.min(window), window)?;
+    fn read(around: &Around<'_>, reader: &Reader<'_>) -> Read<Self> {
+        reader.only(table_keys(Key::Objects))?;
+        let name = reader.object(around.names, Key::Name)?;
+        let mark = reader.object_or_none(around.names, Key::Mark)?;
+        let window = reader.size_or(Key::Window, around.sizes.window, 64)?;
+        let epoch = reader.size_or(Key::Epoch, around.sizes.epoch.min(window), window)?;
         Ok(ObjectRow {
             name,
             mark,
@@ -113,15 +108,14 @@ impl Row<Around<'_>> for TargetRow {
 
     ghost row_of = { λ a. target_of (resolution a.names.now) a.sizes };
 
-    #[tactic(auto, unfolding(crate::specs::StationTables::target_of, crate::specs::Lists::rows_between))]
-    fn read(alloc: Global, around: &Around<'_>, table: &Table) -> Result<Self, SettingsFault> {
-        only(table, table_keys(Key::Target))?;
-        let address = addr_at(table, Key::Address)?;
-        let community = octets_at(alloc, table, Key::Community, 1, 512)?;
-        let engine = hex_octets_at(alloc, table, Key::Engine, 5, 32)?;
-        let tries = tries_at(table)?;
-        let values = values_at(table, Key::Objects, 1, 16)?;
-        let items = read_rows(alloc, around, Key::Objects, values)?;
+    #[tactic(auto, unfolding(crate::specs::StationTables::target_of))]
+    fn read(around: &Around<'_>, reader: &Reader<'_>) -> Read<Self> {
+        reader.only(table_keys(Key::Target))?;
+        let address = reader.addr(Key::Address)?;
+        let community = reader.octets(Key::Community, 1, 512)?;
+        let engine = reader.hex(Key::Engine, 5, 32)?;
+        let tries = reader.number(Key::Tries, 1, 8)? as u8;
+        let items = reader.rows(around, Key::Objects, 1, 16)?;
         Ok(TargetRow {
             address,
             community,
@@ -138,10 +132,10 @@ impl Row<()> for PeerRow {
     ghost row_of = { λ _. peer_of };
 
     #[tactic(auto, unfolding(crate::specs::StationTables::peer_of))]
-    fn read(_alloc: Global, _around: &(), table: &Table) -> Result<Self, SettingsFault> {
-        only(table, table_keys(Key::Peer))?;
-        let station = u32_at(table, Key::Station, 1, 4294967295)?;
-        let address = addr_at(table, Key::Address)?;
+    fn read(_around: &(), reader: &Reader<'_>) -> Read<Self> {
+        reader.only(table_keys(Key::Peer))?;
+        let station = reader.number(Key::Station, 1, 4294967295)? as u32;
+        let address = reader.addr(Key::Address)?;
         Ok(PeerRow { station, address })
     }
 }
@@ -153,12 +147,12 @@ impl Row<Around<'_>> for AlarmRow {
     ghost row_of = { λ a. alarm_of (resolution a.names.now) a.sizes };
 
     #[tactic(auto, unfolding(crate::specs::StationTables::alarm_of))]
-    fn read(alloc: Global, around: &Around<'_>, table: &Table) -> Result<Self, SettingsFault> {
-        only(table, table_keys(Key::Alarm))?;
-        let engine = hex_octets_at(alloc, table, Key::Engine, 5, 32)?;
-        let name = name_at(alloc, around.names, table, Key::Name)?;
-        let rising = long_at(table, Key::Rising)?;
-        let falling = long_at(table, Key::Falling)?;
+    fn read(around: &Around<'_>, reader: &Reader<'_>) -> Read<Self> {
+        reader.only(table_keys(Key::Alarm))?;
+        let engine = reader.hex(Key::Engine, 5, 32)?;
+        let name = reader.object(around.names, Key::Name)?;
+        let rising = reader.long(Key::Rising)?;
+        let falling = reader.long(Key::Falling)?;
         Ok(AlarmRow {
             engine,
             name,

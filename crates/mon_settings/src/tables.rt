@@ -1,33 +1,37 @@
-//! The tables of a policy.
+//! The tables of an agent: of its policy, and of its interfaces.
 
-ghost use Rattle.std.specs.Prelude.{◌≡◌};
+ghost use Rattle.std.specs.Prelude.{◌≡◌, IfOk};
+ghost use Rattle.mon_mib.specs.Held.{AreIndexes};
+ghost use Rattle.mon_mib.specs.Sim.{indexes_of};
 ghost use Rattle.mon_vacm.specs.Tables.{lists_of};
+ghost use Rattle.mon_settings.specs.Interfaces.{growth_of, growth_at, interface_of, rise_from, interfaces_in};
 ghost use Rattle.mon_settings.specs.Keys.{Reads};
-ghost use Rattle.mon_settings.specs.Lists.{list_at};
-ghost use Rattle.mon_settings.specs.Tables.{list_of, policy_of, policy_in};
+ghost use Rattle.mon_settings.specs.Tables.{access_entry_of, community_of, family_of, group_of, list_of, policy_of, policy_in};
 ghost use Rattle.toml.specs.View.{table_view};
 
-use crate::fault::SettingsFault;
+use crate::fault::{Read, SettingsFault};
 use crate::grammar::table_keys;
 use crate::key::Key;
-use crate::keys::only;
-use crate::leaf::{bool_at, hex_or_none, model_at, oid_at};
-use crate::list::{Row, read_rows, values_at};
-use crate::octets::{name_at, name_or_none};
-use mon_vacm::{AccessEntry, Community, Family, Group, Octets, Policy, PolicyFault, Tables};
-use std::alloc::Global;
-use toml::Table;
+use crate::leaf::Reader;
+use crate::list::Row;
+use crate::place::Step;
+use mon_mib::{Growth, Interface, Status};
+use mon_vacm::{AccessEntry, Community, Family, Group, Policy, PolicyFault, Tables};
+
+/// The greatest number of 31 bits.
+const INT: u64 = 2147483647;
+
+/// The greatest integer of a TOML text.
+const LONG: u64 = 9223372036854775807;
 
 impl Row<()> for Community {
-    ghost use Rattle.mon_settings.specs.Tables.{community_of};
-
     ghost row_of = { λ _. community_of };
 
     #[tactic(auto, unfolding(crate::specs::Tables::community_of))]
-    fn read(alloc: Global, _around: &(), table: &Table) -> Result<Self, SettingsFault> {
-        only(table, table_keys(Key::Community))?;
-        let name = name_at(alloc, table, Key::Community, 512)?;
-        let security_name = name_at(alloc, table, Key::Security, 32)?;
+    fn read(_around: &(), reader: &Reader<'_>) -> Read<Self> {
+        reader.only(table_keys(Key::Community))?;
+        let name = reader.octets(Key::Community, 1, 512)?;
+        let security_name = reader.octets(Key::Security, 1, 32)?;
         Ok(Community {
             name,
             security_name,
@@ -36,15 +40,13 @@ impl Row<()> for Community {
 }
 
 impl Row<()> for Group {
-    ghost use Rattle.mon_settings.specs.Tables.{group_of};
-
     ghost row_of = { λ _. group_of };
 
     #[tactic(auto, unfolding(crate::specs::Tables::group_of))]
-    fn read(alloc: Global, _around: &(), table: &Table) -> Result<Self, SettingsFault> {
-        only(table, table_keys(Key::Group))?;
-        let security_name = name_at(alloc, table, Key::Security, 32)?;
-        let group_name = name_at(alloc, table, Key::Group, 32)?;
+    fn read(_around: &(), reader: &Reader<'_>) -> Read<Self> {
+        reader.only(table_keys(Key::Group))?;
+        let security_name = reader.octets(Key::Security, 1, 32)?;
+        let group_name = reader.octets(Key::Group, 1, 32)?;
         Ok(Group {
             security_name,
             group_name,
@@ -53,17 +55,15 @@ impl Row<()> for Group {
 }
 
 impl Row<()> for AccessEntry {
-    ghost use Rattle.mon_settings.specs.Tables.{access_entry_of};
-
     ghost row_of = { λ _. access_entry_of };
 
     #[tactic(auto, unfolding(crate::specs::Tables::access_entry_of))]
-    fn read(alloc: Global, _around: &(), table: &Table) -> Result<Self, SettingsFault> {
-        only(table, table_keys(Key::Access))?;
-        let group_name = name_at(alloc, table, Key::Group, 32)?;
-        let security_model = model_at(table, Key::Model)?;
-        let read_view = name_or_none(alloc, table, Key::Read, 32)?;
-        let write_view = name_or_none(alloc, table, Key::Write, 32)?;
+    fn read(_around: &(), reader: &Reader<'_>) -> Read<Self> {
+        reader.only(table_keys(Key::Access))?;
+        let group_name = reader.octets(Key::Group, 1, 32)?;
+        let security_model = reader.model(Key::Model)?;
+        let read_view = reader.name_or_none(Key::Read, 32)?;
+        let write_view = reader.name_or_none(Key::Write, 32)?;
         Ok(AccessEntry {
             group_name,
             security_model,
@@ -74,21 +74,19 @@ impl Row<()> for AccessEntry {
 }
 
 impl Row<()> for Family {
-    ghost use Rattle.mon_settings.specs.Tables.{family_of};
-
     ghost row_of = { λ _. family_of };
 
     #[tactic(auto, unfolding(crate::specs::Tables::family_of))]
-    fn read(alloc: Global, _around: &(), table: &Table) -> Result<Self, SettingsFault> {
-        only(table, table_keys(Key::View))?;
-        let view_name = name_at(alloc, table, Key::View, 32)?;
-        let subtree = oid_at(alloc, table, Key::Subtree)?;
-        let mask = hex_or_none(alloc, table, Key::Mask, 16)?;
-        let included = bool_at(table, Key::Included)?;
+    fn read(_around: &(), reader: &Reader<'_>) -> Read<Self> {
+        reader.only(table_keys(Key::View))?;
+        let view_name = reader.octets(Key::View, 1, 32)?;
+        let subtree = reader.oid(Key::Subtree)?;
+        let mask = reader.hex_or_none(Key::Mask, 16)?;
+        let included = reader.truth(Key::Included)?;
         Ok(Family {
             view_name,
             subtree,
-            mask: Octets::from_slice(alloc, mask.as_slice())?,
+            mask,
             included,
         })
     }
@@ -105,7 +103,7 @@ fn list_of(fault: PolicyFault) -> Key
     }
 }
 
-fn policy_of(tables: Tables) -> Result<Policy, SettingsFault>
+fn policy_of(tables: Tables) -> Read<Policy>
     ensures { result ≡ policy_of (lists_of tables) }
 {
     match Policy::new(tables) {
@@ -114,32 +112,107 @@ fn policy_of(tables: Tables) -> Result<Policy, SettingsFault>
     }
 }
 
-/// The tables of the list at a key, at most 256 of them.
-#[tactic(auto, unfolding(crate::specs::Lists::list_at))]
-pub(crate) fn list_at<R: Row<()>>(
-    alloc: Global,
-    table: &Table,
-    key: Key,
-) -> Result<Vec<R>, SettingsFault>
-    ensures { Reads (λ rs. rs.items) (list_at key (R.row_of tt) (table_view table.now)) result }
-{
-    let values = values_at(table, key, 0, 256)?;
-    read_rows(alloc, &(), key, values)
-}
-
-/// The policy of the four lists.
+/// The policy of the four lists, each of at most 256 tables.
 #[tactic(auto, unfolding(crate::specs::Tables::policy_in))]
-pub(crate) fn read_policy(alloc: Global, table: &Table) -> Result<Policy, SettingsFault>
-    ensures { Reads (λ p. p) (policy_in (table_view table.now)) result }
+pub(crate) fn read_policy(reader: &Reader<'_>) -> Read<Policy>
+    ensures { Reads (λ p. p) (policy_in (table_view reader.now.table.now)) result }
 {
-    let communities = list_at(alloc, table, Key::Community)?;
-    let groups = list_at(alloc, table, Key::Group)?;
-    let accesses = list_at(alloc, table, Key::Access)?;
-    let families = list_at(alloc, table, Key::View)?;
+    let communities = reader.list(Key::Community)?;
+    let groups = reader.list(Key::Group)?;
+    let accesses = reader.list(Key::Access)?;
+    let families = reader.list(Key::View)?;
     policy_of(Tables {
         communities,
         groups,
         accesses,
         families,
     })
+}
+
+#[tactic(auto, unfolding(crate::specs::Interfaces::growth_of))]
+fn growth_of(reader: &Reader<'_>) -> Read<Growth>
+    ensures { result ≡ growth_of (table_view reader.now.table.now) }
+{
+    reader.only(table_keys(Key::InOctets))?;
+    let start = reader.number(Key::Start, 0, LONG)?;
+    let rate = reader.number(Key::Rate, 0, LONG)?;
+    Ok(Growth { start, rate })
+}
+
+#[tactic(auto, unfolding(crate::specs::Interfaces::growth_at))]
+fn growth_at(reader: &Reader<'_>, key: Key) -> Read<Growth>
+    ensures { result ≡ growth_at key (table_view reader.now.table.now) }
+{
+    match reader.needed(key)?.as_table() {
+        Some(table) => growth_of(&Reader {
+            alloc: reader.alloc,
+            table,
+        })
+        .map_err(|fault| fault.within(Step::Value(key))),
+        None => Err(SettingsFault::bad(key)),
+    }
+}
+
+impl Row<()> for Interface {
+    ghost row_of = { λ _. interface_of };
+
+    #[tactic(auto, unfolding(crate::specs::Interfaces::interface_of))]
+    fn read(_around: &(), reader: &Reader<'_>) -> Read<Self> {
+        reader.only(table_keys(Key::Interface))?;
+        let index = reader.number(Key::Index, 1, INT)? as u32;
+        let descr = reader.octets(Key::Descr, 0, 255)?;
+        let kind = reader.int(Key::Type, 0, INT)?;
+        let mtu = reader.int(Key::Mtu, 0, INT)?;
+        let speed = reader.number(Key::Speed, 0, LONG)?;
+        let phys = reader.hex(Key::Phys, 0, 255)?;
+        let name = reader.octets(Key::Name, 0, 255)?;
+        let alias = reader.octets(Key::Alias, 0, 64)?;
+        let in_octets = growth_at(reader, Key::InOctets)?;
+        let in_packets = growth_at(reader, Key::InPackets)?;
+        let out_octets = growth_at(reader, Key::OutOctets)?;
+        let out_packets = growth_at(reader, Key::OutPackets)?;
+        Ok(Interface {
+            index,
+            descr,
+            kind,
+            mtu,
+            speed,
+            phys,
+            name,
+            alias,
+            status: Status::new(),
+            in_octets,
+            in_packets,
+            out_octets,
+            out_packets,
+        })
+    }
+}
+
+/// Whether the indexes rise strictly from 1.
+fn rise(interfaces: &[Interface]) -> bool
+    ensures { result ≡ rise_from 0 interfaces.now }
+{
+    let mut last = 0;
+    for interface in interfaces {
+        if interface.index <= last {
+            return false;
+        }
+        last = interface.index;
+    }
+    true
+}
+
+/// The list of the interfaces, whose indexes rise.
+#[tactic(auto, unfolding(crate::specs::Interfaces::interfaces_in, crate::specs::Interfaces::rising))]
+pub(crate) fn read_interfaces(reader: &Reader<'_>) -> Read<Vec<Interface>>
+    ensures gives { Reads (λ ps. ps.items) (interfaces_in (table_view reader.now.table.now)) result }
+    ensures indexes { IfOk result (λ ps. AreIndexes (indexes_of ps.items)) }
+{
+    let interfaces: Vec<Interface> = reader.list(Key::Interface)?;
+    if rise(&interfaces) {
+        Ok(interfaces)
+    } else {
+        Err(SettingsFault::bad(Key::Interface))
+    }
 }

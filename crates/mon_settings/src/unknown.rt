@@ -2,13 +2,11 @@
 
 ghost use Rattle.std.specs.Prelude.{◌≡◌, IfOk, option_and_then, option_map, string_bytes};
 ghost use Rattle.mon_settings.specs.Grammar.{known_keys};
-ghost use Rattle.mon_settings.specs.Keys.{first_unknown};
 ghost use Rattle.mon_settings.specs.Unknown.{entry, table_at, table_of, unknown_at, value_at};
 ghost use Rattle.toml.specs.Parse.{parse_document};
 ghost use Rattle.toml.specs.View.{view, table_view};
 
 use crate::grammar::{Kind, known_keys};
-use crate::key::Key;
 use crate::keys::{find, first_unknown};
 use crate::place::{Place, Step};
 use std::alloc::{AllocError, Global};
@@ -18,10 +16,7 @@ use toml::{Table, Value};
 fn entry(value: &Value, number: usize) -> Option<&Value>
     ensures { option_map (λ v. view v.now) result ≡ entry number (view value.now) }
 {
-    match number.checked_sub(1) {
-        Some(index) => value.get(index),
-        None => None,
-    }
+    value.get(number.checked_sub(1)?)
 }
 
 /// What stands where a step leads.
@@ -55,15 +50,6 @@ fn table_at(tree: &Table, place: Place) -> Option<&Table>
     }
 }
 
-fn first_of(alloc: Global, table: &Table, keys: &[Key]) -> Result<Option<String>, AllocError>
-    ensures { IfOk result (λ o. option_map string_bytes o ≡ first_unknown keys.now (table_view table.now)) }
-{
-    match first_unknown(table, keys) {
-        Some(name) => Ok(Some(String::from_str(alloc, name.as_str())?)),
-        None => Ok(None),
-    }
-}
-
 fn unknown_in(
     alloc: Global,
     tree: &Table,
@@ -72,8 +58,11 @@ fn unknown_in(
 ) -> Result<Option<String>, AllocError>
     ensures { IfOk result (λ o. option_map string_bytes o ≡ unknown_at kind place (table_view tree.now)) }
 {
-    match table_at(tree, place) {
-        Some(table) => first_of(alloc, table, known_keys(kind, place)),
+    let Some(table) = table_at(tree, place) else {
+        return Ok(None);
+    };
+    match first_unknown(table, known_keys(kind, place)) {
+        Some(name) => Ok(Some(String::from_str(alloc, name.as_str())?)),
         None => Ok(None),
     }
 }
@@ -93,12 +82,7 @@ pub fn unknown_key(
 {
     match toml::table_from_str(alloc, text) {
         Ok(tree) => unknown_in(alloc, &tree, kind, place),
-        Err(error) => {
-            if error.is_memory() {
-                Err(AllocError)
-            } else {
-                Ok(None)
-            }
-        }
+        Err(error) if error.is_memory() => Err(AllocError),
+        Err(_) => Ok(None),
     }
 }

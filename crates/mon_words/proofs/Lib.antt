@@ -1,3 +1,5 @@
 pub mod Adding
+pub mod Commands
 pub mod Reading
 pub mod Simple
+pub mod Walked

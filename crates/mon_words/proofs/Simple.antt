@@ -1,4 +1,4 @@
--- The program is one of those of which clap's clauses give the matches.
+-- The program is one of those whose matches clap's clauses state.
 use Rattle.std.proofs.Common.{◌≡◌, true, refl, sym, subst, List, Ok, Err, Result, inl, inr}
 use Rattle.clap.specs.Words.{App, FailsBy, HasMatchesOf, Text, fault_of, is_simple, is_simple_and_free, kind_of}
 use Rattle.clap.specs.declared.error.Error.{Error}

@@ -4,7 +4,7 @@ use Rattle.mon_words.specs.declared.lines.Form.{Form}
 use Rattle.mon_words.specs.declared.lines.Takes.{Takes}
 use Rattle.mon_words.specs.declared.lines.Line.{Line}
 
--- by which id it is read, how it is given, what it takes, and whether it must stand
+-- by which id it is read, how it is given, what it takes, and whether it is required
 pub record Argument : Type 0 where
   pub id : List ℕ
   pub form : Form

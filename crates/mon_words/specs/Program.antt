@@ -24,9 +24,9 @@ use Rattle.mon_words.specs.declared.lines.Takes.TheVariants.{Nothing, One, Each,
 use Rattle.mon_words.specs.declared.lines.Form.{Form}
 use Rattle.mon_words.specs.declared.lines.Form.TheVariants.{Place, Long, Short, Both}
 
--- ---- the words of which a value may have to be one
+-- ---- the texts of which a value may have to be one
 
--- the words for the formats and for the kinds
+-- the texts for the formats and for the kinds
 abbrev pub IsLists : Lists → Type 0
 IsLists lists = (texts lists.formats.now ≡ codes "text" ∷ codes "json" ∷ codes "prometheus" ∷ codes "columns" ∷ [])
     × (texts lists.kinds.now ≡ codes "integer" ∷ codes "string" ∷ codes "hex" ∷ codes "oid" ∷ codes "ip"
@@ -99,8 +99,17 @@ program lists = fold (with_command lists) (with_arguments lists (new_app (codes 
 abbrev pub IsProgram : Command → Type 0
 IsProgram command = (lists : Lists) × IsLists lists × HasApp (program lists) command
 
--- what is made of the words: the program's matches of them, or an error of a kind that the program gives at them, or memory ran out
-abbrev pub Reads : List Text → Result ArgMatches Error → Type 0
-Reads words (Ok m) = (lists : Lists) × IsLists lists × (fault_of (program lists) words ≡ [])
+-- the matches are those that the program gives of these words, which it takes
+abbrev pub IsParseOf : List Text → ArgMatches → Type 0
+IsParseOf words m = (lists : Lists) × IsLists lists × (fault_of (program lists) words ≡ [])
     × (rows_of (found_of m) ≡ matches_of (program lists) words) × (subcommand_rows_of m ≡ subcommand_of (program lists) words)
+
+-- and so of some words
+abbrev pub IsParse : ArgMatches → Type 0
+IsParse m = (words : List Text) × IsParseOf words m
+
+-- what is made of the arguments: the program's matches of them, or an error of a kind that the
+-- program makes of them, or memory ran out
+abbrev pub Reads : List Text → Result ArgMatches Error → Type 0
+Reads words (Ok m) = IsParseOf words m
 Reads words (Err e) = (kind_of e ≡ OutOfMemory) ⊎ ((lists : Lists) × IsLists lists × IsAmong (kind_of e) (fault_of (program lists) words))

@@ -1,16 +1,19 @@
 -- The command lines: for each command its options and words, in their order.
-use Rattle.std.specs.Prelude.{ℕ, pos, List, [], ◌∷◌, ◌++◌, codes, true, false}
+use Rattle.std.specs.Prelude.{ℕ, pos, List, [], ◌∷◌, ◌++◌, codes, find, true, false}
+use Rattle.std.specs.Option.{option_map_or}
+use Rattle.std.specs.Str.{bytes_eq}
 use Rattle.mon_words.specs.Line.{Argument}
 use Rattle.mon_words.specs.declared.choice.Choice.{Choice}
 use Rattle.mon_words.specs.declared.choice.Choice.TheVariants as commands
 use Rattle.mon_words.specs.declared.lines.Value.{Value}
 use Rattle.mon_words.specs.declared.lines.Value.TheVariants.{Text, Format, Kind, Number, Natural}
+use Rattle.mon_words.specs.declared.lines.Takes.{Takes}
 use Rattle.mon_words.specs.declared.lines.Takes.TheVariants.{Nothing, One, Each, Many}
 use Rattle.mon_words.specs.declared.lines.Form.TheVariants.{Place, Long, Short, Both}
 
 -- ---- kinds of arguments
 
--- a word that must stand: `ID`
+-- a required argument: `ID`
 abbrev pub word : List ℕ → Value → Argument
 word id value = record { id = id; form = Place; takes = One value; needed = true }
 
@@ -26,7 +29,7 @@ option id value = record { id = id; form = Long; takes = One value; needed = fal
 abbrev pub flag : List ℕ → Argument
 flag id = record { id = id; form = Long; takes = Nothing; needed = false }
 
--- an option that may be given as often as wanted, with a value each time: `[--id VALUE]..`
+-- an option that may be given any number of times, with a value each time: `[--id VALUE]..`
 abbrev pub repeated : List ℕ → Argument
 repeated id = record { id = id; form = Long; takes = Each Text; needed = false }
 
@@ -98,3 +101,16 @@ arguments commands.Rehearse = settings ∷ word (codes "K") (up_to 1 16) ∷ []
 -- before any command: [--version]
 abbrev pub first_arguments : List Argument
 first_arguments = flag (codes "version") ∷ []
+
+-- ---- what a value must be
+
+-- each value of an argument that takes this; of one that takes none, any text
+abbrev pub taken : Takes → Value
+taken Nothing = Text
+taken (One value) = value
+taken (Each value) = value
+taken (Many value) = value
+
+-- each value of the argument with this id, of a command
+abbrev pub value_of : Choice → List ℕ → Value
+value_of choice id = option_map_or (λ a. taken a.takes) (find (λ a. bytes_eq a.id id) (arguments choice)) Text

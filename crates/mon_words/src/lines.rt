@@ -1,4 +1,4 @@
-//! What stands in the command lines: their options and words.
+//! The arguments of the command lines.
 
 ghost use Rattle.std.specs.Prelude.{◌≡◌, map};
 ghost use Rattle.mon_words.specs.Line.{argument_of};
@@ -6,7 +6,7 @@ ghost use Rattle.mon_words.specs.Table.{arguments};
 
 use crate::choice::Choice;
 
-/// What a value has to be.
+/// What a value must be.
 #[derive(Clone, Copy)]
 pub(crate) enum Value {
     /// Any text.
@@ -17,7 +17,7 @@ pub(crate) enum Value {
     Kind,
     /// A decimal number, from the first to the second.
     Number(i64, i64),
-    /// The same of a number that has no sign and up to 64 bits.
+    /// A number without a sign, of up to 64 bits.
     Natural(u64, u64),
 }
 
@@ -28,7 +28,7 @@ pub(crate) enum Takes {
     Nothing,
     /// One.
     One(Value),
-    /// One each time that it is given, as often as wanted.
+    /// One each time that it is given, any number of times.
     Each(Value),
     /// One or more in a row.
     Many(Value),
@@ -37,7 +37,7 @@ pub(crate) enum Takes {
 /// How an argument is given.
 #[derive(Clone, Copy)]
 pub(crate) enum Form {
-    /// By its place among the words.
+    /// By its place on the command line.
     Place,
     /// As `--id`.
     Long,
@@ -320,7 +320,7 @@ const STATIONS: Line = Line {
     help: "How many stations, 1 to 16",
 };
 
-/// What may stand before any command.
+/// The arguments before any command.
 pub(crate) static FIRST: [Line; 1] = [VERSION];
 
 static REPLAY: [Line; 6] = [SIZE, REPORT, FORMAT, COLUMNS, MODULE, NAMES];

@@ -1,9 +1,13 @@
-//! What the words ask for, by the matches that clap gives.
+//! What the arguments ask for, by the matches that clap makes of them.
 
 ghost use Rattle.std.specs.Prelude.{◌≡◌, codes, option_map};
 ghost use Rattle.clap.specs.Words.{first_of, found_of, one_of, rows_of, subcommand_rows_of};
 ghost use Rattle.clap.specs.Walk.{texts};
-ghost use Rattle.mon_words.specs.Asked.{AsksFor, IsAgent, IsAnswer, IsFormat, IsInteger, IsNamed, IsNumber, IsNumberOr, IsPrinted, IsRequest, IsScene, IsStation, IsTiming, Says, all_in, is_on, text_in, wants_report};
+ghost use Rattle.mon_words.specs.Asked.{AreAllowed, AreThere, AsksFor, IsAgent, IsAnswer, IsFormat, IsInteger, IsNamed, IsNumber, IsNumberOr, IsPrinted, IsRequest, IsScene, IsStation, IsTiming, IsWithin, Says, all_in, is_on, text_in, wants_report};
+ghost use Rattle.mon_words.specs.Program.{IsParse};
+ghost use Rattle.mon_words.specs.Table.{arguments};
+ghost use Rattle.mon_words.specs.declared.choice.Choice.TheVariants as commands;
+ghost use Rattle.mon_words.specs.declared.meaning.Asked.TheVariants as asked;
 
 use crate::choice::Choice;
 use crate::format::ReportFormat;
@@ -13,7 +17,7 @@ use crate::meaning::{
 };
 use clap::ArgMatches;
 
-/// How many samples a window keeps where the words do not say.
+/// How many samples a window keeps if the arguments do not say.
 const USUAL_SIZE: u32 = 8;
 
 /// The text of an argument, if it has one.
@@ -30,14 +34,14 @@ fn text<'a>(words: &ArgMatches<'a>, id: &str) -> &'a str
     given(words, id).unwrap_or_default()
 }
 
-/// All values of an argument, in the order of the words.
+/// Returns all values of an argument, in the order of the command line.
 fn all<'m, 'a>(words: &'m ArgMatches<'a>, id: &str) -> &'m [&'a str]
     ensures { texts result.now ≡ all_in id.now (rows_of (found_of words.now)) }
 {
     words.get_raw(id).unwrap_or_default()
 }
 
-/// Whether a flag was given: its value is then the text `true`.
+/// Returns `true` if a flag was given: its value is then the text `true`.
 fn is_on(words: &ArgMatches<'_>, id: &str) -> bool
     ensures { result ≡ is_on id.now (rows_of (found_of words.now)) }
 {
@@ -54,7 +58,7 @@ fn number(words: &ArgMatches<'_>, id: &str) -> Option<u32>
     words.get_one::<u32>(id)
 }
 
-/// The same, or this one where it has none.
+/// Returns the number that an argument has, or this one if it has none.
 fn number_or(words: &ArgMatches<'_>, id: &str, other: u32) -> u32
     ensures { IsNumberOr 32 other (one_of id.now (rows_of (found_of words.now))) result }
 {
@@ -75,7 +79,7 @@ fn small_number(words: &ArgMatches<'_>, id: &str) -> Option<i32>
     words.get_one::<i32>(id)
 }
 
-/// The modules that the words give.
+/// Returns the modules that the arguments give.
 fn named<'m, 'a>(words: &'m ArgMatches<'a>) -> Named<'m, 'a>
     ensures { IsNamed (rows_of (found_of words.now)) result }
 {
@@ -85,7 +89,7 @@ fn named<'m, 'a>(words: &'m ArgMatches<'a>) -> Named<'m, 'a>
     }
 }
 
-/// The format that the words give.
+/// Returns the format that the arguments give.
 fn format(words: &ArgMatches<'_>) -> ReportFormat
     ensures { IsFormat (is_on (codes "columns") (rows_of (found_of words.now))) (text_in (codes "format") (rows_of (found_of words.now))) result }
 {
@@ -95,7 +99,7 @@ fn format(words: &ArgMatches<'_>) -> ReportFormat
     ReportFormat::named(text(words, "format")).unwrap_or(ReportFormat::Text)
 }
 
-/// How the words want a report printed.
+/// Returns how a report is printed.
 fn printed<'m, 'a>(words: &'m ArgMatches<'a>) -> Printed<'m, 'a>
     ensures { IsPrinted (rows_of (found_of words.now)) result }
 {
@@ -105,14 +109,14 @@ fn printed<'m, 'a>(words: &'m ArgMatches<'a>) -> Printed<'m, 'a>
     }
 }
 
-/// Whether the words want the report of a replay.
+/// Returns `true` if the report of a replay is asked for.
 fn reports(words: &ArgMatches<'_>) -> bool
     ensures { result ≡ wants_report (rows_of (found_of words.now)) }
 {
     is_on(words, "report") || is_on(words, "columns") || given(words, "format").is_some()
 }
 
-/// Whom the words ask about which variables.
+/// Returns whom a client command asks about which variables.
 fn request<'m, 'a>(words: &'m ArgMatches<'a>) -> Request<'m, 'a>
     ensures { IsRequest (rows_of (found_of words.now)) result }
 {
@@ -124,7 +128,7 @@ fn request<'m, 'a>(words: &'m ArgMatches<'a>) -> Request<'m, 'a>
     }
 }
 
-/// When the words have rounds run.
+/// Returns when rounds are run.
 fn timing(words: &ArgMatches<'_>) -> Timing
     ensures { IsTiming (rows_of (found_of words.now)) result }
 {
@@ -135,7 +139,7 @@ fn timing(words: &ArgMatches<'_>) -> Timing
     }
 }
 
-/// How the words have datagrams come to an agent without a socket.
+/// Returns how datagrams come to an agent without a socket.
 fn scene(words: &ArgMatches<'_>) -> Scene
     ensures { IsScene (rows_of (found_of words.now)) result }
 {
@@ -146,7 +150,7 @@ fn scene(words: &ArgMatches<'_>) -> Scene
     }
 }
 
-/// The agent that the words have served.
+/// Returns the agent to serve.
 fn agent<'a>(words: &ArgMatches<'a>) -> AgentWords<'a>
     ensures { IsAgent (rows_of (found_of words.now)) result }
 {
@@ -157,7 +161,7 @@ fn agent<'a>(words: &ArgMatches<'a>) -> AgentWords<'a>
     }
 }
 
-/// The agent that the words hand datagrams.
+/// Returns the agent that answers recorded datagrams.
 fn answer<'m, 'a>(words: &'m ArgMatches<'a>) -> AnswerWords<'m, 'a>
     ensures { IsAnswer (rows_of (found_of words.now)) result }
 {
@@ -169,7 +173,7 @@ fn answer<'m, 'a>(words: &'m ArgMatches<'a>) -> AnswerWords<'m, 'a>
     }
 }
 
-/// The station that the words have run.
+/// Returns the station to run.
 fn station<'m, 'a>(words: &'m ArgMatches<'a>) -> StationWords<'m, 'a>
     ensures { IsStation (rows_of (found_of words.now)) result }
 {
@@ -181,16 +185,28 @@ fn station<'m, 'a>(words: &'m ArgMatches<'a>) -> StationWords<'m, 'a>
     }
 }
 
-/// What the words of a command ask for.
+/// Returns what is printed of recorded responses.
+fn replay<'m, 'a>(words: &'m ArgMatches<'a>) -> ReplayWords<'m, 'a>
+    requires { AreAllowed (arguments commands.Replay) (rows_of (found_of words.now)) }
+    ensures says { Says commands.Replay (rows_of (found_of words.now)) (asked.Replay result) }
+    ensures within { IsWithin (asked.Replay result) }
+{
+    ReplayWords {
+        size: number_or(words, "N", USUAL_SIZE),
+        reports: reports(words),
+        printed: printed(words),
+    }
+}
+
+/// Returns what the arguments of a command ask for.
 fn asked_by<'m, 'a>(choice: Choice, words: &'m ArgMatches<'a>) -> Asked<'m, 'a>
-    ensures { Says choice (rows_of (found_of words.now)) result }
+    requires allowed { AreAllowed (arguments choice) (rows_of (found_of words.now)) }
+    requires there { AreThere (arguments choice) (rows_of (found_of words.now)) }
+    ensures says { Says choice (rows_of (found_of words.now)) result }
+    ensures within { IsWithin result }
 {
     match choice {
-        Choice::Replay => Asked::Replay(ReplayWords {
-            size: number_or(words, "N", USUAL_SIZE),
-            reports: reports(words),
-            printed: printed(words),
-        }),
+        Choice::Replay => Asked::Replay(replay(words)),
         Choice::Get => Asked::Get(request(words)),
         Choice::Next => Asked::Next(request(words)),
         Choice::Bulk => Asked::Bulk(BulkWords {
@@ -220,9 +236,12 @@ fn asked_by<'m, 'a>(choice: Choice, words: &'m ArgMatches<'a>) -> Asked<'m, 'a>
     }
 }
 
-/// What the words ask for. With no command they ask for a replay, all of whose arguments are left out.
+/// Returns what the arguments ask for. Without a command they ask for a replay, all of whose
+/// arguments are left out.
 pub fn asked<'m, 'a>(words: &'m ArgMatches<'a>) -> Asked<'m, 'a>
-    ensures { AsksFor (is_on (codes "version") (rows_of (found_of words.now))) (rows_of (found_of words.now)) (subcommand_rows_of words.now) result }
+    requires { IsParse words.now }
+    ensures says { AsksFor (is_on (codes "version") (rows_of (found_of words.now))) (rows_of (found_of words.now)) (subcommand_rows_of words.now) result }
+    ensures within { IsWithin result }
 {
     if is_on(words, "version") {
         return Asked::Version;
@@ -231,8 +250,8 @@ pub fn asked<'m, 'a>(words: &'m ArgMatches<'a>) -> Asked<'m, 'a>
         Some((name, below)) => match Choice::named(name) {
             Some(choice) => asked_by(choice, below),
             // The command line knows no other commands.
-            None => Asked::SelfTest,
+            None => unreachable!(),
         },
-        None => asked_by(Choice::Replay, words),
+        None => Asked::Replay(replay(words)),
     }
 }

@@ -1,11 +1,11 @@
-//! What the words ask for.
+//! What the arguments ask for.
 
 use crate::format::ReportFormat;
 
 /// Modules whose names are known, and whether names are printed by them.
 #[derive(Clone, Copy)]
 pub struct Named<'m, 'a> {
-    /// The files of the modules, in the order of the words.
+    /// The files of the modules, in the order of the command line.
     pub modules: &'m [&'a str],
     pub shown: bool,
 }
@@ -22,7 +22,7 @@ pub struct Printed<'m, 'a> {
 pub struct Request<'m, 'a> {
     pub address: &'a str,
     pub community: &'a str,
-    /// The names of the variables, in the order of the words.
+    /// The names of the variables, in the order of the command line.
     pub names: &'m [&'a str],
     pub named: Named<'m, 'a>,
 }
@@ -30,7 +30,7 @@ pub struct Request<'m, 'a> {
 /// How an agent without a socket gets its datagrams.
 #[derive(Clone, Copy)]
 pub struct Scene {
-    /// Where its clock stands, in hundredths of a second after its start.
+    /// The time of its clock, in hundredths of a second after its start.
     pub at: u64,
     /// Bit k is 1 where the device fails its change number k, from 0.
     pub fuses: u64,
@@ -53,7 +53,7 @@ pub struct Timing {
 pub struct ReplayWords<'m, 'a> {
     /// How many samples a window keeps.
     pub size: u32,
-    /// Whether the report is printed, and not the windows.
+    /// `true` if the report is printed, and not the windows.
     pub reports: bool,
     pub printed: Printed<'m, 'a>,
 }
@@ -122,7 +122,7 @@ pub struct RehearseWords<'a> {
     pub stations: u32,
 }
 
-/// What the words ask for, by their command.
+/// What the arguments ask for, by their command.
 #[derive(Clone, Copy)]
 pub enum Asked<'m, 'a> {
     /// The program's name and version.

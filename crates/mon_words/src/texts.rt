@@ -138,10 +138,10 @@ Example: snmpmon mib examples/EX-MIB.txt";
 const STATION_MORE: &str =
     "Reads SETTINGS, a TOML file (examples/station.toml explains each key), reads the file in it or makes it, listens at its address and runs
 rounds. In a round the station polls each target, offers each peer the samples that it is owed, answers its peers and saves. At the
-end it prints the report of its windows, as `report` does; --out writes it to a file after each round, where Prometheus finds it (docs/OPERATE.md).
+end it prints the report of its windows, as `report` does; --out writes it to a file after each round, where Prometheus finds it (docs/OPERATING.md).
 
 Standard error tells where it listens and by which incarnation, for each round which targets gave up or were refused and why,
-and each alarm that changed. What is refused ends no round; docs/OPERATE.md tells what each line means.
+and each alarm that changed. What is refused ends no round; docs/OPERATING.md tells what each line means.
 
 A damaged file ends it with mon_disk 5 Damaged, one of other instances with mon_saved 4 OtherWatch, and neither is touched. A file
 that is shorter than a station's, or in which no save was ever finished, counts as new.
@@ -181,7 +181,7 @@ how many samples it owes each of the others, and its report. It opens no socket 
                    what was written and not synced is lost
   forge S HEX      these octets come to station S as from a peer
 
-A line that is no step ends it with mon_app 7 BadScript before the first step; docs/OPERATE.md explains a script.
+A line that is no step ends it with mon_app 7 BadScript before the first step; docs/OPERATING.md explains a script.
 
 Example: snmpmon rehearse examples/rehearsal.toml 2 < examples/exchange.script";
 

@@ -18,7 +18,7 @@ pub const VERSION: &str = "snmpmon 0.1.0\n";
 
 static FORMATS: [&str; 4] = ["text", "json", "prometheus", "columns"];
 
-/// The words for the kinds of values.
+/// The names of the kinds of values.
 static KINDS: [&str; 9] = [
     "integer",
     "string",
@@ -31,7 +31,7 @@ static KINDS: [&str; 9] = [
     "counter64",
 ];
 
-/// The words of which a value may have to be one.
+/// The texts of which a value may have to be one.
 #[derive(Clone, Copy)]
 struct Lists<'a> {
     formats: &'a [&'a str],
@@ -170,7 +170,8 @@ fn command<'a>(alloc: Global) -> Result<Command<'a>, AllocError>
     with_commands(alloc, lists, command, CHOICES.as_slice())
 }
 
-/// What clap makes of the words, of which the first is the program's name. With no command among them it names none.
+/// Parses the arguments by clap, of which the first is the program's name. Without a command among
+/// them it names none.
 pub fn read<'a, S: AsStr>(alloc: Global, words: &'a [S]) -> Result<ArgMatches<'a>, Error>
     ensures { Reads (map S.text words.entry.now) result }
 {

@@ -16,10 +16,10 @@ use std::alloc::{AllocError, Global};
 use std::net::{Ipv4Addr, Net, SocketAddrV4};
 use std::rt::{Clock, Files};
 
-/// The greatest moment of a device's life, in hundredths of a second.
+/// The greatest time of a device's life, in hundredths of a second.
 const MOMENTS: &str = "a moment up to 214748364799";
 
-/// Serves the agent of the settings, as many datagrams as the words say.
+/// Serves the agent of the settings, as many datagrams as the arguments say.
 pub fn agent<R: Clock + Files + Net + Eprint + AllocGlobal>(
     rt: &R,
     words: AgentWords<'_>,
@@ -31,7 +31,7 @@ pub fn agent<R: Clock + Files + Net + Eprint + AllocGlobal>(
     listened(rt, listen, agent, words.count)
 }
 
-/// Listens at an address, says so, and serves so many datagrams.
+/// Listens at an address, says so, and serves this many datagrams.
 fn listened<R: Clock + Net + Eprint + AllocGlobal>(
     rt: &R,
     listen: SocketAddrV4,
@@ -47,7 +47,7 @@ fn listened<R: Clock + Net + Eprint + AllocGlobal>(
     Ok(())
 }
 
-/// Tells on standard error of each datagram for which memory ran out.
+/// Reports on standard error each datagram for which memory ran out.
 #[derive(Drop)]
 struct Telling<'a, R> {
     rt: &'a R,
@@ -122,7 +122,7 @@ fn fused_agent(told: AgentSettings, fuses: u64) -> Result<Agent<FuseDevice<SimDe
     Ok(Agent::new(told.policy, told.settings, device))
 }
 
-/// The moment of so many hundredths of a second.
+/// Makes the time of this many hundredths of a second.
 fn moment_of(alloc: Global, hundredths: u64) -> Result<Moment, Failure> {
     match Moment::new(hundredths) {
         Some(at) => Ok(at),

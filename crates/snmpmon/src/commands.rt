@@ -1,6 +1,7 @@
 //! The commands: what each reads, computes and prints.
 
 ghost use Rattle.std.specs.Prelude.{◌≤◌};
+ghost use Rattle.mon_words.specs.Asked.{IsWithin};
 
 use crate::agent::{agent, answer};
 use crate::client::{bulk, get, next, set, walk};
@@ -75,7 +76,9 @@ fn failed(rt: &impl Eprint, failure: &Failure) -> u8 {
 fn run<R: Clock + Files<File = File> + Net + Input + Print + Eprint + AllocGlobal>(
     rt: &R,
     asked: Asked<'_, '_>,
-) -> Result<(), Failure> {
+) -> Result<(), Failure>
+    requires { IsWithin asked }
+{
     match asked {
         Asked::Version => print(rt, VERSION.as_bytes()),
         Asked::Replay(words) => replaying(rt, words),
@@ -94,19 +97,14 @@ fn run<R: Clock + Files<File = File> + Net + Input + Print + Eprint + AllocGloba
     }
 }
 
-/// Returns the size of a window that the arguments name. The command line only takes 1 to 64.
-fn window_of(size: u32) -> u8
-    ensures { (1 ≤ result) × (result ≤ 64) }
-{
-    size.clamp(1, 64) as u8
-}
-
 /// Prints the windows of the responses on standard input, or their report if asked to.
 fn replaying<R: Files + Input + Print + Eprint + AllocGlobal>(
     rt: &R,
     words: ReplayWords<'_, '_>,
-) -> Result<(), Failure> {
-    let size = window_of(words.size);
+) -> Result<(), Failure>
+    requires { (1 ≤ words.size) × (words.size ≤ 64) }
+{
+    let size = words.size as usize;
     if !words.reports {
         return replay(rt, size);
     }
@@ -116,25 +114,25 @@ fn replaying<R: Files + Input + Print + Eprint + AllocGlobal>(
 }
 
 /// Prints the windows of the responses on standard input.
-fn replay<R: Input + Print + AllocGlobal>(rt: &R, size: u8) -> Result<(), Failure>
+fn replay<R: Input + Print + AllocGlobal>(rt: &R, size: usize) -> Result<(), Failure>
     requires { (1 ≤ size) × (size ≤ 64) }
 {
     let input = read_input(rt)?;
-    let text = mon_app::replay(rt.alloc(), usize::from(size), &input)?;
+    let text = mon_app::replay(rt.alloc(), size, &input)?;
     print(rt, &text)
 }
 
 /// Prints the report of the responses. Refused lines come first, with lines of text; with another format on standard error.
 fn replay_report<R: Print + Eprint + AllocGlobal>(
     rt: &R,
-    size: u8,
+    size: usize,
     input: &[u8],
     printing: &Printing,
 ) -> Result<(), Failure>
     requires { (1 ≤ size) × (size ≤ 64) }
 {
     let alloc = rt.alloc();
-    let recorded = Recorded::read(alloc, usize::from(size), input)?;
+    let recorded = Recorded::read(alloc, size, input)?;
     let entries = recorded.entries(alloc)?;
     let text = printing.text(alloc, entries.as_slice(), None)?;
     if printing.is_text() {

@@ -205,23 +205,18 @@ fn saved_in<R: Files<File = File> + AllocGlobal>(
 pub fn rehearsal<R: Files + Input + Print + AllocGlobal>(
     rt: &R,
     words: RehearseWords<'_>,
-) -> Result<(), Failure> {
+) -> Result<(), Failure>
+    requires { (1 ≤ words.stations) × (words.stations ≤ 16) }
+{
     let (settings, _) = settings_of(rt, words.settings, PLAIN)?;
     let script = read_input(rt)?;
     let text = rehearse(
         rt.alloc(),
         &settings.core,
-        count_of(words.stations),
+        words.stations,
         script.as_slice(),
     )?;
     print(rt, text.as_slice())
-}
-
-/// Returns how many stations the arguments name. The command line only takes 1 to 16.
-fn count_of(stations: u32) -> u32
-    ensures { (1 ≤ result) × (result ≤ 16) }
-{
-    stations.clamp(1, 16)
 }
 
 /// Prints what a station in memory measured of an agent in memory.

@@ -46,6 +46,11 @@ BUGS = {
         '    text.push_str("\\n")?;\n    Ok(text.into_bytes())',
         "    Ok(text.into_bytes())",
     ),
+    "prints_text_for_json": (
+        "src/format.rt",
+        "        Format::Json => json_report(alloc, names, entries),",
+        "        Format::Json => named_report(alloc, names, entries),",
+    ),
     "escapes_no_quote": (
         "src/prometheus/text.rt",
         """        b'"' => text.extend_from_slice(b"\\\\\\""),\n""",

@@ -32,14 +32,14 @@ BUGS = {
         "Key::Boots, 2, 1, 2147483647)?;",
     ),
     "takes_257_entries": (
-        "src/tables.rt",
-        "values_at(table, key, 0, 256)?;",
-        "values_at(table, key, 0, 257)?;",
+        "src/list.rt",
+        "self.rows(&(), key, 0, 256)",
+        "self.rows(&(), key, 0, 257)",
     ),
     "takes_a_community_of_513_octets": (
         "src/tables.rt",
-        "Key::Community, 512)?;",
-        "Key::Community, 513)?;",
+        "Key::Community, 1, 512)?;",
+        "Key::Community, 1, 513)?;",
     ),
     "takes_a_mask_of_17_octets": (
         "src/tables.rt",
@@ -48,11 +48,16 @@ BUGS = {
     ),
     "takes_a_window_of_0": (
         "src/leaf.rt",
-        "number_at(table, key, 1, most as u64)?",
-        "number_at(table, key, 0, most as u64)?",
+        "self.number(key, 1, most as u64)?",
+        "self.number(key, 0, most as u64)?",
+    ),
+    "takes_a_window_of_0_for_all": (
+        "src/station.rt",
+        "Key::Window, 1, 64)? as usize;",
+        "Key::Window, 0, 64)? as usize;",
     ),
     "takes_an_alias_of_65_octets": (
-        "src/interfaces.rt",
+        "src/tables.rt",
         "Key::Alias, 0, 64)?;",
         "Key::Alias, 0, 65)?;",
     ),
@@ -62,14 +67,14 @@ BUGS = {
         "Key::Services, 0, 128)?;",
     ),
     "refuses_256_entries": (
-        "src/tables.rt",
-        "values_at(table, key, 0, 256)?;",
-        "values_at(table, key, 0, 255)?;",
+        "src/list.rt",
+        "self.rows(&(), key, 0, 256)",
+        "self.rows(&(), key, 0, 255)",
     ),
     "calls_a_missing_list_a_bad_value": (
-        "src/keys.rt",
-        "    find(table, key).ok_or(SettingsFault::missing(key))",
-        "    find(table, key).ok_or(SettingsFault::bad(key))",
+        "src/leaf.rt",
+        "        find(self.table, key).ok_or(SettingsFault::missing(key))",
+        "        find(self.table, key).ok_or(SettingsFault::bad(key))",
     ),
     "refuses_the_greatest_number": (
         "src/leaf.rt",
@@ -78,8 +83,8 @@ BUGS = {
     ),
     "takes_a_limit_of_483": (
         "src/agent.rt",
-        "    let limit = int_at(table, Key::Limit, 484, 8192)?;",
-        "    let limit = int_at(table, Key::Limit, 483, 8192)?;",
+        "    let limit = reader.int(Key::Limit, 484, 8192)?;",
+        "    let limit = reader.int(Key::Limit, 483, 8192)?;",
     ),
     "reads_model_1_as_2": (
         "src/leaf.rt",
@@ -93,8 +98,8 @@ BUGS = {
     ),
     "refuses_a_mask_of_16_octets": (
         "src/tables.rt",
-        "    let mask = hex_or_none(alloc, table, Key::Mask, 16)?;",
-        "    let mask = hex_or_none(alloc, table, Key::Mask, 15)?;",
+        "reader.hex_or_none(Key::Mask, 16)?;",
+        "reader.hex_or_none(Key::Mask, 15)?;",
     ),
     "takes_no_key_for_known": (
         "src/keys.rt",
@@ -107,9 +112,14 @@ BUGS = {
         "SettingsFault::BadValue(_) => 3,",
     ),
     "takes_a_community_of_no_octets": (
-        "src/octets.rt",
-        "    match text_in(value, 1, most) {",
-        "    match text_in(value, 0, most) {",
+        "src/tables.rt",
+        "Key::Community, 1, 512)?;",
+        "Key::Community, 0, 512)?;",
+    ),
+    "takes_a_view_of_no_octets": (
+        "src/leaf.rt",
+        "match text_in(value, 1, most) {",
+        "match text_in(value, 0, most) {",
     ),
     "swaps_contact_and_location": (
         "src/agent.rt",
@@ -118,12 +128,17 @@ BUGS = {
     ),
     "boots_from_0": (
         "src/agent.rt",
-        "    let boots = int_or(table, Key::Boots, 1, 1, 2147483647)?;",
-        "    let boots = int_or(table, Key::Boots, 0, 1, 2147483647)?;",
+        "    let boots = reader.int_or(Key::Boots, 1, 1, 2147483647)?;",
+        "    let boots = reader.int_or(Key::Boots, 0, 1, 2147483647)?;",
+    ),
+    "takes_boots_of_0": (
+        "src/agent.rt",
+        "    let boots = reader.int_or(Key::Boots, 1, 1, 2147483647)?;",
+        "    let boots = reader.int_or(Key::Boots, 1, 0, 2147483647)?;",
     ),
     "forgets_to_look_for_unknown_keys": (
         "src/agent.rt",
-        "    only(table, top_keys(Kind::Agent))?;\n",
+        "    reader.only(top_keys(Kind::Agent))?;\n",
         "",
     ),
     "calls_memory_not_toml": (
@@ -133,13 +148,13 @@ BUGS = {
     ),
     "reads_the_read_view_for_writing": (
         "src/tables.rt",
-        "        let write_view = name_or_none(alloc, table, Key::Write, 32)?;",
-        "        let write_view = name_or_none(alloc, table, Key::Read, 32)?;",
+        "reader.name_or_none(Key::Write, 32)?;",
+        "reader.name_or_none(Key::Read, 32)?;",
     ),
     "reads_groups_before_communities": (
         "src/tables.rt",
-        "    let communities = list_at(alloc, table, Key::Community)?;\n    let groups = list_at(alloc, table, Key::Group)?;",
-        "    let groups = list_at(alloc, table, Key::Group)?;\n    let communities = list_at(alloc, table, Key::Community)?;",
+        "    let communities = reader.list(Key::Community)?;\n    let groups = reader.list(Key::Group)?;",
+        "    let groups = reader.list(Key::Group)?;\n    let communities = reader.list(Key::Community)?;",
     ),
     "blames_the_view_for_an_access": (
         "src/tables.rt",
@@ -168,8 +183,8 @@ BUGS = {
     ),
     "takes_no_objects": (
         "src/station_tables.rt",
-        "table, Key::Objects, 1, 16)?;",
-        "table, Key::Objects, 0, 16)?;",
+        "around, Key::Objects, 1, 16)?;",
+        "around, Key::Objects, 0, 16)?;",
     ),
     "takes_65_targets": (
         "src/station.rt",
@@ -177,14 +192,14 @@ BUGS = {
         "Key::Target, 1, 65)?;",
     ),
     "takes_9_tries": (
-        "src/leaf.rt",
+        "src/station_tables.rt",
         "Key::Tries, 1, 8)?",
         "Key::Tries, 1, 9)?",
     ),
     "takes_257_instances": (
         "src/placing.rt",
-        "    if instances.len() <= MOST_INSTANCES {",
-        "    if instances.len() <= MOST_INSTANCES + 1 {",
+        "    if instances.len() > MOST_INSTANCES {",
+        "    if instances.len() > MOST_INSTANCES + 1 {",
     ),
     "compares_an_instance_with_its_own_name": (
         "src/placing.rt",
@@ -223,8 +238,8 @@ BUGS = {
     ),
     "drops_the_alarms": (
         "src/station.rt",
-        "    rules_of(alloc, instances, alarms.as_slice())",
-        "    rules_of(alloc, instances, &alarms.as_slice()[..0])",
+        "    rules_of(reader.alloc, instances, alarms.as_slice())",
+        "    rules_of(reader.alloc, instances, &alarms.as_slice()[..0])",
     ),
     "numbers_an_object_by_half": (
         "src/station.rt",
@@ -238,8 +253,8 @@ BUGS = {
     ),
     "reads_the_name_as_the_mark": (
         "src/station_tables.rt",
-        "name_or_none(alloc, around.names, table, Key::Mark)?;",
-        "name_or_none(alloc, around.names, table, Key::Name)?;",
+        "reader.object_or_none(around.names, Key::Mark)?;",
+        "reader.object_or_none(around.names, Key::Name)?;",
     ),
     "numbers_unknown_object_5": (
         "src/fault.rt",
@@ -248,8 +263,8 @@ BUGS = {
     ),
     "takes_a_wait_of_60001": (
         "src/station.rt",
-        "Key::WaitMs, 1, 60000)?;",
-        "Key::WaitMs, 1, 60001)?;",
+        "Key::WaitMs, 1, 60000)?",
+        "Key::WaitMs, 1, 60001)?",
     ),
     "takes_a_file_of_4096_octets": (
         "src/station.rt",
@@ -262,24 +277,24 @@ BUGS = {
         "    match text_in(value, 0, 4096) {",
     ),
     "calls_an_unknown_object_an_unknown_key": (
-        "src/resolving.rt",
+        "src/leaf.rt",
         "        _ => SettingsFault::UnknownObject(Place::At(Step::Value(key))),",
         "        _ => SettingsFault::UnknownKey(Place::At(Step::Value(key))),",
     ),
     "takes_a_peer_of_number_0": (
         "src/station_tables.rt",
-        "Key::Station, 1, 4294967295)?;",
-        "Key::Station, 0, 4294967295)?;",
+        "Key::Station, 1, 4294967295)?",
+        "Key::Station, 0, 4294967295)?",
     ),
     "takes_an_epoch_of_65": (
         "src/station.rt",
-        "    let epoch = size_or(table, Key::Epoch, window, window)?;",
-        "    let epoch = size_or(table, Key::Epoch, window, 65)?;",
+        "reader.size_or(Key::Epoch, window, window)?;",
+        "reader.size_or(Key::Epoch, window, 65)?;",
     ),
     "needs_modules": (
         "src/modules.rt",
-        "        None => Ok(Vec::new(alloc)),",
-        "        None => Err(SettingsFault::missing(Key::Modules)),",
+        "        return Ok(Vec::new(reader.alloc));",
+        "        return Err(SettingsFault::missing(Key::Modules));",
     ),
     "watches_an_epoch_for_a_window": (
         "src/placing.rt",
@@ -298,8 +313,8 @@ BUGS = {
     ),
     "calls_a_bad_tree_of_modules_not_toml": (
         "src/modules.rt",
-        "        Ok(table) => modules_at(alloc, &table),",
-        "        Ok(table) => match modules_at(alloc, &table) {\n            Ok(files) => Ok(files),\n            Err(_) => Err(SettingsFault::NotToml),\n        },",
+        "        None => Err(SettingsFault::bad(Key::Modules)),\n    }\n}\n\n/// The module files that",
+        "        None => Err(SettingsFault::NotToml(0)),\n    }\n}\n\n/// The module files that",
     ),
     "watches_without_rules": (
         "src/station.rt",
@@ -307,7 +322,7 @@ BUGS = {
         "    let Ok(watch) = Watch::new(instances, Vec::new(alloc)) else {",
     ),
     "resolves_what_is_in_front_of_the_dot": (
-        "src/resolving.rt",
+        "src/leaf.rt",
         "    match names.resolve(alloc, text) {",
         "    let front = match text.split_once('.') {\n        Some((front, _)) => front,\n        None => text,\n    };\n    match names.resolve(alloc, front) {",
     ),
@@ -322,9 +337,9 @@ BUGS = {
         "Step::Entry(key, index + 2), value)",
     ),
     "leaves_out_the_table_of_a_count": (
-        "src/interfaces.rt",
-        "growth_of(inner).map_err(|fault| fault.within(Step::Value(key)))",
-        "growth_of(inner)",
+        "src/tables.rt",
+        "        .map_err(|fault| fault.within(Step::Value(key))),",
+        "        .map_err(|fault| fault),",
     ),
     "leaves_out_the_alarm": (
         "src/placing.rt",
@@ -343,8 +358,8 @@ BUGS = {
     ),
     "takes_the_entry_before": (
         "src/unknown.rt",
-        "    match number.checked_sub(1) {",
-        "    match number.checked_sub(2) {",
+        "    value.get(number.checked_sub(1)?)",
+        "    value.get(number.checked_sub(2)?)",
     ),
     "names_a_known_key": (
         "src/keys.rt",
@@ -358,7 +373,7 @@ BUGS = {
     ),
     "ignores_the_epoch": (
         "src/station.rt",
-        "    let epoch = size_or(table, Key::Epoch, window, window)?;",
+        "    let epoch = reader.size_or(Key::Epoch, window, window)?;",
         "    let epoch = window;",
     ),
     "includes_what_is_excluded": (
@@ -373,23 +388,23 @@ BUGS = {
     ),
     "reads_the_name_as_contact": (
         "src/agent.rt",
-        "    let contact = octets_at(alloc, table, Key::Contact, 0, 255)?;",
-        "    let contact = octets_at(alloc, table, Key::Name, 0, 255)?;",
+        "reader.octets(Key::Contact, 0, 255)?;",
+        "reader.octets(Key::Name, 0, 255)?;",
     ),
     "takes_equal_indexes": (
-        "src/interfaces.rt",
+        "src/tables.rt",
         "        if interface.index <= last {",
         "        if interface.index < last {",
     ),
     "allows_unknown_keys": (
-        "src/keys.rt",
-        "        Some(_) => Err(SettingsFault::UnknownKey(Place::Whole)),",
-        "        Some(_) => Ok(()),",
+        "src/leaf.rt",
+        "            Some(_) => Err(SettingsFault::UnknownKey(Place::Whole)),",
+        "            Some(_) => Ok(()),",
     ),
     "reads_the_first_entry_alone": (
-        "src/tables.rt",
-        "    read_rows(alloc, &(), key, values)\n",
-        "    read_rows(alloc, &(), key, if values.len() > 1 { &values[..1] } else { values })\n",
+        "src/list.rt",
+        "read_rows(self.alloc, around, key, values),",
+        "read_rows(self.alloc, around, key, if values.len() > 1 { &values[..1] } else { values }),",
     ),
     "takes_an_alarm_on_what_is_not_watched": (
         "src/placing.rt",
@@ -443,7 +458,7 @@ BUGS = {
     ),
     "skips_the_keys_of_a_peer": (
         "src/station_tables.rt",
-        "        only(table, table_keys(Key::Peer))?;\n",
+        "        reader.only(table_keys(Key::Peer))?;\n",
         "",
     ),
     "knows_the_keys_of_a_group_in_a_community": (

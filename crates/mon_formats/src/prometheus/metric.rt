@@ -14,7 +14,7 @@ pub(crate) enum Metric {
     Samples,
     /// What a counter counted a second.
     Rate,
-    /// Whether a rule's alarm is raised.
+    /// Says whether a rule's alarm is raised.
     Alarm,
 }
 

@@ -20,7 +20,7 @@ pub(crate) fn put_head(
     put_comment(text, "TYPE", metric, kind)
 }
 
-/// Adds a line that tells Prometheus something of a metric.
+/// Adds a line that says something of a metric to Prometheus.
 #[tactic(auto, unfolding(crate::specs::Prometheus::comment_line))]
 fn put_comment(
     text: &mut Vec<u8>,

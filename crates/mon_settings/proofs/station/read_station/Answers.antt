@@ -11,8 +11,8 @@ use Rattle.mon_settings.proofs.station.read_station.Goals as goal
 pub returns-in-Ok-clause-accepted : goal.returns-in-Ok-clause-accepted
 returns-in-Ok-clause-accepted c =
     let defs = c.args.names.now in
-    λ distinct. said station_view (station_of (resolution defs)) c.args.text.now (table_view c.in-Ok.table) c.in-Ok.ensures.tree (IsStation defs)
-    (station_of-is defs (resolution defs) (c.resolving.ensures defs distinct)) c.read_tree.result c.read_tree.ensures
+    said station_view (station_of (resolution defs)) c.args.text.now (table_view c.in-Ok.table) c.in-Ok.ensures.tree (IsStation defs)
+    (station_of-is defs (resolution defs) (c.resolving.ensures defs c.settled.ensures)) c.read_tree.result c.read_tree.ensures
 
 pub returns-in-Ok-clause-refused : goal.returns-in-Ok-clause-refused
 returns-in-Ok-clause-refused c =
@@ -22,7 +22,7 @@ returns-in-Ok-clause-refused c =
 
 pub returns-in-Err-clause-accepted : goal.returns-in-Err-clause-accepted
 returns-in-Err-clause-accepted c =
-    λ distinct. unsaid station_view (station_of (resolution c.args.names.now)) c.args.text.now (IsStation c.args.names.now) c.in-Err.fault c.in-Err.ensures.unread
+    unsaid station_view (station_of (resolution c.args.names.now)) c.args.text.now (IsStation c.args.names.now) c.in-Err.fault c.in-Err.ensures.unread
 
 pub returns-in-Err-clause-refused : goal.returns-in-Err-clause-refused
 returns-in-Err-clause-refused c = unread station_view (station_of (resolution c.args.names.now)) c.args.text.now c.in-Err.fault c.in-Err.ensures.unread

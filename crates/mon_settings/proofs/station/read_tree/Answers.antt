@@ -13,7 +13,7 @@ use Rattle.mon_settings.proofs.station.read_tree.Goals as goal
 
 pub core_from-requires-clause-core : goal.core_from-requires-clause-core
 core_from-requires-clause-core c =
-    let tree = table_view c.args.table.now in
+    let tree = table_view c.args.reader.now.table.now in
     let find = resolution c.args.names.now in
     let scalars : Scalars = scalars_view c.in_ok-scalars.scalars in
     let targets = c.in_ok-targets.targets.items in

@@ -1,7 +1,7 @@
 use Rattle.std.proofs.Common.{ap}
 use Rattle.mon_settings.specs.Resolving.{or_unknown, resolution}
 use Rattle.mon_settings.proofs.Resolved.{unresolved_is}
-use Rattle.mon_settings.proofs.resolving.resolved.Goals as goal
+use Rattle.mon_settings.proofs.leaf.resolved.Goals as goal
 
 pub returns-in-Ok : goal.returns-in-Ok
 returns-in-Ok c =

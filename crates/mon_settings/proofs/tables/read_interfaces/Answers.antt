@@ -2,7 +2,7 @@ use Rattle.std.proofs.Common.{◌≡◌, true}
 use Rattle.toml.specs.View.{table_view}
 use Rattle.mon_settings.specs.Interfaces.{rise_from}
 use Rattle.mon_settings.proofs.Accepted.{listed_indexes}
-use Rattle.mon_settings.proofs.interfaces.read_interfaces.Goals as goal
+use Rattle.mon_settings.proofs.tables.read_interfaces.Goals as goal
 
 pub returns-then-rise-clause-indexes : goal.returns-then-rise-clause-indexes
 returns-then-rise-clause-indexes c =
@@ -10,4 +10,4 @@ returns-then-rise-clause-indexes c =
     let same = c.deref.ensures.value in
     let passed = c.if-rise.true in
     let up : rise_from 0 c.in_ok-interfaces.interfaces.items ≡ true = cc in
-    listed_indexes (table_view c.args.table.now) c.in_ok-interfaces.interfaces.items c.in_ok-interfaces.ensures up
+    listed_indexes (table_view c.args.reader.now.table.now) c.in_ok-interfaces.interfaces.items c.in_ok-interfaces.ensures up
