@@ -1,6 +1,6 @@
 //! Values that are written as words, shown as they are written in BER.
 
-use mon_app::{AppFault, KINDS, ValueKind, value_of};
+use mon_app::{AppFault, ValueKind, value_of};
 use mon_ber::{BerFault, Value, write_value};
 use std::alloc::Global;
 use std::test::Fail;
@@ -78,7 +78,18 @@ fn reads_texts(rt: HostRuntime) -> Result<(), Fail> {
 
 #[test]
 fn names_kinds(rt: HostRuntime) {
-    for word in KINDS {
+    let words = [
+        "integer",
+        "string",
+        "hex",
+        "oid",
+        "ip",
+        "counter32",
+        "gauge32",
+        "timeticks",
+        "counter64",
+    ];
+    for word in words {
         assert!(rt; ValueKind::named(word).is_some(), "at {word}");
     }
     assert!(rt; ValueKind::named("Integer").is_none());

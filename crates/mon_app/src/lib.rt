@@ -49,6 +49,6 @@ pub use socket::SocketWire;
 pub use socket_port::SocketPort;
 pub use status::status_name;
 pub use untaken::Untaken;
-pub use value::{KINDS, ValueKind, value_of};
+pub use value::{ValueKind, value_of};
 pub use walking::walk;
 pub use wire::{Heard, Wire};

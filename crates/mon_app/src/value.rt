@@ -35,21 +35,8 @@ pub enum ValueKind {
     Counter64,
 }
 
-/// The words for the kinds, in their order.
-pub const KINDS: [&str; 9] = [
-    "integer",
-    "string",
-    "hex",
-    "oid",
-    "ip",
-    "counter32",
-    "gauge32",
-    "timeticks",
-    "counter64",
-];
-
 impl ValueKind {
-    /// The kind that a word names, if it is one of `KINDS`.
+    /// Returns the kind that a word names, if it names one.
     pub fn named(word: &str) -> Option<ValueKind>
         ensures found { IfSome result (λ kind. word.now ≡ word_of kind) }
         ensures none { IfNone result ((kind : ValueKind) → word.now ≢ word_of kind) }

@@ -1,1 +1,3 @@
 pub mod Fault
+pub mod Position
+pub mod Unknown

@@ -1,4 +1,4 @@
--- The reading of each table gives what the table is, and nothing else.
+-- The reading of each table returns what the table is, and nothing else.
 use Rattle.std.proofs.Common.{◌≡◌, ◌↔◌, ℕ, zero, suc, ◌<◌, ◌≤◌, ◌^◌, true, ◌&&◌, nat_le, nat_lt, List, [], ◌∷◌, Option, Some, None, option_map, All, AllPairs, Result, Ok, Err, refl, sym, ap, ◌∙◌, subst, arith, inl, inr, ℤ, pos, negsuc}
 use Rattle.std.specs.Prelude.{option_and_then}
 use Rattle.std.proofs.lemmas.Bool.{and_parts, cases_Bool}
@@ -356,7 +356,7 @@ policy_to t p h =
     (bind_to (list_at key.View family_of t) _ p.families p (list_to key.View family_of IsFamily family_of-is t p.families h.families)
     (policy_made p h.policy))))
 
--- what stands outside of the lists
+-- what is outside of the lists
 record IsSystem (t : Members) (s : System) : Type 0 where
   pub listen : Holds key.Listen addr_in t s.listen
   pub limit : Holds key.Limit (int_in 484 8192) t s.settings.limit

@@ -11,7 +11,7 @@ module _ {X : Type 0} (S : X → X → Type 0) where
       (all_pairs_push (λ a b. S a b → ⊥) (take i xs) x pairs
       (λ k d h alike. none (k, get_or (take i xs) k d, h, get_or_default (take i xs) k (get_or (take i xs) k d) d h, alike)))
 
-  -- x stands at i, and one before it is like it
+  -- x is at i, and one before it is like it
   pub twins : (xs : List X) (i : ℕ) (x : X) → i < length xs → x ≡ get_or xs i x → Any (λ a. S a x) (take i xs) → AllPairs (λ a b. S a b → ⊥) xs → ⊥
   twins xs i x within is twin pairs =
       let k = twin.0 in

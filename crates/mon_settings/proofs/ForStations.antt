@@ -1,4 +1,4 @@
--- The reading of each table of a station gives what the table is, and nothing else.
+-- The reading of each table of a station returns what the table is, and nothing else.
 use Rattle.std.proofs.Common.{◌≡◌, ◌↔◌, ℕ, Bool, true, false, ◌&&◌, if◌then◌else◌, List, [], map, Option, Some, None, Result, Ok, Err, refl, sym, ap, ◌∙◌, subst}
 use Rattle.std.specs.Prelude.{min}
 use Rattle.mon_alarms.specs.Rule.{Rule}

@@ -46,7 +46,7 @@ bad_at_from p (Some x) a h = cc
 pub bad_from : {A : Type 0} (k : Key) (o : Option A) (a : A) → or_bad k o ≡ Ok a → o ≡ Some a
 bad_from k o a h = bad_at_from (at k) o a h
 
--- a table in a list or at a key gives what it gives by itself
+-- a table in a list or at a key is read as by itself
 pub within_from : {A : Type 0} (s : Step) (r : Result A SettingsFault) (a : A) → within s r ≡ Ok a → r ≡ Ok a
 within_from s (Err e) a h = absurd cc
 within_from s (Ok x) a h = h

@@ -47,11 +47,11 @@ KnowsOnly ks t = (name : List ℕ) (d : Data) → get_member name t ≡ Some d �
 abbrev pub Holds : {A : Type 0} → Key → (Data → Option A) → Members → A → Type 0
 Holds k f t a = (d : Data) × (get_member (key_name k) t ≡ Some d) × (f d ≡ Some a)
 
--- the same, or the key is left out and the value is the default
+-- the key has such a value, or it is left out and the value is the default
 abbrev pub HoldsOr : {A : Type 0} → Key → A → (Data → Option A) → Members → A → Type 0
 HoldsOr k default f t a = ((get_member (key_name k) t ≡ None) × (default ≡ a)) ⊎ Holds k f t a
 
--- the same, or the key is left out and there is none
+-- the key has such a value, or it is left out and there is none
 abbrev pub MayHold : {A : Type 0} → Key → (Data → Option A) → Members → Option A → Type 0
 MayHold k f t a = HoldsOr k None (λ d. option_map Some (f d)) t a
 

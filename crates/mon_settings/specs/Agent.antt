@@ -12,7 +12,7 @@ use Rattle.mon_settings.specs.Leaf.{int_in, text_in, hex_in, oid_in, addr_in}
 use Rattle.mon_settings.specs.Interfaces.{interfaces_in}
 use Rattle.mon_settings.specs.Tables.{policy_in}
 
--- what stands outside of the lists
+-- what is outside of the lists
 unfoldable pub system_of : Members → Result System SettingsFault
 system_of t = do
   listen ← needed_at key.Listen addr_in t

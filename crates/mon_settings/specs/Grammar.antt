@@ -4,10 +4,6 @@ use Rattle.mon_settings.specs.declared.grammar.Kind.{Kind}
 use Rattle.mon_settings.specs.declared.grammar.Kind.TheVariants as kind
 use Rattle.mon_settings.specs.declared.key.Key.{Key}
 use Rattle.mon_settings.specs.declared.key.Key.TheVariants as key
-use Rattle.mon_settings.specs.declared.place.Place.{Place}
-use Rattle.mon_settings.specs.declared.place.Place.TheVariants as place
-use Rattle.mon_settings.specs.declared.place.Step.{Step}
-use Rattle.mon_settings.specs.declared.place.Step.TheVariants as step
 
 -- the keys of an agent's settings
 abbrev pub agent_keys : List Key
@@ -24,7 +20,7 @@ station_keys =
 abbrev pub growth_keys : List Key
 growth_keys = key.Start ∷ key.Rate ∷ []
 
--- the keys of the tables that stand at a key
+-- the keys of the tables at a key
 abbrev pub table_keys : Key → List Key
 table_keys key.Community = key.Community ∷ key.Security ∷ []
 table_keys key.Group = key.Security ∷ key.Group ∷ []
@@ -43,19 +39,7 @@ table_keys key.Peer = key.Station ∷ key.Address ∷ []
 table_keys key.Alarm = key.Engine ∷ key.Name ∷ key.Rising ∷ key.Falling ∷ []
 table_keys _ = []
 
--- the keys of the table to which a step leads
-abbrev pub step_keys : Step → List Key
-step_keys (step.Value k) = table_keys k
-step_keys (step.Entry k number) = table_keys k
-
 -- the keys of a text's top table
 abbrev pub top_keys : Kind → List Key
 top_keys kind.Agent = agent_keys
 top_keys kind.Station = station_keys
-
--- the keys of the table at a place
-abbrev pub known_keys : Kind → Place → List Key
-known_keys whose place.Whole = top_keys whose
-known_keys whose (place.At last) = step_keys last
-known_keys whose (place.In table last) = step_keys last
-known_keys whose (place.Inside first table last) = step_keys last

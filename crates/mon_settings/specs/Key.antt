@@ -3,7 +3,8 @@ use Rattle.std.specs.Prelude.{ℕ, List, [], codes}
 use Rattle.mon_settings.specs.declared.key.Key.{Key}
 use Rattle.mon_settings.specs.declared.key.Key.TheVariants as key
 
--- how a key is written that stands in no top table, but only in the tables of lists; nothing for another
+-- how a key is written that is in no top table, but only in the tables of lists; nothing for
+-- another
 abbrev pub inner_key_name : Key → List ℕ
 inner_key_name key.Security = codes "security"
 inner_key_name key.Model = codes "model"

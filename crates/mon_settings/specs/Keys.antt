@@ -12,7 +12,7 @@ use Rattle.mon_settings.specs.declared.place.Step.{Step}
 use Rattle.mon_settings.specs.Key.{key_name}
 use Rattle.mon_settings.specs.SettingsFault.{fault_within, missing_key}
 
--- what stands at a place gives, or that it is bad
+-- what is at a place, or that it is bad
 abbrev pub or_bad_at : {A : Type 0} → Place → Option A → Result A SettingsFault
 or_bad_at p None = Err (fault.BadValue p)
 or_bad_at p (Some a) = Ok a
@@ -21,12 +21,12 @@ or_bad_at p (Some a) = Ok a
 abbrev pub or_bad : {A : Type 0} → Key → Option A → Result A SettingsFault
 or_bad k o = or_bad_at (at k) o
 
--- what a key gives that has to be there
+-- the value of a key that must be there
 abbrev pub needed : {A : Type 0} → Key → (Data → Option A) → Option Data → Result A SettingsFault
 needed k f None = Err (missing_key k)
 needed k f (Some d) = or_bad k (f d)
 
--- what a key gives that has to be there
+-- what a key that must be there is read as
 abbrev pub needed_at : {A : Type 0} → Key → (Data → Option A) → Members → Result A SettingsFault
 needed_at k f t = needed k f (get_member (key_name k) t)
 

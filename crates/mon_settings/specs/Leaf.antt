@@ -1,4 +1,4 @@
--- What the value of a key has to be, and what it then gives.
+-- What the value of a key must be, and what it is then read as.
 use Rattle.std.specs.Prelude.{Bool, ◌&&◌, ◌||◌, ℕ, ℤ, ◌^◌, pos, negsuc, nat_le, nat_lt, ◌==◌, List, length, map, slice_index, Option, Some, None, Result, Ok, Err, option_map, option_and_then, if◌then◌else◌, [], ◌∷◌, ◌+◌}
 use Rattle.std.specs.List.{slice_split, list_all}
 use Rattle.std.specs.Str.{bytes_eq}
@@ -27,7 +27,7 @@ bounded least most (negsuc n) = None
 abbrev pub number_in : ℕ → ℕ → Data → Option ℕ
 number_in least most d = option_and_then (bounded least most) (as_integer d)
 
--- the same as a signed number
+-- a value that is a number of these bounds, as a signed number
 abbrev pub int_in : ℕ → ℕ → Data → Option ℤ
 int_in least most d = option_map pos (number_in least most d)
 

@@ -8,7 +8,6 @@ pub mod Leaf
 pub mod Lists
 pub mod Place
 pub mod Placing
-pub mod Position
 pub mod Resolving
 pub mod SettingsFault
 pub mod Station
@@ -17,5 +16,4 @@ pub mod StationCore
 pub mod StationTables
 pub mod Tables
 pub mod Text
-pub mod Unknown
 pub mod Watching

@@ -10,11 +10,12 @@ use Rattle.mon_settings.specs.declared.place.Step.{Step}
 use Rattle.mon_settings.specs.declared.place.Step.TheVariants as step
 use Rattle.mon_settings.specs.Keys.{or_bad_at, needed_at, default_at, within}
 
--- one entry, to which this step leads, and which has to be a table
+-- one entry, to which this step leads, and which must be a table
 unfoldable pub row : {A : Type 0} → Step → (Members → Result A SettingsFault) → Data → Result A SettingsFault
 row s f d = or_bad_at (place.At s) (as_table d) >>= (λ t. within s (f t))
 
--- each entry in turn, the first fault deciding; the first one has this number in the list at the key
+-- each entry, one after another, the first fault deciding; the first one has this number in the
+-- list at the key
 unfoldable pub rows : {A : Type 0} → Key → (Members → Result A SettingsFault) → ℕ → Items → Result (List A) SettingsFault
 rows k f number no_items = Ok []
 rows k f number (item d ds) = row (step.Entry k number) f d >>= (λ a. rows k f (number + 1) ds >>= (λ more. Ok (a ∷ more)))

@@ -1,4 +1,4 @@
--- Where in the settings something stands.
+-- Places in the settings.
 use Rattle.std.specs.Prelude.{ℕ, List, ◌++◌, codes, decimal}
 use Rattle.mon_settings.specs.declared.key.Key.{Key}
 use Rattle.mon_settings.specs.declared.place.Place.{Place}
@@ -7,11 +7,12 @@ use Rattle.mon_settings.specs.declared.place.Step.{Step}
 use Rattle.mon_settings.specs.declared.place.Step.TheVariants as step
 use Rattle.mon_settings.specs.Key.{key_name}
 
--- what stands at a key of the table that is read
+-- the place of a key of the table that is read
 abbrev pub at : Key → Place
 at k = place.At (step.Value k)
 
--- a place in a table, as it is called from around the table, from where this step leads to it; nothing stands below three steps
+-- a place in a table, as it is called from around the table, from where this step leads to it;
+-- there is none below three steps
 abbrev pub place_within : Step → Place → Place
 place_within s place.Whole = place.At s
 place_within s (place.At last) = place.In s last

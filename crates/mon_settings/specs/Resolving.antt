@@ -81,7 +81,7 @@ name_in find k d = or_bad k (as_str d) >>= (λ text. or_unknown k (find text))
 unfoldable pub name_at : (List ℕ → Option (List ℕ)) → Key → Members → Result (List ℕ) SettingsFault
 name_at find k t = needed_at k as_str t >>= (λ text. or_unknown k (find text))
 
--- the identifier that a value names, or nothing where there is no value
+-- the identifier that a value names, or nothing if there is no value
 unfoldable pub name_in_some : (List ℕ → Option (List ℕ)) → Key → Option Data → Result (Option (List ℕ)) SettingsFault
 name_in_some find k None = Ok None
 name_in_some find k (Some d) = name_in find k d >>= (λ q. Ok (Some q))

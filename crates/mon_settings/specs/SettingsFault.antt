@@ -15,7 +15,7 @@ number_of (BadValue p) = 4
 number_of (UnknownKey p) = 5
 number_of (UnknownObject p) = 6
 
--- its name, as a printed line gives it
+-- the name of a fault on a printed line
 abbrev pub name_of : SettingsFault → List ℕ
 name_of OutOfMemory = codes "OutOfMemory"
 name_of (NotToml from) = codes "NotToml"

@@ -24,11 +24,11 @@ use Rattle.mon_settings.specs.Placing.{instances_of_rows, with_alarms}
 use Rattle.mon_settings.specs.StationTables.{target_of, peer_of, alarm_of}
 use Rattle.mon_settings.specs.Tables.{all_pairs}
 
--- the same as contracts compare it
+-- what is outside of the lists, as contracts compare it
 abbrev pub scalars_view : AnyScalars → Scalars
 scalars_view s = record { station = s.station; listen = s.listen; file = string_bytes s.file; sizes = s.sizes; wait_ms = s.wait_ms }
 
--- what stands outside of the lists; the epoch is the window where it is left out
+-- what is outside of the lists; the epoch is the window if it is left out
 unfoldable pub scalars_of : Members → Result Scalars SettingsFault
 scalars_of t = do
   station ← needed_at key.Station (number_in 1 4294967295) t

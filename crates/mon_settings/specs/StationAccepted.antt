@@ -42,7 +42,7 @@ station_view s = record {
   peer_addresses = s.peer_addresses.items;
 }
 
--- what stands outside of the lists
+-- what is outside of the lists
 pub record Scalars : Type 0 where
   pub station : ℕ
   pub listen : Addr
@@ -67,7 +67,7 @@ Resolves defs find = (text q : List ℕ) → (find text ≡ Some q) ↔ (IsOid q
 abbrev pub Names : List Definition → Key → Members → List ℕ → Type 0
 Names defs k t q = (text : List ℕ) × Holds k as_str t text × (IsOid q × MeansNumbers defs text q)
 
--- the same, or the key is left out and there is none
+-- the key names an identifier, or it is left out and there is none
 abbrev pub MayName : List Definition → Key → Members → Option (List ℕ) → Type 0
 MayName defs k t None = get_member (key_name k) t ≡ None
 MayName defs k t (Some q) = Names defs k t q
@@ -76,7 +76,7 @@ MayName defs k t (Some q) = Names defs k t q
 abbrev pub HoldsBetween : {A : Type 0} → Key → ℕ → ℕ → (Members → A → Type 0) → Members → List A → Type 0
 HoldsBetween k least most P t rows = (ds : Items) × Holds k (list_between least most) t ds × AreRows P ds rows
 
--- the same with at most this many, or the key is left out and there are none
+-- a list of at most this many tables, or the key is left out and there are none
 abbrev pub MayHoldUpTo : {A : Type 0} → Key → ℕ → (Members → A → Type 0) → Members → List A → Type 0
 MayHoldUpTo k most P t rows = (ds : Items) × HoldsOr k no_items (list_between 0 most) t ds × AreRows P ds rows
 
@@ -111,7 +111,7 @@ pub record IsAlarm (defs : List Definition) (t : Members) (a : AlarmRow) : Type 
   pub rising : Holds key.Rising as_integer t a.rising
   pub falling : Holds key.Falling as_integer t a.falling
 
--- what stands outside of the lists
+-- what is outside of the lists
 pub record IsScalars (t : Members) (s : Scalars) : Type 0 where
   pub station : Holds key.Station (number_in 1 4294967295) t s.station
   pub listen : Holds key.Listen addr_in t s.listen

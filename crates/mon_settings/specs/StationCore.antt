@@ -1,4 +1,4 @@
--- What stations share, and what tells one from the others.
+-- What stations share, and what is each one's own.
 use Rattle.std.specs.Prelude.{◌≡◌, ◌≢◌, ℕ, ◌≤◌, List, length, All, AllPairs, Some, slice_get, refl}
 use Rattle.std.specs.Coded.{Coded, code_by, coded_ℕ, coded_list, coded×}
 use Rattle.mon_board.specs.Instance.{named}

@@ -20,7 +20,7 @@ use mon_poller::Addr;
 use mon_vacm::Policy;
 use std::alloc::Global;
 
-/// What an agent is told at its start.
+/// The settings of an agent.
 #[derive(Drop)]
 pub struct AgentSettings {
     /// Where it listens.
@@ -35,7 +35,7 @@ pub struct AgentSettings {
     pub interfaces: Vec<Interface>,
 }
 
-/// What stands outside of the lists.
+/// What is outside of the lists.
 #[derive(Drop)]
 pub(crate) struct System {
     pub(crate) listen: Addr,

@@ -8,19 +8,19 @@ use std::alloc::{AllocError, AllocFailed};
 use std::error::Error;
 use std::fmt;
 
-/// Why there are no settings, and where in them it stands.
+/// Why there are no settings, and the place of the cause.
 #[derive(Clone, Copy, Debug, PartialEq, Eq)]
 pub enum SettingsFault {
     /// Memory was refused.
     OutOfMemory,
-    /// The text is not TOML. So many octets are in front of what stopped the reader, at most all of the text: `position_at` knows the line
-    /// and the column. That the number is the right one is tested, and no clause says it.
+    /// The text is not TOML. This many octets are in front of what stopped the reader, at most all of
+    /// the text. That the number is the right one is tested, and no clause says it.
     NotToml(usize),
-    /// A key that has to be there is not.
+    /// A key that must be there is not.
     Missing(Place),
     /// A value is of a wrong type, out of its range, or at odds with the rest of its list.
     BadValue(Place),
-    /// The table at this place has a key that is not asked for there. `unknown_key` says which.
+    /// The table at this place has a key that is not asked for there.
     UnknownKey(Place),
     /// The name of an object does not resolve.
     UnknownObject(Place),
@@ -87,7 +87,7 @@ impl SettingsFault {
     }
 }
 
-/// What is wrong, where, and what is wanted there: `access[2].model: 0 or 2 is wanted`.
+/// What is wrong, where, and what must be there: `access[2].model: 0 or 2 is wanted`.
 impl fmt::Display for SettingsFault {
     fn fmt<W: fmt::Write>(&self, f: &mut fmt::Formatter<W>) -> fmt::Result {
         match self {

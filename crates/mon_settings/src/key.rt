@@ -91,7 +91,7 @@ impl Key {
         }
     }
 
-    /// How a key is written that stands in no top table.
+    /// Returns how a key is written that is in no top table.
     fn inner_name(self) -> &'static str
         ensures { result.now ≡ inner_key_name self }
     {

@@ -18,7 +18,7 @@ pub(crate) fn find(table: &Table, key: Key) -> Option<&Value>
     table.get(key.name())
 }
 
-/// Whether a name is that of one of the keys.
+/// Returns `true` if a name is that of one of the keys.
 pub(crate) fn is_one_of(name: &str, keys: &[Key]) -> bool
     ensures { result ≡ is_one_of keys.now name.now }
 {
@@ -36,8 +36,8 @@ fn found<'t>(table: &'t Table, keys: &[Key]) -> Option<&'t String>
     table.keys().find(|name| !is_one_of(name.as_str(), keys))
 }
 
-/// The first key of a table, in the order of its octets, that is none of these.
-pub(crate) fn first_unknown<'t>(table: &'t Table, keys: &[Key]) -> Option<&'t String>
+/// Returns the first key of a table, in the order of its octets, that is none of these.
+pub fn first_unknown<'t>(table: &'t Table, keys: &[Key]) -> Option<&'t String>
     ensures { option_map (λ n. string_bytes n.now) result ≡ first_unknown keys.now (table_view table.now) }
 {
     found(table, keys)

@@ -61,7 +61,7 @@ impl<'t> Reader<'t> {
         }
     }
 
-    /// The same from 1, or another number where the key is left out.
+    /// Returns the number at a key, from 1 to most, or another number if the key is left out.
     pub(crate) fn size_or(&self, key: Key, default: usize, most: usize) -> Read<usize>
         ensures { result ≡ default_at key default (number_in 1 most) (table_view self.now.table.now) }
     {
@@ -79,7 +79,7 @@ impl<'t> Reader<'t> {
         int_in(self.needed(key)?, least, most).ok_or(SettingsFault::bad(key))
     }
 
-    /// The same, or another number where the key is left out.
+    /// Returns the signed number at a key, or another number if the key is left out.
     pub(crate) fn int_or(&self, key: Key, default: i32, least: u64, most: u64) -> Read<i32>
         requires { most < 2 ^ 31 }
         ensures { result ≡ default_at key default (int_in least most) (table_view self.now.table.now) }
@@ -164,7 +164,8 @@ impl<'t> Reader<'t> {
         }
     }
 
-    /// The same up to most, or none where the key is left out.
+    /// Returns the octets of the hex text at a key, at most this many, or none if the key is left
+    /// out.
     pub(crate) fn hex_or_none(&self, key: Key, most: usize) -> Read<Octets>
         ensures { Reads (λ o. o) (default_at key [] (hex_in 0 most) (table_view self.now.table.now)) result }
     {

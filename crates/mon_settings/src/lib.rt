@@ -4,7 +4,6 @@
 #![tactic(auto)]
 
 mod agent;
-mod explaining;
 mod fault;
 mod grammar;
 mod key;
@@ -16,26 +15,22 @@ mod modules;
 mod peers;
 mod place;
 mod placing;
-mod position;
 mod sizes;
 mod station;
 mod station_core;
 mod station_tables;
 mod tables;
 mod text;
-mod unknown;
 mod wanted;
 
 pub use agent::{AgentSettings, read_agent};
-pub use explaining::explained;
 pub use fault::SettingsFault;
-pub use grammar::{Kind, known_keys};
+pub use grammar::{Kind, table_keys, top_keys};
 pub use key::Key;
+pub use keys::first_unknown;
 pub use modules::module_files;
 pub use mon_poller::Addr;
 pub use peers::are_peers;
 pub use place::{Place, Step};
-pub use position::{Position, position_at};
 pub use station::{StationSettings, read_station};
 pub use station_core::{Core, CoreParts};
-pub use unknown::unknown_key;

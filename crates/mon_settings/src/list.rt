@@ -90,7 +90,7 @@ impl Reader<'_> {
         }
     }
 
-    /// The same up to most, and none where the key is left out.
+    /// Reads the tables of the list at a key, at most this many, and none if the key is left out.
     #[tactic(auto, unfolding(crate::specs::Lists::rows, crate::specs::Lists::rows_between, crate::specs::Lists::rows_up_to))]
     pub(crate) fn rows_or_none<C, R: Row<C>>(
         &self,

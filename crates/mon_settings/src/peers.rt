@@ -17,7 +17,7 @@ use std::alloc::{AllocError, Global};
 /// The most peers of a station.
 const MOST_PEERS: usize = 15;
 
-/// Whether these may be the peers of the station of this number: at most 15 other stations, none twice.
+/// Returns `true` if these may be the peers of this station: at most 15 others, none twice.
 pub fn are_peers(own: u32, numbers: &[u32]) -> bool
     ensures { IsTrue result ↔ ArePeersOf own numbers.now }
 {
@@ -47,14 +47,14 @@ fn differ(numbers: &[u32]) -> bool
     true
 }
 
-/// Whether two addresses are one.
+/// Returns `true` if two addresses are equal.
 fn is_address(a: Addr, b: Addr) -> bool
     ensures { result ≡ is_address a b }
 {
     a.octets == b.octets && a.port == b.port
 }
 
-/// Whether some target is asked at this address.
+/// Returns `true` if some target is asked at this address.
 fn has_address(targets: &[TargetRow], address: Addr) -> bool
     ensures { result ≡ list_any (λ t. is_address t.address address) targets.now }
 {
@@ -63,7 +63,7 @@ fn has_address(targets: &[TargetRow], address: Addr) -> bool
         .any(|target| is_address(target.address, address))
 }
 
-/// Whether no target is asked at a peer's address.
+/// Returns `true` if no target is asked at a peer's address.
 fn are_apart(targets: &[TargetRow], peers: &[PeerRow]) -> bool
     ensures { result ≡ are_apart targets.now peers.now }
 {

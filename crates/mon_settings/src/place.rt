@@ -1,4 +1,4 @@
-//! Where in the settings something stands.
+//! Places in the settings.
 
 ghost use Rattle.std.specs.Prelude.{◌≡◌};
 ghost use Rattle.mon_settings.specs.Place.{place_within};
@@ -9,28 +9,28 @@ use std::fmt;
 /// One step into a table.
 #[derive(Clone, Copy, Debug, PartialEq, Eq)]
 pub enum Step {
-    /// What stands at a key.
+    /// The value of a key.
     Value(Key),
     /// An entry of the list at a key. The first one is 1.
     Entry(Key, usize),
 }
 
-/// Where in the settings something stands: `limit`, `access[2].model`, `interface[1].in_octets.rate` or
+/// A place in the settings: `limit`, `access[2].model`, `interface[1].in_octets.rate` or
 /// `target[1].objects[2].name`. Tables nest no deeper.
 #[derive(Clone, Copy, Debug, PartialEq, Eq)]
 pub enum Place {
     /// The table that is read, as a whole: of a text its top table.
     Whole,
-    /// What stands in the top table.
+    /// In the top table.
     At(Step),
-    /// What stands in a table of the top table: first the step to that table.
+    /// In a table of the top table: first the step to that table.
     In(Step, Step),
-    /// What stands in a table of such a table: first the steps to it.
+    /// In a table of such a table: first the steps to it.
     Inside(Step, Step, Step),
 }
 
 impl Place {
-    /// A place in a table, as it is called from around the table, from where this step leads to it. Nothing stands below three steps:
+    /// Returns a place in a table as it is called from around it. There is none below three steps:
     /// a fourth would be left out.
     pub(crate) fn within(self, step: Step) -> Place
         ensures { result ≡ place_within step self }

@@ -28,7 +28,7 @@ use mon_poller::{Addr, Object, Objects, Target};
 use mon_smi::Names;
 use std::alloc::{AllocError, Global};
 
-/// What a station is told at its start.
+/// The settings of a station.
 #[derive(Drop)]
 pub struct StationSettings {
     /// Its number, what it watches, whom it polls, and its peers.
@@ -37,7 +37,7 @@ pub struct StationSettings {
     pub listen: Addr,
     /// The path of its saved file, at most 4095 octets.
     pub file: String,
-    /// How long nothing has to come before it is quiet, 1 to 60000 milliseconds.
+    /// How long nothing must come before a wait times out, 1 to 60000 milliseconds.
     pub wait_ms: u32,
     /// The paths of the modules that give names, at most 256 of at most 4095 octets each.
     pub modules: Vec<String>,
@@ -45,7 +45,7 @@ pub struct StationSettings {
     pub peer_addresses: Vec<Addr>,
 }
 
-/// What stands outside of the lists.
+/// What is outside of the lists.
 #[derive(Drop)]
 pub(crate) struct Scalars {
     pub(crate) station: u32,

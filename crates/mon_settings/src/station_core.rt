@@ -33,7 +33,7 @@ impl Model for Core {
     ghost invariant = { λ c. IsCore (record { station = c.station; watch = c.watch; targets = c.targets.items; peers = c.peers.items }) };
 }
 
-/// The parts of a core, for whom they are to be moved to.
+/// The parts of a core, to be moved.
 #[derive(Drop)]
 pub struct CoreParts {
     /// The station's number, 1 to 4294967295.
@@ -121,7 +121,7 @@ impl Core {
         self.with(alloc, self.station(), self.peers())
     }
 
-    /// The same watch and targets for the station of another number, not 0, with these peers: at most 15 other stations, none twice.
+    /// Returns the core of another station, not 0, with these peers: at most 15 others, none twice.
     pub fn with(&self, alloc: Global, station: u32, peers: &[u32]) -> Result<Self, AllocError>
         requires station { 1 ≤ station }
         requires peers { ArePeersOf station peers.now }
@@ -150,7 +150,7 @@ fn copied(alloc: Global, all: &[Target]) -> Result<Vec<Target>, AllocError>
     Ok(copies)
 }
 
-/// The same numbers, in this order.
+/// Copies these numbers.
 fn numbers(alloc: Global, all: &[u32]) -> Result<Vec<u32>, AllocError>
     ensures { IfOk result (λ v. v.items ≡ all.now) }
 {

@@ -189,7 +189,7 @@ impl Row<()> for Interface {
     }
 }
 
-/// Whether the indexes rise strictly from 1.
+/// Returns `true` if the indexes rise strictly from 1.
 fn rise(interfaces: &[Interface]) -> bool
     ensures { result ≡ rise_from 0 interfaces.now }
 {

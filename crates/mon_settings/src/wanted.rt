@@ -1,10 +1,10 @@
-//! What is wanted at each place of the settings, in plain words.
+//! What must be at each place of the settings, in plain words.
 
 use crate::key::Key;
 use crate::place::{Place, Step};
 
 impl Place {
-    /// What is wanted at this place, for a reader: `0 or 2 is wanted`.
+    /// Says what must be at this place, for a reader: `0 or 2 is wanted`.
     pub fn wanted(self) -> &'static str {
         match self {
             Place::At(Step::Value(key)) => at_top(key),
@@ -19,7 +19,7 @@ impl Place {
     }
 }
 
-/// What is wanted at a key of the top table.
+/// What must be at a key of the top table.
 fn at_top(key: Key) -> &'static str {
     match key {
         Key::Community => "a list of at most 256 tables is wanted; no community may be given twice",
@@ -43,7 +43,7 @@ fn at_top(key: Key) -> &'static str {
     }
 }
 
-/// What is wanted at a key of a table in a list.
+/// What must be at a key of a table in a list.
 fn in_table(table: Key, key: Key) -> &'static str {
     match key {
         Key::Name => match table {
@@ -61,7 +61,7 @@ fn in_table(table: Key, key: Key) -> &'static str {
     }
 }
 
-/// What is wanted at a key that means the same in each table.
+/// What must be at a key that means the same in each table.
 fn value(key: Key) -> &'static str {
     match key {
         Key::Listen | Key::Address => "a.b.c.d:port is wanted",
@@ -81,7 +81,7 @@ fn value(key: Key) -> &'static str {
     }
 }
 
-/// What is wanted at a key of a number.
+/// What must be at a key of a number.
 fn number(key: Key) -> &'static str {
     match key {
         Key::Limit => "484 to 8192 is wanted",

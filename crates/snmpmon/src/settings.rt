@@ -1,8 +1,8 @@
 //! Why settings were refused, and where.
 
 use crate::failure::Failure;
-use mon_faults::Fault;
-use mon_settings::{Kind, SettingsFault, explained};
+use mon_faults::{Fault, explained};
+use mon_settings::{Kind, SettingsFault};
 use std::alloc::{AllocError, Global};
 
 /// Why the settings in a file, an agent's or a station's, were refused.

@@ -31,4 +31,44 @@ BUGS = {
         "            Fault::Trial(fault) => fault.innermost(),",
         '            Fault::Trial(_) => Innermost::new("mon_rounds", 1, "OutOfMemory"),',
     ),
+    "takes_the_entry_before": (
+        "src/unknown.rt",
+        "    value.get(number.checked_sub(1)?)",
+        "    value.get(number.checked_sub(2)?)",
+    ),
+    "counts_lines_from_0": (
+        "src/position.rt",
+        "        line: line_feeds(octets) + 1,",
+        "        line: line_feeds(octets),",
+    ),
+    "answers_line_1": (
+        "src/position.rt",
+        "        line: line_feeds(octets) + 1,",
+        "        line: 1,",
+    ),
+    "answers_column_1": (
+        "src/position.rt",
+        "        column: chars(last_line(octets)) + 1,",
+        "        column: 1,",
+    ),
+    "counts_a_column_in_octets": (
+        "src/position.rt",
+        "        column: chars(last_line(octets)) + 1,",
+        "        column: last_line(octets).len() + 1,",
+    ),
+    "answers_the_last_place_of_a_text": (
+        "src/position.rt",
+        "        &octets[..count]\n",
+        "        octets\n",
+    ),
+    "names_no_unknown_key": (
+        "src/unknown.rt",
+        "        Some(name) => Ok(Some(String::from_str(alloc, name.as_str())?)),",
+        "        Some(_) => Ok(None),",
+    ),
+    "looks_into_the_top_table_alone": (
+        "src/unknown.rt",
+        "        Place::At(last) => table_of(tree, last),",
+        "        Place::At(_) => Some(tree),",
+    ),
 }

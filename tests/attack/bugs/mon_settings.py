@@ -356,20 +356,10 @@ BUGS = {
         "            Place::In(table, last) => write!(f, \"{table}.{last}\"),",
         "            Place::In(_, last) => write!(f, \"{last}\"),",
     ),
-    "takes_the_entry_before": (
-        "src/unknown.rt",
-        "    value.get(number.checked_sub(1)?)",
-        "    value.get(number.checked_sub(2)?)",
-    ),
     "names_a_known_key": (
         "src/keys.rt",
         "    table.keys().find(|name| !is_one_of(name.as_str(), keys))",
         "    table.keys().find(|name| is_one_of(name.as_str(), keys))",
-    ),
-    "counts_lines_from_0": (
-        "src/position.rt",
-        "        line: line_feeds(octets) + 1,",
-        "        line: line_feeds(octets),",
     ),
     "ignores_the_epoch": (
         "src/station.rt",
@@ -421,40 +411,10 @@ BUGS = {
         "    numbers.iter().all(|number| *number != own)",
         "    numbers.iter().all(|number| *number != own || *number == 1)",
     ),
-    "answers_line_1": (
-        "src/position.rt",
-        "        line: line_feeds(octets) + 1,",
-        "        line: 1,",
-    ),
-    "answers_column_1": (
-        "src/position.rt",
-        "        column: chars(last_line(octets)) + 1,",
-        "        column: 1,",
-    ),
-    "counts_a_column_in_octets": (
-        "src/position.rt",
-        "        column: chars(last_line(octets)) + 1,",
-        "        column: last_line(octets).len() + 1,",
-    ),
-    "answers_the_last_place_of_a_text": (
-        "src/position.rt",
-        "        &octets[..count]\n",
-        "        octets\n",
-    ),
     "finds_the_last_unknown_key": (
         "src/keys.rt",
         "    table.keys().find(|name| !is_one_of(name.as_str(), keys))",
         "    table.keys().rev().find(|name| !is_one_of(name.as_str(), keys))",
-    ),
-    "names_no_unknown_key": (
-        "src/unknown.rt",
-        "        Some(name) => Ok(Some(String::from_str(alloc, name.as_str())?)),",
-        "        Some(_) => Ok(None),",
-    ),
-    "looks_into_the_top_table_alone": (
-        "src/unknown.rt",
-        "        Place::At(last) => table_of(tree, last),",
-        "        Place::At(_) => Some(tree),",
     ),
     "skips_the_keys_of_a_peer": (
         "src/station_tables.rt",
@@ -463,13 +423,13 @@ BUGS = {
     ),
     "knows_the_keys_of_a_group_in_a_community": (
         "src/grammar.rt",
-        "        Key::Community => &[Key::Community, Key::Security],",
-        "        Key::Community => &[Key::Security, Key::Group],",
+        "        Community => &[Community, Security],",
+        "        Community => &[Security, Group],",
     ),
     "knows_no_key_of_a_peer": (
         "src/grammar.rt",
-        "        Key::Peer => &[Key::Station, Key::Address],",
-        "        Key::Peer => &[],",
+        "        Peer => &[Station, Address],",
+        "        Peer => &[],",
     ),
     "knows_a_stations_keys_in_an_agents_settings": (
         "src/grammar.rt",

@@ -1,13 +1,13 @@
--- Where in a text something stands.
+-- Lines and columns of a text, by its characters.
 use Rattle.std.specs.Prelude.{Bool, ◌||◌, ◌==◌, ℕ, ◌+◌, nat_le, nat_lt, List, [], ◌∷◌, count_by, if◌then◌else◌}
-use Rattle.mon_settings.specs.declared.position.Position.{Position}
+use Rattle.mon_faults.specs.declared.position.Position.{Position}
 
--- the line that is last: what stands after the last line feed, or this line where there is none
+-- the line that is last: what follows the last line feed, or this line if there is none
 abbrev pub line_from : List ℕ → List ℕ → List ℕ
 line_from line [] = line
 line_from line (b ∷ bs) = if b == 10 then line_from bs bs else line_from line bs
 
--- what stands after the last line feed
+-- what follows the last line feed
 abbrev pub last_line : List ℕ → List ℕ
 last_line text = line_from text text
 

@@ -1,11 +1,8 @@
 //! A fault of a settings text, explained for who wrote it.
 
-use crate::fault::SettingsFault;
-use crate::grammar::{Kind, known_keys};
-use crate::key::Key;
-use crate::place::Place;
 use crate::position::{Position, position_at};
-use crate::unknown::unknown_key;
+use crate::unknown::{known_keys, unknown_key};
+use mon_settings::{Key, Kind, Place, SettingsFault};
 use std::alloc::{AllocError, Global};
 
 /// The names of keys, with commas between them.
@@ -33,9 +30,10 @@ fn not_toml(alloc: Global, position: Position) -> Result<String, AllocError> {
     format!(in alloc; "line {line}, column {column}: the text is not TOML from here on")
 }
 
-/// What is wrong with a text that is refused as settings of this kind for this fault, and where, in one line without its end:
-/// `access[2].model: 0 or 2 is wanted`; of an unknown key its name and those that are known; of what is not TOML the line and column.
-/// The text is read again where a key is unknown.
+/// Says what is wrong with a text that is refused as settings of this kind for this fault, and
+/// where, in one line without its end: `access[2].model: 0 or 2 is wanted`; of an unknown key its
+/// name and those that are known; of what is not TOML the line and column.
+/// The text is read again if a key is unknown.
 ///
 /// # Errors
 /// Out of memory.

@@ -1,15 +1,15 @@
-//! Lines and columns of a text.
+//! Lines and columns of a text, by its characters.
 
 ghost use Rattle.std.specs.Prelude.{◌≡◌, ◌==◌, count_by, take};
-ghost use Rattle.mon_settings.specs.Position.{begins_char, last_line, line_from, position_after};
+ghost use Rattle.mon_faults.specs.Position.{begins_char, last_line, line_from, position_after};
 
 /// A place in a text.
 #[derive(Clone, Copy, Debug, PartialEq, Eq)]
-pub struct Position {
+pub(crate) struct Position {
     /// The number of its line. The first one is 1.
-    pub line: usize,
+    pub(crate) line: usize,
     /// The number of its character in the line. The first one is 1.
-    pub column: usize,
+    pub(crate) column: usize,
 }
 
 fn line_feeds(octets: &[u8]) -> usize
@@ -27,7 +27,7 @@ fn chars(octets: &[u8]) -> usize
         .count()
 }
 
-/// What stands after the last line feed.
+/// Returns what follows the last line feed.
 fn last_line(octets: &[u8]) -> &[u8]
     ensures { result.now ≡ last_line octets.now }
 {
@@ -64,7 +64,7 @@ fn front(octets: &[u8], count: usize) -> &[u8]
 
 /// The line and the column of the octet after the first `offset` ones of a text, and of its end where it has no more.
 /// A column counts characters.
-pub fn position_at(text: &str, offset: usize) -> Position
+pub(crate) fn position_at(text: &str, offset: usize) -> Position
     ensures { result ≡ position_after (take offset text.now) }
 {
     position_after(front(text.as_bytes(), offset))

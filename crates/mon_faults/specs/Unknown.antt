@@ -6,7 +6,8 @@ use Rattle.mon_settings.specs.declared.place.Place.{Place}
 use Rattle.mon_settings.specs.declared.place.Place.TheVariants as place
 use Rattle.mon_settings.specs.declared.place.Step.{Step}
 use Rattle.mon_settings.specs.declared.place.Step.TheVariants as step
-use Rattle.mon_settings.specs.Grammar.{known_keys}
+use Rattle.mon_settings.specs.declared.key.Key.{Key}
+use Rattle.mon_settings.specs.Grammar.{table_keys, top_keys}
 use Rattle.mon_settings.specs.Key.{key_name}
 use Rattle.mon_settings.specs.Keys.{first_unknown}
 
@@ -15,7 +16,7 @@ abbrev pub entry : ℕ → Data → Option Data
 entry zero d = None
 entry (suc n) d = at n d
 
--- what stands where a step leads
+-- the value to which a step leads
 abbrev pub value_at : Step → Members → Option Data
 value_at (step.Value k) t = get_member (key_name k) t
 value_at (step.Entry k number) t = option_and_then (entry number) (get_member (key_name k) t)
@@ -31,6 +32,18 @@ table_at (place.At last) t = table_of last t
 table_at (place.In table last) t = option_and_then (table_of last) (table_of table t)
 table_at (place.Inside first table last) t = option_and_then (table_of last) (option_and_then (table_of table) (table_of first t))
 
--- the first key of the table at a place that its grammar does not know, and none where there is no such table
+-- the keys of the table to which a step leads
+abbrev pub step_keys : Step → List Key
+step_keys (step.Value k) = table_keys k
+step_keys (step.Entry k number) = table_keys k
+
+-- the keys of the table at a place
+abbrev pub known_keys : Kind → Place → List Key
+known_keys whose place.Whole = top_keys whose
+known_keys whose (place.At last) = step_keys last
+known_keys whose (place.In table last) = step_keys last
+known_keys whose (place.Inside first table last) = step_keys last
+
+-- the first key of the table at a place that its grammar does not know, and none if there is no such table
 abbrev pub unknown_at : Kind → Place → Members → Option (List ℕ)
 unknown_at whose p t = option_and_then (first_unknown (known_keys whose p)) (table_at p t)

@@ -1,42 +1,39 @@
 //! Which key of a table is unknown.
 
 ghost use Rattle.std.specs.Prelude.{◌≡◌, IfOk, option_and_then, option_map, string_bytes};
-ghost use Rattle.mon_settings.specs.Grammar.{known_keys};
-ghost use Rattle.mon_settings.specs.Unknown.{entry, table_at, table_of, unknown_at, value_at};
+ghost use Rattle.mon_faults.specs.Unknown.{entry, known_keys, step_keys, table_at, table_of, unknown_at, value_at};
 ghost use Rattle.toml.specs.Parse.{parse_document};
 ghost use Rattle.toml.specs.View.{view, table_view};
 
-use crate::grammar::{Kind, known_keys};
-use crate::keys::{find, first_unknown};
-use crate::place::{Place, Step};
+use mon_settings::{Key, Kind, Place, Step, first_unknown, table_keys, top_keys};
 use std::alloc::{AllocError, Global};
 use toml::{Table, Value};
 
-/// The entry of this number in a list, whose first one is 1.
+/// Returns the entry of this number in a list, whose first one is 1.
 fn entry(value: &Value, number: usize) -> Option<&Value>
     ensures { option_map (λ v. view v.now) result ≡ entry number (view value.now) }
 {
     value.get(number.checked_sub(1)?)
 }
 
-/// What stands where a step leads.
+/// Returns the value to which a step leads.
 fn value_at(table: &Table, step: Step) -> Option<&Value>
     ensures { option_map (λ v. view v.now) result ≡ value_at step (table_view table.now) }
 {
     match step {
-        Step::Value(key) => find(table, key),
-        Step::Entry(key, number) => entry(find(table, key)?, number),
+        Step::Value(key) => table.get(key.name()),
+        Step::Entry(key, number) => entry(table.get(key.name())?, number),
     }
 }
 
-/// The table to which a step leads.
+/// Returns the table to which a step leads.
 fn table_of(table: &Table, step: Step) -> Option<&Table>
     ensures { option_map (λ t. table_view t.now) result ≡ table_of step (table_view table.now) }
 {
     value_at(table, step)?.as_table()
 }
 
-/// The table at a place.
+/// Returns the table at a place.
 fn table_at(tree: &Table, place: Place) -> Option<&Table>
     ensures { option_map (λ t. table_view t.now) result ≡ table_at place (table_view tree.now) }
 {
@@ -47,6 +44,25 @@ fn table_at(tree: &Table, place: Place) -> Option<&Table>
         Place::Inside(first, second, last) => {
             table_of(table_of(table_of(tree, first)?, second)?, last)
         }
+    }
+}
+
+fn step_keys(step: Step) -> &'static [Key]
+    ensures { result.now ≡ step_keys step }
+{
+    match step {
+        Step::Value(key) | Step::Entry(key, _) => table_keys(key),
+    }
+}
+
+/// Returns the keys that the table at a place may have, and none for a place of which the settings
+/// have no table.
+pub(crate) fn known_keys(kind: Kind, place: Place) -> &'static [Key]
+    ensures { result.now ≡ known_keys kind place }
+{
+    match place {
+        Place::Whole => top_keys(kind),
+        Place::At(last) | Place::In(_, last) | Place::Inside(_, _, last) => step_keys(last),
     }
 }
 
@@ -67,12 +83,13 @@ fn unknown_in(
     }
 }
 
-/// Which key of the table at a place is unknown: the first, in the order of octets, that is none of `known_keys`; nothing where the text
-/// is not TOML, has no table at this place or no unknown key in it. The place is that of an `UnknownKey` of `read_agent` or `read_station`.
+/// Returns which key of the table at a place is unknown: the first, in the order of octets, that is
+/// none of `known_keys`; None if the text is not TOML, has no table at this place or no unknown key
+/// in it. The place is that of an `UnknownKey` of `read_agent` or `read_station`.
 ///
 /// # Errors
 /// Out of memory.
-pub fn unknown_key(
+pub(crate) fn unknown_key(
     alloc: Global,
     text: &str,
     kind: Kind,
