@@ -15,7 +15,7 @@ pub guard : {A E : Type 0} (t : Bool) (d : E) (x : Result A E) (y : A) → cond 
 guard true d x y e = absurd cc
 guard false d x y e = (refl, e)
 
--- a test that had to be true
+-- a test that must have been true
 pub wanted : {A E : Type 0} (t : Bool) (d : E) (x : Result A E) (y : A) → cond t x (Err d) ≡ Ok y → (t ≡ true) × (x ≡ Ok y)
 wanted true d x y e = (refl, e)
 wanted false d x y e = absurd cc
@@ -41,7 +41,7 @@ pair_is {A = A} {B = B} a b c d e =
     let same : p ≡ q = ok_is p q e in
     (ap (λ (x : A × B). x.0) same, ap (λ (x : A × B). x.1) same)
 
--- a fault where reading gives a value is want of memory
+-- where reading yields a value, the only fault is out of memory
 pub fails_only : {Y Z : Type 0} (e : BerFault) (read : Result Y BerFault) (y : Y) (other : Result Z BerFault) → Fails e read → read ≡ Ok y → Fails e other
 fails_only OutOfMemory read y other h is = tt
 fails_only Truncated read y other h is = absurd cc

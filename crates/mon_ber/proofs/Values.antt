@@ -89,7 +89,7 @@ address_again contents a is four = ap address_of is ∙ rw (eq-eqb (length a) 4 
 
 -- ---- contents
 
--- these contents stand for v, whose tag is t
+-- these contents spell v, whose tag is t
 abbrev Stands : Tag → List ℕ → Value → Type 0
 Stands t contents v = (tag_of v ≡ t) × IsContents contents v
 
@@ -184,7 +184,7 @@ value_again text v rest is =
     let regrouped : text ++ rest ≡ octet_of (tag_of v) ∷ (e.len ++ (is.contents ++ rest)) = ap (λ (x : List ℕ). x ++ rest) e.whole ∙ ap (λ (x : List ℕ). octet_of (tag_of v) ∷ x) (append_assoc e.len is.contents rest) in
     ap value_at regrouped ∙ rw (tag_again (tag_of v) (e.len ++ (is.contents ++ rest)), contents_again e.len is.contents rest e.spelled, value_of_again v is.contents is.value) refl
 
--- the same, by how many octets the value takes
+-- a value that is read takes this many octets
 pub taken : (bytes : List ℕ) (v : Value) (rest : List ℕ) → IsBytes bytes → value_at bytes ≡ Ok (v, rest) → (length bytes - length rest ≤ length bytes) × Spells (take (length bytes - length rest) bytes) v
 taken bytes v rest fits e =
     let t = value_takes bytes v rest fits e in
@@ -195,7 +195,7 @@ taken bytes v rest fits e =
 pub taken_again : (bytes : List ℕ) (v : Value) (k : ℕ) → k ≤ length bytes → Spells (take k bytes) v → value_at bytes ≡ Ok (v, drop k bytes)
 taken_again bytes v k le is = ap value_at (sym (take-append-drop k bytes)) ∙ value_again (take k bytes) v (drop k bytes) is
 
--- another reading gives the same value, and takes as many octets
+-- another reading yields an equal value, of as many octets
 pub taken_only : (bytes : List ℕ) (u : Value) (rest : List ℕ) → value_at bytes ≡ Ok (u, rest)
     → (v : Value) (k : ℕ) → k ≤ length bytes → Spells (take k bytes) v → Gives {X = Value × ℕ} (λ x. x) (Ok (u, length bytes - length rest)) (Ok (v, k))
 taken_only bytes u rest e v k le is =

@@ -56,7 +56,7 @@ tag_of NoSuchObject = tags.NoSuchObject
 tag_of NoSuchInstance = tags.NoSuchInstance
 tag_of EndOfMibView = tags.EndOfMibView
 
--- the contents stand for the value, which is in the range of its type
+-- the contents spell the value, which is in the range of its type
 abbrev pub IsContents : List ℕ → Value → Type 0
 IsContents bytes (Integer z) = IsNumber bytes z × FitsSigned w32 z
 IsContents bytes (Octets o) = bytes ≡ o

@@ -8,7 +8,8 @@ abbrev pub big_endian : List ℕ → ℕ
 big_endian [] = 0
 big_endian (b ∷ bs) = b * 256 ^ length bs + big_endian bs
 
--- two's complement: from 128 on the first octet says that 256 to the number of octets is to be taken off (X.690 8.3.3)
+-- two's complement: from 128 on the first octet says that 256 to the number of octets is subtracted
+-- (X.690 8.3.3)
 abbrev pub IsTwosComplement : List ℕ → ℤ → Type 0
 IsTwosComplement [] z = ⊥
 IsTwosComplement (b ∷ bs) (pos n) = (b < 128) × (big_endian (b ∷ bs) ≡ n)
@@ -34,7 +35,8 @@ pub record IsSubidentifier (bytes : List ℕ) (n : ℕ) : Type 0 where
 abbrev pub AreSubidentifiers : List ℕ → List ℕ → Type 0
 AreSubidentifiers = AreSpelled IsSubidentifier
 
--- the numbers that stand for an identifier: its first two sub-identifiers are one of them (X.690 8.19.4)
+-- the numbers that spell an identifier: its first two sub-identifiers are one of them (X.690
+-- 8.19.4)
 abbrev pub encoded : List ℕ → List ℕ
 encoded [] = []
 encoded (a ∷ []) = a ∷ []

@@ -109,7 +109,7 @@ subidentifiers_of (suc room) (b ∷ bs) = do
   n ← subidentifier_at (b ∷ bs)
   if nat_lt n.0 (2 ^ 32) then (subidentifiers_of room n.1 >>= λ ns. Ok (n.0 ∷ ns)) else Err BadOid
 
--- the first two sub-identifiers, from the number that stands for them
+-- the first two sub-identifiers, from the number that means them
 abbrev pub first_two : ℕ → Result (ℕ × ℕ) BerFault
 first_two n =
     if nat_lt n 40 then Ok (0, n) else
@@ -124,7 +124,7 @@ name_of contents = do
   others ← subidentifiers_of 126 n.1
   Ok (two.0 ∷ two.1 ∷ others)
 
--- the value that contents after this tag stand for
+-- the value that contents after this tag spell
 unfoldable pub value_of : Tag → List ℕ → Result Value BerFault
 value_of tags.Integer contents = do
   z ← integer_of contents

@@ -1,5 +1,5 @@
 //! Elements of BER: a tag, a length and contents (X.690 8.1).
-//! Each reader gives what it read and what follows it, or the first fault from the left.
+//! Each reader returns what it read and what follows it, or the first fault from the left.
 
 ghost use Rattle.std.specs.Prelude.{◌≡◌, ◌≢◌, ◌≤◌, ◌<◌, length, IfOk};
 ghost use Rattle.mon_ber.specs.Numbers.{big_endian};
@@ -66,8 +66,7 @@ pub fn element_at(tag: u8, bytes: &[u8]) -> Result<(&[u8], &[u8]), BerFault>
     contents_at(rest)
 }
 
-/// The tag of a value, and what follows it. `Truncated` where there is no octet, `BadTag` where it
-/// is no tag of a value.
+/// Reads the tag of a value. `Truncated` if there is no octet, `BadTag` if it is no tag of a value.
 #[tactic(auto, unfolding(crate::specs::Reading::tag_at))]
 pub fn tag_at(bytes: &[u8]) -> Result<(Tag, &[u8]), BerFault>
     ensures gives { Gives (λ x. (x.0, x.1.now)) result (tag_at bytes.now) }

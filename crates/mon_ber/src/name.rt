@@ -10,7 +10,7 @@ use mon_oid::{Oid, laws};
 use smallvec::SmallVec;
 use std::alloc::Global;
 
-/// Numbers from here on stand for no sub-identifier, nor for the first two.
+/// Numbers from here on spell no sub-identifier, nor the first two.
 const LIMIT: u64 = 4_294_967_376;
 
 /// The most sub-identifiers of an identifier.

@@ -39,7 +39,7 @@ fn number_of(contents: &[u8]) -> Result<i128, BerFault>
     Ok(-1 - (limit - 1 - number) as i128)
 }
 
-/// An INTEGER of 32 bits. `BadLength` but for 1 to 9 octets, else `OutOfRange`.
+/// Reads an INTEGER of 32 bits. `BadLength` unless it has 1 to 9 octets, else `OutOfRange`.
 #[tactic(auto, unfolding(crate::specs::Reading::integer_of))]
 pub fn integer_of(contents: &[u8]) -> Result<i32, BerFault>
     ensures gives { Gives (λ z. z) result (integer_of contents.now) }
@@ -48,7 +48,7 @@ pub fn integer_of(contents: &[u8]) -> Result<i32, BerFault>
     i32::try_from(number_of(contents)?).map_err(|_| BerFault::OutOfRange)
 }
 
-/// A number from 0 to 4294967295. `BadLength` but for 1 to 9 octets, else `OutOfRange`.
+/// Reads a number from 0 to 4294967295. `BadLength` unless it has 1 to 9 octets, else `OutOfRange`.
 #[tactic(auto, unfolding(crate::specs::Reading::unsigned_of))]
 pub fn u32_of(contents: &[u8]) -> Result<u32, BerFault>
     ensures gives { Gives (λ n. n) result (unsigned_of (2 ^ 32) contents.now) }
@@ -57,7 +57,8 @@ pub fn u32_of(contents: &[u8]) -> Result<u32, BerFault>
     u32::try_from(number_of(contents)?).map_err(|_| BerFault::OutOfRange)
 }
 
-/// A number from 0 to 18446744073709551615. `BadLength` but for 1 to 9 octets, else `OutOfRange`.
+/// Reads a number from 0 to 18446744073709551615. `BadLength` unless it has 1 to 9 octets, else
+/// `OutOfRange`.
 #[tactic(auto, unfolding(crate::specs::Reading::unsigned_of))]
 pub fn u64_of(contents: &[u8]) -> Result<u64, BerFault>
     ensures gives { Gives (λ n. n) result (unsigned_of (2 ^ 64) contents.now) }

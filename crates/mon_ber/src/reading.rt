@@ -1,5 +1,5 @@
-//! Reading values. Each reader gives what it read and what follows it, or the first fault from the left:
-//! no octet, the tag, the length, the octets that are left, the contents.
+//! Reading values. Each reader returns what it read and what follows it, or the first fault from
+//! the left: no octet, the tag, the length, the octets that are left, the contents.
 
 ghost use Rattle.std.specs.Prelude.{◌≡◌, ◌≢◌, ◌≤◌, ◌^◌, ◌-◌, ◌<◌, ℕ, List, length, take, Ok, IsOk, IfOk, IfErr};
 ghost use Rattle.mon_ber.specs.declared.value.Value.{Value};
@@ -17,7 +17,7 @@ use crate::value::Value;
 use mon_oid::Oid;
 use std::alloc::Global;
 
-/// An IPv4 address. `BadLength` but for 4 octets.
+/// Reads an IPv4 address. `BadLength` unless it has 4 octets.
 #[tactic(auto, unfolding(crate::specs::Reading::address_of))]
 fn address_of(contents: &[u8]) -> Result<[u8; 4], BerFault>
     ensures gives { Gives (λ a. a) result (address_of contents.now) }
@@ -41,7 +41,7 @@ fn nothing_of(value: Value, contents: &[u8]) -> Result<Value, BerFault>
     Ok(value)
 }
 
-/// The value that contents after this tag stand for.
+/// Returns the value that contents after this tag spell.
 #[tactic(auto, unfolding(crate::specs::Reading::value_of))]
 fn value_of(alloc: Global, tag: Tag, contents: &[u8]) -> Result<Value, BerFault>
     ensures gives { Gives (λ v. v) result (value_of tag contents.now) }
@@ -84,7 +84,7 @@ pub fn read_value(alloc: Global, bytes: &[u8]) -> Result<(Value, usize), BerFaul
     // What is spelled so is read, unless memory runs out.
     ensures only { (v : Value) (k : ℕ) → k ≤ length bytes.now → Spells (take k bytes.now) v
         → Gives (λ x. x) result (Ok (v, k)) }
-    // Memory is asked for octets alone, and for identifiers of more than 16 sub-identifiers.
+    // Only octets, and identifiers of more than 16 sub-identifiers, are allocated.
     ensures inline { (v : Value) (k : ℕ) → k ≤ length bytes.now → Spells (take k bytes.now) v → IsInline v → IsOk result }
     // Which fault it is: the first from left to right.
     ensures fault { IfErr result (λ e. Fails e (value_at bytes.now)) }

@@ -49,7 +49,7 @@ pub enum Tag {
 }
 
 impl Tag {
-    /// The octet that stands for the tag.
+    /// The octet that means the tag.
     pub fn octet(self) -> u8
         ensures { result ≡ octet_of self }
     {
@@ -91,7 +91,7 @@ impl Tag {
         }
     }
 
-    /// The tag that the octet stands for, if it is one of a value.
+    /// Returns the tag that the octet means, if it is one of a value.
     pub fn from_octet(octet: u8) -> Option<Tag>
         ensures { result ≡ kind_of octet }
     {

@@ -7,7 +7,7 @@ use crate::octets::Octets;
 use mon_oid::Oid;
 use std::alloc::{AllocError, Global};
 
-/// A value of a variable, or the exception that stands in its place (RFC 3416 section 3).
+/// A value of a variable, or the exception in its place (RFC 3416 section 3).
 #[derive(Debug, Drop, PartialEq, Eq)]
 pub enum Value {
     /// INTEGER, -2147483648 to 2147483647.

@@ -1,5 +1,6 @@
-//! Writing values, with the shortest lengths and numbers. Sizes are counted first, which takes no memory.
-//! What is written goes after the octets of a vector that has room for it, so it never fails.
+//! Writing values, with the shortest lengths and numbers. Sizes are counted first, which allocates
+//! nothing. What is written goes after the octets of a vector that has the capacity, so it never
+//! fails.
 
 ghost use Rattle.std.specs.Prelude.{◌≡◌, ℕ, ◌≤◌, ◌<◌, ◌+◌, ◌^◌, ◌++◌, ◌∷◌, [], pos, negsuc, ◌≤ℤ◌, ◌<ℤ◌, length, List, ◌⊎◌, IfOk, IfErr, MatchResult, vec_len, vec_capacity};
 ghost use Rattle.mon_ber.specs.declared.value.Value.{Value};
@@ -47,7 +48,7 @@ fn number_len(number: i128) -> usize
     width(number)
 }
 
-/// Writes an octet where there is room for it.
+/// Writes an octet if the vector has capacity for it.
 fn put_octet(out: &mut Vec<u8>, octet: u8)
     requires room { vec_len out.old < vec_capacity out.old }
     ensures items { out.new.items ≡ out.old.items ++ octet ∷ [] }
@@ -57,7 +58,7 @@ fn put_octet(out: &mut Vec<u8>, octet: u8)
     out.push(octet).unwrap();
 }
 
-/// Writes the octets where there is room for them.
+/// Writes the octets if the vector has capacity for them.
 fn put_slice(out: &mut Vec<u8>, octets: &[u8])
     requires room { vec_len out.old + length octets.now ≤ vec_capacity out.old }
     ensures items { out.new.items ≡ out.old.items ++ octets.now }
@@ -257,7 +258,7 @@ fn length_len(len: usize) -> usize
     if len < 0x80 { 1 } else { 1 + length_width(len) }
 }
 
-/// Writes a tag and a length at the end, where there is room for them.
+/// Writes a tag and a length at the end, if the vector has capacity for them.
 pub fn put_header(out: &mut Vec<u8>, tag: u8, len: usize)
     requires fits { len < 2 ^ 32 }
     requires room { vec_len out.old + length (tag ∷ length_octets len) ≤ vec_capacity out.old }
@@ -278,7 +279,7 @@ pub fn integer_size(number: i32) -> usize
     element_len(number_len(i128::from(number)))
 }
 
-/// Writes an INTEGER at the end, where there is room for it: `integer_size` octets.
+/// Writes an INTEGER at the end, if the vector has capacity for it: `integer_size` octets.
 #[tactic(auto, unfolding(crate::specs::Writing::written, crate::specs::Writing::element))]
 pub fn put_integer(out: &mut Vec<u8>, number: i32)
     requires room { vec_len out.old + length (written (Integer number)) ≤ vec_capacity out.old }
@@ -290,7 +291,8 @@ pub fn put_integer(out: &mut Vec<u8>, number: i32)
     put_number(out, i128::from(number));
 }
 
-/// Writes an OCTET STRING at the end, where there is room for it: `element_len` octets of its length.
+/// Writes an OCTET STRING at the end, if the vector has capacity for it: `element_len` octets of
+/// its length.
 #[tactic(auto, unfolding(crate::specs::Writing::written, crate::specs::Writing::element))]
 pub fn put_octets(out: &mut Vec<u8>, octets: &[u8])
     requires fits { length octets.now < 2 ^ 32 }
@@ -312,7 +314,7 @@ pub fn name_size(name: &Oid) -> usize
     element_len(name_len(name.parts()))
 }
 
-/// Writes an OBJECT IDENTIFIER at the end, where there is room for it: `name_size` octets.
+/// Writes an OBJECT IDENTIFIER at the end, if the vector has capacity for it: `name_size` octets.
 #[tactic(auto, unfolding(crate::specs::Writing::written, crate::specs::Writing::element))]
 pub fn put_object_identifier(out: &mut Vec<u8>, name: &Oid)
     requires room { vec_len out.old + length (written (Name name.now)) ≤ vec_capacity out.old }
@@ -369,7 +371,7 @@ pub fn size_of(value: &Value) -> Result<usize, BerFault>
     Ok(element_len(len))
 }
 
-/// Writes the value at the end, where there is room for it: `value_size` octets.
+/// Writes the value at the end, if the vector has capacity for it: `value_size` octets.
 #[tactic(auto, unfolding(crate::specs::Writing::written, crate::specs::Writing::element))]
 pub fn put_value(out: &mut Vec<u8>, value: &Value)
     requires fits { HasLength value.now }

@@ -80,7 +80,7 @@ module _ (n m : ℕ → ℕ) (k : ℕ) (ws : List Window) (are : AreWindows n m 
   pub kept_changed : (old new : Marks) → AreKept w.items old new → AreKept (set_at (set ws i w) i) old new
   kept_changed old new kept = subst (λ (a : Samples). AreKept a old new) (sym changed_at) kept
 
-  -- a window that holds no more than it keeps may stand in the place of another
+  -- a window that holds no more than it keeps may replace another
   pub still_windows : w.size ≡ n i → w.share ≡ m i → keep boots_of (n i) (m i) w.items ≡ w.items → AreWindows n m k (set ws i w)
   still_windows size share whole = record {
     number = Rattle.std.proofs.Common.length-set ws i w ∙ are.number;

@@ -26,7 +26,7 @@ module _ (watch : Watch) where
   pub window_stays : (a b : List (ℕ × ℕ)) (i s : ℕ) → Has a i s → IsPartOf a b → In s (window watch b i) → In s (window watch a i)
   window_stays a b i s here within h = kept_stays watch i (set_of i a) (set_of i b) s here (within i) h
 
-  -- lists of which each has what stands in the other's windows leave equal windows
+  -- lists of which each has what is in the other's windows leave equal windows
   pub windows_meet : (a b : List (ℕ × ℕ)) (i : ℕ) → ((s : ℕ) → In s (window watch a i) → Has b i s) → ((s : ℕ) → In s (window watch b i) → Has a i s) → window watch a i ≡ window watch b i
   windows_meet a b i ab ba = kept_meet watch i (set_of i a) (set_of i b) ab ba
 

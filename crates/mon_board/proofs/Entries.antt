@@ -239,7 +239,7 @@ kept_marks window old room sorted le = record {
   marks = λ slot s. marked_filter (finset.contains window) slot s old.items;
 }
 
--- the same sample without the bit of a slot
+-- a sample as before, without the bit of a slot
 abbrev pub IsCleared : ℕ → ℕ × ℕ → ℕ × ℕ → Type 0
 IsCleared slot x y = (y.0 ≡ x.0) × ((k : ℕ) → has_bit k y.1 ≡ (has_bit k x.1 && not (k == slot)))
 

@@ -102,7 +102,7 @@ module _ (n : ℕ → ℕ) (ws : List Window) (ms : List Marks) (all : AreAllMar
   pub kept_same : (slot i s : ℕ) → marked_in slot s (marks_at ms i) ≡ (marked_in slot s (marks_at ms i) && finset.contains (set_at ws i) s)
   kept_same slot i s = and_implied _ _ (entries_marked slot i s)
 
-  -- in the words of a station
+  -- by the windows and marks of a station
   pub as_kept : (after : ℕ → ℕ → ℕ → Bool) (windows : ℕ → Samples) → ((slot i s : ℕ) → after slot i s ≡ (marked_in slot s (marks_at ms i) && finset.contains (windows i) s))
       → (slot : ℕ) → after slot ≡ kept_marks (set_at ws) windows (λ i s. marked_in slot s (marks_at ms i))
   as_kept after windows is slot = λ j i s. (is slot i s ∙ ap (λ (b : Bool). b && finset.contains (windows i) s) (kept_same slot i s)) j

@@ -4,7 +4,7 @@ use Rattle.std.proofs.lemmas.Bool.{cases_eq}
 use Rattle.std.proofs.lemmas.List.{get_or-set_same, get_or-set_other, get_or_default, length-set, take_all, drop_all, append-nil}
 use Rattle.mon_board.specs.Each.{AreChanged}
 
--- what stands below i was changed, and what stands from there on was not
+-- what is below i was changed, and what comes from there on was not
 pub record AreChangedTo {X : Type 0} (R : ℕ → X → X → Type 0) (old new : List X) (i : ℕ) : Type 0 where
   pub number : length new ≡ length old
   pub done : (j : ℕ) (d : X) → j < i → R j (get_or old j d) (get_or new j d)

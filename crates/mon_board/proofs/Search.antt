@@ -55,7 +55,7 @@ absent xs i at sorted bound is there =
     let place = search_places instance_cmp_total instance_cmp-IsAntisymmetric i (instances_of xs) (Err at) sorted few (absent_mapped (λ (w : Watched). w.instance) (λ j. instance_cmp j i) xs at is bound) in
     true≢false (sym (list_any-from_Contains (eq_by_cmp_equiv instance_cmp_total) i (instances_of xs) there) ∙ (sym (contains-from_list instance_cmp_total (instances_of xs) i) ∙ place.absent))
 
--- ---- an instance stands once among rising ones
+-- ---- an instance is once among rising ones
 not_below_itself : (x : Instance) → instance_cmp x x ≡ Less → ⊥
 not_below_itself x h = let turned : Less ≡ Greater = sym h ∙ instance_cmp_total.antisymm x x ∙ ap ordering_reverse h in cc
 

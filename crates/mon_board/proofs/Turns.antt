@@ -1,4 +1,4 @@
--- Samples taken in turn.
+-- Samples taken one after another.
 use Rattle.std.proofs.Common.{◌≡◌, ℕ, ◌+◌, ◌<◌, List, [], ◌∷◌, ◌++◌, length, take, get_or, map, true, false, Bool, refl, sym, ap, subst, ◌∙◌, inl, inr}
 use Rattle.std.specs.Prelude.{◌↔◌, ◌&&◌, Result, Ok, Err, IsErr, OnOk}
 use Rattle.std.specs.FinSet as set

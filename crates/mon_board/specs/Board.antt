@@ -32,7 +32,7 @@ window_of b i = slice_index_or b.windows i set.empty
 abbrev pub is_marked : Board → ℕ → ℕ → ℕ → Bool
 is_marked b slot i s = marked_in slot s (slice_index_or b.marks i [])
 
--- only what stands in a window is marked
+-- only samples in a window are marked
 abbrev pub MarksEntries : Board → Type 0
 MarksEntries b = (slot i s : ℕ) → IsTrue (is_marked b slot i s) → In s (window_of b i)
 

@@ -9,6 +9,6 @@ use Rattle.mon_board.specs.Marks.{Marks}
 abbrev pub empty_window_of : Watched → Window
 empty_window_of w = record { size = w.window; share = w.epoch; items = set.empty }
 
--- no marks, with room for those of the instance's window
+-- no marks, with capacity for those of the instance's window
 abbrev pub no_marks_of : Watched → Marks
 no_marks_of w = record { room = w.window; items = [] }

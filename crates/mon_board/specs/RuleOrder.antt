@@ -1,4 +1,4 @@
--- The order of alarm rules, and which may stand in a watch.
+-- The order of alarm rules, and which a watch may have.
 use Rattle.std.specs.Prelude.{ℕ, ◌≤◌, ◌<◌, List, length, All}
 use Rattle.std.specs.declared.cmp.Ordering.{Ordering}
 use Rattle.std.specs.Ordering.{nat_cmp, int_cmp, on, then_cmp}

@@ -19,11 +19,11 @@ paired i samples = map (λ s. (i, s)) samples
 abbrev pub set_of : ℕ → List (ℕ × ℕ) → Samples
 set_of i pairs = set.from_list (samples_of i pairs)
 
--- the pair of an instance and a sample stands in the list
+-- the pair of an instance and a sample is in the list
 abbrev pub Has : List (ℕ × ℕ) → ℕ → ℕ → Type 0
 Has pairs i s = In s (set_of i pairs)
 
--- each pair of the one stands in the other
+-- each pair of the one is in the other
 abbrev pub IsPartOf : List (ℕ × ℕ) → List (ℕ × ℕ) → Type 0
 IsPartOf some all = (i s : ℕ) → Has some i s → Has all i s
 

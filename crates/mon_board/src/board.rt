@@ -78,7 +78,7 @@ impl Board {
     pub fn find(&self, engine: &[u8], name: &Oid) -> Option<u16>
         ensures found { IfSome result (λ i. slice_get (instances_of self.now.watch.instances) i ≡ Some (named engine.now name.now)) }
         ensures absent { IfNone result (¬ (Contains (instances_of self.now.watch.instances) (named engine.now name.now))) }
-        // The instances rise, so none stands there twice.
+        // The instances rise, so none is there twice.
         ensures only { (i : ℕ) → slice_get (instances_of self.now.watch.instances) i ≡ Some (named engine.now name.now) → result ≡ Some i }
     {
         match search(self.watch.instances(), engine, name) {
@@ -87,7 +87,8 @@ impl Board {
         }
     }
 
-    /// Takes a sample of the instance in, and says what became of it in its window. It changes that window alone.
+    /// Takes a sample of the instance in, and returns what became of it in its window. It changes
+    /// only that window.
     pub fn take(&mut self, instance: u16, sample: Sample) -> Result<Inserted, UnknownInstance>
         ensures watch { self.new.watch ≡ self.old.watch }
         ensures unknown { IsErr result ↔ (length self.old.watch.instances ≤ instance) }
@@ -107,7 +108,7 @@ impl Board {
         Ok(inserted)
     }
 
-    /// Takes samples of the instance in, one after another. It changes that instance's window alone.
+    /// Takes samples of the instance in, one after another. It changes only that instance's window.
     pub fn take_all(&mut self, instance: u16, samples: &[Sample])
         requires { instance < length self.old.watch.instances }
         ensures watch { self.new.watch ≡ self.old.watch }
@@ -122,7 +123,8 @@ impl Board {
         }
     }
 
-    /// Takes samples in, one after another, each of the instance whose number stands with it. It changes no other window.
+    /// Takes samples in, one after another, each of the instance whose number comes with it. It
+    /// changes no other window.
     pub fn take_pairs(&mut self, pairs: &[(u16, Sample)])
         requires { All (λ pair. pair.0 < length self.old.watch.instances) pairs.now }
         ensures watch { self.new.watch ≡ self.old.watch }
@@ -166,7 +168,7 @@ impl Board {
         keep_each(&mut self.marks, &self.windows);
     }
 
-    /// Marks a sample of the instance for a slot, where it stands in the window.
+    /// Marks a sample of the instance for a slot, if it is in the window.
     pub fn mark(&mut self, slot: u8, instance: u16, sample: &Sample)
         requires slot { slot < 15 }
         requires instance { instance < length self.old.watch.instances }
@@ -191,7 +193,8 @@ impl Board {
         clear_each(&mut self.marks, slot);
     }
 
-    /// The least sample of the instance that is not marked for the slot, above another one where that is given.
+    /// Returns the least sample of the instance that is not marked for the slot, above another one
+    /// if given.
     pub fn owed(&self, slot: u8, instance: u16, after: Option<Sample>) -> Option<Sample>
         requires slot { slot < 15 }
         requires instance { instance < length self.now.watch.instances }
@@ -202,7 +205,7 @@ impl Board {
     }
 }
 
-/// No marks, with room for those of each window.
+/// Returns no marks, with capacity for those of each window.
 fn no_marks(alloc: Global, watch: &Watch) -> Result<Vec<Marks>, AllocError>
     ensures { IfOk result (λ v. v.items ≡ map no_marks_of watch.now.instances) }
 {
@@ -224,7 +227,7 @@ fn empty_windows(alloc: Global, watch: &Watch) -> Result<Vec<Track>, AllocError>
     Ok(windows)
 }
 
-/// Where the object of this name at this engine stands among rising instances.
+/// Returns the place of the object of this name at this engine among rising instances.
 fn search(instances: &[Watched], engine: &[u8], name: &Oid) -> Option<usize>
     requires { IsStrictlySortedBy instance_cmp (instances_of instances.now) }
     ensures found { IfSome result (λ i. slice_get (instances_of instances.now) i ≡ Some (named engine.now name.now)) }

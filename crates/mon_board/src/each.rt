@@ -25,7 +25,7 @@ pub(crate) fn join_each(windows: &mut [Track], others: &[Track])
     }
 }
 
-/// Leaves the marks of what stands in the windows.
+/// Leaves the marks of samples in the windows.
 pub(crate) fn keep_each(marks: &mut [Marks], windows: &[Track])
     requires number { length windows.now ≡ length marks.old }
     requires rising { (i : ℕ) (d : marked.Marks) → i < length marks.old → IsStrictlySortedBy nat_cmp (samples_in (slice_index_or marks.old i d).items) }

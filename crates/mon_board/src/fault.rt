@@ -3,8 +3,8 @@ ghost use Rattle.mon_board.specs.WatchFault.{number_of, name_of};
 
 use thiserror::Error;
 
-/// Why these make no watch, in the order in which they are tested. A watch takes its instances and rules over, so no memory
-/// is wanted.
+/// Why these make no watch, in the order in which they are tested. A watch takes its instances and
+/// rules over, so memory never runs out.
 #[derive(Clone, Copy, Debug, PartialEq, Eq, Error)]
 pub enum WatchFault {
     /// A window holds 1 to 64 samples, and its epoch is 1 to the window.

@@ -27,7 +27,7 @@ impl Instance {
             .then(self.name.parts().cmp(&name.parts()))
     }
 
-    /// Whether the engine id has 5 to 32 octets.
+    /// Returns `true` if the engine id has 5 to 32 octets.
     pub(crate) fn has_engine(&self) -> bool
         ensures { IsTrue result ↔ IsEngine self.now.engine }
     {

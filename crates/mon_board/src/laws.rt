@@ -11,13 +11,13 @@ pub fn joined_windows()
     ensures { (watch : Watch) (taken pairs : List (ℕ × ℕ)) (i : ℕ) → joined watch (window watch taken) pairs i ≡ window watch (taken ++ pairs) i }
 {}
 
-/// Lists of which each has what stands in the other's window of an instance leave one window of it.
+/// Lists of which each has what is in the other's window of an instance leave one window of it.
 pub fn windows_meet()
     ensures { (watch : Watch) (a b : List (ℕ × ℕ)) (i : ℕ) → ((s : ℕ) → In s (window watch a i) → Has b i s) → ((s : ℕ) → In s (window watch b i) → Has a i s)
         → window watch a i ≡ window watch b i }
 {}
 
-/// What stands in the window of a larger list stands in that of each part that has it.
+/// What is in the window of a larger list is in that of each part that has it.
 pub fn windows_stay()
     ensures { (watch : Watch) (a b : List (ℕ × ℕ)) (i s : ℕ) → Has a i s → IsPartOf a b → In s (window watch b i) → In s (window watch a i) }
 {}
@@ -36,7 +36,7 @@ pub fn joining()
     ensures taken { (watch : Watch) (some others : List (ℕ × ℕ)) (i : ℕ) → of_both watch (window watch some) (window watch others) i ≡ window watch (some ++ others) i }
 {}
 
-/// Samples that are taken in turn leave the windows with all their pairs put in.
+/// Samples that are taken one after another leave the windows with all their pairs put in.
 pub fn taken_in_turn()
     ensures none { (watch : Watch) (windows : ℕ → Samples) (i : ℕ) → IsWhole watch windows i → joined watch windows [] i ≡ windows i }
     ensures one { (watch : Watch) (old new : ℕ → Samples) (pair : ℕ × ℕ) → ((i : ℕ) → IsWhole watch old i) → IsTaken watch old new pair.0 pair.1

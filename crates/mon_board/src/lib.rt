@@ -1,7 +1,7 @@
 //! Boards: of each watched instance, a window of its samples with their totals, and marks on them for up to 15 peers.
 //! An instance is a managed object at an agent, which its engine id names (RFC 3411 section 5, snmpEngineID).
-//! Contract: a sample that is taken changes its own instance's window alone, and `join` leaves what the samples of both
-//! boards leave; `laws` say the same of lists of samples.
+//! Contract: a sample that is taken changes only its own instance's window, and `join` leaves what
+//! the samples of both boards leave; `laws` say this of lists of samples.
 #![tactic(auto)]
 
 mod board;

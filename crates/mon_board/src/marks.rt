@@ -29,7 +29,7 @@ impl Model for Marks {
 }
 
 impl Marks {
-    /// No marks, with room for those of this many samples.
+    /// Returns no marks, with capacity for those of this many samples.
     pub(crate) fn new(alloc: Global, room: usize) -> Result<Self, AllocError>
         ensures { IfOk result (λ m. m ≡ record { room = room; items = [] }) }
     {
@@ -37,7 +37,7 @@ impl Marks {
         Ok(Marks { items })
     }
 
-    /// Whether the sample is marked for the slot.
+    /// Returns `true` if the sample is marked for the slot.
     pub(crate) fn has(&self, slot: u8, sample: &Sample) -> bool
         requires slot { slot < 16 }
         requires rising { IsStrictlySortedBy nat_cmp (samples_in self.now.items) }
@@ -74,7 +74,7 @@ impl Marks {
         }
     }
 
-    /// Leaves the marks of what stands in the window.
+    /// Leaves the marks of samples in the window.
     pub(crate) fn keep(&mut self, window: &Track)
         requires { IsStrictlySortedBy nat_cmp (samples_in self.old.items) }
         ensures { AreKept window.now.items self.old self.new }
@@ -91,7 +91,7 @@ fn without(bits: u16, slot: u8) -> u16
     bits & !(1 << slot)
 }
 
-/// Leaves the samples that stand in the window.
+/// Leaves the samples that are in the window.
 fn keep_in(items: &mut Vec<(Sample, u16)>, window: &Track)
     ensures items { items.new.items ≡ filter (λ x. set.contains window.now.items x.0) items.old.items }
     ensures room { vec_capacity items.old ≤ vec_capacity items.new }
@@ -99,7 +99,7 @@ fn keep_in(items: &mut Vec<(Sample, u16)>, window: &Track)
     items.retain(|item| stands_in(window, &item.0));
 }
 
-/// Whether the sample stands in the window.
+/// Returns `true` if the sample is in the window.
 pub(crate) fn stands_in(window: &Track, sample: &Sample) -> bool
     ensures { result ≡ set.contains window.now.items sample.now }
 {
@@ -109,7 +109,7 @@ pub(crate) fn stands_in(window: &Track, sample: &Sample) -> bool
     }
 }
 
-/// Where the sample stands among rising ones, or belongs.
+/// Returns the place of the sample among rising ones, or where it belongs.
 fn place(items: &[(Sample, u16)], sample: &Sample) -> Result<usize, usize>
     requires { IsStrictlySortedBy nat_cmp (samples_in items.now) }
     ensures within { IfOk result (λ at. at < length items.now) }
@@ -119,7 +119,7 @@ fn place(items: &[(Sample, u16)], sample: &Sample) -> Result<usize, usize>
     items.binary_search_by(|item| item.0.compare(sample))
 }
 
-/// The first of the samples that is not marked for the slot, above another one where that is given.
+/// Returns the first of the samples that is not marked for the slot, above another one if given.
 pub(crate) fn first_unmarked(
     items: &[Sample],
     marks: &Marks,
@@ -138,7 +138,7 @@ pub(crate) fn first_unmarked(
     None
 }
 
-/// Whether the sample is above the other one, if there is one.
+/// Returns `true` if the sample is above the other one, if there is one.
 fn is_above(other: &Option<Sample>, sample: &Sample) -> bool
     ensures { result ≡ marks.is_above other.now sample.now }
 {

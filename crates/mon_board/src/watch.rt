@@ -42,9 +42,10 @@ impl Watch {
     ghost use Rattle.mon_board.specs.Watch.{IsWatch};
 
     /// The watch of these instances and rules. Tested in this order: `BadWindow` where some instance's window does not hold
-    /// 1 to 64 samples or its epoch 1 to the window; `BadInstances` where the instances are not 1 to 256 with engines of
-    /// 5 to 32 octets, rising by engine and then by name; `BadRules` where the rules are not at most 256, each on one of
-    /// these instances, rising by instance, rising threshold and falling threshold, none twice. It takes no memory.
+    /// 1 to 64 samples or its epoch 1 to the window; `BadInstances` where the instances are not 1
+    /// to 256 with engines of 5 to 32 octets, rising by engine and then by name; `BadRules` where
+    /// the rules are not at most 256, each on one of these instances, rising by instance, rising
+    /// threshold and falling threshold, none twice. It allocates nothing.
     pub fn new(instances: Vec<Watched>, rules: Vec<Rule>) -> Result<Self, WatchFault>
         ensures made { IfOk result (λ w. w ≡ record { instances = instances.items; rules = rules.items }) }
         ensures accepted { AreSized instances.items → AreInstances instances.items → AreRules (length instances.items) rules.items → IsOk result }
@@ -102,7 +103,7 @@ fn copied(alloc: Global, all: &[Watched]) -> Result<Vec<Watched>, AllocError>
     Ok(copies)
 }
 
-/// The same rules.
+/// Copies the rules.
 fn copied_rules(alloc: Global, all: &[Rule]) -> Result<Vec<Rule>, AllocError>
     ensures { IfOk result (λ v. v.items ≡ all.now) }
 {
@@ -113,21 +114,21 @@ fn copied_rules(alloc: Global, all: &[Rule]) -> Result<Vec<Rule>, AllocError>
     Ok(copies)
 }
 
-/// Whether the windows of all have sizes that a window may have.
+/// Returns `true` if the windows of all have sizes that a window may have.
 fn are_sized(instances: &[Watched]) -> bool
     ensures { IsTrue result ↔ AreSized instances.now }
 {
     instances.iter().all(|watched| is_sized(watched))
 }
 
-/// Whether a window may have these sizes.
+/// Returns `true` if a window may have these sizes.
 fn is_sized(watched: &Watched) -> bool
     ensures { IsTrue result ↔ AreSizes watched.now.window watched.now.epoch }
 {
     1 <= watched.epoch && watched.epoch <= watched.window && watched.window <= MOST_SAMPLES
 }
 
-/// Whether these may be watched.
+/// Returns `true` if these may be watched.
 fn are_instances(instances: &[Watched]) -> bool
     ensures { IsTrue result ↔ AreInstances instances.now }
 {
@@ -145,7 +146,7 @@ fn have_engines(instances: &[Watched]) -> bool
         .all(|watched| watched.instance.has_engine())
 }
 
-/// Whether each instance comes before the next.
+/// Returns `true` if each instance comes before the next.
 fn are_rising(instances: &[Watched]) -> bool
     ensures { IsTrue result ↔ IsStrictlySortedBy instance_cmp (instances_of instances.now) }
 {
@@ -159,7 +160,7 @@ fn are_rising(instances: &[Watched]) -> bool
     true
 }
 
-/// Whether these may be the rules on this many instances.
+/// Returns `true` if these may be the rules on this many instances.
 fn are_rules(rules: &[Rule], instances: usize) -> bool
     ensures { IsTrue result ↔ AreRules instances rules.now }
 {
@@ -169,7 +170,7 @@ fn are_rules(rules: &[Rule], instances: usize) -> bool
     are_on(rules, instances) && rules_rise(rules)
 }
 
-/// Whether each rule is on one of this many instances.
+/// Returns `true` if each rule is on one of this many instances.
 fn are_on(rules: &[Rule], instances: usize) -> bool
     ensures { IsTrue result ↔ All (λ r. r.instance < instances) rules.now }
 {
@@ -178,7 +179,7 @@ fn are_on(rules: &[Rule], instances: usize) -> bool
         .all(|rule| usize::from(rule.instance()) < instances)
 }
 
-/// Whether each rule comes before the next.
+/// Returns `true` if each rule comes before the next.
 fn rules_rise(rules: &[Rule]) -> bool
     ensures { IsTrue result ↔ IsStrictlySortedBy rule_cmp rules.now }
 {

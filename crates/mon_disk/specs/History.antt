@@ -32,12 +32,13 @@ FindsRunning None outcomes file = FindsAs outcomes file
 FindsRunning (Some body) outcomes file = FindsAs outcomes file ⊎ FindsBody (Some body) file
 
 module _ {D : Type 0} (is_honest : D → Type 0) (seen : D → List ℕ) (may_leave : D → List ℕ → Type 0) (moment : D → ℕ) (left_since : D → ℕ → List ℕ → Type 0) where
-  -- an opening that answered this body, in the words of its clauses found and kept
+  -- an opening that answered this body, as its clauses found and kept say
   pub record IsOpened (body : Option (List ℕ)) (old new : D) : Type 0 where
     pub found : FindsBody body (seen old)
     pub kept : Leaves (may_leave new) (FindsBody body)
 
-  -- a stop at some moment of a call after which `then` is the disk: a crash then left this file, and the next disk has it and nothing else
+  -- a stop at some time of a call after which `then` is the disk: a crash then left this file, and
+  -- the next disk has it and nothing else
   pub record IsStopped (running : Option (List ℕ)) (old new : D) : Type 0 where
     pub then : D
     pub any_moment : LeavesSince moment left_since old then (FindsRunning running (may_leave old))
@@ -45,7 +46,8 @@ module _ {D : Type 0} (is_honest : D → Type 0) (seen : D → List ℕ) (may_le
     pub left : left_since then (moment old) file
     pub only : Only file (may_leave new)
 
-  -- what a keeper promises of an event, from the disk before it to the disk after it, in the words of its clauses found, kept, saved, opening and any_moment
+  -- what a keeper promises of an event, from the disk before it to the disk after it, as its
+  -- clauses found, kept, saved, opening and any_moment say
   abbrev pub Happens : Event → D → D → Type 0
   Happens (opened body) old new = IsOpened body old new
   Happens unopened old new = LeavesSince moment left_since old new (FindsAs (may_leave old))

@@ -8,7 +8,8 @@ ghost use Rattle.mon_disk.specs.declared.file.TheConstants.{SLOT_SIZE};
 
 use crate::Disk;
 
-/// Stopped at any moment, and whatever openings, saves and stops there were on an honest disk: an opening finds the body of the last save that was
+/// Stopped at any time, and whatever openings, saves and stops there were on an honest disk: an
+/// opening finds the body of the last save that was
 /// acknowledged, or of one that was running since; once one of them was found, no older one is found later; and no opening meets `Damaged`.
 pub fn stops<D: Disk>()
     ensures left { (first : D) (history : List (AnyEvent × D)) (bodies : List (Option (List ℕ)))

@@ -30,7 +30,8 @@ fn found_then_saved(rt: &HostRuntime, body: &[u8]) -> Option<()> {
     println!(rt; "a file: {found}, then a save: {answer}").ok()
 }
 
-/// Whether a folder is refused by its path, and what an opening answers of it by a handle that only reads.
+/// Returns `true` if a folder is refused by its path, and what an opening answers of it by a handle
+/// that only reads.
 fn folder(rt: &HostRuntime, path: &str) -> Option<()> {
     let refused = FileDisk::open_or_create(rt, path).is_err();
     let found = Found::on(rt.alloc(), FileDisk::new(File::open(rt, path).ok()?));

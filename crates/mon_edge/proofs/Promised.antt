@@ -1,4 +1,5 @@
--- Laws of what is told, of facts in any order and elements of any type, which no clause can range over.
+-- Laws of what is reported, of facts in any order and elements of any type, which no clause can
+-- range over.
 use Rattle.std.proofs.Common.{◌≡◌, List, [], ◌++◌, refl, ap, ◌∙◌, append_assoc}
 use Rattle.std.specs.Prelude.{Option, Some, None}
 use Rattle.std.proofs.lemmas.List.{append-nil}
@@ -14,7 +15,7 @@ pub extended_twice : {A : Type 0} → (told : Option (List A)) (more others : Li
 extended_twice None more others = refl
 extended_twice (Some all) more others = ap Some (append_assoc all more others)
 
--- more and more again, where each time stands by itself
+-- more and more again, where each time comes by itself
 pub extended_on : {A : Type 0} → (before between after : Option (List A)) (more others : List A) → between ≡ extended before more → after ≡ extended between others
     → after ≡ extended before (more ++ others)
 extended_on before between after more others first then = then ∙ (ap (λ t. extended t others) first ∙ extended_twice before more others)

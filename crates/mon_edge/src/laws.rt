@@ -1,4 +1,4 @@
-//! Laws over the words. Each is a function that does nothing; its clauses are the law.
+//! Laws over these definitions. Each is a function that does nothing; its clauses are the law.
 
 ghost use Rattle.std.specs.Prelude.{◌≡◌, ◌<◌, ◌-◌, ◌^◌, ℕ, suc};
 ghost use Rattle.mon_edge.specs.Counts.{next_count};

@@ -18,7 +18,7 @@ use Rattle.mon_listing.specs.declared.listing.ListFault.TheVariants.{OutOfMemory
 abbrev pub Row : Type 0
 Row = List ℕ × List ℕ
 
--- rows stand by identifier, and those of one identifier by name
+-- rows come by identifier, and those of one identifier by name
 abbrev pub row_cmp : Row → Row → Ordering
 row_cmp a b = ordering_then (slice_cmp nat_cmp a.0 b.0) (slice_cmp nat_cmp a.1 b.1)
 
@@ -46,7 +46,8 @@ pub record IsListing (known : List Definition) (names : List (List ℕ)) (text :
   pub order : IsSorted row_cmp rows
   pub is : text ≡ row_lines rows
 
--- a name of these that means no identifier, for this reason, where each of them that stands before it by bytes means one
+-- a name of these that means no identifier, for this reason, where each of them that comes before
+-- it by bytes means one
 pub record IsFirstUnnamed (known : List Definition) (names : List (List ℕ)) (name : List ℕ) (fault : NamesFault) : Type 0 where
   pub listed : Contains names name
   pub unmeant : IsFaultOfNameText fault known name
@@ -65,6 +66,6 @@ seen r = (r.0, r.1.now)
 abbrev pub text_cmp : Bor (List ℕ) → Bor (List ℕ) → Ordering
 text_cmp a b = slice_cmp nat_cmp a.now b.now
 
--- lent rows, as rows stand
+-- the order of lent rows, that of rows
 abbrev pub shown_cmp : List ℕ × Bor (List ℕ) → List ℕ × Bor (List ℕ) → Ordering
 shown_cmp a b = row_cmp (seen a) (seen b)

@@ -11,7 +11,7 @@ use Rattle.mon_mib.specs.Held.{Held}
 use Rattle.mon_mib.proofs.Swapping.{changes_push}
 use Rattle.mon_mib.proofs.Undoing.{undoings_push, front_apart}
 
--- so much of the plan is assigned
+-- this part of the plan is assigned
 pub record IsAtAssign (plan : List Step) (before : Held) (rest undos : List Step) (now : Held) : Type 0 where
   pub done : List Step
   pub order : plan ≡ done ++ rest

@@ -5,7 +5,7 @@ use Rattle.std.proofs.lemmas.Grind.{get_or_default_zero}
 use Rattle.std.proofs.lemmas.List.Elements.{Contains-get_or}
 use Rattle.mon_mib.specs.Held.{AreIndexes, IsAbove, IsLeastOf}
 
--- the last of the first so many
+-- the last of the first n
 abbrev pub last_of : List ℕ → ℕ → Option ℕ
 last_of xs zero = None
 last_of xs (suc n) = Some (get_or xs n 0)
@@ -33,7 +33,7 @@ above : (xs : List ℕ) → AreIndexes xs → (n : ℕ) → n < length xs → Is
 above xs are zero lt = tt
 above xs are (suc n) lt = are.rising n (suc n) 0 (omega arith) lt
 
--- what is above the last of the first n stands at n or behind it
+-- what is above the last of the first n is at n or behind it
 behind : (xs : List ℕ) → AreIndexes xs → (n k : ℕ) → n ≤ length xs → k < length xs → IsAbove (last_of xs n) (get_or xs k 0) → n ≤ k
 behind xs are zero k le lt is = omega arith
 behind xs are (suc n) k le lt is = by_cases k lt is (λ less. are.rising k n 0 less (omega arith))

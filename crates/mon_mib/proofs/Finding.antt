@@ -16,7 +16,7 @@ use Rattle.mon_mib.specs.Next.{IsServedName}
 use Rattle.mon_mib.proofs.Candidates.{not_shorter}
 use Rattle.mon_mib.proofs.Unique.{itself}
 
--- what taking a prefix off a name tells
+-- what taking a prefix off a name yields
 abbrev pub IsStripped : List ℕ → List ℕ → Option (Bor (List ℕ)) → Type 0
 IsStripped name prefix r = MatchOption r ((rest : List ℕ) → name ≢ prefix ++ rest) (λ x. name ≡ prefix ++ x.now)
 

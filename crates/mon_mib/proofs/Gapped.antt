@@ -73,7 +73,7 @@ module _ (held : Held) (sees : List ℕ → Type 0) (o : Object) where
       (All-contains (λ (h : Gap). IsLeastInView held sees h.object h.start h.least) gaps g are listed))
 
 module _ (k : Known) (sees : List ℕ → Type 0) (x : List ℕ) (o : Object) where
-  -- the least instance in view gives the next variable of the object
+  -- the least instance in view yields the next variable of the object
   pub next_some : (i : ℕ) → IsLeastInView k.held sees o (start_of (prefix_of o) x) (Some i) → IsNext (o ∷ []) k sees x (Some (variable k o i))
   next_some i least = record {
     variable = record { object = o; instance = i; served = Contains-push [] o; there = least.0; is = refl };

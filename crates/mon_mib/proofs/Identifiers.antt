@@ -27,7 +27,7 @@ small ns = list_all (λ n. nat_lt n (2 ^ 32)) ns
 abbrev passes : List ℕ → Bool
 passes ns = few ns && (rooted ns && small ns)
 
--- an identifier with room for an instance
+-- an identifier with capacity for an instance
 pub record HasRoom (ns : List ℕ) : Type 0 where
   pub is : IsOid ns
   pub room : length ns < 128

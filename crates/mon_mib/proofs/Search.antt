@@ -50,7 +50,7 @@ one x y (k, lt, is) = sym (first k lt is)
 pub same_value : {X : Type 0} (r : Option X) (v w : X) → r ≡ Some v → r ≡ Some w → v ≡ w
 same_value r v w is also = cc
 
--- the objects stand in the order of their names
+-- the objects are in the order of their names
 objects_rise : IsTrue (all_before objects)
 unfolding objects scalar_prefix column_prefix
 objects_rise = refl
@@ -67,7 +67,8 @@ pub objects_apart : AllPairs (λ o q. IsTrue (is_before (prefix_of o) (prefix_of
 objects_apart = in_pairs objects objects_rise
 
 module _ (k : Known) (sees : List ℕ → Type 0) (x : List ℕ) where
-  -- Of an object's variables, those that are wanted have their instances from here on, and these are beyond the name.
+  -- Of an object's variables, those that are searched for have their instances from here on, and
+  -- these are beyond the name.
   pub record IsAt (o : Object) (s : Start) : Type 0 where
     pub covers : (i : ℕ) → Contains (instances k.held o) i → IsLater sees x (variable k o i) → IsFrom s i
     pub beyond : (i : ℕ) → IsFrom s i → name_cmp x (prefix_of o ++ i ∷ []) ≡ Less
@@ -125,7 +126,7 @@ module _ (k : Known) (sees : List ℕ → Type 0) (x : List ℕ) where
           let other : c.name ≡ prefix_of v.object ++ v.instance ∷ [] = ap (λ (d : Binding). d.name) v.is in
           rw (mine, other) (not_after (prefix_of o ++ here.variable.instance ∷ []) (prefix_of v.object ++ v.instance ∷ []) lower)
 
-  -- the same at an index of the list that the loop goes over
+  -- a search ends at an index of the list that the loop goes over
   pub stops_at : (os : List Object) (j : ℕ) (d : Object) (r : Option Binding) (b : Binding) → j < length os → os ≡ objects
       → IsNext (take j objects) k sees x None → r ≡ Some b → IsNext (get_or os j d ∷ []) k sees x r → IsLeast objects k sees x b
   stops_at os j d r b lt same before is here =

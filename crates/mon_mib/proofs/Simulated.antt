@@ -147,7 +147,7 @@ pub good_at : (xs : List ℕ) → AreIndexes xs → (j : ℕ) → j < length xs 
 good_at xs are zero lt = record { over = are.positive zero 0 lt; small = are.small zero 0 lt }
 good_at xs are (suc j) lt = record { over = are.rising j (suc j) 0 (omega arith) lt; small = are.small (suc j) 0 lt }
 
--- the same at a place of the list of interfaces
+-- an interface is read at a place of the list of interfaces
 pub read : (ps : List Interface) (j : ℕ) (d : Interface) → j < length ps → get_or (indexes_of ps) j 0 ≡ (get_or ps j d).index
 read ps j d lt = get_or-map (λ p. p.index) ps j d 0 lt
 

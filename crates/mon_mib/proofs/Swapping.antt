@@ -49,7 +49,7 @@ index_itself n = grind (arith, nat_tests)
 index_turned : (a b : ℕ) → nat_eq a b ≡ nat_eq b a
 index_turned a b = grind (arith, nat_tests)
 
--- a test that tells whether two places are one
+-- a test that decides whether two places are one
 pub record Tells {K : Type 0} (same : K → K → Bool) : Type 0 where
   pub is : (a b : K) → same a b ≡ true → a ≡ b
   pub itself : (a : K) → same a a ≡ true

@@ -108,7 +108,7 @@ front_clear : (ss : List Step) (s : Step) → AreApart (ss ++ s ∷ []) → IsCl
 front_clear ss s apart k d lt = turned s.change (get_or ss k d).change ∙ last_clear ss s apart k d lt
 
 module _ {D : Type 0} (held : D → Held) (refuses : D → Change → Type 0) (failed : D → ℕ) (done : List Step) (before : Held) where
-  -- these are still to be undone, and those stand
+  -- these are left to undo, and those remain assigned
   pub record IsAtUndo (undos : List Step) (standing : List ℕ) (device : D) : Type 0 where
     pub rest : List Step
     pub left : List Step

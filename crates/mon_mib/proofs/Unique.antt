@@ -73,7 +73,7 @@ one_object o q (i, in_i, is_o) (j, in_j, is_q) rest others same =
     (λ _ gt. absurd (at_places j i q o others rest gt in_i is_q is_o (sym same)))
 
 module _ (k : Known) where
-  -- a variable whose name is under an object is that object's, and its instance is what stands behind
+  -- a variable whose name is under an object is that object's, and its instance is what follows
   pub record IsAtRest (o : Object) (rest : List ℕ) (b : Binding) : Type 0 where
     pub instance : ℕ
     pub only : rest ≡ instance ∷ []
@@ -102,7 +102,7 @@ module _ (k : Known) where
       head_is : {i j : ℕ} → i ∷ [] ≡ j ∷ [] → i ≡ j
       head_is e = cc
 
-  -- ---- what follows a name, and what stands at it, is one thing
+  -- ---- what follows a name, and what is at it, is one thing
 
   pub one_next : (sees : List ℕ → Type 0) (x : List ℕ) (r s : Option Binding) → IsNext objects k sees x r → IsNext objects k sees x s → r ≡ s
   one_next sees x None None p q = refl

@@ -25,8 +25,8 @@ scalar_of Contact = SysContact
 scalar_of SystemName = SysName
 scalar_of Location = SysLocation
 
--- The change that a value asks for, of the object's variable of an instance. Where the status stays, so does its moment
--- (ifLastChange, RFC 2863 section 6).
+-- The change that a value asks for, of the object's variable of an instance. Where the status
+-- stays, so does the time of its change (ifLastChange, RFC 2863 section 6).
 abbrev pub IsChange : Known → Object → ℕ → Value → Change → Type 0
 IsChange k o i v (set.SysText which text) = (o ≡ served.Scalar (scalar_of which)) × (v ≡ ber.Octets text)
 IsChange k o i v (set.Admin index status since) = (o ≡ served.Column IfAdminStatus) × (index ≡ i) × (v ≡ ber.Integer (admin_number status))

@@ -44,8 +44,8 @@ module _ {D : Type 0} (held : D → Held) (refuses : D → Change → Type 0) wh
     pub is : failed.index ≡ number
     pub refused : Refused (changes done before) failed.change
 
-  -- Of the assignments that were made, some stand, those of the bindings of these numbers: of each the undoing was refused.
-  -- All else is as before.
+  -- Of the assignments that were made, some remain, those of the bindings of these numbers: of each
+  -- the undoing was refused. All else is as before.
   pub record IsLeft (done : List Step) (before after : Held) (standing : List ℕ) : Type 0 where
     pub left : List Step
     pub some : left ≢ []
@@ -79,7 +79,7 @@ failures_by_then Done count = count
 failures_by_then (CommitFailed failed) count = one_failure count
 failures_by_then (UndoFailed failed standing) count = failures_after standing.items (one_failure count)
 
--- the failures of the undoing alone
+-- only the failures of the undoing
 abbrev pub undo_failures : Commit → ℕ → ℕ
 undo_failures Done count = count
 undo_failures (CommitFailed failed) count = count

@@ -13,7 +13,7 @@ abbrev pub IsLeastInView : Held → (List ℕ → Type 0) → Object → Start �
 IsLeastInView held sees object start least =
     IsLeastOf (instances held object) (λ i. IsFrom start i × sees (prefix_of object ++ i ∷ [])) least
 
--- each of these gaps tells the least instance in view from its start on
+-- each of these gaps has as its end the least instance in view from its start on
 abbrev pub AreGaps : Held → (List ℕ → Type 0) → List Gap → Type 0
 AreGaps held sees gaps = All (λ g. IsLeastInView held sees g.object g.start g.least) gaps
 

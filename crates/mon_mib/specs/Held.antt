@@ -11,7 +11,7 @@ use Rattle.mon_mib.specs.declared.facts.IfText.{IfText}
 use Rattle.mon_mib.specs.declared.facts.IfText.TheVariants.{Descr, Phys, ShortName, Alias}
 
 -- The indexes of its interfaces, its texts, and of each interface its status, its alias, its other texts, and its numbers
--- at a moment. Texts of the device, statuses and aliases can be changed.
+-- at a time. Texts of the device, statuses and aliases can be changed.
 pub record Held : Type 0 where
   pub indexes : List ℕ
   pub sys_text : SysText → List ℕ
@@ -30,7 +30,7 @@ oper_of admin.Up = oper.Up
 oper_of admin.Down = oper.Down
 oper_of admin.Testing = oper.Testing
 
--- the facts of an interface at a moment
+-- the facts of an interface at a time
 abbrev pub facts_at : Held → ℕ → ℕ → Facts
 facts_at h i moment = record (h.numbers i moment) {
   admin = (h.status i).admin;
@@ -51,7 +51,7 @@ pub record AreIndexes (indexes : List ℕ) : Type 0 where
   pub positive : All (λ i. 1 ≤ i) indexes
   pub small : All (λ i. i < 2 ^ 31) indexes
 
--- above a number, or any where there is none
+-- above a number if one is given, else any
 abbrev pub IsAbove : Option ℕ → ℕ → Type 0
 IsAbove None i = Unit {0}
 IsAbove (Some after) i = after < i

@@ -1,4 +1,5 @@
--- What the agent knows at a moment, and the variables that it makes of it (RFC 3418, RFC 2863 section 6, RFC 3411 section 5).
+-- What the agent knows at a time, and the variables that it makes of it (RFC 3418, RFC 2863 section
+-- 6, RFC 3411 section 5).
 use Rattle.std.specs.Prelude.{ℕ, ◌+◌, ◌/◌, ◌%◌, ◌^◌, min, pos, List, [], ◌∷◌, ◌++◌, length, map}
 use Rattle.std.specs.List.{flat_map}
 use Rattle.mon_ber.specs.declared.value.Value.{Value}
@@ -20,14 +21,14 @@ use Rattle.mon_mib.specs.Held.{Held, facts_at, text_at}
 use Rattle.mon_mib.specs.Moment.{up_time, engine_time}
 use Rattle.mon_mib.specs.Status.{admin_number, oper_number}
 
--- settings, counters, and what the device holds, at a moment
+-- settings, counters, and what the device holds, at a time
 pub record Known : Type 0 where
   pub settings : Settings
   pub counters : Counters
   pub held : Held
   pub moment : ℕ
 
--- the same, of its parts
+-- what the agent knows, of settings, counters and what the device holds
 abbrev pub known_of : Settings → Counters → Held → ℕ → Known
 known_of settings counters held moment = record { settings = settings; counters = counters; held = held; moment = moment }
 

@@ -6,7 +6,7 @@ use Rattle.mon_mib.specs.declared.settings.Settings.{Settings}
 use Rattle.mon_mib.specs.Held.{Held}
 use Rattle.mon_mib.specs.Known.{Known, known_of}
 
--- what it serves as it was told at the start
+-- what it serves as it was given at the start
 abbrev pub map_settings : {D : Type 0} → Mib D → Settings
 map_settings map = map.settings
 
@@ -18,7 +18,7 @@ map_counters map = map.counters
 abbrev pub map_device : {D : Type 0} → Mib D → D
 map_device map = map.device
 
--- what it knows at a moment, by what its device holds
+-- what it knows at a time, by what its device holds
 abbrev pub known_by : {D : Type 0} → (D → Held) → Mib D → ℕ → Known
 known_by held map moment = known_of map.settings map.counters (held map.device) moment
 

@@ -1,4 +1,4 @@
--- Moments of an agent's life, in hundredths of a second since its start.
+-- Times of an agent's life, in hundredths of a second since its start.
 use Rattle.std.specs.Prelude.{ℕ, ◌<◌, ◌/◌, ◌%◌, ◌^◌}
 
 -- so early that the whole seconds are below 2^31 (snmpEngineTime, RFC 3411 section 5)

@@ -14,12 +14,12 @@ status_number WrongValue = pos 10
 status_number NoCreation = pos 11
 status_number NotWritable = pos 17
 
--- the number that a printed line gives a fault
+-- the number by which a printed line names a fault
 abbrev pub number_of : SetFault → ℕ
 number_of OutOfMemory = 1
 number_of (Refused status index) = 2
 
--- its name
+-- the name of a fault in a printed line
 abbrev pub name_of : SetFault → List ℕ
 name_of OutOfMemory = codes "OutOfMemory"
 name_of (Refused status index) = codes "Refused"

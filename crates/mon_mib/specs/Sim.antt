@@ -37,8 +37,8 @@ pub record IsPlaceOfIndex (interfaces : List Interface) (index place : ℕ) : Ty
 abbrev pub grown : Growth → ℕ → ℕ
 grown growth moment = (growth.start + growth.rate * engine_time moment) % 2 ^ 64
 
--- The facts of an interface at a moment: the operational status is the administrative one, octets and packets grow, and
--- nothing is discarded, wrong, unknown or discontinuous.
+-- The facts of an interface at a time: the operational status is the administrative one, octets and
+-- packets grow, and nothing is discarded, wrong, unknown or discontinuous.
 abbrev pub interface_facts : Interface → ℕ → Facts
 interface_facts p moment = record {
   kind = p.kind;
@@ -59,7 +59,7 @@ interface_facts p moment = record {
   discontinuity = 0;
 }
 
--- Its numbers, those of its status aside; what stands where there is no interface is asked by nobody.
+-- Its numbers, except those of its status; nobody asks for those of an absent interface.
 abbrev pub sim_facts : Option Interface → ℕ → Facts
 sim_facts (Some p) moment = record (interface_facts p moment) { admin = admin.Up; oper = oper.Up; last_change = 0 }
 sim_facts None moment = record {
@@ -87,7 +87,7 @@ sys_text_of texts Contact = texts.contact
 sys_text_of texts SystemName = texts.name
 sys_text_of texts Location = texts.location
 
--- the texts of an interface, none where there is none
+-- the texts of an interface, none if it is absent
 abbrev pub text_of : Option Interface → IfText → List ℕ
 text_of (Some p) Descr = p.descr
 text_of (Some p) Phys = p.phys
@@ -119,7 +119,7 @@ held_of sim = record {
   numbers = λ index moment. sim_facts (interface_at sim.interfaces index) moment;
 }
 
--- whether an index is above a number, or any where there is none
+-- whether an index is above a number if one is given, else any
 abbrev pub is_over : Option ℕ → ℕ → Bool
 is_over None index = true
 is_over (Some after) index = nat_lt after index

@@ -89,7 +89,7 @@ IsJudged k sees b (Ok c) = IsAccepted k sees b × IsAskedChange k b c
 IsJudged k sees b (Err OutOfMemory) = Unit {0}
 IsJudged k sees b (Err (Refused r)) = IsBindingRefused k sees b r
 
--- the same of the binding of a number
+-- the fault of the binding of a number
 abbrev pub fault_at : BindingFault → ℕ → SetFault
 fault_at OutOfMemory index = fault.OutOfMemory
 fault_at (Refused status) index = fault.Refused status index

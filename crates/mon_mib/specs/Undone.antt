@@ -19,6 +19,6 @@ module _ {D : Type 0} (held : D → Held) (refuses : D → Change → Type 0) (f
     pub failures : failed new ≡ one_failure (failed old)
     pub listed : after ≡ before ++ undo.index ∷ []
 
-  -- a change was undone, or it stands and is listed
+  -- a change was undone, or it remains and is listed
   abbrev pub IsUndoneOrStands : Step → D → D → List ℕ → List ℕ → Type 0
   IsUndoneOrStands undo old new before after = IsBack undo old new before after ⊎ IsListedStanding undo old new before after

@@ -5,7 +5,7 @@ ghost use Rattle.mon_mib.specs.Status.{admin_number};
 
 use crate::oper_status::OperStatus;
 
-/// The status that is wanted of an interface (ifAdminStatus, RFC 2863 section 6).
+/// The status that is asked of an interface (ifAdminStatus, RFC 2863 section 6).
 #[derive(Clone, Copy, Debug, PartialEq, Eq)]
 pub enum AdminStatus {
     /// Ready to pass packets.
@@ -17,14 +17,14 @@ pub enum AdminStatus {
 }
 
 impl AdminStatus {
-    /// The number that stands for it, 1 to 3.
+    /// The number that means it, 1 to 3.
     pub fn number(self) -> i32
         ensures { result ≡ admin_number self }
     {
         self as i32
     }
 
-    /// The operational status of an interface that does as it is told.
+    /// Returns the operational status of an interface that follows this status.
     pub fn oper(self) -> OperStatus
         ensures { result ≡ oper_of self }
     {
@@ -35,7 +35,7 @@ impl AdminStatus {
         }
     }
 
-    /// The status that a number stands for.
+    /// Returns the status that a number means.
     pub(crate) fn from_number(number: i32) -> Option<Self>
         ensures some { IfSome result (λ status. number ≡ admin_number status) }
         ensures none { IfNone result ((status : AnyStatus) → number ≢ admin_number status) }

@@ -18,7 +18,7 @@ pub(crate) enum BindingFault {
 }
 
 impl BindingFault {
-    /// The same of the binding of a number, counted from 1.
+    /// Returns the fault of the binding of a number, counted from 1.
     pub(crate) fn at(self, index: usize) -> SetFault
         ensures { result ≡ fault_at self index }
     {

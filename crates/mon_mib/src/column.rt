@@ -19,7 +19,7 @@ pub enum Column {
     IfSpeed,
     /// ifPhysAddress: its address below the network layer.
     IfPhysAddress,
-    /// ifAdminStatus: the status that is wanted.
+    /// ifAdminStatus: the status that is asked for.
     IfAdminStatus,
     /// ifOperStatus: the status that it is in.
     IfOperStatus,
@@ -97,7 +97,7 @@ impl Column {
         }
     }
 
-    /// Whether a Set may change its variables (MAX-ACCESS, RFC 2578 section 7.3).
+    /// Returns `true` if a Set may change its variables (MAX-ACCESS, RFC 2578 section 7.3).
     pub fn access(self) -> MaxAccess
         ensures { result ≡ column_access self }
     {

@@ -23,7 +23,7 @@ pub enum Commit {
     UndoFailed {
         /// The number of the binding whose assignment failed.
         failed: usize,
-        /// The numbers of the bindings that stand, the last assigned first.
+        /// The numbers of the bindings that remain assigned, the last assigned first.
         standing: Vec<usize>,
     },
 }
@@ -48,7 +48,7 @@ pub(crate) fn assign_all<D: Device>(device: &mut D, plan: SetPlan) -> Commit
     Commit::Done
 }
 
-/// Assigns, and keeps what undoes it. Where that fails the binding's number is told.
+/// Assigns, and keeps what undoes it. If that fails, the binding's number is returned.
 fn assign_one<D: Device>(device: &mut D, step: Step, undos: &mut Vec<Step>) -> Result<(), usize>
     requires { vec_len undos.old < vec_capacity undos.old }
     ensures made { OnOk result (D.held device.new ≡ changed step.change (D.held device.old)) }

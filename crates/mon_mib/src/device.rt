@@ -10,7 +10,7 @@ use crate::moment::Moment;
 
 /// A device with interfaces, whose indexes stay the same (ifIndex, RFC 2863 section 6), and of which some things can be changed.
 pub trait Device {
-    /// What it holds: texts, the indexes of its interfaces, and the facts of each at every moment.
+    /// What it holds: texts, the indexes of its interfaces, and the facts of each at every time.
     ghost held: { Self → Held };
 
     /// How many changes it has failed to make, at most 2^64 - 1.
@@ -28,7 +28,7 @@ pub trait Device {
         ensures least { IsLeastOf (held self.now).indexes (IsAbove after) result }
         ensures indexes { AreIndexes (held self.now).indexes };
 
-    /// The numbers of an interface at a moment, or None for an index that the device lacks.
+    /// Returns the numbers of an interface at a time, or `None` for an index that the device lacks.
     fn facts(&self, index: u32, moment: Moment) -> Option<Facts>
         ensures there { Contains (held self.now).indexes index → result ≡ Some (facts_at (held self.now) index moment) }
         ensures found { IfSome result (λ _. Contains (held self.now).indexes index) }
@@ -39,8 +39,9 @@ pub trait Device {
         ensures there { Contains (held self.now).indexes index → result.now ≡ text_at (held self.now) index which }
         ensures lacking { ¬ (Contains (held self.now).indexes index) → result.now ≡ [] };
 
-    /// Makes a change, and gives the one that undoes it. A change that fails leaves everything, and is counted.
-    /// One of an interface that the device lacks fails. It takes no memory: texts are moved in and out.
+    /// Makes a change, and returns the one that undoes it. A change that fails leaves everything,
+    /// and is counted. One of an interface that the device lacks fails. It allocates nothing: texts
+    /// are moved in and out.
     fn apply(&mut self, change: Change) -> Result<Change, DeviceFault>
         ensures made { OnOk result (held self.new ≡ changed change (held self.old)) }
         ensures undo { IfOk result (λ undo. undo ≡ undoing change (held self.old)) }

@@ -1,4 +1,4 @@
-//! What a device tells of itself and of its interfaces.
+//! What a device says of itself and of its interfaces.
 
 use crate::admin_status::AdminStatus;
 use crate::oper_status::OperStatus;
@@ -27,7 +27,7 @@ pub enum IfText {
     Alias,
 }
 
-/// The numbers of an interface at a moment (ifTable and ifXTable, RFC 2863 section 6).
+/// The numbers of an interface at a time (ifTable and ifXTable, RFC 2863 section 6).
 #[derive(Clone, Copy, Debug, PartialEq, Eq)]
 pub struct Facts {
     /// ifType, a number of IANAifType.

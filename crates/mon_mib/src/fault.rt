@@ -3,7 +3,8 @@ ghost use Rattle.mon_mib.specs.DeviceFault.{number_of, name_of};
 
 use thiserror::Error;
 
-/// Why there is no simulated device, or why a device did not make a change. What answers it takes no memory, so none is want of it.
+/// Why there is no simulated device, or why a device did not make a change. What answers it
+/// allocates nothing, so memory never runs out.
 #[derive(Clone, Copy, Debug, PartialEq, Eq, Error)]
 pub enum DeviceFault {
     /// The indexes do not rise strictly, or are not 1 to 2147483647, or the device lacks the index.
@@ -15,14 +16,14 @@ pub enum DeviceFault {
 }
 
 impl DeviceFault {
-    /// The number that a printed line gives the fault.
+    /// Returns the number by which a printed line names the fault.
     pub fn number(self) -> u8
         ensures { result ≡ number_of self }
     {
         self as u8
     }
 
-    /// The name that a printed line gives the fault.
+    /// Returns the name of the fault in a printed line.
     pub fn name(self) -> &'static str
         ensures { result.now ≡ name_of self }
     {

@@ -1,4 +1,4 @@
-//! A device that fails when it is told to.
+//! A device that fails when a test asks it to.
 
 ghost use Rattle.std.specs.Prelude.{◌≡◌, ◌+◌, ◌-◌, ◌^◌, min, ◌⊎◌, IsTrue, ◌↔◌, IfOk, OnOk, OnErr};
 ghost use Rattle.mon_mib.specs.Change.{changed, undoing, IsOf, one_failure, all_failures};
@@ -61,7 +61,7 @@ impl<D: Device + Drop> Device for FuseDevice<D> {
         self.device.text(index, which)
     }
 
-    /// As the other device's, but for the changes that are to fail. Each is counted.
+    /// Changes as the other device does, except the changes that must fail. Each is counted.
     fn apply(&mut self, change: Change) -> Result<Change, DeviceFault>
         ensures made { OnOk result (D.held self.new.device ≡ changed change (D.held self.old.device)) }
         ensures undo { IfOk result (λ undo. undo ≡ undoing change (D.held self.old.device)) }
@@ -90,7 +90,7 @@ impl<D: Device + Drop> Device for FuseDevice<D> {
     }
 }
 
-/// Whether the fuse of a change is blown.
+/// Returns `true` if the fuse of a change is blown.
 fn is_blown(fuses: u64, number: u64) -> bool
     ensures { IsTrue result ↔ IsBlown fuses number }
 {

@@ -19,7 +19,8 @@ pub(crate) struct Gap {
 impl Gap {
     ghost use Rattle.mon_mib.specs.Gaps.{Covers};
 
-    /// Whether the object's instances from a start on begin in the gap. Then the gap's end is the least of them in view too.
+    /// Returns `true` if the object's instances from a start on begin in the gap. Then the gap's
+    /// end is the least of them in view too.
     fn covers(&self, object: Object, start: Start) -> bool
         ensures { IsTrue result → Covers object start self.now }
     {
@@ -27,7 +28,7 @@ impl Gap {
     }
 }
 
-/// Whether the end of a gap, if there is one, is from a start on.
+/// Returns `true` if the end of a gap, if there is one, is from a start on.
 fn has_end(start: Start, end: Option<u32>) -> bool
     ensures { IsTrue result → IfSome end (IsFrom start) }
 {

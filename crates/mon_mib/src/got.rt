@@ -1,6 +1,6 @@
 use mon_ber::Value;
 
-/// What stands at a name (RFC 3416 section 4.2.1).
+/// What is at a name (RFC 3416 section 4.2.1).
 #[derive(Debug, Drop, PartialEq, Eq)]
 pub enum Got {
     /// A variable with this value.

@@ -17,7 +17,7 @@ pub struct Growth {
 }
 
 impl Growth {
-    /// The count at a moment: `start + rate * seconds`, modulo 2^64.
+    /// Returns the count at a time: `start + rate * seconds`, modulo 2^64.
     pub fn at(self, moment: Moment) -> u64
         ensures { result ≡ grown self moment }
     {
@@ -58,7 +58,7 @@ pub struct Interface {
 }
 
 impl Interface {
-    /// Its numbers at a moment. It discards nothing.
+    /// Returns its numbers at a time. It discards nothing.
     pub(crate) fn facts(&self, moment: Moment) -> Facts
         ensures { result ≡ interface_facts self.now moment }
     {

@@ -27,8 +27,8 @@ pub fn apart()
     ensures { (p q rest others : List ℕ) → IsTrue (is_before p q) → name_cmp (p ++ rest) (q ++ others) ≡ Less }
 {}
 
-/// The served objects stand in the order of their names, and none's name begins another's: each name under an object
-/// comes before each name under a later one.
+/// The served objects are in the order of their names, and none's name begins another's: each name
+/// under an object comes before each name under a later one.
 pub fn objects_rise()
     ensures { AllPairs (λ o q. (rest others : List ℕ) → name_cmp (prefix_of o ++ rest) (prefix_of q ++ others) ≡ Less) objects }
 {}
@@ -48,12 +48,12 @@ pub fn one_variable()
     ensures { (k : Known) (a b : Binding) → IsVariable objects k a → IsVariable objects k b → a.name ≡ b.name → a ≡ b }
 {}
 
-/// One answer alone is right for Get of a name.
+/// Only one answer is right for Get of a name.
 pub fn one_got()
     ensures { (k : Known) (x : List ℕ) (r s : AnyGot) → IsGot k x r → IsGot k x s → r ≡ s }
 {}
 
-/// One answer alone is right for the successor of a name.
+/// Only one answer is right for the successor of a name.
 pub fn one_next()
     ensures { (k : Known) (families : List Family) (view x : List ℕ) (r s : Option Binding)
         → IsNext objects k (IsInView families view) x r → IsNext objects k (IsInView families view) x s → r ≡ s }

@@ -31,7 +31,7 @@ use std::alloc::{AllocError, Global};
 /// The agent's map of variables: settings, counters, and a device.
 #[derive(Drop)]
 pub struct Mib<D: Drop> {
-    /// What is served as it was told at the start.
+    /// What is served as it was given at the start.
     settings: Settings,
     /// What the agent has counted.
     counters: Counters,
@@ -55,7 +55,7 @@ impl<D: Device + Drop> Mib<D> {
         }
     }
 
-    /// What is served as it was told at the start.
+    /// Returns what is served as it was given at the start.
     pub fn settings(&self) -> &Settings
         ensures { result.now ≡ map_settings self.now }
     {
@@ -90,8 +90,9 @@ impl<D: Device + Drop> Mib<D> {
         self.counters = counters;
     }
 
-    /// What stands at a name at a moment: the value of the variable of that name, `NoObject` where the name is under no
-    /// served object, else `NoInstance` (RFC 3416 section 4.2.1). It takes memory for octets and long identifiers alone.
+    /// Returns what is at a name at a time: the value of the variable of that name, `NoObject` if
+    /// the name is under no served object, else `NoInstance` (RFC 3416 section 4.2.1). It allocates
+    /// only for octets and long identifiers.
     pub fn get(&self, alloc: Global, name: &Oid, moment: Moment) -> Result<Got, AllocError>
         ensures { let known = known_by D.held self.now moment in
             IfOk result (IsGot known name.now) }
@@ -108,8 +109,9 @@ impl<D: Device + Drop> Mib<D> {
         })
     }
 
-    /// The least variable in view that exceeds a name at a moment, or None where there is none (RFC 3416 section 4.2.2).
-    /// It asks the device for the least index of each object on, and makes no list.
+    /// Returns the least variable in view that exceeds a name at a time, or `None` if there is none
+    /// (RFC 3416 section 4.2.2). It asks the device for the least index of each object on, and
+    /// makes no list.
     pub fn next(
         &self,
         alloc: Global,
@@ -125,8 +127,8 @@ impl<D: Device + Drop> Mib<D> {
         self.next_past(alloc, &mut gaps, policy, access, name, moment)
     }
 
-    /// The same, with the gaps that earlier searches in this view found, to which its own are added. So of many searches
-    /// each variable that the view hides is tried once.
+    /// Searches as `next` does, with the gaps that earlier searches in this view found, to which
+    /// its own are added. So of many searches each variable that the view hides is tried once.
     pub fn next_past(
         &self,
         alloc: Global,
@@ -256,7 +258,8 @@ impl<D: Device + Drop> Mib<D> {
         }
     }
 
-    /// The value of the variable of an object and an instance, or None where there is no such variable.
+    /// Returns the value of the variable of an object and an instance, or `None` if there is no
+    /// such variable.
     #[tactic(auto, unfolding(crate::specs::Known::variable_value))]
     fn value(
         &self,
@@ -372,7 +375,7 @@ impl<D: Device + Drop> Mib<D> {
     }
 }
 
-/// The served object that a name is under, and what of the name stands after the object's own.
+/// Returns the served object that a name is under, and what of the name follows the object's own.
 pub(crate) fn find_object(name: &[u32]) -> Option<(Object, &[u32])>
     ensures some { IfSome result (λ found. Contains objects found.0 × (name.now ≡ prefix_of found.0 ++ found.1.now)) }
     ensures none { IfNone result (¬ (IsServedName name.now)) }

@@ -3,8 +3,8 @@ ghost use Rattle.mon_mib.specs.Moment.{IsMoment, up_time, engine_time};
 
 use std::marker::Model;
 
-/// A moment in the life of an agent: hundredths of a second since its start, below 214748364800, so that the whole
-/// seconds are a snmpEngineTime (RFC 3411 section 5). Contracts see the number.
+/// A time in the life of an agent: hundredths of a second since its start, below 214748364800, so
+/// that the whole seconds are a snmpEngineTime (RFC 3411 section 5). Contracts see the number.
 #[derive(Clone, Copy, Debug, PartialEq, Eq)]
 pub struct Moment {
     hundredths: u64,
@@ -24,10 +24,11 @@ impl Model for Moment {
 }
 
 impl Moment {
-    /// The first number of hundredths of a second that is no moment: 2^31 seconds.
+    /// The first number of hundredths of a second that is too great: 2^31 seconds.
     const END: u64 = 214_748_364_800;
 
-    /// The moment this many hundredths of a second after the start, or None where they are 2^31 seconds or more.
+    /// Returns the time this many hundredths of a second after the start, or `None` if they are
+    /// 2^31 seconds or more.
     pub fn new(hundredths: u64) -> Option<Moment>
         ensures value { IfSome result (λ moment. moment ≡ hundredths) }
         ensures exact { IsSome result ↔ IsMoment hundredths }

@@ -86,7 +86,7 @@ impl Object {
         }
     }
 
-    /// Whether a Set may change its variables (MAX-ACCESS, RFC 2578 section 7.3).
+    /// Returns `true` if a Set may change its variables (MAX-ACCESS, RFC 2578 section 7.3).
     pub fn access(self) -> MaxAccess
         ensures { result ≡ max_access_of self }
     {

@@ -10,7 +10,7 @@ pub enum OperStatus {
     Down = 2,
     /// In a test mode.
     Testing = 3,
-    /// It can't be told.
+    /// It isn't known.
     Unknown = 4,
     /// Waiting for some event.
     Dormant = 5,
@@ -21,7 +21,7 @@ pub enum OperStatus {
 }
 
 impl OperStatus {
-    /// The number that stands for it, 1 to 7.
+    /// The number that means it, 1 to 7.
     pub fn number(self) -> i32
         ensures { result ≡ oper_number self }
     {

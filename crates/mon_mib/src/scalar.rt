@@ -17,7 +17,7 @@ pub enum Scalar {
     SysContact,
     /// sysName: the node's name, 0 to 255 octets (RFC 3418).
     SysName,
-    /// sysLocation: where the node stands, 0 to 255 octets (RFC 3418).
+    /// sysLocation: where the node is, 0 to 255 octets (RFC 3418).
     SysLocation,
     /// sysServices: the layers that it serves, 0 to 127 (RFC 3418).
     SysServices,
@@ -70,7 +70,7 @@ impl Scalar {
         }
     }
 
-    /// Whether a Set may change its variables (MAX-ACCESS, RFC 2578 section 7.3).
+    /// Returns `true` if a Set may change its variables (MAX-ACCESS, RFC 2578 section 7.3).
     pub fn access(self) -> MaxAccess
         ensures { result ≡ scalar_access self }
     {

@@ -25,7 +25,7 @@ pub enum SetFault {
 }
 
 impl SetFault {
-    /// The number that a printed line gives the fault.
+    /// Returns the number by which a printed line names the fault.
     pub fn number(self) -> u8
         ensures { result ≡ number_of self }
     {
@@ -35,7 +35,7 @@ impl SetFault {
         }
     }
 
-    /// The name that a printed line gives the fault.
+    /// Returns the name of the fault in a printed line.
     pub fn name(self) -> &'static str
         ensures { result.now ≡ name_of self }
     {

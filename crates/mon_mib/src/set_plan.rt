@@ -9,8 +9,8 @@ use std::alloc::Global;
 use std::collections::VecDeque;
 use std::marker::Model;
 
-/// The assignments of a Set in their order, with the new texts, and the room for undoing them. No two change the same thing.
-/// Contracts see the list of the assignments.
+/// The assignments of a Set in their order, with the new texts, and the capacity for undoing them.
+/// No two change the same thing. Contracts see the list of the assignments.
 #[derive(Drop)]
 pub struct SetPlan {
     pub(crate) steps: VecDeque<Step>,

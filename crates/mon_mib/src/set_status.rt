@@ -21,7 +21,7 @@ pub enum SetStatus {
 }
 
 impl SetStatus {
-    /// The number that stands for it in a Response-PDU (error-status, RFC 3416 section 3).
+    /// The number that means it in a Response-PDU (error-status, RFC 3416 section 3).
     pub fn number(self) -> i32
         ensures { result ≡ status_number self }
     {

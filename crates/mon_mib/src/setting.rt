@@ -43,9 +43,10 @@ impl<D: Device + Drop> Mib<D> {
     ghost use Rattle.mon_mib.specs.Map.{known_by, map_counters, map_device, map_settings};
 
     /// What a Set of these bindings is to assign, or the first of its bindings that is refused (RFC 3416 section 4.2.5).
-    /// For each binding in order: `NoAccess` for a name outside the view, `NotWritable` for one under no object that a Set may
-    /// change, `WrongType`, `WrongLength` and `WrongValue` for the value, `NoCreation` for a name with no such instance.
-    /// Of several bindings of one name the last alone is assigned. The plan owns the new texts and the room for undoing.
+    /// For each binding in order: `NoAccess` for a name outside the view, `NotWritable` for one
+    /// under no object that a Set may change, `WrongType`, `WrongLength` and `WrongValue` for the
+    /// value, `NoCreation` for a name with no such instance. Of several bindings of one name only
+    /// the last is assigned. The plan owns the new texts and the capacity for undoing.
     pub fn test_set(
         &self,
         alloc: Global,
@@ -72,8 +73,9 @@ impl<D: Device + Drop> Mib<D> {
         SetPlan::new(alloc, steps)
     }
 
-    /// Makes the assignments of a plan in their order. Where one fails, all earlier ones are undone, the last first. Where an
-    /// undoing fails too, the others are still undone. It takes no memory: the plan has the room.
+    /// Makes the assignments of a plan in their order. If one fails, all earlier ones are undone,
+    /// the last first. If an undoing fails too, the others are still undone. It allocates nothing:
+    /// the plan has the capacity.
     pub fn commit(&mut self, plan: SetPlan) -> Commit
         ensures outcome { IsCommitted D.held D.refuses plan (D.held (map_device self.old)) (D.held (map_device self.new)) result }
         ensures failures { D.failed (map_device self.new) ≡ failures_by_then result (D.failed (map_device self.old)) }
@@ -148,7 +150,8 @@ impl<D: Device + Drop> Mib<D> {
         Ok(Change::SysText(which, Octets::from_slice(alloc, text)?))
     }
 
-    /// The same of an ifAdminStatus. Where the status stays, so does its moment.
+    /// Plans the assignment of an ifAdminStatus. Where the status stays, so does the time of its
+    /// change.
     fn assign_status(
         &self,
         rest: &[u32],
@@ -172,7 +175,7 @@ impl<D: Device + Drop> Mib<D> {
         })
     }
 
-    /// The same of an ifAlias.
+    /// Plans the assignment of an ifAlias.
     fn assign_alias(
         &self,
         alloc: Global,
@@ -188,7 +191,7 @@ impl<D: Device + Drop> Mib<D> {
         Ok(Change::Alias(index, Octets::from_slice(alloc, text)?))
     }
 
-    /// The interface whose index alone these numbers are, and its facts.
+    /// Returns the interface whose index is all of these numbers, and its facts.
     fn row(&self, rest: &[u32], moment: Moment) -> Result<(u32, Facts), SetStatus>
         ensures found { IfOk result (λ row. (rest.now ≡ row.0 ∷ []) × Contains (D.held (map_device self.now)).indexes row.0) }
         ensures facts { IfOk result (λ row. row.1 ≡ facts_at (D.held (map_device self.now)) row.0 moment) }
@@ -205,7 +208,8 @@ impl<D: Device + Drop> Mib<D> {
     }
 }
 
-/// The object that a Set may change and that a name is under, and what of the name stands after the object's own.
+/// Returns the object that a Set may change and that a name is under, and what of the name follows
+/// the object's own.
 fn find_writable(name: &[u32]) -> Option<(Writable, &[u32])>
     ensures some { IfSome result (λ found. (name.now ≡ prefix_of (object_of found.0) ++ found.1.now) × IsWritable name.now (object_of found.0)) }
     ensures none { IfNone result ((o : AnyObject) → IsWritable name.now o → ⊥) }
@@ -214,7 +218,7 @@ fn find_writable(name: &[u32]) -> Option<(Writable, &[u32])>
     Some((object.writable()?, rest))
 }
 
-/// Whether one of the bindings has a name.
+/// Returns `true` if one of the bindings has a name.
 fn is_named(bindings: &[Binding], name: &Oid) -> bool
     ensures { IsTrue result ↔ Any (λ b. b.name ≡ name.now) bindings.now }
 {

@@ -1,7 +1,7 @@
 use mon_ber::Octets;
 use mon_oid::Oid;
 
-/// What the agent is told at its start, and serves as it is.
+/// What the agent is given at its start, and serves as it is.
 #[derive(Debug, Drop)]
 pub struct Settings {
     /// sysDescr (RFC 3418 section 2).

@@ -182,7 +182,7 @@ fn is_above(after: Option<u32>, index: u32) -> bool
     }
 }
 
-/// Whether the indexes rise strictly from 1 to 2147483647.
+/// Returns `true` if the indexes rise strictly from 1 to 2147483647.
 fn are_indexes(interfaces: &[Interface]) -> bool
     ensures { IsTrue result ↔ AreIndexes (indexes_of interfaces.now) }
 {

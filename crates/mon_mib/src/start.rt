@@ -15,7 +15,7 @@ pub(crate) enum Start {
 impl Start {
     ghost use Rattle.mon_mib.specs.Order.{IsFrom};
 
-    /// Whether all instances from here on are also from another start on.
+    /// Returns `true` if all instances from here on are also from another start on.
     pub(crate) fn is_after(self, other: Start) -> bool
         ensures { IsTrue result → (i : ℕ) → IsFrom self i → IsFrom other i }
     {
@@ -26,7 +26,7 @@ impl Start {
         }
     }
 
-    /// Whether an instance is from here on.
+    /// Returns `true` if an instance is from here on.
     pub(crate) fn has(self, instance: u32) -> bool
         ensures { IsTrue result ↔ IsFrom self instance }
     {

@@ -1,4 +1,4 @@
-//! The administrative status of an interface, with the moment at which it was set.
+//! The administrative status of an interface, with the time at which it was set.
 
 ghost use Rattle.std.specs.Prelude.{◌≡◌};
 ghost use Rattle.mon_mib.specs.Held.{at_start};

@@ -36,7 +36,7 @@ pub(crate) fn read_text(value: &Value, longest: usize) -> Result<&[u8], SetStatu
     Ok(text)
 }
 
-/// The administrative status that a value stands for.
+/// Returns the administrative status that a value means.
 pub(crate) fn read_status(value: &Value) -> Result<AdminStatus, SetStatus>
     ensures status { IfOk result (λ status. value.now ≡ ber.Integer (admin_number status)) }
     ensures refused { IfErr result (IsBadStatus value.now) }

@@ -87,7 +87,7 @@ impl Oid {
         self.parts.as_slice()
     }
 
-    /// Whether the other identifier begins with all of this one's sub-identifiers.
+    /// Returns `true` if the other identifier begins with all of this one's sub-identifiers.
     pub fn is_prefix_of(&self, other: &Oid) -> bool
         ensures { IsTrue result ↔ IsPrefix self.now other.now }
     {
@@ -117,7 +117,7 @@ impl Oid {
         Ok(text)
     }
 
-    /// An equal identifier. It takes heap memory beyond 16 sub-identifiers alone.
+    /// Copies the identifier. It allocates only beyond 16 sub-identifiers.
     pub fn try_clone(&self, alloc: Global) -> Result<Self, AllocError>
         ensures equal { IfOk result (λ oid. oid ≡ self.now) }
         ensures inline { length self.now ≤ 16 → IsOk result }

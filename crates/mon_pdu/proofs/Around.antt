@@ -40,7 +40,7 @@ inside_fits m list h = (
   omega (arith, message_total m list, size_longer (length (contents_of_body m.body list)), body_total m.body list, size_longer (length list), h),
 )
 
--- around the octets of bindings stands the body with these bindings
+-- around the octets of bindings is the body with these bindings
 pub body_is : (body : Body) (bindings : List Binding) → written_body (body_with body bindings) ≡ body_around body (list_contents bindings)
 unfolding written_body written_list body_around
 body_is (Pdu p) bindings = refl

@@ -27,7 +27,7 @@ use Rattle.mon_pdu.specs.Framed.{Held, framed, held, IsPduFrame, BeginsWithFrame
 use Rattle.mon_pdu.proofs.Messages.{Parts, kind_is, kind_again}
 use Rattle.mon_pdu.proofs.Whole.{IsRead, is_one_true}
 
--- where reading gives a value, a call that takes no memory gave one
+-- where reading yields a value, a call that allocates nothing yielded one
 pub is_given : {X Y : Type 0} (view : X → Y) (r : Result X BerFault) (read : Result Y BerFault) (y : Y) → r ≢ Err OutOfMemory → Gives view r read → read ≡ Ok y → IsSome (result_ok r)
 is_given view (Ok x) read y enough given is = refl
 is_given view (Err OutOfMemory) read y enough given is = absurd (enough refl)
@@ -48,7 +48,7 @@ nothing_left bytes x y e =
 abbrev Fields : Type 0
 Fields = ℤ × ℤ × ℤ × List ℕ
 
--- the contents of a PDU but for its variable bindings
+-- the contents of a PDU except its variable bindings
 record AreFields (contents : List ℕ) (f : Fields) : Type 0 where
   first : List ℕ
   second : List ℕ
@@ -60,7 +60,7 @@ record AreFields (contents : List ℕ) (f : Fields) : Type 0 where
   spelled_third : Spells third (Integer f.2)
   spelled_list : IsElement 0x30 f.3 list
 
--- what is read are the contents of a PDU but for its variable bindings
+-- what is read are the contents of a PDU except its variable bindings
 fields_take : (contents : List ℕ) (f : Fields) → IsBytes contents → fields_of contents ≡ Ok f → AreFields contents f
 unfolding fields_of
 fields_take contents f fits e =
@@ -141,7 +141,7 @@ body_takes bytes community kind h fits begins e =
     subst (λ (g : Held). (g.0 ≡ community) × IsPduFrame bytes g) same
     (refl, record { first = p.first; second = p.second; third = p.third; list = p.list; element = subst (λ (w : List ℕ). IsElement (octet_of kind.0) w bytes) p.whole shape; spelled_first = p.spelled_first; spelled_second = p.spelled_second; spelled_third = p.spelled_third; spelled_list = p.spelled_list })
 
--- the contents of a message but for its variable bindings
+-- the contents of a message except its variable bindings
 record AreContents (contents : List ℕ) (h : Held) : Type 0 where
   version : List ℕ
   community : List ℕ
@@ -303,7 +303,7 @@ pub some_given : {X Y : Type 0} (view : X → Y) (r : Result X BerFault) (read :
 some_given view (Ok z) read x is given = (let same : z ≡ x = cc in given ∙ ap (λ (w : _). Ok (view w)) same)
 some_given view (Err e) read x is given = absurd cc
 
--- where a call that took no memory gave none, reading gives none
+-- where a call that allocates nothing yielded none, reading yields none
 pub none_given : {X Y : Type 0} (view : X → Y) (r : Result X BerFault) (read : Result Y BerFault) (y : Y) → None ≡ result_ok r → r ≢ Err OutOfMemory → Gives view r read → read ≡ Ok y → ⊥
 none_given view (Ok x) read y is enough given read_is = absurd cc
 none_given view (Err e) read y is enough given read_is = (let some = is_given view (Err e) read y enough given read_is in absurd cc)

@@ -16,7 +16,7 @@ use Rattle.mon_pdu.specs.Sizes.{body_with, with_bindings, with_error}
 use Rattle.mon_pdu.specs.Writing.{binding_contents, written_binding, list_contents, leading_integers, body_contents, message_contents, written_message}
 use Rattle.mon_pdu.proofs.Lengths.{body_total, message_total, message_length, binding_length, flat_length, numbers_total}
 
--- the variable bindings stand behind the numbers, which stay
+-- the variable bindings come after the numbers, which stay
 pub body_size : (body : Body) (bindings : List Binding)
     → length (body_contents (body_with body bindings)) ≡ length (leading_integers body) + size_for (length (list_contents bindings))
 body_size (Pdu p) bindings = body_total (body_with (Pdu p) bindings)

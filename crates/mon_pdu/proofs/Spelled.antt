@@ -19,7 +19,7 @@ use Rattle.mon_pdu.specs.Writing.{binding_contents, written_binding, list_conten
 use Rattle.mon_pdu.proofs.Lengths.{binding_length, binding_total, numbers_total, message_total, list_fits, body_fits, flat_length}
 use Rattle.mon_pdu.proofs.Whole.{message_again}
 
--- a value within so many octets has a length
+-- a value of at most n octets has a length
 within : (v : Value) (n : ℕ) → length (written v) ≤ n → n < 2 ^ 32 → length (contents_of v) < 2 ^ 32
 within v n le lt = omega (arith, written_size v, size_longer (length (contents_of v)), le, lt)
 

@@ -337,7 +337,7 @@ one_meaning text more m n is whole =
     let again : message_at (text ++ more) ≡ Ok n = ap message_at (sym (append-nil (text ++ more))) ∙ message_again (text ++ more) n [] whole in
     (same.1, ok_is {E = PduFault} m n (sym read ∙ again))
 
--- a fault that is not want of memory is the one that reading gives
+-- a fault other than out of memory is the one that reading yields
 pub is_told : (r : Result Message PduFault) (e : PduFault) → r ≢ Err OutOfMemory → Gives (λ m. m) r (Err e) → r ≡ Err e
 is_told (Ok m) e enough given = absurd cc
 is_told (Err OutOfMemory) e enough given = absurd (enough refl)

@@ -14,7 +14,7 @@ pdu_fault ber.BadLength = pdu.BadLength
 pdu_fault ber.OutOfRange = pdu.OutOfRange
 pdu_fault ber.BadOid = pdu.BadOid
 
--- the number that a printed line gives a fault
+-- the number by which a printed line names a fault
 abbrev pub number_of : PduFault → ℕ
 number_of pdu.OutOfMemory = 1
 number_of pdu.Truncated = 2
@@ -25,7 +25,7 @@ number_of pdu.BadOid = 6
 number_of (pdu.BadVersion v) = 7
 number_of (pdu.UnknownPdu t) = 8
 
--- the name that a printed line gives a fault
+-- the name of a fault in a printed line
 abbrev pub name_of : PduFault → List ℕ
 name_of pdu.OutOfMemory = codes "OutOfMemory"
 name_of pdu.Truncated = codes "Truncated"

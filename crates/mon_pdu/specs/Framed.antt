@@ -29,8 +29,8 @@ Held = List ℕ × PduKind × ℤ × ℤ × ℤ × List ℕ
 abbrev pub held : Frame → Held
 held f = (f.community.now, f.kind, f.request_id, f.error_status, f.error_index, f.list.now)
 
--- A PDU but for its variable bindings: an element with its tag, of the three INTEGERs and a SEQUENCE of the octets that are held, whatever these spell,
--- and of nothing else (RFC 3416 section 3).
+-- A PDU except its variable bindings: an element with its tag, of the three INTEGERs and a SEQUENCE
+-- of the octets that are held, whatever these spell, and of nothing else (RFC 3416 section 3).
 pub record IsPduFrame (bytes : List ℕ) (h : Held) : Type 0 where
   pub first : List ℕ
   pub second : List ℕ
@@ -42,7 +42,8 @@ pub record IsPduFrame (bytes : List ℕ) (h : Held) : Type 0 where
   pub spelled_third : Spells third (Integer h.4)
   pub spelled_list : IsElement 0x30 h.5 list
 
--- A message but for its variable bindings: a SEQUENCE of the version 1, the community and such a PDU, and of nothing else (RFC 1901 section 3).
+-- A message except its variable bindings: a SEQUENCE of the version 1, the community and such a
+-- PDU, and of nothing else (RFC 1901 section 3).
 pub record IsFrame (bytes : List ℕ) (h : Held) : Type 0 where
   pub version : List ℕ
   pub community : List ℕ
@@ -52,7 +53,8 @@ pub record IsFrame (bytes : List ℕ) (h : Held) : Type 0 where
   pub spelled_community : Spells community (Octets h.0)
   pub spelled_pdu : IsPduFrame pdu h
 
--- The octets begin with a message but for its variable bindings, which holds this; what follows it is passed over.
+-- The octets begin with a message except its variable bindings, which holds this; what follows it
+-- is passed over.
 pub record BeginsWithFrame (bytes : List ℕ) (h : Held) : Type 0 where
   pub text : List ℕ
   pub rest : List ℕ

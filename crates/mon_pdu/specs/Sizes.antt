@@ -1,4 +1,4 @@
--- Messages that differ in their variable bindings alone, or in their error alone.
+-- Messages that differ only in their variable bindings, or only in their error.
 use Rattle.std.specs.Prelude.{ℕ, ℤ, List}
 use Rattle.mon_pdu.specs.declared.message.Binding.{Binding}
 use Rattle.mon_pdu.specs.declared.message.Body.{Body}
@@ -6,12 +6,12 @@ use Rattle.mon_pdu.specs.declared.message.Body.TheVariants.{Pdu, Bulk}
 use Rattle.mon_pdu.specs.declared.message.Message.{Message}
 use Rattle.mon_pdu.specs.declared.message.Pdu.{Pdu as AnyPdu}
 
--- the same PDU with these variable bindings
+-- a PDU with other variable bindings
 abbrev pub body_with : Body → List Binding → Body
 body_with (Pdu p) bindings = Pdu (record p { bindings = bindings })
 body_with (Bulk p) bindings = Bulk (record p { bindings = bindings })
 
--- the same message with these variable bindings
+-- a message with other variable bindings
 abbrev pub with_bindings : Message → List Binding → Message
 with_bindings m bindings = record m { body = body_with m.body bindings }
 

@@ -11,13 +11,13 @@ use thiserror::Error;
 /// Why a message could not be read or written, in the order of the faults' numbers.
 #[derive(Clone, Copy, Debug, PartialEq, Eq, Error)]
 pub enum PduFault {
-    /// No memory was left. Every other fault is told by the octets or the message alone.
+    /// Memory ran out. Every other fault follows from the octets or the message only.
     #[error("out of memory")]
     OutOfMemory,
     /// The octets end within an element.
     #[error("the octets end too early")]
     Truncated,
-    /// An element has another tag than the one that stands there in a message.
+    /// An element has another tag than a message has at this place.
     #[error("another tag was expected")]
     BadTag,
     /// A length is of no form that is read, contents are not used up, or a length needs more than 4 octets.
@@ -32,13 +32,13 @@ pub enum PduFault {
     /// The message's version is this one, and not that of SNMPv2c, which is 1 (RFC 1901 section 3).
     #[error("version {0} is not SNMPv2c")]
     BadVersion(i32),
-    /// Where the PDU should stand is this octet, the tag of no PDU (RFC 3416 section 3).
+    /// This octet, in the place of the PDU's tag, is the tag of no PDU (RFC 3416 section 3).
     #[error("{0} is the tag of no PDU")]
     UnknownPdu(u8),
 }
 
 impl PduFault {
-    /// The number that a printed line gives the fault, 1 to 8.
+    /// Returns the number by which a printed line names the fault, 1 to 8.
     pub fn number(self) -> u8
         ensures { result ≡ number_of self }
     {
@@ -54,7 +54,7 @@ impl PduFault {
         }
     }
 
-    /// The name that a printed line gives the fault: the variant's.
+    /// Returns the name of the fault in a printed line: the variant's.
     pub fn name(self) -> &'static str
         ensures { result.now ≡ name_of self }
     {

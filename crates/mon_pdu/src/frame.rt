@@ -20,7 +20,8 @@ use mon_ber::reading::{integer_at, value_at};
 use mon_ber::{BerFault, OCTET_STRING, SEQUENCE, Value};
 use std::alloc::Global;
 
-/// A message but for its variable bindings, whose octets are lent and not read yet. There is none of a GetBulk.
+/// A message except its variable bindings, whose octets are lent and not read yet. There is none of
+/// a GetBulk.
 #[derive(Clone, Copy, Debug, PartialEq, Eq)]
 pub struct Frame<'a> {
     /// The community.
@@ -40,7 +41,8 @@ pub struct Frame<'a> {
 /// The frame of the message that the octets begin with; what follows it is passed over. None where they begin with no message, or with a GetBulk, or where
 /// only the variable bindings are to blame that they begin with none: those are not looked at.
 pub fn read_frame(bytes: &[u8]) -> Option<Frame<'_>>
-    // What it holds stands there, whatever the octets of its list are; where none does, no frame is given.
+    // What it holds is there, whatever the octets of its list are; if it isn't, no frame is
+    // returned.
     ensures framed { IfSome result (λ f. BeginsWithFrame bytes.now (held f)) }
     ensures none { IfNone result ((h : Held) → BeginsWithFrame bytes.now h → ⊥) }
     // With the variable bindings that its list spells it is the message.
@@ -122,8 +124,9 @@ fn fields_of(contents: &[u8]) -> Result<(i32, i32, i32, &[u8]), BerFault>
     Ok((request_id, error_status, error_index, list))
 }
 
-/// The value of the variable binding that the octets begin with, where these octets spell its name, and what follows it. None where they begin with no such
-/// variable binding, or where there is no memory for its value.
+/// Returns the value of the variable binding that the octets begin with, if these octets spell its
+/// name, and what follows it. Returns `None` if they begin with no such variable binding, or if
+/// memory for its value ran out.
 pub fn named_value<'b>(alloc: Global, name: &[u8], bytes: &'b [u8]) -> Option<(Value, &'b [u8])>
     ensures found { IfSome result (λ r. (oid : List ℕ) → Spells name.now (Name oid)
         → (text : List ℕ) × IsBinding text (record { name = oid; value = r.0 }) × (bytes.now ≡ text ++ r.1.now)) }

@@ -21,18 +21,20 @@ pub fn takes()
     ensures { (bytes : List ℕ) (m : Message) → AreOctets bytes → message_at bytes ≡ Ok m → BeginsWithMessage bytes m }
 {}
 
-/// Where the octets begin with a spelling of a message, reading gives the message.
+/// Reading yields the message if the octets begin with a spelling of it.
 pub fn again()
     ensures { (bytes : List ℕ) (m : Message) → BeginsWithMessage bytes m → message_at bytes ≡ Ok m }
 {}
 
-/// Reading gives the fault of a version exactly where the octets begin with a SEQUENCE that begins with that version, not 1.
+/// Reading yields the fault of a version exactly where the octets begin with a SEQUENCE that begins
+/// with that version, not 1.
 pub fn version()
     ensures { (bytes : List ℕ) (v : ℤ) → AreOctets bytes
         → message_at bytes ≡ Err (BadVersion v) ↔ (IsVersioned bytes v × (v ≢ pos 1)) }
 {}
 
-/// Reading gives the fault of a PDU exactly where the tag of no PDU stands after version 1 and a community.
+/// Reading yields the fault of a PDU exactly where the tag of no PDU follows version 1 and a
+/// community.
 pub fn unknown_pdu()
     ensures { (bytes : List ℕ) (t : ℕ) → AreOctets bytes
         → message_at bytes ≡ Err (UnknownPdu t) ↔ HasUnknownPdu bytes t }

@@ -75,7 +75,7 @@ pub enum PduKind {
 }
 
 impl PduKind {
-    /// The tag that stands for the kind.
+    /// The tag that means the kind.
     pub fn octet(self) -> u8
         ensures { result ≡ octet_of self }
     {
@@ -90,7 +90,7 @@ impl PduKind {
         }
     }
 
-    /// The kind that the tag stands for, if it stands for one of these.
+    /// Returns the kind that the tag means, if it is the tag of one of these.
     pub fn from_octet(octet: u8) -> Option<PduKind>
         ensures { result ≡ kind_of octet }
     {

@@ -162,8 +162,8 @@ fn lengths_of(message: &Message) -> Lengths
     lengths_around(message, list_len(message.body.bindings()))
 }
 
-/// How many octets `write_message` writes. Takes no memory and time linear in the message.
-/// The one fault is `BadLength`: the length of the contents needs more than 4 octets.
+/// Counts the octets that `write_message` writes. Allocates nothing and takes time linear in the
+/// message. The one fault is `BadLength`: the length of the contents needs more than 4 octets.
 #[tactic(auto, using(crate::proofs::Lengths::message_length))]
 pub fn message_size(message: &Message) -> Result<usize, PduFault>
     ensures valid { IsValid message.now }
@@ -177,7 +177,7 @@ pub fn message_size(message: &Message) -> Result<usize, PduFault>
     Ok(element_len(len))
 }
 
-/// How many octets a variable binding takes where it stands in a message, counted up to `LIMIT` of `mon_ber::writing`.
+/// Counts the octets of a variable binding in a message, up to `LIMIT` of `mon_ber::writing`.
 #[tactic(auto, using(crate::proofs::Lengths::binding_length, crate::proofs::Lengths::counted_twice))]
 pub fn binding_size(binding: &Binding) -> usize
     ensures { result ≡ size_counted (length (written_binding binding.now)) }
@@ -219,7 +219,7 @@ fn put_bindings(out: &mut Vec<u8>, bindings: &[Binding])
     }
 }
 
-/// Writes octets that were written before, where there is room for them.
+/// Writes octets that were written before, if the vector has capacity for them.
 fn put_written(out: &mut Vec<u8>, octets: &[u8])
     requires room { vec_len out.old + length octets.now ≤ vec_capacity out.old }
     ensures items { out.new.items ≡ out.old.items ++ octets.now }
@@ -232,7 +232,7 @@ fn put_written(out: &mut Vec<u8>, octets: &[u8])
 /// The variable bindings of a message that is written.
 #[derive(Clone, Copy)]
 enum Listed<'a> {
-    /// These are to be written.
+    /// Bindings that are still to write.
     Bindings(&'a [Binding]),
     /// They were written before, as these octets.
     Written(&'a [u8]),
@@ -316,9 +316,10 @@ fn put_whole(out: &mut Vec<u8>, message: &Message, lengths: Lengths)
     );
 }
 
-/// Writes the shortest spelling of the message after what `out` holds, where there is room for it: `message_size` octets.
-/// Takes no memory and never fails, so memory can be taken before and the message written once nothing else can go wrong.
-/// Names and values are measured three times, as by `write_message`, so the time is linear in what is written.
+/// Writes the shortest spelling of the message after what `out` holds, if the vector has capacity
+/// for it: `message_size` octets. Allocates nothing and never fails, so memory can be allocated
+/// before and the message written once nothing else can go wrong. Names and values are measured
+/// three times, as by `write_message`, so the time is linear in what is written.
 pub fn write_within(out: &mut Vec<u8>, message: &Message)
     requires fits { HasLength message.now }
     requires room { vec_len out.old + length (written_message message.now) ≤ vec_capacity out.old }
@@ -352,8 +353,9 @@ pub fn write_message(alloc: Global, message: &Message) -> Result<Vec<u8>, PduFau
     Ok(out)
 }
 
-/// Variable bindings as they stand in a message, one after the other, in one allocation. A request that is sent again and again under other request-ids has
-/// its names written once so, for `write_with`. Besides `OutOfMemory` the one fault is `BadLength`: they take 2^32 octets or more.
+/// Writes variable bindings as a message has them, one after the other, in one allocation. A request
+/// that is sent again and again under other request-ids has its names written only once, for
+/// `write_with`. Besides `OutOfMemory` the one fault is `BadLength`: they take 2^32 octets or more.
 pub fn write_bindings(alloc: Global, bindings: &[Binding]) -> Result<Vec<u8>, PduFault>
     ensures ok { IfOk result (λ v. v.items ≡ list_contents bindings.now) }
     ensures err { IfErr result (λ e. (e ≡ OutOfMemory) ⊎ ((e ≡ BadLength) × (2 ^ 32 ≤ length (list_contents bindings.now)))) }

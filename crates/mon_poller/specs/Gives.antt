@@ -32,7 +32,7 @@ abbrev pub Gives : {X Y : Type 0} → (X → Y) → Result X ResponseFault → R
 Gives view (Ok x) read = read ≡ Ok (view x)
 Gives view (Err e) read = Fails e read
 
--- A start was refused for the reason that is given. Memory ran out only where there is no such reason.
+-- A start was refused for this reason. Memory ran out only if there is no such reason.
 abbrev pub StartFails : {Y : Type 0} → PollFault → Result Y PollFault → Type 0
 StartFails start.OutOfMemory judged = IsOk judged
 StartFails start.UnknownTarget judged = judged ≡ Err start.UnknownTarget

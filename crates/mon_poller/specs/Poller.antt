@@ -44,7 +44,7 @@ pub record IsOpenPoll (targets : List Target) (started : ℕ) (p : OpenPoll) : T
   pub id : p.id ≤ started
   pub sends : p.sends ≤ (target_at targets p.target).tries
 
--- targets within their limits, and at most 64 open polls of them, for which there is room
+-- targets within their limits, and at most 64 open polls of them, for which there is capacity
 pub record ArePolls (targets : List Target) (started : ℕ) (s : Slab OpenPoll) : Type 0 where
   pub limited : AreTargets targets
   pub ids : started ≤ 2147483647

@@ -32,7 +32,7 @@ with_poll target p = record {
 abbrev pub closed : ℕ → Polls → Polls
 closed id p = record { open_polls = map.remove p.open_polls id; started = p.started }
 
--- a poll whose time ran out is sent once more, or closed after the last try
+-- a poll whose time ran out is sent again, or closed after the last try
 abbrev pub resent : ℕ → ℕ → Poll → Polls → Polls
 resent tries id poll p =
     if nat_lt poll.sends tries
@@ -44,7 +44,7 @@ abbrev pub timed_at : (ℕ → ℕ) → ℕ → Option Poll → Polls → Polls
 timed_at tries id None p = p
 timed_at tries id (Some poll) p = resent (tries poll.target) id poll p
 
--- the same, of the poll that is open under it
+-- the poll that is open under a request-id, sent again or closed
 abbrev pub timed : (ℕ → ℕ) → ℕ → Polls → Polls
 timed tries id p = timed_at tries id (map.get p.open_polls id) p
 

@@ -27,7 +27,7 @@ pub record AreTargets (targets : List Target) : Type 0 where
   pub few : length targets ≤ 64
   pub each : All IsTarget targets
 
--- what stands where there is no target
+-- the target of a number that no target has
 abbrev pub no_target : Target
 no_target = record { address = record { octets = []; port = 0 }; community = []; engine = []; tries = 0; objects = [] }
 
@@ -63,7 +63,7 @@ poll_message t id = record {
 abbrev pub poll_octets : Target → ℕ → List ℕ
 poll_octets t id = written_message (poll_message t id)
 
--- the variable bindings of a target's polls, as they stand in its datagrams
+-- the variable bindings of a target's polls, as its datagrams have them
 abbrev pub asked_octets : Target → List ℕ
 asked_octets t = list_contents (map unspecified (poll_names t))
 

@@ -66,7 +66,7 @@ have_names [] (b ∷ bs) = false
 have_names (n ∷ ns) [] = false
 have_names (n ∷ ns) (b ∷ bs) = bytes_eq n b.name && have_names ns bs
 
--- the same of bindings that may be missing
+-- bindings, if there are some, have these names in their order
 abbrev pub have_after : List (List ℕ) → Option (List Binding) → Bool
 have_after names None = false
 have_after names (Some bindings) = have_names names bindings
@@ -101,7 +101,8 @@ bindings_for (Some name) = 2
 abbrev pub sampled_at : Stamp → Value → Option ℕ → Option ℕ
 sampled_at stamp value mark = option_and_then (λ v. option_map (λ m. key stamp.boots stamp.time m (kind_tag v.0) v.1) mark) (sampled value)
 
--- the sample of an object whose bindings stand first, if its value is of a sampled kind and its mark, where it has one, of a mark's kind
+-- the sample of an object whose bindings come first, if its value is of a sampled kind and its
+-- discontinuity, if it has one, of that kind
 unfoldable pub sample_of : Stamp → Object → List Binding → Option ℕ
 sample_of stamp o [] = None
 sample_of stamp o (b ∷ bs) = sampled_at stamp b.value (mark_value o.mark (b ∷ bs))
@@ -135,7 +136,7 @@ awaited targets polls from read = do
   community ← need WrongCommunity (bytes_eq m.community (target_at targets poll.target).community)
   Ok (poll, r)
 
--- the same for the target of this number
+-- what a response offers, of the target of this number
 abbrev pub to_offered : ℕ → Result (List (ℕ × ℕ)) ResponseFault → Result Offered ResponseFault
 to_offered target (Ok pairs) = Ok (record { target = target; pairs = pairs })
 to_offered target (Err e) = Err e
@@ -169,7 +170,7 @@ tries_of targets i = (target_at targets i).tries
 abbrev pub timeout_of : Target → ℕ → Poll → TimedOut
 timeout_of t id poll = if nat_lt poll.sends t.tries then Again poll.target (poll_octets t id) else GivenUp poll.target
 
--- the same for the open poll, where there is one
+-- what a timeout of the open poll does, if there is one
 abbrev pub timeout_at : List Target → ℕ → Option Poll → TimedOut
 timeout_at targets id None = NotOpen
 timeout_at targets id (Some poll) = timeout_of (target_at targets poll.target) id poll
@@ -178,7 +179,7 @@ timeout_at targets id (Some poll) = timeout_of (target_at targets poll.target) i
 abbrev pub timeout_verdict : List Target → Polls → ℕ → TimedOut
 timeout_verdict targets p id = timeout_at targets id (finmap.get p.open_polls id)
 
--- a datagram is to be sent again
+-- a datagram is sent again
 abbrev pub IsSentAgain : TimedOut → Type 0
 IsSentAgain (Again target octets) = Unit {0}
 IsSentAgain (GivenUp target) = ⊥

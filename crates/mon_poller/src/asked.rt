@@ -10,7 +10,8 @@ use mon_ber::Octets;
 use std::alloc::{AllocError, Global};
 use std::marker::Model;
 
-/// Targets, and for each of them the variable bindings of its polls as they stand in a datagram, and the names in them. Contracts see the targets.
+/// Targets, and for each of them the variable bindings of its polls as its datagrams have them, and
+/// the names in them. Contracts see the targets.
 #[derive(Drop)]
 pub(crate) struct Asked {
     targets: Vec<Target>,

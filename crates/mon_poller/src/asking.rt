@@ -22,7 +22,8 @@ use mon_pdu::{
 use std::alloc::{AllocError, Global};
 
 /// The variable bindings of a target's polls: the stamp's names and then each object's, directly followed by its mark's where it has one, each without a value
-/// (RFC 3416 section 4.2.1). It fails for memory alone, since a target within its limits is asked for no more than can be written.
+/// (RFC 3416 section 4.2.1). It fails only for memory, since a target within its limits is asked
+/// for no more than can be written.
 pub(crate) fn asked_octets(alloc: Global, target: &Target) -> Result<Octets, AllocError>
     requires { IsTarget target.now }
     ensures { IfOk result (IsAsked target.now) }
@@ -59,7 +60,8 @@ fn spelled_name(alloc: Global, name: &Oid) -> Result<Octets, AllocError>
     Ok(Octets::new(octets))
 }
 
-/// The datagram of a poll: a Get of the target's names, which `list` holds as they are written. It fails for memory alone.
+/// Writes the datagram of a poll: a Get of the target's names, which `list` holds as they are
+/// written. It fails only for memory.
 pub(crate) fn poll_octets(
     alloc: Global,
     target: &Target,

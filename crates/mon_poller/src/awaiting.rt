@@ -66,7 +66,7 @@ pub(crate) fn awaited<'m>(
     Ok((key, poll, pdu))
 }
 
-/// Whether a response with this answer ends its poll.
+/// Returns `true` if a response with this answer ends its poll.
 pub(crate) fn ends_poll(poll_answer: &Result<Pairs, ResponseFault>) -> bool
     ensures { result ≡ ends poll_answer.now }
 {

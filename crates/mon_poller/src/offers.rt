@@ -68,7 +68,7 @@ fn target_offers(
     object_offers(alloc, &stamp, target.objects.as_slice(), others)
 }
 
-/// Whether the bindings have the names that the target is asked for, in their order.
+/// Returns `true` if the bindings have the names that the target is asked for, in their order.
 fn have_names(target: &Target, bindings: &[Binding]) -> bool
     ensures { result ≡ have_names (poll_names target.now) bindings.now }
 {
@@ -98,7 +98,7 @@ fn after_name<'b>(name: &[u32], bindings: &'b [Binding]) -> Option<&'b [Binding]
     }
 }
 
-/// Whether the bindings have the names by which these objects are asked for.
+/// Returns `true` if the bindings have the names by which these objects are asked for.
 fn name_objects(objects: &[Object], bindings: &[Binding]) -> bool
     ensures { result ≡ have_names (flat_map object_names objects.now) bindings.now }
 {
@@ -165,8 +165,8 @@ fn object_offers(
     Ok(pairs)
 }
 
-/// The sample of an object whose bindings stand first: its value is of a sampled kind, and its mark, where it has one, of a
-/// mark's kind.
+/// Returns the sample of an object whose bindings come first: its value is of a sampled kind, and
+/// its discontinuity, if it has one, of that kind.
 #[tactic(auto, unfolding(crate::specs::Verdict::sample_of))]
 fn sample_of(stamp: &Stamp<'_>, object: &Object, bindings: &[Binding]) -> Option<Sample>
     ensures { result ≡ sample_of (lent_stamp stamp.now) object.now bindings.now }

@@ -42,11 +42,11 @@ pub struct Request {
 /// What a timeout leads to.
 #[derive(Debug, Drop)]
 pub enum TimedOut {
-    /// The poll's datagram is to be sent once more.
+    /// The poll's datagram must be sent again.
     Again {
         /// The number of the target that it goes to.
         target: u16,
-        /// The same octets as the first time.
+        /// The octets that were sent the first time.
         octets: Octets,
     },
     /// It was sent as often as its target is tried: the poll is closed.
@@ -75,7 +75,8 @@ pub(crate) struct OpenPoll {
     pub(crate) sends: u8,
 }
 
-/// Targets, and the polls of them that are open. Room for all polls is taken when it is made.
+/// Targets, and the polls of them that are open. Capacity for all polls is allocated when it is
+/// made.
 /// Contracts see the targets, a map from request-ids to open polls, and how many polls were started.
 #[derive(Drop)]
 pub struct Poller {
@@ -100,8 +101,9 @@ impl Poller {
     ghost use Rattle.mon_poller.specs.Gives.{Gives, StartFails};
     ghost use Rattle.mon_poller.specs.Verdict.{ReadsAs, IsSentAgain, start_verdict, timeout_verdict, response_verdict, ends, after_response, tries_of};
 
-    /// A poller of these targets, 1 to 64 of them and each within its limits (`are_targets` tests that), with no poll open. It takes
-    /// room for 64 open polls, so no other call takes memory for one, and writes once what each target is asked for.
+    /// Makes a poller of these targets, 1 to 64 of them and each within its limits (`are_targets`
+    /// tests that), with no poll open. It has capacity for 64 open polls, so no other call
+    /// allocates for one, and writes once what each target is asked for.
     pub fn new(alloc: Global, targets: Vec<Target>) -> Result<Self, AllocError>
         requires { AreTargets targets.items }
         ensures targets { IfOk result (λ p. p.targets ≡ targets.items) }
@@ -153,7 +155,8 @@ impl Poller {
         Ok(Request { id, octets })
     }
 
-    /// Whether a timeout of this poll sends it once more. So a caller can take its own memory before `timed_out` changes anything.
+    /// Returns `true` if a timeout of this poll sends it again. So a caller can allocate before
+    /// `timed_out` changes anything.
     pub fn has_tries(&self, id: u32) -> bool
         ensures { IsTrue result ↔ IsSentAgain (timeout_verdict self.now.targets self.now.polls id) }
     {
@@ -163,8 +166,9 @@ impl Poller {
         }
     }
 
-    /// The poll of this request-id was not answered in time: its datagram goes to its target again, or, where that was tried as
-    /// often as it may be, the poll is closed. Only a datagram takes memory, so `GivenUp` and `NotOpen` take none.
+    /// Handles that the poll of this request-id was not answered in time: its datagram goes to its
+    /// target again, or, if that was tried as often as it may be, the poll is closed. Only a datagram
+    /// is allocated, so `GivenUp` and `NotOpen` allocate nothing.
     pub fn timed_out(&mut self, alloc: Global, id: u32) -> Result<TimedOut, AllocError>
         ensures told { IfOk result (λ t. t ≡ timeout_verdict self.old.targets self.old.polls id) }
         ensures polls { OnOk result (self.new ≡ record self.old { polls = timed (tries_of self.old.targets) id self.old.polls }) }

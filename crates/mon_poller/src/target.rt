@@ -26,9 +26,10 @@ const MOST_TARGETS: usize = 64;
 pub struct Object {
     /// The number of its instance in the watch.
     pub instance: u16,
-    /// Its name.
+    /// The name of the object's variable.
     pub name: Oid,
-    /// The name of its discontinuity indicator (RFC 2578 section 7.1.6), where one is asked for with it.
+    /// The name of its discontinuity indicator (RFC 2578 section 7.1.6), if one is asked for with
+    /// it.
     pub mark: Option<Oid>,
 }
 
@@ -101,7 +102,7 @@ fn copied(alloc: Global, all: &[Object]) -> Result<Vec<Object>, AllocError>
 /// An agent that is polled.
 #[derive(Debug, Drop)]
 pub struct Target {
-    /// Where it is asked, and where its responses come from.
+    /// The address of its agent, from which its responses come.
     pub address: Addr,
     /// The community of requests and responses, 1 to 512 octets.
     pub community: Octets,
@@ -114,8 +115,8 @@ pub struct Target {
 }
 
 impl Target {
-    /// Whether the target is within its limits: a community of 1 to 512 octets, an engine id of 5 to 32, 1 to 8 tries, and 1 to
-    /// 16 objects.
+    /// Returns `true` if the target is within its limits: a community of 1 to 512 octets, an engine
+    /// id of 5 to 32, 1 to 8 tries, and 1 to 16 objects.
     pub fn is_within_limits(&self) -> bool
         ensures { IsTrue result ↔ IsTarget self.now }
     {
@@ -146,7 +147,7 @@ impl Target {
     }
 }
 
-/// Whether these may be polled: 1 to 64 targets, each within its limits.
+/// Returns `true` if these may be polled: 1 to 64 targets, each within its limits.
 pub fn are_targets(targets: &[Target]) -> bool
     ensures { IsTrue result ↔ AreTargets targets.now }
 {

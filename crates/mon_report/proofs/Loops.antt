@@ -49,7 +49,7 @@ pub text-all : {X : Type 0} (f : X → List ℕ) (xs : List X) (i : ℕ) (a b : 
     → AppendsIf a p b q (flat_map f (take i xs)) → AppendsIf a p b q (flat_map f xs)
 text-all f xs i a b p q past h = text-as a b p q _ _ (ap (flat_map f) (take_all i xs past)) h
 
--- what stands after the first of some elements, as a pattern gives it
+-- what follows the first of some elements, as a pattern gives it
 pub others-are : {X : Type 0} (x : X) (xs : List X) → take (length (x ∷ xs) - 1) xs ≡ xs
 others-are x xs = take_all (length (x ∷ xs) - 1) xs (omega arith)
 

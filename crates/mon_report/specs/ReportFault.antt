@@ -3,7 +3,7 @@ use Rattle.std.specs.Prelude.{ℕ, List, codes}
 use Rattle.mon_report.specs.declared.fault.ReportFault.{ReportFault}
 use Rattle.mon_report.specs.declared.fault.ReportFault.TheVariants.{WriteFailed}
 
--- the number that a printed line gives a fault
+-- the number by which a printed line names a fault
 abbrev pub number_of : ReportFault → ℕ
 number_of WriteFailed = 2
 

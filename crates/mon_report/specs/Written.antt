@@ -10,7 +10,8 @@ AppendsSome old new text = (k : ℕ) × Appends old new (take k text)
 abbrev pub AppendsResult : {A E : Type 0} → Option (List ℕ) → Option (List ℕ) → Result A E → List ℕ → Type 0
 AppendsResult old new result text = MatchResult result (λ _. Appends old new text) (λ _. AppendsSome old new text)
 
--- The same, of a writer to which all was written before, or else which failed: then nothing more is written, and it stays failed.
+-- A writer that had failed stays failed and gets nothing; else the text is appended, or a beginning
+-- of it and the writer has failed.
 abbrev pub AppendsIf : Option (List ℕ) → Bool → Option (List ℕ) → Bool → List ℕ → Type 0
 AppendsIf old true new true text = Appends old new text
 AppendsIf old true new false text = AppendsSome old new text

@@ -96,7 +96,8 @@ fn put_rate<W: Write>(writer: &mut W, ok: bool, rate: Option<u128>) -> bool
     }
 }
 
-/// Writes a rate, given in thousandths, with three digits after the point, unless the writer failed before, and tells whether all is written so far.
+/// Writes a rate, given in thousandths, with three digits after the point, unless the writer failed
+/// before. Returns `true` if all is written so far.
 pub fn write_rate<W: Write>(writer: &mut W, ok: bool, rate: u128) -> bool
     ensures { AppendsIf (W.contents writer.old) ok (W.contents writer.new) result (rate_text (Some rate)) }
 {

@@ -111,7 +111,8 @@ impl<'a> Entry<'a> {
     }
 }
 
-/// Writes an instance's line, unless the writer failed before, and tells whether all is written so far.
+/// Writes an instance's line, unless the writer failed before. Returns `true` if all is written so
+/// far.
 #[tactic(auto, unfolding(crate::specs::Report::entry_line))]
 pub fn write_entry<W: Write>(writer: &mut W, ok: bool, entry: &Entry) -> bool
     ensures { AppendsIf (W.contents writer.old) ok (W.contents writer.new) result (entry_line entry.now) }
@@ -122,7 +123,8 @@ pub fn write_entry<W: Write>(writer: &mut W, ok: bool, entry: &Entry) -> bool
     write_rest(writer, ok, entry)
 }
 
-/// Writes what follows the name in an instance's line, unless the writer failed before, and tells whether all is written so far.
+/// Writes what follows the name in an instance's line, unless the writer failed before. Returns
+/// `true` if all is written so far.
 #[tactic(auto, unfolding(crate::specs::Report::entry_rest))]
 pub fn write_rest<W: Write>(writer: &mut W, ok: bool, entry: &Entry) -> bool
     ensures { AppendsIf (W.contents writer.old) ok (W.contents writer.new) result (entry_rest entry.now) }
@@ -132,10 +134,11 @@ pub fn write_rest<W: Write>(writer: &mut W, ok: bool, entry: &Entry) -> bool
     put(writer, ok, b"\n")
 }
 
-/// Writes the report of a board: of each watched instance a line with its engine id, its name, how many samples its window
-/// holds, the oldest and the newest stamp, the newest value, what its counter counted and in how many seconds, the rate, and
-/// the state of each alarm rule on it; then the numbers of instances and samples. It takes no memory. A writer that fails, or
-/// that takes nothing, has got a beginning of the report: `WriteFailed`.
+/// Writes the report of a board: of each watched instance a line with its engine id, its name, how
+/// many samples its window holds, the oldest and the newest stamp, the newest value, what its
+/// counter counted and in how many seconds, the rate, and the state of each alarm rule on it; then
+/// the numbers of instances and samples. It allocates nothing. A writer that fails, or that takes
+/// nothing, has got a beginning of the report: `WriteFailed`.
 pub fn write_report<W: Write>(board: &Board, writer: &mut W) -> Result<(), ReportFault>
     ensures { AppendsResult (W.contents writer.old) (W.contents writer.new) result (report board.now.watch (window_of board.now)) }
 {

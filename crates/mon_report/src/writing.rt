@@ -1,5 +1,5 @@
-//! Texts that go to a writer one after the other. Each function is told whether all was written before, and tells whether all
-//! is written now; after a failure nothing more is.
+//! Texts that go to a writer one after the other. Each function is passed whether all was written
+//! before, and returns whether all is written now; after a failure nothing more is.
 
 ghost use Rattle.std.specs.Prelude.{◌≡◌, ◌≤◌, decimal, length, take};
 ghost use Rattle.std.specs.Fmt.{signed_decimal};

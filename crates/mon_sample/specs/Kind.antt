@@ -16,7 +16,7 @@ kind_tag Counter64 = 70
 unfoldable pub kind_at : ℕ → Kind
 kind_at tag = if tag == 2 then Integer else if tag == 65 then Counter32 else if tag == 66 then Gauge32 else if tag == 67 then TimeTicks else Counter64
 
--- the name that a printed line gives a kind (RFC 2578 section 2)
+-- the name of a kind in a printed line (RFC 2578 section 2)
 abbrev pub kind_name : Kind → List ℕ
 kind_name Integer = codes "Integer"
 kind_name Counter32 = codes "Counter32"

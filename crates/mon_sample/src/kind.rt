@@ -55,7 +55,9 @@ impl Kind {
         }
     }
 
-    /// Whether a value of this kind can be `value`. A negative INTEGER stands as the 64 bits of its two's complement.
+    /// Returns `true` if a value of this kind can be `value`. A negative INTEGER is given as the 64
+    /// bits of its two's complement.
+    /// bits of its two's complement.
     pub fn holds(self, value: u64) -> bool
         ensures { result ≡ holds self value }
     {

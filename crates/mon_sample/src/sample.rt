@@ -123,7 +123,8 @@ impl Sample {
             .then(self.value.cmp(&other.value))
     }
 
-    /// The sample's record: boots 4 octets, time 4, mark 4, tag 1, value 8, each with the greatest octet first.
+    /// Returns the sample's record: boots 4 octets, time 4, mark 4, tag 1, value 8, each
+    /// big-endian.
     pub fn to_record(&self) -> [u8; 21]
         ensures octets { result ≡ octets_of self.now }
         ensures sample { IsSample self.now }

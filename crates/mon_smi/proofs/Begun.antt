@@ -18,7 +18,7 @@ use Rattle.mon_smi.proofs.ForRules.{word_takes, mark_takes}
 use Rattle.mon_smi.proofs.ForValues.{suffix}
 use Rattle.mon_smi.proofs.ForModules.{assignment_takes, imports_take}
 
--- what stands before does not change where definitions begin
+-- what comes before does not change where definitions begin
 begins_behind : (front ls : List Lexeme) (n : ℕ) (d : Definition) → Begins ls n d → Begins (front ++ ls) n d
 begins_behind front ls n d b = (front ++ b.0, b.1, b.2, ap (λ (l : List Lexeme). front ++ l) b.3 ∙ sym (append_assoc front b.0 (b.1 ++ b.2)), b.4, b.5)
 
@@ -101,7 +101,7 @@ all_at ls (n ∷ ns) (e ∷ ds) begin (suc i) d lt is = all_at ls ns ds begin.1 
 same_back : (ls a b c d : List Lexeme) → ls ≡ a ++ b → ls ≡ c ++ d → length b ≡ length d → b ≡ d
 same_back ls a b c d one other same = sym (suffix ls a b one) ∙ ap (λ n. drop (length ls - n) ls) same ∙ suffix ls c d other
 
--- the token of which so many are left stands in the text where the definition begins
+-- the token with which n are left is in the text where the definition begins
 pub twice_at : (text name : List ℕ) (tokens : List Token) (starts : List ℕ) (defs : List Definition) (span : Span) → AreTokens text tokens → Derives text name defs → AllBegin (lexemes text tokens) starts defs → IsTwice (Duplicate span) tokens starts defs → HasTwice text span
 twice_at text name tokens starts defs span are is begin fault =
     let at = fault.2.0 in
@@ -112,7 +112,7 @@ twice_at text name tokens starts defs span are is begin fault =
     let back : lexemes text (f.2 ∷ f.1) ≡ b.1 ++ b.2 = same_back (lexemes text tokens) (lexemes text f.0) (lexemes text (f.2 ∷ f.1)) b.0 (b.1 ++ b.2) cut b.3 size in
     (name, defs, fault.0, fault.1, is, fault.2, (f.0, f.1, f.2, b.1, b.2, subst (λ (l : List Token). AreTokens text l) f.3 are, f.4, back, b.4))
 
--- the token with which so many are left stands at its place
+-- the token with which n are left is at its place
 pub left_at : (tokens : List Token) (left : ℕ) (other : Token) → 0 < left → left ≤ length tokens → IsLeftAt tokens left (get_or tokens (length tokens - left) other).span
 left_at tokens left other some most =
     let below : length tokens - left < length tokens = omega arith in
@@ -133,7 +133,7 @@ none_left tokens left span is =
     let n : length (is.2 ∷ is.1) ≡ left = is.5 in
     (omega arith, omega arith)
 
--- the token of which so many are left, where a definition has its name again
+-- the token with which n are left, where a definition has its name again
 pub twice_found : (tokens : List Token) (starts : List ℕ) (defs : List Definition) (i : ℕ) (d : Definition) (other : Token) → IsAgain defs i d → (0 < get_or starts i 0) × (get_or starts i 0 ≤ length tokens) → IsTwice (Duplicate (get_or tokens (length tokens - get_or starts i 0) other).span) tokens starts defs
 twice_found tokens starts defs i d other again within =
     let some : 0 < get_or starts i 0 = within.0 in

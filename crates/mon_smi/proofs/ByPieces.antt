@@ -1,4 +1,5 @@
--- Reading by longest pieces: what stands at a place, one more piece, and that no text is read whole and also stuck.
+-- Reading by longest pieces: what is at a place, one more piece, and that no text is read whole and
+-- also stuck.
 use Rattle.std.proofs.Common.{◌≡◌, ℕ, zero, suc, ◌+◌, ◌<◌, ◌≤◌, List, [], ◌∷◌, ◌++◌, length, take, drop, Option, Some, None, Result, Ok, Err, rules, sym, refl, ap, ◌∙◌, subst, arith, append_assoc, append-nil, take-append-drop, length-take-le, length-append, ◌⊎◌, ⊎_elim}
 use Rattle.std.specs.Prelude.{IfSome, IfOk, IsErr, IsTrue}
 use Rattle.mon_smi.specs.declared.kind.Kind.{Kind}
@@ -87,7 +88,7 @@ piece_some text p is = go p.kind p.len (takes text p is)
     go (Some kind) zero longest = absurd (no_token kind longest.spelled)
     go kind (suc n) is_piece = omega arith
 
--- what is read goes on by the piece that stands behind it
+-- what is read goes on by the piece that follows it
 pub read_push : (ps : List Piece) (p : Piece) (text rest : List ℕ) → IsTokenized ps text rest → IsPiece p rest → IsTokenized (ps ++ p ∷ []) text (drop p.len rest)
 read_push [] p text rest read piece = (subst (λ (t : List ℕ). IsPiece p t) (sym read) piece, ap (λ t. drop p.len t) read)
 read_push (q ∷ qs) p text rest read piece = (read.0, read_push qs p (drop q.len text) rest read.1 piece)
@@ -116,11 +117,11 @@ read_nothing : (ps : List Piece) (text rest : List ℕ) → text ≡ [] → IsTo
 read_nothing [] text rest is read = sym read ∙ is
 read_nothing (p ∷ ps) text rest is read = read_nothing ps (drop p.len text) rest (drop_nothing p.len text is) read.1
 
--- one piece at most stands at a place
+-- at most one piece is at a place
 same_piece : (text : List ℕ) (p q : Piece) → IsPiece p text → IsPiece q text → p ≡ q
 same_piece text p q a b = one_piece p q (sym (again text p a) ∙ again text q b)
 
--- a text that is read whole comes to no place where nothing stands
+-- a text that is read whole comes to no place where no piece is
 pub never_stuck : (ps qs : List Piece) (text rest : List ℕ) → IsTokenized ps text [] → IsTokenized qs text rest → NothingStands rest → ⊥
 never_stuck [] qs text rest whole read stuck =
     let none : length rest ≡ 0 = ap (λ (t : List ℕ). length t) (read_nothing qs text rest whole read) in
@@ -131,7 +132,7 @@ never_stuck (p ∷ ps) (q ∷ qs) text rest whole read stuck =
     let same : q ≡ p = same_piece text q p read.0 whole.0 in
     never_stuck ps qs (drop p.len text) rest whole.1 (subst (λ (r : Piece). IsTokenized qs (drop r.len text) rest) same read.1) stuck
 
--- a text has one list of pieces at most, but for one of no bytes
+-- a text has at most one list of pieces, except one of no bytes
 pub one_list : (ps qs : List Piece) (text : List ℕ) → IsTokenized ps text [] → IsTokenized qs text [] → ((p : Piece) → IsPiece p [] → ⊥) → ps ≡ qs
 one_list [] [] text a b none = refl
 one_list [] (q ∷ qs) text a b none = absurd (none q (subst (λ (t : List ℕ). IsPiece q t) a b.0))

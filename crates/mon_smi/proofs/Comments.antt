@@ -71,7 +71,7 @@ remark_says (b ∷ bs) =
       remark_says bs,
     ))
 
--- and ends where the line does or two hyphens stand
+-- and ends where the line does or at two hyphens
 abbrev Ends : List ℕ → Type 0
 Ends text = EndsLine text ⊎ ((more : List ℕ) × (text ≡ 45 ∷ 45 ∷ more))
 

@@ -17,7 +17,7 @@ use Rattle.mon_smi.proofs.Unique.{stands_once, not_lost, not_circular}
 abbrev IsOneReading : Type 0
 IsOneReading = (a b : List ℕ) → AreNumbers a → AreNumbers b → dotted a ≡ dotted b → a ≡ b
 
--- what stands before the first dot, and behind it
+-- what comes before the first dot, and behind it
 cut_once : (a x b y : List ℕ) → ((i : ℕ) → i < length a → get_or a i 0 ≡ 46 → ⊥) → ((i : ℕ) → i < length b → get_or b i 0 ≡ 46 → ⊥) → a ++ 46 ∷ x ≡ b ++ 46 ∷ y → (a ≡ b) × (x ≡ y)
 cut_once [] x [] y no_a no_b is = let tails : x ≡ y = cc in (refl, tails)
 cut_once [] x (c ∷ b) y no_a no_b is = let head : c ≡ 46 = cc in absurd (no_b 0 (omega arith) head)
@@ -28,7 +28,7 @@ cut_once (c ∷ a) x (d ∷ b) y no_a no_b is =
     let more = cut_once a x b y (λ i lt at. no_a (suc i) (omega arith) at) (λ i lt at. no_b (suc i) (omega arith) at) tails in
     ((λ i. heads i ∷ more.0 i), more.1)
 
--- a dot stands behind the front
+-- a dot follows the front
 seam : (front back : List ℕ) → (length front < length (front ++ 46 ∷ back)) × (get_or (front ++ 46 ∷ back) (length front) 0 ≡ 46)
 seam [] back = (omega arith, refl)
 seam (b ∷ bs) back = let more = seam bs back in let lt = more.0 in (omega arith, more.1)

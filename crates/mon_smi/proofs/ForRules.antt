@@ -108,7 +108,7 @@ ok_of x = Ok x
 pub ok_is : {A : Type 0} (x y : A) → ok_of x ≡ Ok y → x ≡ y
 ok_is x y is = cc
 
--- a test that had to be true, or chose
+-- a test that must have been true, or chose
 pub wanted : {A E : Type 0} (t : Bool) (x : Result A E) (e : E) (y : A) → cond t x (Err e) ≡ Ok y → (t ≡ true) × (x ≡ Ok y)
 wanted true x e y is = (refl, is)
 wanted false x e y is = absurd (cc)

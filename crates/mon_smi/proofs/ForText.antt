@@ -62,7 +62,7 @@ number_utf8 text number =
     (λ (signed : (digits : List ℕ) × (text ≡ 45 ∷ digits) × AreDigits digits). subst IsUtf8 (sym signed.1) (IsUtf8-from_ascii (45 ∷ signed.0) (signed_ascii signed.0 signed.2.1)))
     number
 
--- ---- tokens stand in the text
+-- ---- tokens are in the text
 
 piece_within : (kind : Option Kind) (n : ℕ) (rest : List ℕ) → IsPieceOf kind n rest → n ≤ length rest
 piece_within None n rest piece = piece.0
@@ -146,7 +146,7 @@ twice_there text name tokens starts defs Unclosed are begin is fault = absurd fa
 twice_there text name tokens starts defs (Unexpected span) are begin is fault = absurd fault
 twice_there text name tokens starts defs (Duplicate span) are begin is fault = twice_at text name tokens starts defs span are is begin fault
 
--- a text that derives distinct definitions has no other fault than want of memory
+-- a text that derives distinct definitions has no other fault than out of memory
 pub no_fault : {V : Type 0} (text name : List ℕ) (defs : List Definition) (r : Result V TextFault) → IfErr r (λ e. IsFaultOfModule e text) → Derives text name defs → AreDistinct defs → IsOkUnless r OutOfMemory
 no_fault text name defs (Ok v) fault is distinct = search rules
 no_fault text name defs (Err OutOfMemory) fault is distinct = search rules

@@ -64,7 +64,7 @@ module _ {X A : Type 0} (read : List Lexeme → Read (X × List Lexeme)) (emit :
   regroup front x (Ok ys) = ap (λ (l : List A). Ok (l, ys.1)) (sym (append_assoc front (emit x) ys.0))
   regroup front x (Err left) = refl
 
-  -- reading has come so far: these are emitted, and so many tokens are left
+  -- how far reading has come: these are emitted, and this many tokens are left
   pub record IsBehind (ls : List Lexeme) (front : List A) (left : ℕ) : Type 0 where
     pub room : ℕ
     pub fits : left ≤ room
@@ -209,7 +209,7 @@ some_parts {A = A} {B = B} a c b d is =
     let same : p ≡ q = some_is p q is in
     (ap (λ (x : A × B). x.0) same, ap (λ (x : A × B). x.1) same)
 
--- a test that had to be true
+-- a test that must have been true
 had : {A : Type 0} (t : Bool) (x : Option A) (y : A) → cond t x None ≡ Some y → (t ≡ true) × (x ≡ Some y)
 had true x y is = (refl, is)
 had false x y is = absurd (cc)
@@ -379,7 +379,7 @@ value_takes ls v rest is =
       first.2 ∙ ap (λ (l : List Lexeme). l ++ inner) first.1 ∙ ap (λ (l : List Lexeme). mark LeftBrace ∷ l) (parts.2 ∙ ap (λ (l : List Lexeme). parts.0 ++ l) end ∙ sym (append_assoc parts.0 (mark RightBrace ∷ []) rest)),
     )
 
--- where two components stand at least, the first with a number, no parent is taken
+-- where at least two components are, the first with a number, no parent is read
 no_parent : (text : List Lexeme) (ns : List ℕ) (rest : List Lexeme) → 2 ≤ length ns → Are IsComponent text ns → parent_at (text ++ rest) ≡ (None, text ++ rest)
 no_parent text [] rest some are = absurd (omega arith)
 no_parent text (n ∷ ns) rest some are =

@@ -22,7 +22,7 @@ piece kind n = record { kind = Some kind; len = n }
 abbrev pub nothing : ℕ → Piece
 nothing n = record { kind = None; len = n }
 
--- a token stands there, at least as long, and of this kind where it is no longer
+-- a token is there, at least as long, and of this kind if it is no longer
 pub record FoundAt (kind : Kind) (front rest : List ℕ) : Type 0 where
   pub found : Kind
   pub len : ℕ

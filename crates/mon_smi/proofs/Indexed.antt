@@ -27,7 +27,7 @@ more_is defs i d lt is = take_more defs i d lt ∙ ap (λ (y : Definition). take
 one_undefined : (d : Definition) (w : List ℕ) → (d.name ≡ w → ⊥) → IsUndefined (d ∷ []) w
 one_undefined d w other e one named = other (ap (λ (x : Definition). x.name) (sym (only_one d e one.0 one.1).1) ∙ named)
 
--- one more place is told
+-- one more place is known
 pub told_more : (f g : List ℕ → Option ℕ) (defs : List Definition) (i : ℕ) (d : Definition) (w : List ℕ) → AreTold f (take i defs) → f w ≡ None → ((q : List ℕ) → g q ≡ update bytes_eq f w (Some i) q) → i < length defs → d ≡ get_or defs i d → w ≡ d.name → AreTold g (take (i + 1) defs)
 told_more f g defs i d w told new g_is lt is named q =
     subst (λ (l : List Definition). IsPlace l q (g q)) (sym (more_is defs i d lt is))
@@ -45,11 +45,11 @@ told_more f g defs i d w told new g_is lt is named q =
         (d, subst (λ k. IsAt (take i defs ++ d ∷ []) k d) len (at_end (take i defs) d), sym named ∙ (bytes_eq-Decides w q).0 same)
     go false other = old (f q) (λ same. let yes = (bytes_eq-Decides w q).1 same in absurd (cc)) (told q)
 
--- a name whose place is not told is new
+-- a name whose place is not known is new
 pub untold_undefined : (f : List ℕ → Option ℕ) (defs : List Definition) (w : List ℕ) → AreTold f defs → f w ≡ None → IsUndefined defs w
 untold_undefined f defs w told none = subst (λ (r : Option ℕ). IsPlace defs w r) none (told w)
 
--- a name whose place is told is there again
+-- a name whose place is known is there again
 pub told_again : (f : List ℕ → Option ℕ) (defs : List Definition) (i j : ℕ) (d : Definition) (w : List ℕ) → AreTold f (take i defs) → f w ≡ Some j → i < length defs → d ≡ get_or defs i d → w ≡ d.name → IsAgain defs i d
 told_again f defs i j d w told some lt is named =
     let place : IsPlace (take i defs) w (Some j) = subst (λ (r : Option ℕ). IsPlace (take i defs) w r) some (told w) in
@@ -87,7 +87,7 @@ found_push f g xs d w found distinct named g_is j e at =
         let below : j < length xs = front.0 in
         absurd (omega arith)
 
--- so many definitions behind the known ones are found, and then one more
+-- this many definitions behind the known ones are found, and then one more
 pub found_more : (f g : List ℕ → Option ℕ) (known defs : List Definition) (i : ℕ) (d : Definition) (w : List ℕ) → IsFoundBy f (known ++ take i defs) → AreDistinct (known ++ defs) → ((q : List ℕ) → g q ≡ update bytes_eq f w (Some (length known + i)) q) → i < length defs → d ≡ get_or defs i d → w ≡ d.name → IsFoundBy g (known ++ take (i + 1) defs)
 found_more f g known defs i d w found distinct g_is lt is named =
     let whole : known ++ take (i + 1) defs ≡ (known ++ take i defs) ++ d ∷ [] = ap (λ (l : List Definition). known ++ l) (more_is defs i d lt is) ∙ sym (append_assoc known (take i defs) (d ∷ [])) in

@@ -30,7 +30,7 @@ use Rattle.mon_smi.proofs.Standing.{numbers_are}
 pub meant : (defs : List Definition) (w known q : List ℕ) → AreDistinct defs → StandsFor defs w known → q ≡ known ++ [] → numbers_of defs w ≡ Some q
 meant defs w known q distinct stands is = (numbers_are defs w q distinct).1 (subst (λ (p : List ℕ). StandsFor defs w p) (sym (append-nil known) ∙ sym is) stands)
 
--- a name with a fault stands for no identifier
+-- a name with a fault means no identifier
 pub meaningless : (e : NamesFault) (defs : List Definition) (w q : List ℕ) → AreDistinct defs → e ≢ OutOfMemory → IsFaultOfName e defs w [] → IsOid q → numbers_of defs w ≡ Some q → ⊥
 meaningless e defs w q distinct other fault oid is = no_cover e defs q w (length q) distinct other fault (q, (numbers_are defs w q distinct).0 is, oid, ([], append-nil q), refl)
 
@@ -44,7 +44,7 @@ apart : (p q k : List ℕ) → bytes_eq p q ≡ false → is_eq (slice_cmp nat_c
 apart p q k other at =
     is_eq-slice_cmp q k ∙ nat_list_eq_equiv.symm q k ∙ sym (nat_list_eq_equiv.congr p k q (sym (is_eq-slice_cmp p k) ∙ at)) ∙ other
 
--- an insertion changes what is found for the key alone
+-- an insertion changes only what is found for the key
 pub inserted : (m n : BTreeMap (Vec ℕ) (Bor (List ℕ))) (key : Vec ℕ) (w : Bor (List ℕ)) → Updates (λ x y. slice_cmp nat_cmp x.items y.items) m n key (Some w) → (q : List ℕ) → found_at n q ≡ cond (bytes_eq key.items q) (Some w.now) (found_at m q)
 inserted m n key w h q = go (bytes_eq key.items q) refl
   where
@@ -72,7 +72,7 @@ nobody None q other = refl
 nobody (Some p) q other = not_same p q (λ same. other (ap Some same))
 
 module _ (defs : List Definition) (i : ℕ) (d : Definition) (w : List ℕ) (lt : i < length defs) (is : d ≡ get_or defs i d) (named : w ≡ d.name) where
-  -- a definition whose name stands for no identifier
+  -- a definition whose name means no identifier
   pub passed : (labels : BTreeMap (Vec ℕ) (Bor (List ℕ))) → AreLabels defs (take i defs) labels → ((q : List ℕ) → IsOid q → numbers_of defs w ≡ Some q → ⊥) → AreLabels defs (take (i + 1) defs) labels
   passed labels so_far none q oid =
       let no : is_name_for defs q d ≡ false = nobody (numbers_of defs d.name) q (λ h. none q oid (ap (numbers_of defs) named ∙ h)) in

@@ -1,4 +1,4 @@
--- What a text means: a word alone, or one before the first dot.
+-- What a text means: only a word, or a word before the first dot.
 use Rattle.std.proofs.Common.{◌≡◌, ℕ, ◌<◌, List, [], ◌∷◌, ◌++◌, length, get_or, sym, refl, subst, arith, Bor, Option, Some, None, Result, Ok, Err, ⊎_elim, inr, lit<, true}
 use Rattle.std.specs.Prelude.{IfOk, IfErr}
 use Rattle.std.proofs.lemmas.Str.Pattern.{IsSplitOnceResult, split_after, split_parts}
@@ -25,7 +25,7 @@ alone_formless text r split is bad w rest named =
     (λ (cut : (dotted : List ℕ) × (text ≡ w ++ 46 ∷ dotted) × Spells dotted rest). rw is at (split_after 46 text w cut.0 r split (lit< tt) cut.1 (no_dot w named.0)))
     named.1
 
--- a text with a dot is named by what stands before the first one
+-- a text with a dot is named by what comes before the first one
 pub cut_named : (text : List ℕ) (r : Option (Bor (List ℕ) × Bor (List ℕ))) (x : Bor (List ℕ) × Bor (List ℕ)) → IsSplitOnceResult 46 text r → r ≡ Some x → (w rest : List ℕ) → IsNamed text w rest → (x.0.now ≡ w) × Spells x.1.now rest
 cut_named text r x split is w rest named =
     ⊎_elim

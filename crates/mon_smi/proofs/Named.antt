@@ -24,7 +24,7 @@ use Rattle.mon_smi.proofs.Standing.{numbers_are}
 
 -- ---- the label of numbers
 
--- the least of the names of these definitions that stand for the numbers
+-- the least of the names of these definitions that mean the numbers
 abbrev IsLeast : List Definition → List Definition → List ℕ → Option (List ℕ) → Type 0
 IsLeast defs seen q None = (d : Definition) → IsOneOf seen d → StandsFor defs d.name q → ⊥
 IsLeast defs seen q (Some w) = StandsFor defs w q × ((d : Definition) → IsOneOf seen d → StandsFor defs d.name q → slice_cmp nat_cmp w d.name ≢ Greater)
@@ -91,7 +91,7 @@ the_beginning oid q n prefix len =
     let whole : take (length q) q ≡ q = take_all (length q) q (omega arith) in
     sym whole ∙ sym (take-append-le (length q) q prefix.0 (omega arith)) ∙ ap (λ (l : List ℕ). take (length q) l) is ∙ ap (λ (k : ℕ). take k oid) len
 
--- of the names that cover at most so much of the identifier the nearest, or there is none
+-- the nearest of the names that cover at most n of the identifier, or there is none
 abbrev IsNearestUpTo : List Definition → List ℕ → ℕ → Option (List ℕ × ℕ) → Type 0
 IsNearestUpTo defs oid n None = (w : List ℕ) (m : ℕ) → m ≤ n → Covers defs oid w m → ⊥
 IsNearestUpTo defs oid n (Some b) = Covers defs oid b.0 b.1 × ((other : List ℕ) (m : ℕ) → m ≤ n → Covers defs oid other m → IsAsNear b.0 b.1 other m)
@@ -103,7 +103,7 @@ two_at_least defs oid w m covers =
     omega arith
 
 module _ (defs : List Definition) (distinct : AreDistinct defs) (oid : List ℕ) (is_oid : IsOid oid) where
-  -- what covers so much stands for the beginning of this length
+  -- what covers this many means the beginning of this length
   stands_there : (w : List ℕ) (m n : ℕ) → m ≡ n → Covers defs oid w m → StandsFor defs w (take n oid)
   stands_there w m n same covers = subst (λ (q : List ℕ). StandsFor defs w q) (the_beginning oid covers.0 n covers.3 (covers.4 ∙ same)) covers.1
 

@@ -1,4 +1,4 @@
--- What covers an identifier, and the order of the words that do.
+-- What covers an identifier, and the order of what does.
 use Rattle.std.proofs.Common.{◌⊎◌, ◌≡◌, ◌≢◌, ℕ, ◌-◌, ◌<◌, ◌≤◌, List, [], ◌∷◌, ◌++◌, length, sym, refl, ap, ◌∙◌, subst, arith, append-nil, Option, Some, None, ⊎_elim, inl, inr, length-append}
 use Rattle.std.specs.Prelude.{IfSome, IfNone}
 use Rattle.std.specs.Ordering.{nat_cmp}
@@ -58,7 +58,7 @@ at_most_trans a b c ab bc = go (slice_cmp nat_cmp a b) (slice_cmp nat_cmp b c) r
 pub one_of : (xs : List Definition) (x d : Definition) → IsOneOf (xs ++ x ∷ []) d → IsOneOf xs d ⊎ (d ≡ x)
 one_of xs x d one = ⊎_elim (λ front. inl (one.0, front)) (λ back. inr (only_one x d (one.0 - length xs) back.1).1) (at_split xs (x ∷ []) one.0 d one.1)
 
--- a word that stands for numbers is defined
+-- a word that means numbers is defined
 pub defined : (defs : List Definition) (w : List ℕ) (chain : List Definition) → Leads defs (Some w) chain None → (d : Definition) × IsOneOf defs d × (d.name ≡ w)
 defined defs w [] leads = absurd (cc)
 defined defs w (d ∷ ds) leads = (d, leads.0, leads.1)

@@ -8,7 +8,7 @@ use Rattle.mon_smi.specs.Tokens.{doubled}
 use Rattle.mon_smi.specs.Scan.{closes_at}
 use Rattle.mon_smi.proofs.Runs.{by_test}
 
--- so many bytes are passed, the last string ended there, and the rest goes on so
+-- this many bytes are passed, the last string ended there, and the rest goes on from there
 abbrev pub joined : ℕ → Option ℕ → Option ℕ → Option ℕ
 joined len end None = end
 joined len end (Some n) = Some (len + n)

@@ -8,7 +8,7 @@ use Rattle.std.proofs.lemmas.List.{get_or-take, length-take-le}
 use Rattle.std.proofs.str.Laws.{order}
 use Rattle.mon_smi.specs.Words.{is_part, GoesOn, IsWord}
 
--- past the end stands no part of a word
+-- past the end is no part of a word
 not_past : (w : List ℕ) (i : ℕ) → length w ≤ i → IsTrue (is_part (get_or w i 0)) → ⊥
 not_past w i past part =
     let nothing : get_or w i 0 ≡ 0 = get_or-eq_default w 0 past in
@@ -59,7 +59,7 @@ is_longest text n m stops within word =
     (λ le. le)
     (order n m)
 
--- a word begins where a letter stands
+-- a word begins where a letter is
 pub begins : (text : List ℕ) → IsTrue (is_ascii_alphabetic (get_or text 0 0)) → GoesOn text 0
 begins text letter = inl (ap (λ t. (t || is_ascii_digit (get_or text 0 0)) || get_or text 0 0 == 95) letter)
 

@@ -1,4 +1,4 @@
--- Following a word's parents gives what the word stands for.
+-- Following a word's parents yields what the word means.
 use Rattle.std.proofs.Common.{◌≡◌, ◌↔◌, ℕ, zero, suc, ◌-◌, ◌<◌, ◌≤◌, true, false, eqb, List, [], ◌∷◌, ◌++◌, length, drop, sym, refl, ap, ◌∙◌, subst, arith, length-drop, Option, Some, None, option_map, inl, inr}
 use Rattle.std.specs.Prelude.{option_and_then}
 use Rattle.std.specs.List.{AllByRecursion, IsDistinct, list_any}
@@ -81,7 +81,7 @@ up_sound zero defs (Some w) q h = absurd cc
 up_sound (suc n) defs None q h = no_more defs q h
 up_sound (suc n) defs (Some w) q h = up_from n defs w q (definition_of defs w) refl (λ d p. up_sound n defs d.parent p) h
 
--- so many steps are enough
+-- this many steps are enough
 up_complete : (n : ℕ) (defs : List Definition) (o : Option (List ℕ)) (chain : List Definition) → AreDistinct defs → length chain ≤ n → Leads defs o chain None
     → numbers_up n defs o ≡ Some (chain_numbers chain)
 up_complete zero defs None [] distinct few leads = refl
@@ -107,7 +107,7 @@ as_many defs (Some w) [] leads = refl
 as_many defs None (d ∷ ds) leads = absurd leads
 as_many defs (Some w) (d ∷ ds) leads = ap suc (as_many defs d.parent ds leads.2)
 
--- at each of these places stands a definition of the chain
+-- at each of these places is a definition of the chain
 abbrev Stands : List Definition → List Definition → ℕ → Type 0
 Stands defs chain p = (k : ℕ) × (e : Definition) × IsAt chain k e × IsAt defs p e
 

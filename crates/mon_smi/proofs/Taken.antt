@@ -1,4 +1,4 @@
--- What stands at the front of a text is spelled there.
+-- What is at the front of a text is spelled there.
 use Rattle.std.proofs.Common.{◌≡◌, ℕ, zero, suc, ◌+◌, ◌<◌, ◌≤◌, Bool, true, false, List, [], ◌∷◌, ◌++◌, length, get_or, take, drop, Option, Some, None, sym, refl, ap, ◌∙◌, subst, arith, length-take-le, length-append, ◌⊎◌, inl, inr}
 use Rattle.std.specs.Prelude.{IsTrue, IfSome, ◌||◌, ◌&&◌, ◌==◌}
 use Rattle.std.specs.Char.{is_ascii_alphabetic, is_ascii_digit, is_ascii_hexdigit}

@@ -1,4 +1,5 @@
--- The names that stand without any module: iso of ASN.1, and those of the module SNMPv2-SMI (RFC 2578 section 2).
+-- The names that are defined without any module: iso of ASN.1, and those of the module SNMPv2-SMI
+-- (RFC 2578 section 2).
 use Rattle.std.specs.Prelude.{ℕ, List, [], ◌∷◌, None, codes}
 use Rattle.mon_smi.specs.declared.definition.Definition.{Definition}
 

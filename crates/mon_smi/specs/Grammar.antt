@@ -57,15 +57,15 @@ IsMaybeGroup ls = (ls ≡ []) ⊎ (IsBalanced LeftBrace RightBrace ls ⊎ IsBala
 abbrev pub IsType : List Lexeme → Type 0
 IsType = IsTypeName ▸ IsMaybeGroup
 
--- the words of MAX-ACCESS (RFC 2578 section 7.3)
+-- the keywords of MAX-ACCESS (RFC 2578 section 7.3)
 abbrev pub accesses : List (List ℕ)
 accesses = codes "not-accessible" ∷ codes "accessible-for-notify" ∷ codes "read-only" ∷ codes "read-write" ∷ codes "read-create" ∷ []
 
--- the words of STATUS (RFC 2578 section 7.4)
+-- the keywords of STATUS (RFC 2578 section 7.4)
 abbrev pub statuses : List (List ℕ)
 statuses = codes "current" ∷ codes "deprecated" ∷ codes "obsolete" ∷ []
 
--- what stands after the keyword of a clause
+-- what follows the keyword of a clause
 abbrev pub IsClausePart : Part → List Lexeme → Type 0
 IsClausePart Syntax ls = IsType ls
 IsClausePart Text ls = IsThis (mark Quoted) ls
@@ -74,7 +74,7 @@ IsClausePart Status ls = IsWordOf statuses ls
 IsClausePart Word ls = (text : List ℕ) × IsThis (word text) ls
 IsClausePart Group ls = IsBalanced LeftBrace RightBrace ls
 
--- a keyword and what stands after it
+-- a keyword and what follows it
 abbrev pub IsClause : List ℕ → Part → List Lexeme → Type 0
 IsClause keyword part = IsThis (word keyword) ▸ IsClausePart part
 
@@ -135,7 +135,7 @@ IsValue parent numbers ls = (inner : List Lexeme) × (ls ≡ mark LeftBrace ∷ 
 abbrev pub macros : List (List ℕ)
 macros = codes "MODULE-IDENTITY" ∷ codes "OBJECT-IDENTITY" ∷ codes "NOTIFICATION-TYPE" ∷ codes "OBJECT-GROUP" ∷ codes "NOTIFICATION-GROUP" ∷ codes "MODULE-COMPLIANCE" ∷ codes "AGENT-CAPABILITIES" ∷ []
 
--- what stands between a value's name and its ::=
+-- what comes between a value's name and its ::=
 abbrev pub IsHead : List Lexeme → Type 0
 IsHead ls = (ls ≡ word (codes "OBJECT") ∷ word (codes "IDENTIFIER") ∷ [])
     ⊎ ((IsThis (word (codes "OBJECT-TYPE")) ▸ IsObjectType) ls

@@ -13,7 +13,7 @@ use Rattle.mon_smi.specs.declared.definition.Definition.{Definition}
 use Rattle.mon_smi.specs.Parents.{numbers_of}
 use Rattle.mon_smi.specs.Nearest.{dotted_after}
 
--- the definition's name stands for these numbers
+-- the definition's name means these numbers
 abbrev pub is_name_for : List Definition → List ℕ → Definition → Bool
 is_name_for defs q d = option_map_or (λ p. bytes_eq p q) (numbers_of defs d.name) false
 
@@ -26,15 +26,16 @@ is_known (Some v) w = is_le (slice_cmp nat_cmp v w)
 abbrev pub lesser : Option (List ℕ) → List ℕ → Option (List ℕ)
 lesser best w = if is_known best w then best else Some w
 
--- of these definitions' names that stand for the numbers the least
+-- the least of these definitions' names that mean the numbers
 abbrev pub label_among : List Definition → List Definition → List ℕ → Option (List ℕ)
 label_among defs seen q = fold (λ best d. if is_name_for defs q d then lesser best d.name else best) None seen
 
--- of the names that stand for the numbers the least
+-- the least of the names that mean the numbers
 abbrev pub label_of : List Definition → List ℕ → Option (List ℕ)
 label_of defs q = label_among defs defs q
 
--- the longest beginning of an identifier that has a label, of at least 2 and at most so many numbers; its label and its length
+-- the longest beginning of an identifier that has a label, of 2 to n numbers; its label and its
+-- length
 abbrev pub longest : (List ℕ → Option (List ℕ)) → List ℕ → ℕ → Option (List ℕ × ℕ)
 longest label oid zero = None
 longest label oid (suc zero) = None

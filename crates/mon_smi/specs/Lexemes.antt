@@ -40,7 +40,7 @@ lexeme_at text t = lexeme_of t.kind (take (t.span.end - t.span.start) (drop t.sp
 abbrev pub lexemes : List ℕ → List Token → List Lexeme
 lexemes text tokens = map (lexeme_at text) tokens
 
--- the token stands in the text and is spelled as its kind is
+-- the token is in the text and is spelled as its kind is
 pub record IsTokenOf (text : List ℕ) (t : Token) : Type 0 where
   pub begun : t.span.start ≤ t.span.end
   pub within : t.span.end ≤ length text

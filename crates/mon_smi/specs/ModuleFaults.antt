@@ -17,7 +17,7 @@ use Rattle.mon_smi.specs.Grammar.{IsValueAssignment, Derives}
 abbrev pub IsNoModule : List ℕ → Type 0
 IsNoModule text = (name : List ℕ) (defs : List Definition) → Derives text name defs → ⊥
 
--- the token of the text that stands at this place begins the assignment of this definition
+-- the token of the text at this place begins the assignment of this definition
 abbrev pub BeginsAt : List ℕ → Span → Definition → Type 0
 BeginsAt text span d = (before after : List Token) × (token : Token) × (assignment rest : List Lexeme)
     × AreTokens text (before ++ token ∷ after) × (token.span ≡ span)
@@ -28,11 +28,12 @@ abbrev pub HasTwice : List ℕ → Span → Type 0
 HasTwice text span = (name : List ℕ) × (defs : List Definition) × (i : ℕ) × (d : Definition)
     × Derives text name defs × IsAgain defs i d × BeginsAt text span d
 
--- the token with which this many are left stands at this place
+-- the token with which this many are left is at this place
 abbrev pub IsLeftAt : List Token → ℕ → Span → Type 0
 IsLeftAt tokens n span = (before after : List Token) × (token : Token) × (tokens ≡ before ++ token ∷ after) × (token.span ≡ span) × (length (token ∷ after) ≡ n)
 
--- the fault where reading broke off with this many of the tokens left: the text ends too early where no token stands there, else that token is unexpected
+-- the fault where reading broke off with this many of the tokens left: the text ends too early if
+-- no token is there, else that token is unexpected
 abbrev pub IsBrokenOff : TextFault → List Token → ℕ → Type 0
 IsBrokenOff OutOfMemory tokens left = ⊥
 IsBrokenOff Unclosed tokens left = (span : Span) → IsLeftAt tokens left span → ⊥
@@ -52,7 +53,8 @@ IsFaultOfTokensRead e tokens ls = (f : ReadFault) × Fails f (module_at ls) × I
 abbrev pub BreaksOff : TextFault → List ℕ → Type 0
 BreaksOff e text = (tokens : List Token) × (rest : List Lexeme) × AreTokens text tokens × (module_at (lexemes text tokens) ≡ Err rest) × IsBrokenOff e tokens (length rest)
 
--- why a text is no module: it is not cut into tokens, or reading them breaks off at this place; or a value name stands in it twice
+-- why a text is no module: it is not cut into tokens, or reading them breaks off at this place; or
+-- a value name is in it twice
 abbrev pub IsFaultOfModule : TextFault → List ℕ → Type 0
 IsFaultOfModule OutOfMemory text = Unit {0}
 IsFaultOfModule Unclosed text = IsNoModule text × (IsFaultOfTokens Unclosed text ⊎ BreaksOff Unclosed text)

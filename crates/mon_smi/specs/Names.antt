@@ -1,4 +1,4 @@
--- What names stand for (RFC 2578 sections 3.1 and 3.5).
+-- What names mean (RFC 2578 sections 3.1 and 3.5).
 use Rattle.std.specs.Prelude.{◌⊎◌, ◌≡◌, ◌≢◌, ℕ, ◌<◌, ◌≤◌, List, [], ◌∷◌, ◌++◌, length, slice_index_or, Option, Some, None}
 use Rattle.mon_oid.specs.Oid.{IsOid, Spells}
 use Rattle.mon_smi.specs.Words.{IsWord}
@@ -6,7 +6,7 @@ use Rattle.mon_smi.specs.declared.definition.Definition.{Definition}
 use Rattle.mon_smi.specs.declared.fault.NamesFault.{NamesFault}
 use Rattle.mon_smi.specs.declared.fault.NamesFault.TheVariants.{OutOfMemory, Duplicate, Unknown, Cycle, TooDeep, BadIdentifier}
 
--- the definition stands at this place
+-- the definition is at this place
 abbrev pub IsAt : List Definition → ℕ → Definition → Type 0
 IsAt defs i d = (i < length defs) × (d ≡ slice_index_or defs i d)
 
@@ -34,7 +34,7 @@ abbrev pub chain_numbers : List Definition → List ℕ
 chain_numbers [] = []
 chain_numbers (d ∷ ds) = chain_numbers ds ++ d.numbers
 
--- the word stands for these numbers
+-- the word means these numbers
 abbrev pub StandsFor : List Definition → List ℕ → List ℕ → Type 0
 StandsFor defs w q = (chain : List Definition) × Leads defs (Some w) chain None × (q ≡ chain_numbers chain)
 
@@ -46,7 +46,7 @@ EndsUndefined defs w = (chain : List Definition) × (p : List ℕ) × Leads defs
 abbrev pub IsCircular : List Definition → List ℕ → Type 0
 IsCircular defs w = (chain : List Definition) × (d : Definition) × Leads defs (Some w) chain (Some d.name) × IsOneOf chain d
 
--- a word alone, or a word and numbers after dots
+-- only a word, or a word and numbers after dots
 abbrev pub IsNamed : List ℕ → List ℕ → List ℕ → Type 0
 IsNamed text w rest = IsWord w × (((text ≡ w) × (rest ≡ [])) ⊎ ((dotted : List ℕ) × (text ≡ w ++ 46 ∷ dotted) × Spells dotted rest))
 

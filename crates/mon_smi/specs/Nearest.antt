@@ -8,7 +8,7 @@ use Rattle.mon_oid.specs.Oid.{IsOid, IsPrefix, dotted}
 use Rattle.mon_smi.specs.declared.definition.Definition.{Definition}
 use Rattle.mon_smi.specs.Names.{StandsFor}
 
--- the word stands for an identifier of n sub-identifiers, with which the other one begins
+-- the word means an identifier of n sub-identifiers, with which the other one begins
 abbrev pub Covers : List Definition → List ℕ → List ℕ → ℕ → Type 0
 Covers defs oid w n = (q : List ℕ) × StandsFor defs w q × IsOid q × IsPrefix q oid × (length q ≡ n)
 
@@ -16,7 +16,7 @@ Covers defs oid w n = (q : List ℕ) × StandsFor defs w q × IsOid q × IsPrefi
 abbrev pub IsAsNear : List ℕ → ℕ → List ℕ → ℕ → Type 0
 IsAsNear w n other m = (m < n) ⊎ ((m ≡ n) × (slice_cmp nat_cmp w other ≢ Greater))
 
--- the nearest of the words that cover the identifier
+-- the nearest of the names that cover the identifier
 abbrev pub IsNearest : List Definition → List ℕ → List ℕ → ℕ → Type 0
 IsNearest defs oid w n = Covers defs oid w n × ((other : List ℕ) (m : ℕ) → Covers defs oid other m → IsAsNear w n other m)
 

@@ -115,7 +115,7 @@ is_access l = is_word (codes "not-accessible") l || (is_word (codes "accessible-
 abbrev pub is_status : Lexeme → Bool
 is_status l = is_word (codes "current") l || (is_word (codes "deprecated") l || is_word (codes "obsolete") l)
 
--- what stands after the keyword of a clause
+-- reads what follows the keyword of a clause
 unfoldable pub part_at : Part → List Lexeme → Read (List Lexeme)
 part_at Syntax ls = type_at ls
 part_at Text ls = mark_at Quoted ls
@@ -267,7 +267,7 @@ macro_at ls = do
   rest ← one is_macro ls
   up_to Assign rest
 
--- what stands between a value's name and its value
+-- reads what comes between a value's name and its value
 unfoldable pub head_at : List Lexeme → Read (List Lexeme)
 head_at ls = if begins_word (codes "OBJECT") ls then identifier_at ls else (if begins_word (codes "OBJECT-TYPE") ls then object_at ls else macro_at ls)
 
@@ -341,7 +341,7 @@ definitions_at ls = do
   all ← many assignment_at option_to_list ends_module (length ls) ls
   Ok all.0
 
--- what stands after a module's name
+-- reads what follows a module's name
 unfoldable pub module_body_at : List Lexeme → Read (List Definition)
 module_body_at ls = do
   defined ← word_at (codes "DEFINITIONS") ls

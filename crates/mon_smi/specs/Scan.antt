@@ -1,4 +1,4 @@
--- What stands at the front of a text, as a function of the text.
+-- What is at the front of a text, as a function of the text.
 use Rattle.std.specs.Prelude.{ℕ, suc, ◌+◌, List, [], ◌∷◌, slice_index, drop, Bool, ◌||◌, ◌&&◌, ◌==◌, if◌then◌else◌, Option, Some, None}
 use Rattle.std.specs.Char.{is_ascii_alphabetic, is_ascii_digit, is_ascii_hexdigit}
 use Rattle.mon_smi.specs.Words.{is_part}
@@ -63,7 +63,7 @@ hyphen_at text =
 abbrev pub quoted_at : List ℕ → Option Piece
 quoted_at text = elim (closes_at text) [ Some n ↦ token Quoted (suc n) | None ↦ None ]
 
--- after the digits between single quotes stands what closes them
+-- after the digits between single quotes comes what closes them
 abbrev pub closed_bits : ℕ → ℕ → List ℕ → Option Piece
 closed_bits digits bits [] = None
 closed_bits digits bits (b ∷ []) = None
@@ -107,7 +107,7 @@ behind_at b bs =
     (if b == 58 then assign_at bs else
     (if b == 46 then dot_at bs else mark_at b))))
 
--- what stands at the front
+-- the piece at the front
 unfoldable pub piece_at : List ℕ → Option Piece
 piece_at [] = None
 piece_at (b ∷ bs) =

@@ -1,4 +1,5 @@
--- The tokens that a text is cut into: the words, numbers, strings and marks of ASN.1 (ITU-T X.208 section 8), as RFC 2578 section 3 uses them.
+-- What a text is cut into: the words, numbers, strings and marks of ASN.1 (ITU-T X.208 section 8),
+-- as RFC 2578 section 3 uses them.
 use Rattle.std.specs.Prelude.{◌⊎◌, ◌≡◌, ◌≢◌, ℕ, suc, ◌+◌, ◌<◌, ◌≤◌, List, [], ◌∷◌, ◌++◌, length, slice_index, take, drop, Bool, ◌||◌, ◌&&◌, ◌==◌, nat_le, nat_lt, IsTrue, if◌then◌else◌, Option, Some, None, codes}
 use Rattle.std.specs.List.{flat_map}
 use Rattle.std.specs.Char.{is_ascii_digit, is_ascii_hexdigit}
@@ -116,7 +117,7 @@ abbrev pub IsPieceOf : Option Kind → ℕ → List ℕ → Type 0
 IsPieceOf None n text = IsPassed n text
 IsPieceOf (Some kind) n text = IsLongestToken kind n text
 
--- at the front of the text stands this token, or with no kind this space or comment
+-- at the front of the text is this token, or with no kind this space or comment
 abbrev pub IsPiece : Piece → List ℕ → Type 0
 IsPiece piece text = IsPieceOf piece.kind piece.len text
 
@@ -125,7 +126,7 @@ abbrev pub IsTokenized : List Piece → List ℕ → List ℕ → Type 0
 IsTokenized [] text rest = text ≡ rest
 IsTokenized (p ∷ ps) text rest = IsPiece p text × IsTokenized ps (drop p.len text) rest
 
--- something is left, and neither a token nor space nor a comment stands there
+-- something is left, and neither a token nor space nor a comment is there
 abbrev pub NothingStands : List ℕ → Type 0
 NothingStands text = (0 < length text) × ((piece : Piece) → IsPiece piece text → ⊥)
 
@@ -153,7 +154,7 @@ abbrev pub RisesFrom : ℕ → List Token → Type 0
 RisesFrom at [] = Unit {0}
 RisesFrom at (t ∷ ts) = (at ≤ t.span.start) × (t.span.start < t.span.end) × RisesFrom t.span.end ts
 
--- read from the left the text comes to this place, and nothing stands there
+-- read from the left the text comes to this place, and no piece is there
 abbrev pub IsStuck : List ℕ → ℕ → List ℕ → Type 0
 IsStuck text at rest = (pieces : List Piece) × IsTokenized pieces text rest × (bytes_of pieces ≡ at) × NothingStands rest
 
@@ -167,14 +168,16 @@ abbrev pub char_len : List ℕ → ℕ
 char_len [] = 1
 char_len (b ∷ bs) = suc (continued bs)
 
--- the fault at a place where nothing stands: it is in a string that isn't closed, or the character there is unexpected
+-- the fault at a place where no piece is: it is in a string that isn't closed, or the character
+-- there is unexpected
 abbrev pub IsFaultAt : TextFault → ℕ → List ℕ → Type 0
 IsFaultAt OutOfMemory at rest = ⊥
 IsFaultAt Unclosed at rest = slice_index rest 0 ≡ 34
 IsFaultAt (Unexpected span) at rest = (span.start ≡ at) × (span.end ≡ at + char_len rest) × (slice_index rest 0 ≢ 34)
 IsFaultAt (Duplicate span) at rest = ⊥
 
--- why a text has no tokens: it comes to a place where nothing stands, which is in a string that isn't closed, or another one
+-- why a text has no tokens: it comes to a place where no piece is, which is in a string that isn't
+-- closed, or another one
 abbrev pub IsFaultOfTokens : TextFault → List ℕ → Type 0
 IsFaultOfTokens OutOfMemory text = Unit {0}
 IsFaultOfTokens Unclosed text = (at : ℕ) × (rest : List ℕ) × IsStuck text at rest × (slice_index rest 0 ≡ 34)

@@ -13,7 +13,7 @@ use crate::values::{name_at, value_at};
 use crate::word::Word;
 use std::alloc::Global;
 
-/// Whether the word is a macro whose clauses are passed over.
+/// Returns `true` if the word is a macro whose clauses are passed over.
 fn is_macro(l: &Lexeme) -> bool
     ensures { result ≡ is_macro l.now }
 {
@@ -56,7 +56,7 @@ pub(crate) fn up_to<'a, 's>(
     Err(ReadFault::BrokenOff(rest))
 }
 
-/// The words before an identifier's value.
+/// Reads the keywords before an identifier's value.
 #[tactic(auto, unfolding(crate::specs::Reading::identifier_at))]
 fn identifier_at<'a, 's>(ls: &'a [Lexeme<'s>]) -> Result<&'a [Lexeme<'s>], ReadFault<'a, 's>>
     ensures { Gives (λ rest. rest.now) result (identifier_at ls.now) }
@@ -83,7 +83,7 @@ fn macro_at<'a, 's>(ls: &'a [Lexeme<'s>]) -> Result<&'a [Lexeme<'s>], ReadFault<
     up_to(Kind::Assign, rest)
 }
 
-/// What stands between a value's name and its assignment mark.
+/// Reads what comes between a value's name and its assignment mark.
 #[tactic(auto, unfolding(crate::specs::Reading::head_at))]
 fn head_at<'a, 's>(ls: &'a [Lexeme<'s>]) -> Result<&'a [Lexeme<'s>], ReadFault<'a, 's>>
     ensures { Gives (λ rest. rest.now) result (head_at ls.now) }
@@ -125,7 +125,7 @@ fn definition_at<'a, 's>(
     ))
 }
 
-/// Whether the clauses of a textual convention come next.
+/// Returns `true` if the clauses of a textual convention come next.
 fn is_convention(ls: &[Lexeme]) -> bool
     ensures { result ≡ is_convention ls.now }
 {

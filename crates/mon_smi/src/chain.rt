@@ -63,7 +63,7 @@ fn joined(alloc: Global, mut chain: Vec<&Definition>, rest: &[u32]) -> Result<Ve
     Ok(numbers)
 }
 
-/// What a word with numbers after it stands for.
+/// Returns what a word with numbers after it means.
 pub(crate) fn identifier_of(
     alloc: Global,
     places: &BTreeMap<String, usize>,

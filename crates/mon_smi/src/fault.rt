@@ -5,7 +5,7 @@ ghost use Rattle.mon_smi.specs.Faults.{number_of_names, name_of_names};
 use std::alloc::{AllocError, AllocFailed};
 use thiserror::Error;
 
-/// Why a name stands for nothing, or why definitions can't be added.
+/// Why a name means nothing, or why definitions can't be added.
 #[derive(Clone, Copy, Debug, PartialEq, Eq, Error)]
 pub enum NamesFault {
     /// Memory was refused.

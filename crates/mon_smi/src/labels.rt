@@ -23,7 +23,7 @@ use std::marker::Model;
 #[derive(Drop)]
 pub struct Labels<'a> {
     defs: &'a [Definition],
-    // By an identifier the least, by bytes, of the names that stand for it.
+    // By an identifier the least, by bytes, of the names that mean it.
     by_identifier: BTreeMap<Vec<u32>, &'a str>,
 }
 
@@ -41,7 +41,8 @@ impl<'a> Model for Labels<'a> {
 }
 
 impl<'a> Labels<'a> {
-    /// The names of these definitions that stand for an identifier, with the places of the definitions.
+    /// Returns the names of these definitions that mean an identifier, with the places of the
+    /// definitions.
     pub(crate) fn new(
         alloc: Global,
         places: &BTreeMap<String, usize>,
@@ -120,7 +121,7 @@ impl<'a> Labels<'a> {
     }
 }
 
-/// The identifier that a name stands for.
+/// Returns the identifier that a name means.
 fn identified(
     alloc: Global,
     places: &BTreeMap<String, usize>,
@@ -141,7 +142,7 @@ fn identified(
     }
 }
 
-/// Whether a name is known that is no greater.
+/// Returns `true` if a name is known that is no greater.
 fn is_known(known: Option<&str>, name: &str) -> bool
     ensures { result ≡ is_known (option_map (λ w. w.now) known.entry) name.now }
 {

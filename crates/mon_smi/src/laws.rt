@@ -12,22 +12,22 @@ ghost use Rattle.mon_smi.specs.Nearest.{IsNameOf};
 ghost use Rattle.mon_smi.specs.Labels.{name_text};
 ghost use Rattle.mon_oid.specs.Oid.{IsOid};
 
-/// A name stands for one identifier at most.
+/// A name means at most one identifier.
 pub fn one_meaning()
     ensures { (defs : List AnyDefinition) (w p q : List ℕ) → AreDistinct defs → StandsFor defs w p → StandsFor defs w q → p ≡ q }
 {}
 
-/// A name whose chain of parents ends at no definition stands for nothing.
+/// A name whose chain of parents ends at no definition means nothing.
 pub fn lost()
     ensures { (defs : List AnyDefinition) (w q : List ℕ) → AreDistinct defs → StandsFor defs w q → ¬ (EndsUndefined defs w) }
 {}
 
-/// A name whose chain of parents comes to a name again stands for nothing.
+/// A name whose chain of parents comes to a name again means nothing.
 pub fn circular()
     ensures { (defs : List AnyDefinition) (w q : List ℕ) → AreDistinct defs → StandsFor defs w q → ¬ (IsCircular defs w) }
 {}
 
-/// Following the parents of a name gives the numbers that it stands for, and nothing where it stands for none.
+/// Following the parents of a name yields the numbers that it means, and nothing if it means none.
 pub fn parents()
     ensures { (defs : List AnyDefinition) (w q : List ℕ) → AreDistinct defs → (numbers_of defs w ≡ Some q) ↔ StandsFor defs w q }
 {}
@@ -49,7 +49,7 @@ pub fn one_cut()
     ensures { (text : List ℕ) (a b : List AnyToken) → AreTokens text a → AreTokens text b → a ≡ b }
 {}
 
-/// Each token's bytes, from its start to its end, stand in the text and are spelled as its kind is.
+/// Each token's bytes, from its start to its end, are in the text and are spelled as its kind is.
 pub fn slices()
     ensures { (text : List ℕ) (tokens : List AnyToken) → AreTokens text tokens → AreTokensOf text tokens }
 {}

@@ -88,7 +88,7 @@ fn code_of(kind: Kind) -> u8
     kind as u8
 }
 
-/// Whether the texts are the same.
+/// Returns `true` if the texts are the same.
 fn same_text(text: &str, other: &str) -> bool
     ensures { result ≡ same_text text.now other.now }
 {
@@ -96,7 +96,7 @@ fn same_text(text: &str, other: &str) -> bool
 }
 
 impl<'a> Lexeme<'a> {
-    /// Whether it is this word.
+    /// Returns `true` if it is this word.
     pub fn is_word(&self, text: &str) -> bool
         ensures { result ≡ is_word text.now self.now }
     {
@@ -106,7 +106,7 @@ impl<'a> Lexeme<'a> {
         }
     }
 
-    /// Whether it is a token of this kind, which is neither a word nor a number.
+    /// Returns `true` if it is a token of this kind, which is neither a word nor a number.
     pub fn is_mark(&self, kind: Kind) -> bool
         ensures { result ≡ is_mark kind self.now }
     {
@@ -136,14 +136,14 @@ impl<'a> Lexeme<'a> {
         }
     }
 
-    /// Whether it is a word.
+    /// Returns `true` if it is a word.
     pub fn is_any_word(&self) -> bool
         ensures { result ≡ is_any_word self.now }
     {
         matches!(self.kind, Kind::Word)
     }
 
-    /// Whether it is a word with a capital first letter.
+    /// Returns `true` if it is a word with a capital first letter.
     pub fn is_capital(&self) -> bool
         ensures { result ≡ is_capital self.now }
     {
@@ -154,14 +154,14 @@ impl<'a> Lexeme<'a> {
     }
 }
 
-/// Whether the first letter is small.
+/// Returns `true` if the first letter is small.
 pub(crate) fn begins_small(word: &str) -> bool
     ensures { result ≡ begins_small word.now }
 {
     byte_at(word.as_bytes(), 0).is_ascii_lowercase()
 }
 
-/// Whether the first letter is a capital.
+/// Returns `true` if the first letter is a capital.
 pub(crate) fn begins_capital(word: &str) -> bool
     ensures { result ≡ begins_capital word.now }
 {

@@ -23,7 +23,7 @@ fn char_len(text: &[u8]) -> usize
     len
 }
 
-/// Why nothing stands at this place.
+/// Returns why no piece is at this place.
 fn fault_at(start: usize, rest: &[u8]) -> TextFault
     requires some { 0 < length rest.now }
     requires within { start + length rest.now < 2 ^ 64 }
@@ -72,14 +72,14 @@ fn tokens_of(alloc: Global, text: &[u8]) -> Result<Vec<Token>, TextFault>
     Ok(tokens)
 }
 
-/// The tokens of a text, read from the left: each one is the longest at its place, and only space and
-/// comments stand between them (RFC 2578 section 3). A comment opens at `--` with all hyphens after it,
-/// and closes at the next `--` with its hyphens or at the end of the line. `Unclosed` where the text
-/// ends inside a string, `Unexpected` where no token begins.
+/// Cuts a text into its tokens, read from the left: each one is the longest at its place, and only
+/// space and comments come between them (RFC 2578 section 3). A comment opens at `--` with all
+/// hyphens after it, and closes at the next `--` with its hyphens or at the end of the line.
+/// `Unclosed` if the text ends inside a string, `Unexpected` where no token begins.
 pub fn tokens(alloc: Global, text: &str) -> Result<Vec<Token>, TextFault>
     // The tokens, with their spans.
     ensures found { IfOk result (λ v. AreTokens text.now v.items) }
-    // A text is refused where it comes to a place at which nothing stands,
+    // A text is refused where it comes to a place at which no piece is,
     ensures fault { IfErr result (λ e. IsFaultOfTokens e text.now) }
     // and such a text is always refused.
     ensures stuck { (at : ℕ) (rest : List ℕ) → IsStuck text.now at rest → IsErr result }

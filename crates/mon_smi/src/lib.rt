@@ -1,6 +1,7 @@
-//! Names of managed objects, by RFC 2578 (SMIv2): `tokens` cuts a module's text, `read_module` gives its definitions,
-//! `Names::new` has the built-in ones, `add` adds those of a `Module`, `resolve` gives the identifier that a text means,
-//! and `name_of` the name of an identifier. To the layer above `Names` is the list of its definitions, all distinct.
+//! Names of managed objects, by RFC 2578 (SMIv2): `tokens` cuts a module's text, `read_module`
+//! reads its definitions, `Names::new` has the built-in ones, `add` adds those of a `Module`,
+//! `resolve` returns the identifier that a text means, and `name_of` the name of an identifier. To
+//! the layer above `Names` is the list of its definitions, all distinct.
 #![tactic(auto)]
 
 mod assignments;

@@ -21,7 +21,7 @@ use crate::token::Token;
 use crate::word::Word;
 use std::alloc::{AllocError, Global};
 
-/// Whether END comes next, as the last token.
+/// Returns `true` if END comes next, as the last token.
 fn ends_module(ls: &[Lexeme]) -> bool
     ensures { result ≡ ends_module ls.now }
 {
@@ -203,8 +203,8 @@ pub fn read_module(alloc: Global, text: &str) -> Result<Module, TextFault>
     ensures found { IfOk result (λ m. Derives text.now m.name m.defs × AreDistinct m.defs) }
     // A text that derives distinct definitions is read, unless memory runs out.
     ensures accepted { (name : List ℕ) (defs : List AnyDefinition) → Derives text.now name defs → AreDistinct defs → IsOkUnless result OutOfMemory }
-    // Duplicate is for a module with a name twice and tells where it is defined again, the other faults
-    // are for a text that derives no module.
+    // Duplicate is for a module with a name twice and says where it is defined again, the other
+    // faults are for a text that derives no module.
     ensures fault { IfErr result (λ e. IsFaultOfModule e text.now) }
 {
     module_of(alloc, text)

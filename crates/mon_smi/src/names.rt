@@ -39,7 +39,8 @@ impl Model for Names {
 }
 
 impl Names {
-    /// The names that stand without any module, as `enterprises` (RFC 2578 section 2).
+    /// Returns the names that are defined without any module, as `enterprises` (RFC 2578 section
+    /// 2).
     pub fn new(alloc: Global) -> Result<Self, AllocError>
         ensures { IfOk result (λ n. n ≡ built_in) }
     {

@@ -1,4 +1,4 @@
-//! What stands after the keyword of a clause.
+//! What follows the keyword of a clause.
 
 /// What a clause of an OBJECT-TYPE or a TEXTUAL-CONVENTION says (RFC 2578 section 7, RFC 2579 section 3).
 #[derive(Clone, Copy)]
@@ -9,7 +9,7 @@ pub(crate) enum Part {
     Text,
     /// How the object may be accessed.
     Access,
-    /// Whether the definition is current.
+    /// Returns `true` if the definition is current.
     Status,
     /// A word, whatever it says.
     Word,

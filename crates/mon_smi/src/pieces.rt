@@ -1,4 +1,4 @@
-//! What stands at the front of a text.
+//! What is at the front of a text.
 
 ghost use Rattle.std.specs.Prelude.{◌≡◌, ◌<◌, ◌^◌};
 ghost use Rattle.mon_smi.specs.Tokens.{is_space};
@@ -51,7 +51,7 @@ fn quoted_at(text: &[u8]) -> Option<Piece>
     }
 }
 
-/// Hex or binary digits, by what stands after them.
+/// Reads hex or binary digits, by what follows them.
 fn closed_bits(digits: usize, bits: usize, text: &[u8]) -> Option<Piece>
     requires { digits < 2 ^ 63 }
     ensures { result ≡ closed_bits digits bits text.now }
@@ -112,7 +112,7 @@ fn mark_at(byte: u8) -> Option<Piece>
     }
 }
 
-/// What stands after a first byte of no word, digits or space.
+/// Reads what follows a first byte of no word, digits or space.
 fn behind_at(first: u8, rest: &[u8]) -> Option<Piece>
     ensures { result ≡ behind_at first rest.now }
 {
@@ -126,7 +126,7 @@ fn behind_at(first: u8, rest: &[u8]) -> Option<Piece>
     }
 }
 
-/// Whether the byte is blank, tab, LF, VT, FF or CR.
+/// Returns `true` if the byte is blank, tab, LF, VT, FF or CR.
 fn is_space(byte: u8) -> bool
     ensures { result ≡ is_space byte }
 {

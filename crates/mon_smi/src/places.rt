@@ -1,4 +1,4 @@
-//! Where definitions stand, by their names.
+//! Where definitions are, by their names.
 
 ghost use Rattle.std.specs.Prelude.{◌≡◌, ◌++◌, IfOk, OnOk, IfSome, IfNone, true, false};
 ghost use Rattle.mon_smi.specs.Names.{IsAt, IsOneOf, IsUndefined, AreDistinct};
@@ -64,7 +64,7 @@ pub(crate) fn position(
     Some(*place)
 }
 
-/// Whether the name is defined.
+/// Returns `true` if the name is defined.
 pub(crate) fn is_defined(places: &BTreeMap<String, usize>, defs: &[Definition], name: &str) -> bool
     requires { AreFound places.now defs.now }
     ensures defined { result ≡ true → (d : AnyDefinition) × IsOneOf defs.now d × (d.name ≡ name.now) }

@@ -13,7 +13,8 @@ pub struct Position {
 }
 
 impl Position {
-    /// The place of the octet that so many octets stand before, or of the text's end, if it has fewer.
+    /// Returns the place of the octet that follows this many octets, or of the text's end, if it
+    /// has fewer.
     pub fn of(text: &str, before: usize) -> Position
         ensures { result ≡ position_behind (take before text.now) }
     {

@@ -6,12 +6,13 @@ ghost use Rattle.mon_smi.specs.declared.read_fault.ReadFault.TheVariants as read
 use crate::lexeme::Lexeme;
 use std::alloc::{AllocError, AllocFailed};
 
-/// Why tokens are no module, or not what else was to be read.
+/// Why tokens are no module, or not what else was read for.
 #[derive(Clone, Copy)]
 pub(crate) enum ReadFault<'a, 's> {
     /// Memory was refused.
     OutOfMemory,
-    /// Another token is wanted in place of the first of these; where there is none the text ends too early.
+    /// Another token is expected in place of the first of these; if there is none the text ends too
+    /// early.
     BrokenOff(&'a [Lexeme<'s>]),
 }
 

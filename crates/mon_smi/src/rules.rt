@@ -49,7 +49,7 @@ pub(crate) fn mark_at<'a, 's>(
     Err(ReadFault::BrokenOff(ls))
 }
 
-/// Whether this mark comes next.
+/// Returns `true` if this mark comes next.
 pub(crate) fn begins(kind: Kind, ls: &[Lexeme]) -> bool
     ensures { result ≡ begins kind ls.now }
 {
@@ -59,7 +59,7 @@ pub(crate) fn begins(kind: Kind, ls: &[Lexeme]) -> bool
     first.is_mark(kind)
 }
 
-/// Whether this word comes next.
+/// Returns `true` if this word comes next.
 pub(crate) fn begins_word(word: &str, ls: &[Lexeme]) -> bool
     ensures { result ≡ begins_word word.now ls.now }
 {
@@ -106,7 +106,8 @@ fn group_at<'a, 's>(
     nested_at(left, right, rest)
 }
 
-/// Whether two words come next that are a type's name, and no assignment of the second begins.
+/// Returns `true` if two words come next that are a type's name, and no assignment of the second
+/// begins.
 fn is_pair(word: &str, other: &str, ls: &[Lexeme]) -> bool
     ensures { result ≡ is_pair word.now other.now ls.now }
 {
@@ -116,7 +117,7 @@ fn is_pair(word: &str, other: &str, ls: &[Lexeme]) -> bool
     first.is_word(word) && second.is_word(other) && !begins(Kind::Assign, rest)
 }
 
-/// Whether a type comes next that is a sequence of another one.
+/// Returns `true` if a type comes next that is a sequence of another one.
 fn is_sequence_of(ls: &[Lexeme]) -> bool
     ensures { result ≡ is_sequence_of ls.now }
 {
@@ -179,7 +180,7 @@ pub(crate) fn type_at<'a, 's>(ls: &'a [Lexeme<'s>]) -> Result<&'a [Lexeme<'s>], 
     maybe_group(rest)
 }
 
-/// Whether the word is one of the accesses.
+/// Returns `true` if the word is one of the accesses.
 fn is_access(l: &Lexeme) -> bool
     ensures { result ≡ is_access l.now }
 {
@@ -203,14 +204,14 @@ fn access_at<'a, 's>(ls: &'a [Lexeme<'s>]) -> Result<&'a [Lexeme<'s>], ReadFault
     Err(ReadFault::BrokenOff(ls))
 }
 
-/// Whether the word is one of the statuses.
+/// Returns `true` if the word is one of the statuses.
 fn is_status(l: &Lexeme) -> bool
     ensures { result ≡ is_status l.now }
 {
     l.is_word("current") || l.is_word("deprecated") || l.is_word("obsolete")
 }
 
-/// Whether a definition is current.
+/// Returns `true` if a definition is current.
 fn status_at<'a, 's>(ls: &'a [Lexeme<'s>]) -> Result<&'a [Lexeme<'s>], ReadFault<'a, 's>>
     ensures { Gives (λ rest. rest.now) result (one is_status ls.now) }
 {

@@ -1,4 +1,4 @@
-//! How long what stands at the front of a text is.
+//! How long what is at the front of a text is.
 
 ghost use Rattle.std.specs.Prelude.{◌≡◌, ◌+◌, ◌<◌, ◌≤◌, ◌↔◌, ℕ, length, take, drop, slice_index, IsTrue, IfSome};
 ghost use Rattle.std.specs.Char.{is_ascii_alphabetic, is_ascii_digit, is_ascii_hexdigit};
@@ -6,14 +6,14 @@ ghost use Rattle.mon_smi.specs.Words.{is_part, GoesOn, IsWord};
 ghost use Rattle.mon_smi.specs.Tokens.{is_bit, is_hyphen};
 ghost use Rattle.mon_smi.specs.Scan.{run_at, word_at, closes_at, remark_at, ending_at, comment_at};
 
-/// Whether the byte is a letter, a digit or an underscore.
+/// Returns `true` if the byte is a letter, a digit or an underscore.
 fn is_part(byte: u8) -> bool
     ensures { result ≡ is_part byte }
 {
     byte.is_ascii_alphabetic() || byte.is_ascii_digit() || byte == b'_'
 }
 
-/// Whether a word goes on at this place.
+/// Returns `true` if a word goes on at this place.
 fn goes_on(text: &[u8], i: usize) -> bool
     requires { i < length text.now }
     ensures { IsTrue result ↔ GoesOn text.now i }
@@ -49,7 +49,7 @@ pub(crate) fn byte_at(text: &[u8], i: usize) -> u8
     0
 }
 
-/// What stands after this many bytes.
+/// Returns what follows this many bytes.
 pub(crate) fn behind(text: &[u8], n: usize) -> &[u8]
     requires { n ≤ length text.now }
     ensures { result.now ≡ drop n text.now }

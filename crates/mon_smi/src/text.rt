@@ -5,7 +5,7 @@ ghost use Rattle.mon_smi.specs.Words.{IsWord};
 
 use crate::scan::word_len;
 
-/// Whether the text is one word.
+/// Returns `true` if the text is one word.
 pub(crate) fn is_word(text: &str) -> bool
     ensures { IsTrue result ↔ IsWord text.now }
 {

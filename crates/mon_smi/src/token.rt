@@ -8,14 +8,15 @@ use crate::kind::Kind;
 /// The bytes of a text from `start` up to, and without, `end`.
 #[derive(Clone, Copy, Debug, PartialEq, Eq)]
 pub struct Span {
-    /// Where the first byte stands.
+    /// Where the first byte is.
     pub start: usize,
-    /// Where the first byte after it stands.
+    /// Where the first byte after it is.
     pub end: usize,
 }
 
 impl Span {
-    /// The part of the text that stands there. `None` where the text ends before it, or it cuts a character.
+    /// Returns the part of the text that it spans. `None` if the text ends before it, or it cuts a
+    /// character.
     pub fn slice(self, text: &str) -> Option<&str>
         ensures some { IfSome result (λ slice. slice.now ≡ take (self.end - self.start) (drop self.start text.now)) }
         ensures none { IfNone result (self.start ≤ self.end → self.end ≤ length text.now → ¬ (IsUtf8 (take (self.end - self.start) (drop self.start text.now)))) }
@@ -30,11 +31,11 @@ impl Span {
 pub struct Token {
     /// What it is.
     pub kind: Kind,
-    /// Where it stands.
+    /// Where it is.
     pub span: Span,
 }
 
-/// What stands at a place of a text: a token, or with no kind a space or a comment.
+/// What is at a place of a text: a token, or with no kind a space or a comment.
 #[derive(Clone, Copy)]
 pub struct Piece {
     /// The kind of the token.

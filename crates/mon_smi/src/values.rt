@@ -117,7 +117,7 @@ fn numbers_at<'a, 's>(
     Ok((numbers, left))
 }
 
-/// Whether there are as many sub-identifiers as after this parent, or after none.
+/// Returns `true` if there are as many sub-identifiers as after this parent, or after none.
 fn enough(parent: Option<&str>, numbers: &[u32]) -> bool
     ensures { result ≡ enough (option_map (λ w. w.now) parent.entry) numbers.now }
 {

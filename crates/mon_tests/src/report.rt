@@ -117,7 +117,7 @@ fn board(
     Ok(Some(board))
 }
 
-/// Whether a board's report is the instance followed by this, and its last line.
+/// Returns `true` if a board's report is the instance followed by this, and its last line.
 fn reports(alloc: Global, board: &Board, line: &str, last: &str) -> Result<bool, Fail> {
     let mut text = Vec::new(alloc);
     if write_report(board, &mut text).is_err() {

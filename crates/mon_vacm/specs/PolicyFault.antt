@@ -3,13 +3,13 @@ use Rattle.std.specs.Prelude.{ℕ, List, codes}
 use Rattle.mon_vacm.specs.declared.fault.PolicyFault.{PolicyFault}
 use Rattle.mon_vacm.specs.declared.fault.PolicyFault.TheVariants.{DuplicateCommunity, UnknownView, DuplicateFamily}
 
--- the number that a printed line gives a fault
+-- the number by which a printed line names a fault
 abbrev pub number_of : PolicyFault → ℕ
 number_of DuplicateCommunity = 2
 number_of UnknownView = 3
 number_of DuplicateFamily = 4
 
--- its name
+-- the name of a fault in a printed line
 abbrev pub name_of : PolicyFault → List ℕ
 name_of DuplicateCommunity = codes "DuplicateCommunity"
 name_of UnknownView = codes "UnknownView"

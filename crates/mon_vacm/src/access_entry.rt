@@ -22,7 +22,7 @@ pub struct AccessEntry {
 }
 
 impl AccessEntry {
-    /// Whether the entry is of this group and model.
+    /// Returns `true` if the entry is of this group and model.
     pub(crate) fn is_of(&self, group: &[u8], model: SecurityModel) -> bool
         ensures { result ≡ (bytes_eq self.now.group_name group.now && is_model self.now.security_model model) }
     {

@@ -14,19 +14,19 @@ pub struct Family {
     pub subtree: Oid,
     /// Bit i, counted from the highest of the first octet, is 0 where sub-identifier i may differ; after the end all are 1.
     pub mask: Octets,
-    /// Whether the names are in the view, where this family decides.
+    /// Returns `true` if the names are in the view, where this family decides.
     pub included: bool,
 }
 
 impl Family {
-    /// Whether the family is of the view and the name matches it.
+    /// Returns `true` if the family is of the view and the name matches it.
     pub(crate) fn applies(&self, view: &[u8], name: &Oid) -> bool
         ensures { IsTrue result ↔ Applies view.now name.now self.now }
     {
         self.matches(name) && is_named(&self.view_name, view)
     }
 
-    /// Whether the name is as long as the subtree and agrees with it wherever it must.
+    /// Returns `true` if the name is as long as the subtree and agrees with it wherever it must.
     pub(crate) fn matches(&self, name: &Oid) -> bool
         ensures { IsTrue result ↔ IsMatch self.now name.now }
     {
@@ -44,7 +44,7 @@ impl Family {
         true
     }
 
-    /// Whether the family is of the view and has the subtree.
+    /// Returns `true` if the family is of the view and has the subtree.
     pub(crate) fn is_of(&self, view: &[u8], subtree: &Oid) -> bool
         ensures { IsTrue result ↔ ((self.now.view_name ≡ view.now) × (self.now.subtree ≡ subtree.now)) }
     {
@@ -62,7 +62,7 @@ impl Family {
     }
 }
 
-/// Whether the mask has a one at a place. After its end it goes on with ones.
+/// Returns `true` if the mask has a one at a place. After its end it goes on with ones.
 fn must_agree(mask: &[u8], i: usize) -> bool
     ensures { IsTrue result ↔ MustAgree mask.now i }
 {

@@ -3,7 +3,7 @@ ghost use Rattle.mon_vacm.specs.PolicyFault.{number_of, name_of};
 
 use thiserror::Error;
 
-/// Why tables make no policy. `Policy::new` takes no memory, so none is want of it.
+/// Why tables make no policy. `Policy::new` allocates nothing, so memory never runs out.
 #[derive(Clone, Copy, Debug, PartialEq, Eq, Error)]
 pub enum PolicyFault {
     #[error("a community is given twice")]
@@ -15,14 +15,14 @@ pub enum PolicyFault {
 }
 
 impl PolicyFault {
-    /// The number that a printed line gives the fault.
+    /// Returns the number by which a printed line names the fault.
     pub fn number(self) -> u8
         ensures { result ≡ number_of self }
     {
         self as u8
     }
 
-    /// The name that a printed line gives the fault.
+    /// Returns the name of the fault in a printed line.
     pub fn name(self) -> &'static str
         ensures { result.now ≡ name_of self }
     {

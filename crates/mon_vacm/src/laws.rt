@@ -21,13 +21,13 @@ pub fn only_members()
         → IsInView xs view name → IsInView ys view name }
 {}
 
-/// Of a community, a need and a name one decision alone is right.
+/// Of a community, a need and a name only one decision is right.
 pub fn one_decision()
     ensures { (tables : Lists) (community : List ℕ) (need : AnyNeed) (name : List ℕ) (d e : AnyDecision)
         → IsRight tables community need name d → IsRight tables community need name e → d ≡ e }
 {}
 
-/// Whether a name is in a view is decided.
+/// Returns `true` if a name is in a view is decided.
 pub fn decided()
     ensures { (families : List AnyFamily) (view name : List ℕ)
         → IsInView families view name ⊎ ¬ (IsInView families view name) }

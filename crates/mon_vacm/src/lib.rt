@@ -1,6 +1,7 @@
 //! View-based access control: which community may read or write which names, by tables of communities, groups, access
-//! entries and view families. It follows RFC 3415 sections 2 to 4, for model 2 (SNMPv2c) and the empty context alone.
-//! Contract: `judge` is the written policy, `access` and `sees` are its two halves; none of the three takes memory.
+//! entries and view families. It follows RFC 3415 sections 2 to 4, only for model 2 (SNMPv2c) and
+//! the empty context. Contract: `judge` is the written policy, `access` and `sees` are its two
+//! halves; none of the three allocates.
 #![tactic(auto)]
 
 mod access;

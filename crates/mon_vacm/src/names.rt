@@ -5,7 +5,7 @@ ghost use Rattle.std.specs.Str.{bytes_eq};
 
 use mon_ber::Octets;
 
-/// Whether these are the octets of the name.
+/// Returns `true` if these are the octets of the name.
 pub(crate) fn is_named(name: &Octets, octets: &[u8]) -> bool
     ensures { result ≡ bytes_eq name.now octets.now }
 {

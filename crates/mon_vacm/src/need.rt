@@ -1,4 +1,4 @@
-/// What a request wants to do with a name (viewType, RFC 3415 section 3.2).
+/// What a request does with a name, if it may (viewType, RFC 3415 section 3.2).
 #[derive(Clone, Copy, Debug, PartialEq, Eq)]
 pub enum Need {
     /// Get, GetNext and GetBulk.

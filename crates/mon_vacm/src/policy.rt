@@ -73,8 +73,9 @@ impl Policy {
         self.tables.entry_of(group)?.view_for(need)
     }
 
-    /// Whether a name is in the granted view: of the view's families that match the name, the one with the longest and then
-    /// greatest subtree is an included one (RFC 3415 section 4, vacmViewTreeFamilyTable).
+    /// Returns `true` if a name is in the granted view: of the view's families that match the name,
+    /// the one with the longest and then greatest subtree is an included one (RFC 3415 section 4,
+    /// vacmViewTreeFamilyTable).
     pub fn sees(&self, access: Access<'_>, name: &Oid) -> bool
         ensures { IsTrue result ↔ IsInView self.now.families (view_of access.entry) name.now }
     {
@@ -84,7 +85,7 @@ impl Policy {
         }
     }
 
-    /// Whether a community may do what it needs with a name: `access`, and then `sees`.
+    /// Returns `true` if a community may do what it needs with a name: `access`, and then `sees`.
     pub fn judge(&self, community: &[u8], need: Need, name: &Oid) -> Decision
         ensures { IsRight self.now community.now need name.now result }
     {

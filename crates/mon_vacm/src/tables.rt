@@ -78,7 +78,7 @@ impl Tables {
         self.accesses.iter().find(|a| a.is_of(group, model))
     }
 
-    /// Whether no community is given twice.
+    /// Returns `true` if no community is given twice.
     pub(crate) fn are_communities_distinct(&self) -> bool
         ensures { IsTrue result ↔ AreCommunitiesDistinct self.now.communities.items }
     {
@@ -91,7 +91,7 @@ impl Tables {
         true
     }
 
-    /// Whether each view that an access entry names has a family.
+    /// Returns `true` if each view that an access entry names has a family.
     pub(crate) fn are_views_known(&self) -> bool
         ensures { IsTrue result ↔ All (NamesViews self.now.families.items) self.now.accesses.items }
     {
@@ -104,7 +104,7 @@ impl Tables {
         true
     }
 
-    /// Whether no view has a subtree twice.
+    /// Returns `true` if no view has a subtree twice.
     pub(crate) fn are_families_distinct(&self) -> bool
         ensures { IsTrue result ↔ AreFamiliesDistinct self.now.families.items }
     {
@@ -142,7 +142,7 @@ fn names_views(families: &[Family], entry: &AccessEntry) -> bool
     is_known(families, &entry.read_view) && is_known(families, &entry.write_view)
 }
 
-/// Whether a view, if there is one, has a family.
+/// Returns `true` if a view, if there is one, has a family.
 fn is_known(families: &[Family], view: &Option<Octets>) -> bool
     ensures { IsTrue result ↔ IfSome view.now (HasView families.now) }
 {

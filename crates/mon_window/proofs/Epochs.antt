@@ -1,4 +1,5 @@
--- Where the keys of an epoch stand among rising keys, if a greater key is of the same epoch or a later one.
+-- Where the keys of an epoch are among rising keys, if a greater key is of the same epoch or a
+-- later one.
 use Rattle.std.proofs.Common.{◌≡◌, ℕ, zero, suc, ◌+◌, ◌-◌, ◌/◌, ◌^◌, ◌≤◌, ◌<◌, cond, inl, inr, List, [], ◌∷◌, ◌++◌, length, take, drop, get_or, refl, sym, ap, ◌∙◌, subst, arith, true, false, length-append, length-drop}
 use Rattle.std.specs.Prelude.{nat_eq}
 use Rattle.std.specs.declared.cmp.Ordering.{Ordering}
@@ -26,7 +27,7 @@ module _ {K : Type 0} (epoch : K → ℕ) (e : ℕ) where
   abbrev AllFrom : List K → ℕ → Type 0
   AllFrom xs i = AllWithin (λ y. e ≤ epoch y) xs i (length xs)
 
-  -- none of the epoch stands before the earlier ones end
+  -- none of the epoch comes before the earlier ones end
   none_before : (xs : List K) (i : ℕ) → AllBefore xs i → part epoch e (take i xs) ≡ []
   none_before [] zero b = refl
   none_before [] (suc i) b = refl
@@ -75,7 +76,7 @@ module _ {K : Type 0} (epoch : K → ℕ) (e : ℕ) where
   part-more : (x : K) (xs : List K) → length (part epoch e xs) ≤ length (part epoch e (x ∷ xs))
   part-more x xs = elim (nat_eq (epoch x) e) as (λ t. length (part epoch e xs) ≤ length (cond t (x ∷ part epoch e xs) (part epoch e xs))) [ true ↦ omega arith | false ↦ omega arith ]
 
-  -- as many as stand side by side are there at least
+  -- at least as many as are side by side are there
   run_counted : (xs : List K) (i j : ℕ) → i ≤ j → j ≤ length xs → AllWithin (λ y. epoch y ≡ e) xs i j → j - i ≤ length (part epoch e xs)
   run_counted [] i j order within a = omega arith
   run_counted (x ∷ xs) i zero order within a = omega arith
@@ -89,7 +90,7 @@ module _ {K : Type 0} (epoch : K → ℕ) (e : ℕ) where
       let more = part-more x xs in
       omega arith
 
-  -- none of the epoch stands where the later ones begin
+  -- none of the epoch comes where the later ones begin
   none_after : (xs : List K) → AllWithin (λ y. e < epoch y) xs 0 (length xs) → part epoch e xs ≡ []
   none_after [] a = refl
   none_after (x ∷ xs) a =
@@ -117,7 +118,7 @@ module _ {K : Type 0} (epoch : K → ℕ) (e : ℕ) where
     past x xs below low ne =
         ap (λ t. length (cond t (x ∷ part epoch e xs) (part epoch e xs))) (ne_eqb (epoch x) e ne) ∙ ap length (none_later xs (all_later x xs (let other = ne in omega arith) below))
 
-    -- the part stands at the front of what is not earlier
+    -- the part is at the front of what is not earlier
     in_part : (xs : List K) → IsStrictlySortedBy R xs → AllFrom xs 0 → (k : ℕ) (d : K) → k < length (part epoch e xs) → epoch (get_or xs k d) ≡ e
     unfolding IsStrictlySortedBy
     in_part [] s a k d h = absurd (omega arith)
@@ -153,7 +154,7 @@ module _ {K : Type 0} (epoch : K → ℕ) (e : ℕ) where
       stands : (k : ℕ) (d : K) → k < length (part epoch e xs) → epoch (get_or xs (first + k) d) ≡ e
       stands k d h = subst (λ y. epoch y ≡ e) (get_or-drop first xs k d) (in_part (drop first xs) (sorted-drop xs first s) all_after k d (omega (arith, part-after)))
 
-      -- whether m of the epoch are there shows where the last of them would stand
+      -- the place where the last of m of the epoch would be shows whether m are there
       pub share_shown : (m : ℕ) (d : K) → 1 ≤ m → m ≤ length xs - first → epoch (get_or xs (first + (m - 1)) d) ≡ e → m ≤ length (part epoch e xs)
       share_shown m d some within is =
           let rest = from_part (drop first xs) (sorted-drop xs first s) all_after (m - 1) d (omega (arith, length-drop first xs)) (ap epoch (get_or-drop first xs (m - 1) d) ∙ is) in
@@ -189,7 +190,7 @@ module _ {K : Type 0} (epoch : K → ℕ) (e : ℕ) where
         },
       )
 
--- ---- where a key of an epoch comes, and how many of the epoch stand before it
+-- ---- where a key of an epoch comes, and how many of the epoch come before it
 module _ {K : Type 0} {R : K → K → Ordering} (o : IsTotalOrder R) (same : IsAntisymmetric R) (epoch : K → ℕ) (mono : (x y : K) → R x y ≡ Less → epoch x ≤ epoch y)
     (x : K) (xs : List K) (at : ℕ) (s : IsStrictlySortedBy R xs) (p : IsPlace R xs x at) where
   at_within : at ≤ length xs
@@ -201,7 +202,8 @@ module _ {K : Type 0} {R : K → K → Ordering} (o : IsTotalOrder R) (same : Is
     | inr ne ↦ mono _ _ (Less-from_sorted R xs i j d s (let other = ne in omega arith) within)
   ]
 
-  -- what stands before it is of its epoch or an earlier one, and what stands after it of its epoch or a later one
+  -- what comes before it is of its epoch or an earlier one, and what comes after it of its epoch or
+  -- a later one
   earlier : (k : ℕ) (d : K) → k < at → epoch (get_or xs k d) ≤ epoch x
   earlier k d before =
       let less = Less-from_sorted R (insert xs at x) k at d (sorted-placed o same x xs at s p) before (omega (arith, length-insert xs at x p.within, at_within)) in
@@ -213,7 +215,7 @@ module _ {K : Type 0} {R : K → K → Ordering} (o : IsTotalOrder R) (same : Is
       mono x (get_or xs k d) ((λ i. R (sym (get_or-insert_at xs at x d p.within) i) (sym (get_or-insert_above xs at x d k after p.within) i)) ∙ less)
 
   module _ (n m : ℕ) (some : 1 ≤ m) (fits : Fits epoch n m xs) where
-    -- a whole share stands before it
+    -- a whole share comes before it
     pub share_before : (d : K) → m ≤ at → epoch (get_or xs (at - m) d) ≡ epoch x → IsLeaving epoch n m (epoch x) xs at (at - m)
     share_before d enough is =
         first_leaves epoch (epoch x) mono xs s (at - m) (omega (arith, at_within)) before after o same n m x at p refl some
@@ -245,7 +247,7 @@ module _ {K : Type 0} {R : K → K → Ordering} (o : IsTotalOrder R) (same : Is
         after : AllWithin (λ y. epoch x ≤ epoch y) xs (at - m) (length xs)
         after k c low high = let up = rises (at - m) k c low high in let first = start c in omega arith
 
-    -- nothing of the epoch stands after it, and no whole share before it
+    -- nothing of the epoch comes after it, and no whole share before it
     pub no_share_before : (d : K) → (m ≤ at → epoch (get_or xs (at - m) d) ≡ epoch x → ⊥) → (at < length xs → epoch (get_or xs at d) ≡ epoch x → ⊥) → length (part epoch (epoch x) xs) < m
     no_share_before d not_before not_after =
         let none : length (part epoch (epoch x) (drop at xs)) ≡ 0 = ap length nothing in

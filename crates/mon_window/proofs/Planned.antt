@@ -68,7 +68,7 @@ module _ (n m x : ℕ) (xs : List ℕ) (w : Window) (view : window n m xs ≡ w)
   pub plan-too_old : (at : ℕ) → IsPlace nat_cmp xs x at → IsLeaving boots_of n m (boots_of x) xs at at → IsTooOld w x
   plan-too_old at p leaving = subst (λ v. IsTooOld v x) view (record { absent = p.absent; kept = keep-old nat_cmp_total nat_cmp-IsAntisymmetric boots_of n m x xs at s p f leaving })
 
-  -- ---- there is room
+  -- ---- the window is not full
   pub plan-joins : (at : ℕ) → IsPlace nat_cmp xs x at → HasRoom boots_of n m (boots_of x) xs → IsJoining w x at
   plan-joins at p room =
       let list = sym (rising-from_list nat_cmp_total nat_cmp-IsAntisymmetric xs s) in

@@ -13,7 +13,7 @@ use mon_sample::Sample;
 pub enum Plan {
     /// The sample goes in at the place `at`.
     Joins { at: usize },
-    /// The sample goes in at the place `at`, and what stands at `out`, before it, leaves.
+    /// The sample goes in at the place `at`, and what is at `out`, before it, leaves.
     Replaces { at: usize, out: usize },
     /// The sample is there.
     Known,
@@ -78,8 +78,9 @@ fn taken_share(
     }
 }
 
-/// The same where the share is no less than the size: it is taken only where all the items are of these boots, so the
-/// oldest of these is the oldest of all.
+/// Returns where the oldest sample of these boots is, or would be, if the share is no less than the
+/// size. It is called only where all the items are of these boots, so the oldest of these is the
+/// oldest of all.
 fn oldest(items: &[Sample], size: usize, share: usize, boots: u32, at: usize) -> Option<usize>
     requires whole { size ≤ share }
     requires few { length items.now ≤ size }
@@ -100,7 +101,8 @@ fn first_of(items: &[Sample], boots: u32) -> usize
     items.partition_point(|kept| kept.boots() < boots)
 }
 
-/// Whether `share` samples of these boots, which begin at `first`, are there: it shows where the last of them would stand.
+/// Returns `true` if `share` samples of these boots, which begin at `first`, are there: the place
+/// where the last of them would be shows it.
 fn has_share(items: &[Sample], share: usize, first: usize, boots: u32) -> bool
     requires positive { 1 ≤ share }
     requires sorted { IsStrictlySortedBy nat_cmp items.now }

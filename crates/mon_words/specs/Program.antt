@@ -24,7 +24,7 @@ use Rattle.mon_words.specs.declared.lines.Takes.TheVariants.{Nothing, One, Each,
 use Rattle.mon_words.specs.declared.lines.Form.{Form}
 use Rattle.mon_words.specs.declared.lines.Form.TheVariants.{Place, Long, Short, Both}
 
--- ---- the texts of which a value may have to be one
+-- ---- the texts of which a value must be one
 
 -- the texts for the formats and for the kinds
 abbrev pub IsLists : Lists → Type 0
@@ -108,8 +108,8 @@ IsParseOf words m = (lists : Lists) × IsLists lists × (fault_of (program lists
 abbrev pub IsParse : ArgMatches → Type 0
 IsParse m = (words : List Text) × IsParseOf words m
 
--- what is made of the arguments: the program's matches of them, or an error of a kind that the
--- program makes of them, or memory ran out
+-- how arguments are read: the program's matches of them, or an error of a kind that the program
+-- makes of them, or memory ran out
 abbrev pub Reads : List Text → Result ArgMatches Error → Type 0
 Reads words (Ok m) = IsParseOf words m
 Reads words (Err e) = (kind_of e ≡ OutOfMemory) ⊎ ((lists : Lists) × IsLists lists × IsAmong (kind_of e) (fault_of (program lists) words))

@@ -31,7 +31,7 @@ static KINDS: [&str; 9] = [
     "counter64",
 ];
 
-/// The texts of which a value may have to be one.
+/// The texts of which a value must be one.
 #[derive(Clone, Copy)]
 struct Lists<'a> {
     formats: &'a [&'a str],

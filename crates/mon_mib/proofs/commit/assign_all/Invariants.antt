@@ -4,7 +4,7 @@ use Rattle.mon_mib.specs.Assignment.{AreApart}
 use Rattle.mon_mib.proofs.Assigning.{IsAtAssign}
 use Rattle.mon_mib.proofs.commit.assign_all.Given as goal
 
--- so much of the plan is assigned, with room for undoing all of it
+-- this part of the plan is assigned, with capacity for undoing all of it
 abbrev pub invariant-loop-step : goal.invariant-loop-step
 invariant-loop-step g l = record {
   apart : AreApart l.fn.plan;

@@ -7,7 +7,7 @@ use Rattle.mon_mib.specs.Held.{Held}
 use Rattle.mon_mib.proofs.Undoing.{IsAtUndo}
 use Rattle.mon_mib.proofs.commit.undo_all.Given as goal
 
--- what is still to be undone, and what stands
+-- what is left to undo, and what remains assigned
 abbrev pub invariant-loop-undo : goal.invariant-loop-undo
 invariant-loop-undo g l = record {
   room : vec_len l.undos + vec_len l.standing ≤ vec_capacity l.standing;

@@ -2,7 +2,7 @@ use Rattle.std.proofs.Common.{◌≡◌, ◌≤◌, ◌-◌, length}
 use Rattle.mon_mib.proofs.Counting.{last_of}
 use Rattle.mon_mib.proofs.mib.count_interfaces.Given as goal
 
--- so many are counted, and the last of them is the one to go on from
+-- this many are counted, and the last of them is the one to go on from
 abbrev pub invariant-loop-index : goal.invariant-loop-index
 invariant-loop-index g l = record {
   within : l.count ≤ length (g.D.Device.held l.device).indexes;

@@ -6,7 +6,7 @@ use Rattle.mon_report.specs.Report.{Entry, samples_in, entries_from}
 use Rattle.mon_report.proofs.Entries.{length-entries, items-first, samples-more, size-small}
 use Rattle.mon_report.proofs.report.count_samples.Goals as goal
 
--- an entry that stands for none
+-- an entry in place of none
 nothing : Entry
 nothing = record { engine = []; name = []; items = []; rules = [] }
 

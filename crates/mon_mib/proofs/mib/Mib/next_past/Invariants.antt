@@ -7,7 +7,7 @@ use Rattle.mon_mib.specs.Next.{IsNext}
 use Rattle.mon_mib.specs.Objects.{objects}
 use Rattle.mon_mib.proofs.mib.Mib.next_past.Given as goal
 
--- no earlier object has a variable that is wanted
+-- no earlier object has a variable that is searched for
 abbrev pub invariant-loop-object : goal.invariant-loop-object
 invariant-loop-object g l = record {
   none : IsNext (take (l.place + l.object-index) objects) (known_of l.self.settings l.self.counters (g.D.Device.held l.self.device) l.moment)

@@ -10,7 +10,7 @@ use Rattle.mon_sample.specs.Kind.{kind_tag}
 use Rattle.mon_sample.proofs.Order.{by_fields, by_stamp, order, sample_below}
 use Rattle.mon_sample.proofs.sample.Sample.compare.Goals as goal
 
--- what isn't tied is told by the stamp
+-- what isn't tied is decided by the stamp
 told : (r p q s : Ordering) → is_ne r ≡ true → r ≡ ordering_then (ordering_then (ordering_then r p) q) s
 told Less p q s h = refl
 told Equal p q s h = absurd (true≢false (sym h))

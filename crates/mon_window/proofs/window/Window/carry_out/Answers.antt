@@ -18,7 +18,7 @@ pub returns-in-TooOld-clause-inserted : goal.returns-in-TooOld-clause-inserted
 returns-in-TooOld-clause-inserted c =
     too_old-inserted c.self.inside.size c.self.inside.share c.args.sample c.self.inside.items.items c.args.self.now c.self.view_is c.self.invariant.rising c.self.invariant.fits (subst (IsPlan c.args.self.now c.args.sample) c.in-TooOld.is c.requires)
 
--- ---- there is room
+-- ---- the window is not full
 pub insert-requires : goal.insert-requires
 insert-requires c =
     let j : IsJoining c.args.self.now c.args.sample c.in-Joins.at = subst (IsPlan c.args.self.now c.args.sample) c.in-Joins.is c.requires in
