@@ -72,17 +72,17 @@ kept-push n taken x i =
     ]
 
 abbrev new_row : ℕ → List Offer → Offer → Row
-new_row n taken x = record { instance = x.instance; window = record { size = n; share = n; items = top n (finite.insert (kept n taken x.instance) x.sample) } }
+new_row n taken x = record { instance = x.instance; window = record { size = n; epoch = n; items = top n (finite.insert (kept n taken x.instance) x.sample) } }
 
 row_takes : (n : ℕ) (taken : List Offer) (x : Offer) → row n (taken ++ x ∷ []) x.instance ≡ new_row n taken x
 row_takes n taken x =
     let itself : same x.instance x.instance ≡ true = ap is_eq (tied_itself instance_cmp_total x.instance) in
-    ap (λ w. record { instance = x.instance; window = record { size = n; share = n; items = w } })
+    ap (λ w. record { instance = x.instance; window = record { size = n; epoch = n; items = w } })
     (kept-push n taken x x.instance ∙ ap (λ t. cond t (top n (finite.insert (kept n taken x.instance) x.sample)) (kept n taken x.instance)) itself)
 
 row_stays : (n : ℕ) (taken : List Offer) (x : Offer) (j : Instance) → same j x.instance ≡ false → row n (taken ++ x ∷ []) j ≡ row n taken j
 row_stays n taken x j e =
-    ap (λ w. record { instance = j; window = record { size = n; share = n; items = w } })
+    ap (λ w. record { instance = j; window = record { size = n; epoch = n; items = w } })
     (kept-push n taken x j ∙ ap (λ t. cond t (top n (finite.insert (kept n taken j) x.sample)) (kept n taken j)) e)
 
 -- ---- lists of rows
@@ -158,7 +158,7 @@ module _ (n : ℕ) (taken : List Offer) (rows : List Row) (is : rows ≡ rows_of
 
     -- there was a row of the instance
     pub took_known : (at : ℕ) (r : Row) (w : Window) → at < length rows → HoldsAt (λ j. j ≡ x.instance) (map of_row rows) at
-        → r ≡ get_or rows at r → w ≡ record r.window { items = keep boots_of r.window.size r.window.share (finite.insert r.window.items x.sample) }
+        → r ≡ get_or rows at r → w ≡ record r.window { items = keep boots_of r.window.size r.window.epoch (finite.insert r.window.items x.sample) }
         → set rows at (record { instance = r.instance; window = w }) ≡ rows_of n (taken ++ x ∷ [])
     unfolding rows_of
     took_known at r w lt found here after =
@@ -167,8 +167,8 @@ module _ (n : ℕ) (taken : List Offer) (rows : List Row) (is : rows ≡ rows_of
         let row_is : r ≡ row n taken i = here ∙ ap (λ rs. get_or rs at r) is ∙ get_or-map (row n taken) (rising (instances taken)) at i r at_xs ∙ ap (row n taken) stands in
         let taken_in : record { instance = r.instance; window = w } ≡ new_row n taken x =
         ap (λ v. record { instance = r.instance; window = v }) after
-        ∙ ap (λ (q : Row). record { instance = q.instance; window = record q.window { items = keep boots_of q.window.size q.window.share (finite.insert q.window.items x.sample) } }) row_is
-        ∙ ap (λ s. record { instance = i; window = record { size = n; share = n; items = s } }) (keep-top nat_cmp_total nat_cmp-IsAntisymmetric boots_of n (finite.insert (kept n taken i) x.sample)) in
+        ∙ ap (λ (q : Row). record { instance = q.instance; window = record q.window { items = keep boots_of q.window.size q.window.epoch (finite.insert q.window.items x.sample) } }) row_is
+        ∙ ap (λ s. record { instance = i; window = record { size = n; epoch = n; items = s } }) (keep-top nat_cmp_total nat_cmp-IsAntisymmetric boots_of n (finite.insert (kept n taken i) x.sample)) in
         let made : record { instance = r.instance; window = w } ≡ row n (taken ++ x ∷ []) i = taken_in ∙ sym (row_takes n taken x) in
         let itself : same i (get_or (rising (instances taken)) at i) ≡ true = ap (same i) stands ∙ ap is_eq (tied_itself instance_cmp_total i) in
         let has : contains (instances taken) i ≡ true =
@@ -201,8 +201,8 @@ module _ (n : ℕ) (taken : List Offer) (rows : List Row) (is : rows ≡ rows_of
         let absent : contains (instances taken) i ≡ false =
         ap (λ s. contains s i) (sym (from_list-rising instance_cmp_total instance_cmp-IsAntisymmetric (instances taken))) ∙ there.absent in
         let none : list_any (same i) (rising (instances taken)) ≡ false = sym (contains-rising instance_cmp_total instance_cmp-IsAntisymmetric (instances taken) i) ∙ absent in
-        let filled : r.window ≡ record { size = n; share = n; items = top n (finite.insert (kept n taken i) x.sample) } =
-        fresh ∙ ap (λ s. record { size = n; share = n; items = top n (finite.insert s x.sample) }) (sym (kept_none absent)) in
+        let filled : r.window ≡ record { size = n; epoch = n; items = top n (finite.insert (kept n taken i) x.sample) } =
+        fresh ∙ ap (λ s. record { size = n; epoch = n; items = top n (finite.insert s x.sample) }) (sym (kept_none absent)) in
         let made : r ≡ row n (taken ++ x ∷ []) i = (λ k. record { instance = here k; window = filled k }) ∙ sym (row_takes n taken x) in
         let after_all : insert (rising (instances taken)) at i ≡ rising (instances (taken ++ x ∷ [])) =
         sym there.put ∙ sym (rising-insert instance_cmp_total instance_cmp-IsAntisymmetric (instances taken) i) ∙ ap rising (sym (instances-push taken x)) in

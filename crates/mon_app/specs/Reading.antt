@@ -57,7 +57,7 @@ stamp_of first second third = do
   time ← number_at engine_time_name third
   Ok (record { engine = engine; boots = boots; time = time })
 
--- a sample with mark 0 of the object that the binding names
+-- a sample with discontinuity 0 of the object that the binding names
 abbrev pub offer_of : Stamp → List ℕ → Kind × ℕ → Offer
 offer_of stamp name value = record {
   instance = named stamp.engine name;

@@ -8,7 +8,7 @@ use Rattle.mon_oid.specs.Oid.{dotted}
 use Rattle.mon_sample.specs.declared.kind.Kind.{Kind}
 use Rattle.mon_sample.specs.declared.kind.Kind.TheVariants.{Integer, Counter32, Gauge32, TimeTicks, Counter64}
 use Rattle.mon_sample.specs.Kind.{kind_name}
-use Rattle.mon_sample.specs.Key.{boots_of, time_of, mark_of, kind_of, sample_value}
+use Rattle.mon_sample.specs.Key.{boots_of, time_of, discontinuity_of, kind_of, sample_value}
 use Rattle.mon_window.specs.Top.{rising}
 use Rattle.mon_app.specs.declared.instance.Instance.{Instance}
 use Rattle.mon_app.specs.declared.refusal.Refusal.{Refusal}
@@ -23,10 +23,10 @@ value_text Gauge32 n = decimal n
 value_text TimeTicks n = decimal n
 value_text Counter64 n = decimal n
 
--- two blanks, and boots, time, mark, kind and value
+-- two blanks, and boots, time, discontinuity, kind and value
 unfoldable pub sample_line : ℕ → List ℕ
 sample_line s =
-    codes "  " ++ decimal (boots_of s) ++ codes " " ++ decimal (time_of s) ++ codes " " ++ decimal (mark_of s) ++ codes " "
+    codes "  " ++ decimal (boots_of s) ++ codes " " ++ decimal (time_of s) ++ codes " " ++ decimal (discontinuity_of s) ++ codes " "
     ++ kind_name (kind_of s) ++ codes " " ++ value_text (kind_of s) (sample_value s) ++ codes "\n"
 
 -- the engine id in hex digits, and the name

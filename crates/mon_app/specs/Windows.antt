@@ -27,11 +27,11 @@ kept n taken i = top n (from_list (samples_of i taken))
 
 -- an instance with its window
 abbrev pub row : ℕ → List Offer → Instance → Row
-row n taken i = record { instance = i; window = record { size = n; share = n; items = kept n taken i } }
+row n taken i = record { instance = i; window = record { size = n; epoch = n; items = kept n taken i } }
 
 -- a window with one sample
 abbrev pub first_window : ℕ → ℕ → Window
-first_window n sample = record { size = n; share = n; items = top n (insert empty sample) }
+first_window n sample = record { size = n; epoch = n; items = top n (insert empty sample) }
 
 -- a window for each instance, by instance
 unfoldable pub rows_of : ℕ → List Offer → List Row

@@ -26,8 +26,8 @@ fn put_value(text: &mut String, kind: Kind, value: u64) -> Result<(), AllocError
 fn put_sample(text: &mut String, sample: &Sample) -> Result<(), AllocError>
     ensures { OnOk result (string_bytes text.new ≡ string_bytes text.old ++ sample_line sample.now) }
 {
-    let (boots, time, mark) = (sample.boots(), sample.time(), sample.mark());
-    write!(text, "  {boots} {time} {mark} ")?;
+    let (boots, time, discontinuity) = (sample.boots(), sample.time(), sample.discontinuity());
+    write!(text, "  {boots} {time} {discontinuity} ")?;
     let kind = sample.kind().name();
     write!(text, "{kind} ")?;
     put_value(text, sample.kind(), sample.value())?;

@@ -17,7 +17,7 @@ use Rattle.mon_board.specs.Empty.{empty_window_of}
 use Rattle.mon_board.specs.declared.instance.Watched.{Watched}
 use Rattle.mon_board.specs.Instance.{named}
 use Rattle.mon_board.specs.Marks.{Marks, AreKept}
-use Rattle.mon_board.specs.Watch.{Watch, size_of, share_of}
+use Rattle.mon_board.specs.Watch.{Watch, size_of, epoch_of}
 use Rattle.mon_board.specs.Windows.{IsTaken, kept_by}
 use Rattle.mon_window.specs.declared.window.Inserted.{Inserted}
 use Rattle.mon_window.specs.Inserted.{IsInsertion}
@@ -34,13 +34,13 @@ set_past ws i le = let past : length (sets_of ws) ≤ i = omega (arith, length-m
 
 -- ---- the sizes of an instance
 abbrev pub nobody : Watched
-nobody = record { instance = named [] []; mark = Rattle.std.specs.Prelude.None; window = 0; epoch = 0 }
+nobody = record { instance = named [] []; discontinuity = Rattle.std.specs.Prelude.None; window = 0; epoch = 0 }
 
 pub size_at : (watch : Watch) (i : ℕ) → i < length watch.instances → size_of watch i ≡ (get_or watch.instances i nobody).window
 size_at watch i lt = get_or-map (λ (w : Watched). w.window) watch.instances i nobody 0 lt
 
-share_at : (watch : Watch) (i : ℕ) → i < length watch.instances → share_of watch i ≡ (get_or watch.instances i nobody).epoch
-share_at watch i lt = get_or-map (λ (w : Watched). w.epoch) watch.instances i nobody 0 lt
+epoch_at : (watch : Watch) (i : ℕ) → i < length watch.instances → epoch_of watch i ≡ (get_or watch.instances i nobody).epoch
+epoch_at watch i lt = get_or-map (λ (w : Watched). w.epoch) watch.instances i nobody 0 lt
 
 -- ---- empty windows
 pub empty_at : (instances : List Watched) (i : ℕ) → set_at (map empty_window_of instances) i ≡ finset.empty
@@ -52,13 +52,13 @@ module _ (watch : Watch) (ws : List Window) (is : ws ≡ map empty_window_of wat
   empty_here : (i : ℕ) (d : Window) → i < length watch.instances → get_or ws i d ≡ empty_window_of (get_or watch.instances i nobody)
   empty_here i d lt = ap (λ (l : List Window). get_or l i d) is ∙ get_or-map empty_window_of watch.instances i nobody d lt
 
-  pub are_empty : AreWindows (size_of watch) (share_of watch) (length watch.instances) ws
+  pub are_empty : AreWindows (size_of watch) (epoch_of watch) (length watch.instances) ws
   are_empty = record {
     number = ap length is ∙ length-map watch.instances empty_window_of;
     sized = λ i d lt. ap (λ (w : Window). w.size) (empty_here i d lt) ∙ sym (size_at watch i lt);
-    shared = λ i d lt. ap (λ (w : Window). w.share) (empty_here i d lt) ∙ sym (share_at watch i lt);
-    whole = λ i. subst (λ (s : Samples). keep boots_of (size_of watch i) (share_of watch i) s ≡ s)
-        (sym (ap (λ (l : List Window). set_at l i) is ∙ empty_at watch.instances i)) (kept_none (size_of watch i) (share_of watch i));
+    epochs = λ i d lt. ap (λ (w : Window). w.epoch) (empty_here i d lt) ∙ sym (epoch_at watch i lt);
+    whole = λ i. subst (λ (s : Samples). keep boots_of (size_of watch i) (epoch_of watch i) s ≡ s)
+        (sym (ap (λ (l : List Window). set_at l i) is ∙ empty_at watch.instances i)) (kept_none (size_of watch i) (epoch_of watch i));
   }
 
 -- ---- one window changed
@@ -81,16 +81,16 @@ module _ (n m : ℕ → ℕ) (k : ℕ) (ws : List Window) (are : AreWindows n m 
   kept_changed old new kept = subst (λ (a : Samples). AreKept a old new) (sym changed_at) kept
 
   -- a window that holds no more than it keeps may replace another
-  pub still_windows : w.size ≡ n i → w.share ≡ m i → keep boots_of (n i) (m i) w.items ≡ w.items → AreWindows n m k (set ws i w)
-  still_windows size share whole = record {
+  pub still_windows : w.size ≡ n i → w.epoch ≡ m i → keep boots_of (n i) (m i) w.items ≡ w.items → AreWindows n m k (set ws i w)
+  still_windows size epoch whole = record {
     number = Rattle.std.proofs.Common.length-set ws i w ∙ are.number;
     sized = λ j d below. elim (cases_eq j i) [
       | inl e ↦ ap (λ (q : ℕ). (get_or (set ws i w) q d).size) e ∙ ap (λ (v : Window). v.size) (get_or-set_same ws i w d within) ∙ size ∙ sym (ap n e)
       | inr ne ↦ ap (λ (v : Window). v.size) (get_or-set_other ws i j w d ne) ∙ are.sized j d below
     ];
-    shared = λ j d below. elim (cases_eq j i) [
-      | inl e ↦ ap (λ (q : ℕ). (get_or (set ws i w) q d).share) e ∙ ap (λ (v : Window). v.share) (get_or-set_same ws i w d within) ∙ share ∙ sym (ap m e)
-      | inr ne ↦ ap (λ (v : Window). v.share) (get_or-set_other ws i j w d ne) ∙ are.shared j d below
+    epochs = λ j d below. elim (cases_eq j i) [
+      | inl e ↦ ap (λ (q : ℕ). (get_or (set ws i w) q d).epoch) e ∙ ap (λ (v : Window). v.epoch) (get_or-set_same ws i w d within) ∙ epoch ∙ sym (ap m e)
+      | inr ne ↦ ap (λ (v : Window). v.epoch) (get_or-set_other ws i j w d ne) ∙ are.epochs j d below
     ];
     whole = λ j. elim (cases_eq j i) [
       | inl e ↦ subst (λ (q : ℕ). keep boots_of (n q) (m q) (set_at (set ws i w) q) ≡ set_at (set ws i w) q) (sym e)
@@ -100,44 +100,44 @@ module _ (n m : ℕ → ℕ) (k : ℕ) (ws : List Window) (are : AreWindows n m 
   }
 
 -- ---- a sample taken
-module _ (watch : Watch) (ws : List Window) (are : AreWindows (size_of watch) (share_of watch) (length watch.instances) ws) (i : ℕ) (lt : i < length ws)
-    (w v : Window) (was : w ≡ get_or ws i w) (s : ℕ) (how : Inserted) (sizes : v ≡ record { size = w.size; share = w.share; items = v.items })
-    (is : IsInsertion (keep boots_of w.size w.share) w.items v.items s how) where
+module _ (watch : Watch) (ws : List Window) (are : AreWindows (size_of watch) (epoch_of watch) (length watch.instances) ws) (i : ℕ) (lt : i < length ws)
+    (w v : Window) (was : w ≡ get_or ws i w) (s : ℕ) (how : Inserted) (sizes : v ≡ record { size = w.size; epoch = w.epoch; items = v.items })
+    (is : IsInsertion (keep boots_of w.size w.epoch) w.items v.items s how) where
   numbered : i < length watch.instances
   numbered = omega (arith, are.number)
 
   size_was : w.size ≡ size_of watch i
   size_was = ap (λ (u : Window). u.size) was ∙ are.sized i w numbered
 
-  share_was : w.share ≡ share_of watch i
-  share_was = ap (λ (u : Window). u.share) was ∙ are.shared i w numbered
+  epoch_was : w.epoch ≡ epoch_of watch i
+  epoch_was = ap (λ (u : Window). u.epoch) was ∙ are.epochs i w numbered
 
   items_were : w.items ≡ set_at ws i
   items_were = ap (λ (u : Window). u.items) was ∙ sym (set_at_is ws i w lt)
 
   changed_is : set_at (set ws i v) i ≡ v.items
-  changed_is = changed_at (size_of watch) (share_of watch) (length watch.instances) ws are i numbered v
+  changed_is = changed_at (size_of watch) (epoch_of watch) (length watch.instances) ws are i numbered v
 
   pub insertion_is : IsInsertion (kept_by watch i) (set_at ws i) (set_at (set ws i v) i) s how
   insertion_is =
       subst (λ (a : Samples). IsInsertion (kept_by watch i) (set_at ws i) a s how) (sym changed_is)
       (subst (λ (a : Samples). IsInsertion (kept_by watch i) a v.items s how) items_were
-      (subst (λ (k : Samples → Samples). IsInsertion k w.items v.items s how) (λ j. keep boots_of (size_was j) (share_was j)) is))
+      (subst (λ (k : Samples → Samples). IsInsertion k w.items v.items s how) (λ j. keep boots_of (size_was j) (epoch_was j)) is))
 
-  pub windows_after : AreWindows (size_of watch) (share_of watch) (length watch.instances) (set ws i v)
-  windows_after = still_windows (size_of watch) (share_of watch) (length watch.instances) ws are i numbered v (ap (λ (u : Window). u.size) sizes ∙ size_was) (ap (λ (u : Window). u.share) sizes ∙ share_was)
-      (subst (λ (a : Samples). kept_by watch i a ≡ a) (sym insertion_is.items ∙ changed_is) (kept_twice (size_of watch i) (share_of watch i) _))
+  pub windows_after : AreWindows (size_of watch) (epoch_of watch) (length watch.instances) (set ws i v)
+  windows_after = still_windows (size_of watch) (epoch_of watch) (length watch.instances) ws are i numbered v (ap (λ (u : Window). u.size) sizes ∙ size_was) (ap (λ (u : Window). u.epoch) sizes ∙ epoch_was)
+      (subst (λ (a : Samples). kept_by watch i a ≡ a) (sym insertion_is.items ∙ changed_is) (kept_twice (size_of watch i) (epoch_of watch i) _))
 
   pub taken_is : IsTaken watch (set_at ws) (set_at (set ws i v)) i s
   taken_is = record {
     changed = insertion_is.items;
-    others = others_stay (size_of watch) (share_of watch) (length watch.instances) ws are i numbered v;
+    others = others_stay (size_of watch) (epoch_of watch) (length watch.instances) ws are i numbered v;
   }
 
 -- ---- windows joined
 -- a window with all samples of another one put in
 abbrev pub IsJoined : List Window → ℕ → Window → Window → Type 0
-IsJoined theirs i old new = new ≡ record { size = old.size; share = old.share; items = keep boots_of old.size old.share (finset.union old.items (set_at theirs i)) }
+IsJoined theirs i old new = new ≡ record { size = old.size; epoch = old.epoch; items = keep boots_of old.size old.epoch (finset.union old.items (set_at theirs i)) }
 
 module _ (n m : ℕ → ℕ) (k : ℕ) (old theirs ours : List Window) (are : AreWindows n m k old) (other : length theirs ≡ k) (changed : AreChanged (IsJoined theirs) old ours) where
   module _ (i : ℕ) (lt : i < length old) where
@@ -148,13 +148,13 @@ module _ (n m : ℕ → ℕ) (k : ℕ) (old theirs ours : List Window) (are : Ar
     joined_here d =
         let there : i < length ours = omega (arith, changed.number) in
         let size : (get_or old i d).size ≡ n i = are.sized i d in_watch in
-        let shares : (get_or old i d).share ≡ m i = are.shared i d in_watch in
+        let epochs : (get_or old i d).epoch ≡ m i = are.epochs i d in_watch in
         let items : (get_or old i d).items ≡ set_at old i = sym (set_at_is old i d lt) in
-        set_at_is ours i d there ∙ ap (λ (w : Window). w.items) (changed.each i d lt) ∙ (λ j. keep boots_of (size j) (shares j) (finset.union (items j) (set_at theirs i)))
+        set_at_is ours i d there ∙ ap (λ (w : Window). w.items) (changed.each i d lt) ∙ (λ j. keep boots_of (size j) (epochs j) (finset.union (items j) (set_at theirs i)))
 
   pub all_joined : (i : ℕ) → set_at ours i ≡ keep boots_of (n i) (m i) (finset.union (set_at old i) (set_at theirs i))
   all_joined i = elim (cases_lt i (length old)) [
-    | inl below ↦ joined_here i below (record { size = n i; share = m i; items = finset.empty })
+    | inl below ↦ joined_here i below (record { size = n i; epoch = m i; items = finset.empty })
     | inr above ↦
         let none : set_at old i ≡ finset.empty = set_past old i above in
         let none_there : set_at theirs i ≡ finset.empty = set_past theirs i (omega (arith, other, are.number)) in
@@ -165,7 +165,7 @@ module _ (n m : ℕ → ℕ) (k : ℕ) (old theirs ours : List Window) (are : Ar
   pub windows_joined : AreWindows n m k ours
   windows_joined = record {
     number = changed.number ∙ are.number;
-    shared = λ i d lt. let here : i < length old = omega (arith, are.number) in ap (λ (w : Window). w.share) (changed.each i d here) ∙ are.shared i d lt;
+    epochs = λ i d lt. let here : i < length old = omega (arith, are.number) in ap (λ (w : Window). w.epoch) (changed.each i d here) ∙ are.epochs i d lt;
     sized = λ i d lt. let here : i < length old = omega (arith, are.number) in ap (λ (w : Window). w.size) (changed.each i d here) ∙ are.sized i d lt;
     whole = λ i. subst (λ (a : Samples). keep boots_of (n i) (m i) a ≡ a) (sym (all_joined i)) (kept_twice (n i) (m i) _);
   }

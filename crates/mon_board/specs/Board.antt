@@ -57,5 +57,5 @@ sets_of windows = map (λ w. w.items) windows
 pub record AreWindows (n m : ℕ → ℕ) (many : ℕ) (windows : List Window) : Type 0 where
   pub number : length windows ≡ many
   pub sized : (i : ℕ) (d : Window) → i < many → (slice_index_or windows i d).size ≡ n i
-  pub shared : (i : ℕ) (d : Window) → i < many → (slice_index_or windows i d).share ≡ m i
+  pub epochs : (i : ℕ) (d : Window) → i < many → (slice_index_or windows i d).epoch ≡ m i
   pub whole : (i : ℕ) → keep boots_of (n i) (m i) (slice_index_or (sets_of windows) i set.empty) ≡ slice_index_or (sets_of windows) i set.empty

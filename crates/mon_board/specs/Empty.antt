@@ -7,7 +7,7 @@ use Rattle.mon_board.specs.Marks.{Marks}
 
 -- the empty window of an instance
 abbrev pub empty_window_of : Watched → Window
-empty_window_of w = record { size = w.window; share = w.epoch; items = set.empty }
+empty_window_of w = record { size = w.window; epoch = w.epoch; items = set.empty }
 
 -- no marks, with capacity for those of the instance's window
 abbrev pub no_marks_of : Watched → Marks

@@ -21,5 +21,5 @@ abbrev pub size_of : Watch → ℕ → ℕ
 size_of watch i = slice_index_or (map (λ w. w.window) watch.instances) i 0
 
 -- how many of these may have one boots number
-abbrev pub share_of : Watch → ℕ → ℕ
-share_of watch i = slice_index_or (map (λ w. w.epoch) watch.instances) i 0
+abbrev pub epoch_of : Watch → ℕ → ℕ
+epoch_of watch i = slice_index_or (map (λ w. w.epoch) watch.instances) i 0

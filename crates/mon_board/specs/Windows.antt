@@ -4,7 +4,7 @@ use Rattle.std.specs.FinSet as set
 use Rattle.mon_sample.specs.Key.{boots_of}
 use Rattle.mon_window.specs.Keep.{keep}
 use Rattle.mon_window.specs.Window.{Samples, In}
-use Rattle.mon_board.specs.Watch.{Watch, size_of, share_of}
+use Rattle.mon_board.specs.Watch.{Watch, size_of, epoch_of}
 
 -- the samples of an instance
 abbrev pub samples_of : ℕ → List (ℕ × ℕ) → List ℕ
@@ -27,9 +27,9 @@ Has pairs i s = In s (set_of i pairs)
 abbrev pub IsPartOf : List (ℕ × ℕ) → List (ℕ × ℕ) → Type 0
 IsPartOf some all = (i s : ℕ) → Has some i s → Has all i s
 
--- what a watch keeps of an instance's samples: at most an epoch's share of each boots number, and of these the newest that its window holds
+-- what a watch keeps of an instance's samples: at most an epoch's epoch of each boots number, and of these the newest that its window holds
 abbrev pub kept_by : Watch → ℕ → Samples → Samples
-kept_by watch i = keep boots_of (size_of watch i) (share_of watch i)
+kept_by watch i = keep boots_of (size_of watch i) (epoch_of watch i)
 
 -- the window that a list of pairs leaves of an instance
 abbrev pub window : Watch → List (ℕ × ℕ) → ℕ → Samples

@@ -35,7 +35,7 @@ pub struct Board {
 impl Model for Board {
     ghost use Rattle.std.specs.Prelude.{length};
     ghost use Rattle.mon_board.specs.Board.{Board, AreWindows, AreAllMarks, board_code, sets_of, marks_of};
-    ghost use Rattle.mon_board.specs.Watch.{size_of, share_of};
+    ghost use Rattle.mon_board.specs.Watch.{size_of, epoch_of};
 
     ghost Value = { Board };
 
@@ -43,7 +43,7 @@ impl Model for Board {
 
     ghost view = { λ b. record { watch = b.watch; windows = sets_of b.windows.items; marks = marks_of b.marks.items } };
 
-    ghost invariant = { λ b. AreWindows (size_of b.watch) (share_of b.watch) (length b.watch.instances) b.windows.items × AreAllMarks (size_of b.watch) (sets_of b.windows.items) b.marks.items };
+    ghost invariant = { λ b. AreWindows (size_of b.watch) (epoch_of b.watch) (length b.watch.instances) b.windows.items × AreAllMarks (size_of b.watch) (sets_of b.windows.items) b.marks.items };
 }
 
 impl Board {

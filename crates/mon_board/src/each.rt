@@ -17,8 +17,8 @@ use mon_rates::Track;
 pub(crate) fn join_each(windows: &mut [Track], others: &[Track])
     requires number { length others.now ≡ length windows.old }
     requires sizes { (i : ℕ) (d : held.Window) → i < length windows.old → (slice_index_or others.now i d).size ≡ (slice_index_or windows.old i d).size }
-    requires shares { (i : ℕ) (d : held.Window) → i < length windows.old → (slice_index_or others.now i d).share ≡ (slice_index_or windows.old i d).share }
-    ensures { AreChanged (λ i old new. new ≡ record old { items = keep boots_of old.size old.share (set.union old.items (slice_index_or (sets_of others.now) i set.empty)) }) windows.old windows.new }
+    requires epochs { (i : ℕ) (d : held.Window) → i < length windows.old → (slice_index_or others.now i d).epoch ≡ (slice_index_or windows.old i d).epoch }
+    ensures { AreChanged (λ i old new. new ≡ record old { items = keep boots_of old.size old.epoch (set.union old.items (slice_index_or (sets_of others.now) i set.empty)) }) windows.old windows.new }
 {
     for i in 0..windows.len() {
         windows[i].join(&others[i]);

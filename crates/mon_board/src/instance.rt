@@ -52,7 +52,7 @@ pub struct Watched {
     /// The instance that is sampled.
     pub instance: Instance,
     /// The name of its discontinuity indicator (RFC 2578 section 7.1.6), where one is polled with it.
-    pub mark: Option<Oid>,
+    pub discontinuity: Option<Oid>,
     /// How many samples its window holds, 1 to 64.
     pub window: usize,
     /// How many of these may have one boots number, 1 to the window.
@@ -64,13 +64,13 @@ impl Watched {
     pub(crate) fn try_clone(&self, alloc: Global) -> Result<Self, AllocError>
         ensures { IfOk result (λ w. w ≡ self.now) }
     {
-        let mark = match &self.mark {
+        let discontinuity = match &self.discontinuity {
             Some(name) => Some(name.try_clone(alloc)?),
             None => None,
         };
         Ok(Watched {
             instance: self.instance.try_clone(alloc)?,
-            mark,
+            discontinuity,
             window: self.window,
             epoch: self.epoch,
         })

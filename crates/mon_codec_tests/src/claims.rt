@@ -48,7 +48,7 @@ fn put_sample(text: &mut String, sample: &Sample) -> Option<()> {
         " {}:{}:{}:{}:{}",
         sample.boots(),
         sample.time(),
-        sample.mark(),
+        sample.discontinuity(),
         sample.kind().name(),
         sample.value()
     )

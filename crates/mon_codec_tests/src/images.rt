@@ -92,7 +92,7 @@ fn watched_of(alloc: Global, word: &str) -> Option<Watched> {
             engine: Octets::from_slice(alloc, engine.as_slice()).ok()?,
             name: Oid::parse(alloc, name).ok()?,
         },
-        mark: None,
+        discontinuity: None,
         window: window.parse().ok()?,
         epoch: epoch.parse().ok()?,
     })

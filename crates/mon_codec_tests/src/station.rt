@@ -87,7 +87,7 @@ fn watched(alloc: Global, name: &str, window: usize, epoch: usize) -> Option<Wat
     };
     Some(Watched {
         instance,
-        mark: None,
+        discontinuity: None,
         window,
         epoch,
     })

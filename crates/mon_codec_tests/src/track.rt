@@ -23,7 +23,7 @@ enum Order {
 #[derive(Clone, Copy)]
 struct Asked {
     order: Order,
-    share: usize,
+    epoch: usize,
     times: u32,
 }
 
@@ -41,10 +41,10 @@ struct Tally {
 /// of those added, and the totals.
 pub fn times<R: Print>(rt: &R, alloc: Global, words: &[String]) -> Option<()> {
     let asked = words_of(words)?;
-    if asked.share < 1 || asked.share > SIZE {
+    if asked.epoch < 1 || asked.epoch > SIZE {
         return None;
     }
-    let mut track = Track::new(alloc, SIZE, asked.share).ok()?;
+    let mut track = Track::new(alloc, SIZE, asked.epoch).ok()?;
     let tally = inserted(&mut track, asked);
     let totals = track.totals();
     println!(rt;
@@ -62,11 +62,11 @@ pub fn times<R: Print>(rt: &R, alloc: Global, words: &[String]) -> Option<()> {
 /// The three words.
 fn words_of(words: &[String]) -> Option<Asked> {
     let order = order_of(words.first()?.as_str())?;
-    let share = words.get(1)?.as_str().parse().ok()?;
+    let epoch = words.get(1)?.as_str().parse().ok()?;
     let times = words.get(2)?.as_str().parse().ok()?;
     Some(Asked {
         order,
-        share,
+        epoch,
         times,
     })
 }

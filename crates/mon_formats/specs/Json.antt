@@ -7,7 +7,7 @@ use Rattle.serde_json.specs.Read.{read}
 use Rattle.serde_json.specs.View.{items_of}
 use Rattle.serde_json.specs.Written.{compact_text}
 use Rattle.mon_sample.specs.Kind.{kind_name}
-use Rattle.mon_sample.specs.Key.{boots_of, time_of, mark_of, kind_of}
+use Rattle.mon_sample.specs.Key.{boots_of, time_of, discontinuity_of, kind_of}
 use Rattle.mon_rates.specs.Totals.{totals}
 use Rattle.mon_alarms.specs.Rule.{Rule}
 use Rattle.mon_alarms.specs.Observed.{state_by}
@@ -34,7 +34,7 @@ abbrev pub sample_data : ℕ → Data
 sample_data s = object
     (member (codes "boots") (number (unsigned (boots_of s)))
     (member (codes "kind") (string (kind_name (kind_of s)))
-    (member (codes "mark") (number (unsigned (mark_of s)))
+    (member (codes "mark") (number (unsigned (discontinuity_of s)))
     (member (codes "time") (number (unsigned (time_of s)))
     (member (codes "value") (exact_signed (value_of s))
     no_members)))))

@@ -141,7 +141,7 @@ fn samples_value(alloc: Global, samples: &[Sample]) -> Result<Value, AllocError>
     Ok(Value::Array(values))
 }
 
-/// A sample: its stamp, its mark, its kind and the number that its value means.
+/// A sample: its stamp, its discontinuity, its kind and the number that its value means.
 fn sample_value(alloc: Global, sample: &Sample) -> Result<Value, AllocError>
     ensures { IfOk result (λ v. view v ≡ sample_data sample.now) }
 {
@@ -149,7 +149,7 @@ fn sample_value(alloc: Global, sample: &Sample) -> Result<Value, AllocError>
     json!(in alloc; {
         "boots": sample.boots(),
         "kind": sample.kind().name(),
-        "mark": sample.mark(),
+        "mark": sample.discontinuity(),
         "time": sample.time(),
         "value": value
     })

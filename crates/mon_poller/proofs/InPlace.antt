@@ -12,7 +12,7 @@ use Rattle.mon_pdu.specs.Grammar.{IsBinding}
 use Rattle.mon_poller.specs.declared.target.Object.{Object}
 use Rattle.mon_poller.specs.InPlace.{OffersSo, framed_pdu, given}
 use Rattle.mon_poller.specs.declared.target.Target.{Target}
-use Rattle.mon_poller.specs.Stamp.{Stamp, engine_boots_name, engine_id_name, engine_time_name, mark_in, octets_in, stamp_number}
+use Rattle.mon_poller.specs.Stamp.{Stamp, engine_boots_name, engine_id_name, engine_time_name, discontinuity_in, octets_in, stamp_number}
 use Rattle.mon_poller.specs.Target.{object_names, poll_names}
 use Rattle.mon_poller.specs.Verdict.{have_names, object_offers, poll_answer, sample_of, sampled_at, stamp_and_others, stamp_of_values, target_offers}
 
@@ -49,12 +49,12 @@ same_name name = (bytes_eq-Decides name name).1 refl
 abbrev pub bound : List ℕ → Value → Binding
 bound name v = record { name = name; value = v }
 
--- an object without a mark, and one with this mark
+-- an object without a discontinuity, and one with this discontinuity
 abbrev pub plain : ℕ → List ℕ → Object
-plain instance name = record { instance = instance; name = name; mark = None }
+plain instance name = record { instance = instance; name = name; discontinuity = None }
 
 abbrev pub marked : ℕ → List ℕ → List ℕ → Object
-marked instance name mark = record { instance = instance; name = name; mark = Some mark }
+marked instance name discontinuity = record { instance = instance; name = name; discontinuity = Some discontinuity }
 
 module _ (stamp : Stamp) where
   -- where no object is left no octets are
@@ -76,19 +76,19 @@ module _ (stamp : Stamp) where
     with_plain mid new A None put h = tt
     with_plain mid new A (Some x) put h = one_plain mid new put h
 
-    module _ (mark text2 rest2 : List ℕ) (w : Value) (is2 : IsBinding text2 (bound mark w)) (whole2 : rest ≡ text2 ++ rest2) where
-      one_marked : (mid new : List (ℕ × ℕ)) → mid ≡ old ++ given instance (sampled_at stamp v (mark_in w)) → OffersSo stamp os rest2 mid new → OffersSo stamp (marked instance name mark ∷ os) list old new
+    module _ (discontinuity text2 rest2 : List ℕ) (w : Value) (is2 : IsBinding text2 (bound discontinuity w)) (whole2 : rest ≡ text2 ++ rest2) where
+      one_with_discontinuity : (mid new : List (ℕ × ℕ)) → mid ≡ old ++ given instance (sampled_at stamp v (discontinuity_in w)) → OffersSo stamp os rest2 mid new → OffersSo stamp (marked instance name discontinuity ∷ os) list old new
       unfolding object_offers sample_of
-      one_marked mid new put h = record {
-        bindings = bound name v ∷ bound mark w ∷ h.bindings;
+      one_with_discontinuity mid new put h = record {
+        bindings = bound name v ∷ bound discontinuity w ∷ h.bindings;
         spelled = (text, rest, whole, is, (text2, rest2, whole2, is2, h.spelled));
-        named = rw (same_name name, same_name mark) h.named;
-        offers = h.offers ∙ ap (λ xs. xs ++ object_offers stamp os h.bindings) put ∙ append_assoc old (given instance (sampled_at stamp v (mark_in w))) (object_offers stamp os h.bindings);
+        named = rw (same_name name, same_name discontinuity) h.named;
+        offers = h.offers ∙ ap (λ xs. xs ++ object_offers stamp os h.bindings) put ∙ append_assoc old (given instance (sampled_at stamp v (discontinuity_in w))) (object_offers stamp os h.bindings);
       }
 
-      pub with_marked : (mid new : List (ℕ × ℕ)) (A : Type 0) (r : Option A) → mid ≡ old ++ given instance (sampled_at stamp v (mark_in w)) → OnSome r (OffersSo stamp os rest2 mid new) → OnSome r (OffersSo stamp (marked instance name mark ∷ os) list old new)
-      with_marked mid new A None put h = tt
-      with_marked mid new A (Some x) put h = one_marked mid new put h
+      pub with_discontinuity : (mid new : List (ℕ × ℕ)) (A : Type 0) (r : Option A) → mid ≡ old ++ given instance (sampled_at stamp v (discontinuity_in w)) → OnSome r (OffersSo stamp os rest2 mid new) → OnSome r (OffersSo stamp (marked instance name discontinuity ∷ os) list old new)
+      with_discontinuity mid new A None put h = tt
+      with_discontinuity mid new A (Some x) put h = one_with_discontinuity mid new put h
 
 -- the stamp's bindings, and others
 abbrev pub stamped : Value → Value → Value → List Binding → List Binding

@@ -55,9 +55,9 @@ module _ (n : ℕ) where
   unfolding object_offers
   offers_below stamp [] bindings h = nothing_below
   offers_below stamp (o ∷ os) bindings h =
-      All-append (λ (pair : ℕ × ℕ). pair.0 < n) (option_to_list (option_map (λ (x : ℕ). (o.instance, x)) (sample_of stamp o bindings))) (object_offers stamp os (drop (bindings_for o.mark) bindings))
+      All-append (λ (pair : ℕ × ℕ). pair.0 < n) (option_to_list (option_map (λ (x : ℕ). (o.instance, x)) (sample_of stamp o bindings))) (object_offers stamp os (drop (bindings_for o.discontinuity) bindings))
       (one_below o.instance (sample_of stamp o bindings) (All-head (λ (q : Object). q.instance < n) o os h))
-      (offers_below stamp os (drop (bindings_for o.mark) bindings) (All-tail (λ (q : Object). q.instance < n) o os h))
+      (offers_below stamp os (drop (bindings_for o.discontinuity) bindings) (All-tail (λ (q : Object). q.instance < n) o os h))
 
   offered_below : (t : Target) (bindings : List Binding) (pairs : List (ℕ × ℕ)) → All (λ (o : Object). o.instance < n) t.objects → target_offers t bindings ≡ Ok pairs → AreBelow pairs
   unfolding target_offers

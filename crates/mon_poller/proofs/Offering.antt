@@ -17,7 +17,7 @@ module _ (stamp : Stamp) where
   no_more objects i rest none = ap (λ os. object_offers stamp os rest) none
 
   one_more : (objects : List Object) (i : ℕ) (rest : List Binding) (o : Object) → i < length objects → o ≡ get_or objects i o
-      → object_offers stamp (drop i objects) rest ≡ offered o (sample_of stamp o rest) ++ object_offers stamp (drop (i + 1) objects) (drop (bindings_for o.mark) rest)
+      → object_offers stamp (drop i objects) rest ≡ offered o (sample_of stamp o rest) ++ object_offers stamp (drop (i + 1) objects) (drop (bindings_for o.discontinuity) rest)
   unfolding object_offers
   one_more objects i rest o lt is =
       let next : suc i ≡ i + 1 = omega arith in
@@ -26,11 +26,11 @@ module _ (stamp : Stamp) where
 
   -- a step of the loop
   pub step : (objects : List Object) (i : ℕ) (bindings rest after : List Binding) (o : Object) (before pairs : List (ℕ × ℕ)) (sample : Option ℕ)
-      → i < length objects → o ≡ get_or objects i o → sample ≡ sample_of stamp o rest → pairs ≡ before ++ offered o sample → after ≡ drop (bindings_for o.mark) rest
+      → i < length objects → o ≡ get_or objects i o → sample ≡ sample_of stamp o rest → pairs ≡ before ++ offered o sample → after ≡ drop (bindings_for o.discontinuity) rest
       → before ++ object_offers stamp (drop i objects) rest ≡ object_offers stamp objects bindings
       → pairs ++ object_offers stamp (drop (i + 1) objects) after ≡ object_offers stamp objects bindings
   step objects i bindings rest after o before pairs sample lt is sampled put after_first all =
       (λ j. put j ++ object_offers stamp (drop (i + 1) objects) (after_first j))
       ∙ append_assoc before (offered o sample) _
-      ∙ ap (λ (s : Option ℕ). before ++ (offered o s ++ object_offers stamp (drop (i + 1) objects) (drop (bindings_for o.mark) rest))) sampled
+      ∙ ap (λ (s : Option ℕ). before ++ (offered o s ++ object_offers stamp (drop (i + 1) objects) (drop (bindings_for o.discontinuity) rest))) sampled
       ∙ ap (λ xs. before ++ xs) (sym (one_more objects i rest o lt is)) ∙ all

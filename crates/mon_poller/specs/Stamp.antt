@@ -44,8 +44,8 @@ sampled (Counter64 n) = Some (kinds.Counter64, n)
 sampled _ = None
 
 -- the value of a discontinuity indicator: a Counter32, Gauge32 or TimeTicks
-abbrev pub mark_in : Value → Option ℕ
-mark_in (Counter32 n) = Some n
-mark_in (Gauge32 n) = Some n
-mark_in (TimeTicks n) = Some n
-mark_in _ = None
+abbrev pub discontinuity_in : Value → Option ℕ
+discontinuity_in (Counter32 n) = Some n
+discontinuity_in (Gauge32 n) = Some n
+discontinuity_in (TimeTicks n) = Some n
+discontinuity_in _ = None

@@ -35,14 +35,14 @@ no_target = record { address = record { octets = []; port = 0 }; community = [];
 abbrev pub target_at : List Target → ℕ → Target
 target_at targets i = slice_index_or targets i no_target
 
--- the name of a mark, where there is one
-abbrev pub name_of_mark : Option (List ℕ) → List (List ℕ)
-name_of_mark None = []
-name_of_mark (Some name) = name ∷ []
+-- the name of a discontinuity, where there is one
+abbrev pub name_of_discontinuity : Option (List ℕ) → List (List ℕ)
+name_of_discontinuity None = []
+name_of_discontinuity (Some name) = name ∷ []
 
--- the names by which an object is asked for: its own, directly followed by its mark's
+-- the names by which an object is asked for: its own, directly followed by its discontinuity's
 abbrev pub object_names : Object → List (List ℕ)
-object_names o = o.name ∷ name_of_mark o.mark
+object_names o = o.name ∷ name_of_discontinuity o.discontinuity
 
 -- the names of a poll: the stamp's, and then the objects'
 abbrev pub poll_names : Target → List (List ℕ)

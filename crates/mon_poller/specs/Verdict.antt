@@ -28,7 +28,7 @@ use Rattle.mon_poller.specs.Fault.{response_number}
 use Rattle.mon_oid.specs.Steps.{◌>>=◌}
 use Rattle.mon_poller.specs.Gives.{or_refuse, need}
 use Rattle.mon_poller.specs.Polls.{Poll, Open, Polls, poll_of, closed_by}
-use Rattle.mon_poller.specs.Stamp.{Stamp, octets_in, stamp_number, sampled, mark_in}
+use Rattle.mon_poller.specs.Stamp.{Stamp, octets_in, stamp_number, sampled, discontinuity_in}
 use Rattle.mon_poller.specs.Target.{poll_names, poll_octets, target_at}
 
 -- the request-id under which a poll starts, or the first reason why it does not
@@ -86,31 +86,31 @@ stamp_and_others (first ∷ second ∷ third ∷ others) = do
   Ok (stamp, others)
 stamp_and_others _ = Err BadStamp
 
--- the value of an object's mark, in the second of its bindings; 0 where it has none
-abbrev pub mark_value : Option (List ℕ) → List Binding → Option ℕ
-mark_value None bindings = Some 0
-mark_value (Some name) (b ∷ c ∷ bs) = mark_in c.value
-mark_value (Some name) _ = None
+-- the value of an object's discontinuity, in the second of its bindings; 0 where it has none
+abbrev pub discontinuity_value : Option (List ℕ) → List Binding → Option ℕ
+discontinuity_value None bindings = Some 0
+discontinuity_value (Some name) (b ∷ c ∷ bs) = discontinuity_in c.value
+discontinuity_value (Some name) _ = None
 
--- how many bindings answer an object with this mark
+-- how many bindings answer an object with this discontinuity
 abbrev pub bindings_for : Option (List ℕ) → ℕ
 bindings_for None = 1
 bindings_for (Some name) = 2
 
--- the sample of this value and this mark, if the value is of a sampled kind and the mark is there
+-- the sample of this value and this discontinuity, if the value is of a sampled kind and the discontinuity is there
 abbrev pub sampled_at : Stamp → Value → Option ℕ → Option ℕ
-sampled_at stamp value mark = option_and_then (λ v. option_map (λ m. key stamp.boots stamp.time m (kind_tag v.0) v.1) mark) (sampled value)
+sampled_at stamp value discontinuity = option_and_then (λ v. option_map (λ m. key stamp.boots stamp.time m (kind_tag v.0) v.1) discontinuity) (sampled value)
 
 -- the sample of an object whose bindings come first, if its value is of a sampled kind and its
 -- discontinuity, if it has one, of that kind
 unfoldable pub sample_of : Stamp → Object → List Binding → Option ℕ
 sample_of stamp o [] = None
-sample_of stamp o (b ∷ bs) = sampled_at stamp b.value (mark_value o.mark (b ∷ bs))
+sample_of stamp o (b ∷ bs) = sampled_at stamp b.value (discontinuity_value o.discontinuity (b ∷ bs))
 
 -- what the bindings offer of the objects, in their order
 unfoldable pub object_offers : Stamp → List Object → List Binding → List (ℕ × ℕ)
 object_offers stamp [] bindings = []
-object_offers stamp (o ∷ os) bindings = option_to_list (option_map (λ s. (o.instance, s)) (sample_of stamp o bindings)) ++ object_offers stamp os (drop (bindings_for o.mark) bindings)
+object_offers stamp (o ∷ os) bindings = option_to_list (option_map (λ s. (o.instance, s)) (sample_of stamp o bindings)) ++ object_offers stamp os (drop (bindings_for o.discontinuity) bindings)
 
 -- what bindings with the names of a poll offer of its target: their stamp must be its engine's
 unfoldable pub target_offers : Target → List Binding → Result (List (ℕ × ℕ)) ResponseFault

@@ -21,7 +21,7 @@ use mon_pdu::{
 };
 use std::alloc::{AllocError, Global};
 
-/// The variable bindings of a target's polls: the stamp's names and then each object's, directly followed by its mark's where it has one, each without a value
+/// The variable bindings of a target's polls: the stamp's names and then each object's, directly followed by its discontinuity's where it has one, each without a value
 /// (RFC 3416 section 4.2.1). It fails only for memory, since a target within its limits is asked
 /// for no more than can be written.
 pub(crate) fn asked_octets(alloc: Global, target: &Target) -> Result<Octets, AllocError>
@@ -122,14 +122,14 @@ fn stamp_bindings(alloc: Global) -> Result<Vec<Binding>, AllocError>
     Ok(bindings)
 }
 
-/// Asks for an object too, and for its mark.
+/// Asks for an object too, and for its discontinuity.
 fn ask_for(alloc: Global, bindings: &mut Vec<Binding>, object: &Object) -> Result<(), AllocError>
     ensures bindings { OnOk result (bindings.new.items ≡ bindings.old.items ++ map unspecified (object_names object.now)) }
     ensures short { OnOk result (length (list_contents bindings.new.items) ≤ length (list_contents bindings.old.items) + 1326) }
 {
     bindings.push(unspecified(object.name.try_clone(alloc)?))?;
-    if let Some(mark) = &object.mark {
-        bindings.push(unspecified(mark.try_clone(alloc)?))?;
+    if let Some(discontinuity) = &object.discontinuity {
+        bindings.push(unspecified(discontinuity.try_clone(alloc)?))?;
     }
     Ok(())
 }

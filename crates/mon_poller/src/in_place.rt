@@ -22,7 +22,7 @@ use crate::finding::find;
 use crate::lent::Stamp;
 use crate::offers::sample_at;
 use crate::poller::OpenPoll;
-use crate::stamp::{mark_in, octets_in, stamp_number};
+use crate::stamp::{discontinuity_in, octets_in, stamp_number};
 use crate::target::{Object, Target};
 use mon_ber::{Octets, Value};
 use mon_board::Pairs;
@@ -133,29 +133,29 @@ fn put_pairs(
         return None;
     };
     let (value, list) = named_value(alloc, name.as_slice(), list)?;
-    let Some(_) = &object.mark else {
+    let Some(_) = &object.discontinuity else {
         put_pair(stamp, object.instance, &value, Some(0), pairs)?;
         return put_pairs(alloc, stamp, objects, names, list, pairs);
     };
     let [name, names @ ..] = names else {
         return None;
     };
-    let (mark, list) = named_value(alloc, name.as_slice(), list)?;
-    put_pair(stamp, object.instance, &value, mark_in(&mark), pairs)?;
+    let (discontinuity, list) = named_value(alloc, name.as_slice(), list)?;
+    put_pair(stamp, object.instance, &value, discontinuity_in(&discontinuity), pairs)?;
     put_pairs(alloc, stamp, objects, names, list, pairs)
 }
 
-/// Adds the sample of an instance with this value and this mark, where it is one.
+/// Adds the sample of an instance with this value and this discontinuity, where it is one.
 fn put_pair(
     stamp: &Stamp<'_>,
     instance: u16,
     value: &Value,
-    mark: Option<u32>,
+    discontinuity: Option<u32>,
     pairs: &mut Pairs,
 ) -> Option<()>
-    ensures { OnSome result (pairs.new ≡ pairs.old ++ given instance (sampled_at (lent_stamp stamp.now) value.now mark)) }
+    ensures { OnSome result (pairs.new ≡ pairs.old ++ given instance (sampled_at (lent_stamp stamp.now) value.now discontinuity)) }
 {
-    match sample_at(stamp, value, mark) {
+    match sample_at(stamp, value, discontinuity) {
         Some(sample) => pairs.push(instance, sample).ok(),
         None => Some(()),
     }

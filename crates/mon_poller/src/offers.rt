@@ -6,12 +6,12 @@ ghost use Rattle.std.specs.Option.{option_copied};
 ghost use Rattle.mon_poller.specs.Gives.{Gives};
 ghost use Rattle.mon_poller.specs.Lent.{lent_stamp};
 ghost use Rattle.mon_poller.specs.Target.{poll_names, object_names};
-ghost use Rattle.mon_poller.specs.Verdict.{response_pdu, have_names, have_after, stamp_and_others, mark_value, bindings_for, sample_of, sampled_at, object_offers, target_offers, poll_answer};
+ghost use Rattle.mon_poller.specs.Verdict.{response_pdu, have_names, have_after, stamp_and_others, discontinuity_value, bindings_for, sample_of, sampled_at, object_offers, target_offers, poll_answer};
 
 use crate::fault::ResponseFault;
 use crate::lent::Stamp;
 use crate::stamp::{
-    ENGINE_BOOTS, ENGINE_ID, ENGINE_TIME, mark_in, octets_in, sampled, stamp_number,
+    ENGINE_BOOTS, ENGINE_ID, ENGINE_TIME, discontinuity_in, octets_in, sampled, stamp_number,
 };
 use crate::target::{Object, Target};
 use mon_ber::Value;
@@ -111,13 +111,13 @@ fn name_objects(objects: &[Object], bindings: &[Binding]) -> bool
     if object.name.parts() != binding.name.parts() {
         return false;
     }
-    let Some(mark) = &object.mark else {
+    let Some(discontinuity) = &object.discontinuity else {
         return name_objects(objects, bindings);
     };
     let [binding, bindings @ ..] = bindings else {
         return false;
     };
-    mark.parts() == binding.name.parts() && name_objects(objects, bindings)
+    discontinuity.parts() == binding.name.parts() && name_objects(objects, bindings)
 }
 
 /// The stamp at the front of the bindings, and the other bindings.
@@ -160,7 +160,7 @@ fn object_offers(
         if let Some(sample) = sample_of(stamp, object, rest) {
             pairs.push(object.instance, sample)?;
         }
-        rest = after_first(rest, bindings_for(&object.mark));
+        rest = after_first(rest, bindings_for(&object.discontinuity));
     }
     Ok(pairs)
 }
@@ -174,36 +174,36 @@ fn sample_of(stamp: &Stamp<'_>, object: &Object, bindings: &[Binding]) -> Option
     let [first, ..] = bindings else {
         return None;
     };
-    sample_at(stamp, &first.value, mark_value(&object.mark, bindings))
+    sample_at(stamp, &first.value, discontinuity_value(&object.discontinuity, bindings))
 }
 
-/// The sample of a value and a mark: the value is of a sampled kind, and the mark is there.
-pub(crate) fn sample_at(stamp: &Stamp<'_>, value: &Value, mark: Option<u32>) -> Option<Sample>
-    ensures { result ≡ sampled_at (lent_stamp stamp.now) value.now mark }
+/// The sample of a value and a discontinuity: the value is of a sampled kind, and the discontinuity is there.
+pub(crate) fn sample_at(stamp: &Stamp<'_>, value: &Value, discontinuity: Option<u32>) -> Option<Sample>
+    ensures { result ≡ sampled_at (lent_stamp stamp.now) value.now discontinuity }
 {
     let (kind, value) = sampled(value)?;
-    let mark = mark?;
-    Some(Sample::new(stamp.boots, stamp.time, mark, kind, value))
+    let discontinuity = discontinuity?;
+    Some(Sample::new(stamp.boots, stamp.time, discontinuity, kind, value))
 }
 
-/// The value of an object's mark, in the second of its bindings; 0 where it has none.
-fn mark_value(mark: &Option<Oid>, bindings: &[Binding]) -> Option<u32>
-    ensures { result ≡ mark_value mark.now bindings.now }
+/// The value of an object's discontinuity, in the second of its bindings; 0 where it has none.
+fn discontinuity_value(discontinuity: &Option<Oid>, bindings: &[Binding]) -> Option<u32>
+    ensures { result ≡ discontinuity_value discontinuity.now bindings.now }
 {
-    match mark {
+    match discontinuity {
         None => Some(0),
         Some(_) => match bindings {
-            [_, second, ..] => mark_in(&second.value),
+            [_, second, ..] => discontinuity_in(&second.value),
             _ => None,
         },
     }
 }
 
-/// How many bindings answer an object with this mark.
-fn bindings_for(mark: &Option<Oid>) -> usize
-    ensures { result ≡ bindings_for mark.now }
+/// How many bindings answer an object with this discontinuity.
+fn bindings_for(discontinuity: &Option<Oid>) -> usize
+    ensures { result ≡ bindings_for discontinuity.now }
 {
-    match mark {
+    match discontinuity {
         None => 1,
         Some(_) => 2,
     }

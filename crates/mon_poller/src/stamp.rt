@@ -3,7 +3,7 @@
 ghost use Rattle.std.specs.Prelude.{◌≡◌, ◌<◌, ◌^◌, IfSome, IsTrue};
 ghost use Rattle.std.specs.Option.{option_copied};
 ghost use Rattle.mon_sample.specs.Kind.{holds};
-ghost use Rattle.mon_poller.specs.Stamp.{octets_in, stamp_number, sampled, mark_in};
+ghost use Rattle.mon_poller.specs.Stamp.{octets_in, stamp_number, sampled, discontinuity_in};
 
 use mon_ber::{Octets, Value};
 use mon_sample::Kind;
@@ -57,8 +57,8 @@ pub fn sampled(value: &Value) -> Option<(Kind, u64)>
 }
 
 /// The value of a discontinuity indicator (RFC 2578 section 7.1.6): of a Counter32, a Gauge32 or a TimeTicks.
-pub fn mark_in(value: &Value) -> Option<u32>
-    ensures { result ≡ mark_in value.now }
+pub fn discontinuity_in(value: &Value) -> Option<u32>
+    ensures { result ≡ discontinuity_in value.now }
 {
     match value {
         Value::Counter32(number) | Value::Gauge32(number) | Value::TimeTicks(number) => {

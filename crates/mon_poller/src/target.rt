@@ -30,7 +30,7 @@ pub struct Object {
     pub name: Oid,
     /// The name of its discontinuity indicator (RFC 2578 section 7.1.6), if one is asked for with
     /// it.
-    pub mark: Option<Oid>,
+    pub discontinuity: Option<Oid>,
 }
 
 impl Object {
@@ -38,14 +38,14 @@ impl Object {
     pub fn try_clone(&self, alloc: Global) -> Result<Self, AllocError>
         ensures { IfOk result (λ o. o ≡ self.now) }
     {
-        let mark = match &self.mark {
+        let discontinuity = match &self.discontinuity {
             Some(name) => Some(name.try_clone(alloc)?),
             None => None,
         };
         Ok(Object {
             instance: self.instance,
             name: self.name.try_clone(alloc)?,
-            mark,
+            discontinuity,
         })
     }
 }

@@ -90,7 +90,7 @@ fn response(alloc: Global, polls: &mut Poller, from: Addr, octets: &[u8]) -> Opt
 fn samples(alloc: Global, offered: &Offered) -> Option<String> {
     let mut text = format!(in alloc; "target {}", offered.target).ok()?;
     for (instance, sample) in offered.pairs.as_slice() {
-        let (boots, time, mark) = (sample.boots(), sample.time(), sample.mark());
+        let (boots, time, mark) = (sample.boots(), sample.time(), sample.discontinuity());
         let kind = sample.kind().name();
         let value = sample.number();
         write!(text, "; {instance}: {boots} {time} {mark} {kind} {value}").ok()?;

@@ -47,11 +47,11 @@ fn target(
     })
 }
 
-fn object(instance: u16, name: Oid, mark: Option<Oid>) -> Object {
+fn object(instance: u16, name: Oid, discontinuity: Option<Oid>) -> Object {
     Object {
         instance,
         name,
-        mark,
+        discontinuity,
     }
 }
 

@@ -65,6 +65,6 @@ fn number(octets: &mut [u8], place: usize, id: u32) -> Option<()> {
 fn count(tally: &mut Tally, offered: &Offered) {
     for (_, sample) in offered.pairs.as_slice() {
         tally.samples = tally.samples.wrapping_add(1);
-        tally.marks = tally.marks.wrapping_add(u64::from(sample.mark()));
+        tally.marks = tally.marks.wrapping_add(u64::from(sample.discontinuity()));
     }
 }

@@ -11,7 +11,7 @@ use Rattle.std.proofs.Math.Seq.{drop-cons}
 use Rattle.std.proofs.Math.ListN.{drop_of_length-le}
 use Rattle.std.proofs.lemmas.Nat.{be_bytes_4, be_bytes_8}
 use Rattle.mon_sample.specs.Key.{key}
-use Rattle.mon_sample.specs.Record.{low_octets, octets_of, spelled_on, spelled, layout, boots_at, time_at, mark_at, tag_at, value_at}
+use Rattle.mon_sample.specs.Record.{low_octets, octets_of, spelled_on, spelled, layout, boots_at, time_at, discontinuity_at, tag_at, value_at}
 
 abbrev IsBytes : List ℕ → Type 0
 IsBytes octets = (i : ℕ) → get_or octets i 0 < 256
@@ -35,19 +35,19 @@ four octets a b e h bytes = be_bytes_4 (slice_range octets a b) _ (omega (arith,
 eight : (octets : List ℕ) (a b : ℕ) → a + 8 ≡ b → b ≤ length octets → IsBytes octets → to_be_bytes w64 (from_be_bytes w64 (slice_range octets a b)) ≡ slice_range octets a b
 eight octets a b e h bytes = be_bytes_8 (slice_range octets a b) _ (omega (arith, length_range octets a b (omega arith) h)) (bytes_range octets a b bytes) refl
 
-pub laid : (octets : List ℕ) (boots_ time_ mark_ tag_ value_ : ℕ) → length octets ≡ 21 → IsBytes octets
-    → boots_ ≡ boots_at octets → time_ ≡ time_at octets → mark_ ≡ mark_at octets → tag_ ≡ tag_at octets → value_ ≡ value_at octets → octets ≡ layout boots_ time_ mark_ tag_ value_
-unfolding layout boots_at time_at mark_at tag_at value_at
-laid octets boots_ time_ mark_ tag_ value_ n bytes b t m k v =
+pub laid : (octets : List ℕ) (boots_ time_ discontinuity_ tag_ value_ : ℕ) → length octets ≡ 21 → IsBytes octets
+    → boots_ ≡ boots_at octets → time_ ≡ time_at octets → discontinuity_ ≡ discontinuity_at octets → tag_ ≡ tag_at octets → value_ ≡ value_at octets → octets ≡ layout boots_ time_ discontinuity_ tag_ value_
+unfolding layout boots_at time_at discontinuity_at tag_at value_at
+laid octets boots_ time_ discontinuity_ tag_ value_ n bytes b t m k v =
     let boots : slice_range octets 0 4 ≡ to_be_bytes w32 boots_ = sym (ap (to_be_bytes w32) b ∙ four octets 0 4 refl (omega arith) bytes) in
     let time : slice_range octets 4 8 ≡ to_be_bytes w32 time_ = sym (ap (to_be_bytes w32) t ∙ four octets 4 8 refl (omega arith) bytes) in
-    let mark : slice_range octets 8 12 ≡ to_be_bytes w32 mark_ = sym (ap (to_be_bytes w32) m ∙ four octets 8 12 refl (omega arith) bytes) in
+    let discontinuity : slice_range octets 8 12 ≡ to_be_bytes w32 discontinuity_ = sym (ap (to_be_bytes w32) m ∙ four octets 8 12 refl (omega arith) bytes) in
     let value : slice_range octets 13 21 ≡ to_be_bytes w64 value_ = sym (ap (to_be_bytes w64) v ∙ eight octets 13 21 refl (omega arith) bytes) in
     let past : drop 21 octets ≡ [] = drop_of_length-le octets {i = 21} (omega arith) in
     let at_value : drop 13 octets ≡ to_be_bytes w64 value_ = drop_split octets 13 21 (omega arith) ∙ (λ i. value i ++ past i) ∙ append-nil (to_be_bytes w64 value_) in
     let at_tag : drop 12 octets ≡ tag_ ∷ to_be_bytes w64 value_ = drop-cons octets 12 0 (omega arith) ∙ (λ i. sym k i ∷ at_value i) in
-    let at_mark : drop 8 octets ≡ to_be_bytes w32 mark_ ++ (tag_ ∷ to_be_bytes w64 value_) = drop_split octets 8 12 (omega arith) ∙ (λ i. mark i ++ at_tag i) in
-    let at_time : drop 4 octets ≡ to_be_bytes w32 time_ ++ (to_be_bytes w32 mark_ ++ (tag_ ∷ to_be_bytes w64 value_)) = drop_split octets 4 8 (omega arith) ∙ (λ i. time i ++ at_mark i) in
+    let at_discontinuity : drop 8 octets ≡ to_be_bytes w32 discontinuity_ ++ (tag_ ∷ to_be_bytes w64 value_) = drop_split octets 8 12 (omega arith) ∙ (λ i. discontinuity i ++ at_tag i) in
+    let at_time : drop 4 octets ≡ to_be_bytes w32 time_ ++ (to_be_bytes w32 discontinuity_ ++ (tag_ ∷ to_be_bytes w64 value_)) = drop_split octets 4 8 (omega arith) ∙ (λ i. time i ++ at_discontinuity i) in
     drop_split octets 0 4 (omega arith) ∙ (λ i. boots i ++ at_time i)
 
 -- ---- the number's octets

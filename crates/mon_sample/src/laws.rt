@@ -16,8 +16,8 @@ pub fn one_number()
     ensures { (s : ℕ) → IsSample s → spelled (octets_of s) ≡ s }
 {}
 
-/// A sample's octets are those of its boots, time, mark, tag and value, one after another.
+/// A sample's octets are those of its boots, time, discontinuity, tag and value, one after another.
 pub fn octets_by_field()
-    ensures { (boots time mark tag value : ℕ) → time < 2 ^ 32 → mark < 2 ^ 32 → tag < 2 ^ 8 → value < 2 ^ 64
-        → octets_of (key boots time mark tag value) ≡ layout boots time mark tag value }
+    ensures { (boots time discontinuity tag value : ℕ) → time < 2 ^ 32 → discontinuity < 2 ^ 32 → tag < 2 ^ 8 → value < 2 ^ 64
+        → octets_of (key boots time discontinuity tag value) ≡ layout boots time discontinuity tag value }
 {}

@@ -2,8 +2,8 @@ ghost use Rattle.std.specs.Prelude.{ℕ, ◌≡◌, ◌<◌, ◌+◌, ◌*◌, �
 ghost use Rattle.std.specs.Ordering.{nat_cmp};
 ghost use Rattle.std.specs.Cmp.Lexicographic.{slice_cmp};
 ghost use Rattle.mon_sample.specs.Kind.{holds, kind_tag, number_of};
-ghost use Rattle.mon_sample.specs.Key.{key, boots_of, time_of, mark_of, tag_of, kind_of, sample_value, IsSample, HasTag, HasStamp, HasValue};
-ghost use Rattle.mon_sample.specs.Record.{octets_of, spelled, layout, boots_at, time_at, mark_at, tag_at, value_at};
+ghost use Rattle.mon_sample.specs.Key.{key, boots_of, time_of, discontinuity_of, tag_of, kind_of, sample_value, IsSample, HasTag, HasStamp, HasValue};
+ghost use Rattle.mon_sample.specs.Record.{octets_of, spelled, layout, boots_at, time_at, discontinuity_at, tag_at, value_at};
 
 use crate::fault::SampleFault;
 use crate::kind::Kind;
@@ -19,7 +19,7 @@ const STAMP_LIMIT: u32 = 1 << 31;
 pub struct Sample {
     boots: u32,
     time: u32,
-    mark: u32,
+    discontinuity: u32,
     kind: Kind,
     value: u64,
 }
@@ -27,34 +27,34 @@ pub struct Sample {
 impl Model for Sample {
     ghost use Rattle.std.specs.Prelude.{ℕ};
     ghost use Rattle.mon_sample.specs.Kind.{kind_tag};
-    ghost use Rattle.mon_sample.specs.Key.{key, boots_of, time_of, mark_of, kind_of, sample_value, AreFields};
+    ghost use Rattle.mon_sample.specs.Key.{key, boots_of, time_of, discontinuity_of, kind_of, sample_value, AreFields};
     ghost use Rattle.mon_sample.specs.Digits.{fields_back};
 
     ghost Value = { ℕ };
 
-    ghost view = { λ s. key s.boots s.time s.mark (kind_tag s.kind) s.value };
+    ghost view = { λ s. key s.boots s.time s.discontinuity (kind_tag s.kind) s.value };
 
-    ghost invariant = { λ s. AreFields s.boots s.time s.mark s.kind s.value };
+    ghost invariant = { λ s. AreFields s.boots s.time s.discontinuity s.kind s.value };
 
-    ghost inverse = { λ k. record { boots = boots_of k; time = time_of k; mark = mark_of k; kind = kind_of k; value = sample_value k } };
+    ghost inverse = { λ k. record { boots = boots_of k; time = time_of k; discontinuity = discontinuity_of k; kind = kind_of k; value = sample_value k } };
 
-    ghost inverse_ok = { λ a h. λ i. let e = fields_back a.boots a.time a.mark a.kind a.value h in record { boots = e.boots_back i; time = e.time_back i; mark = e.mark_back i; kind = e.kind_is i; value = e.value_back i } };
+    ghost inverse_ok = { λ a h. λ i. let e = fields_back a.boots a.time a.discontinuity a.kind a.value h in record { boots = e.boots_back i; time = e.time_back i; discontinuity = e.discontinuity_back i; kind = e.kind_is i; value = e.value_back i } };
 }
 
 impl Sample {
     /// A sample of these fields. `boots` and `time` are the agent's snmpEngineBoots and snmpEngineTime, at most 2147483647
-    /// (RFC 3411 section 5); `mark` is the value of the object's discontinuity indicator, 0 where it has none; `value` is
+    /// (RFC 3411 section 5); `discontinuity` is the value of the object's discontinuity indicator, 0 where it has none; `value` is
     /// the object's value modulo 2^64.
-    pub fn new(boots: u32, time: u32, mark: u32, kind: Kind, value: u64) -> Self
+    pub fn new(boots: u32, time: u32, discontinuity: u32, kind: Kind, value: u64) -> Self
         requires boots { boots < 2 ^ 31 }
         requires time { time < 2 ^ 31 }
         requires value { IsTrue (holds kind value) }
-        ensures { result ≡ key boots time mark (kind_tag kind) value }
+        ensures { result ≡ key boots time discontinuity (kind_tag kind) value }
     {
         Sample {
             boots,
             time,
-            mark,
+            discontinuity,
             kind,
             value,
         }
@@ -77,10 +77,10 @@ impl Sample {
     }
 
     /// The value of the object's discontinuity indicator (RFC 2578 section 7.1.6), 0 where it has none.
-    pub fn mark(&self) -> u32
-        ensures { result ≡ mark_of self.now }
+    pub fn discontinuity(&self) -> u32
+        ensures { result ≡ discontinuity_of self.now }
     {
-        self.mark
+        self.discontinuity
     }
 
     /// The type of the value.
@@ -118,12 +118,12 @@ impl Sample {
             return order;
         }
         order
-            .then(self.mark.cmp(&other.mark))
+            .then(self.discontinuity.cmp(&other.discontinuity))
             .then(self.kind.tag().cmp(&other.kind.tag()))
             .then(self.value.cmp(&other.value))
     }
 
-    /// Returns the sample's record: boots 4 octets, time 4, mark 4, tag 1, value 8, each
+    /// Returns the sample's record: boots 4 octets, time 4, discontinuity 4, tag 1, value 8, each
     /// big-endian.
     pub fn to_record(&self) -> [u8; 21]
         ensures octets { result ≡ octets_of self.now }
@@ -131,7 +131,7 @@ impl Sample {
     {
         let _ = &self.boots;
         let tag = self.kind.tag();
-        laid_out(self.boots, self.time, self.mark, tag, self.value)
+        laid_out(self.boots, self.time, self.discontinuity, tag, self.value)
     }
 
     /// The sample of a record, or the first fault of its tag, stamp and value.
@@ -159,7 +159,7 @@ impl Sample {
         Ok(Sample {
             boots: parts.boots,
             time: parts.time,
-            mark: parts.mark,
+            discontinuity: parts.discontinuity,
             kind,
             value: parts.value,
         })
@@ -178,7 +178,7 @@ fn stamp(boots: u32, time: u32) -> u64
 struct Parts {
     boots: u32,
     time: u32,
-    mark: u32,
+    discontinuity: u32,
     tag: u8,
     value: u64,
 }
@@ -187,38 +187,38 @@ struct Parts {
 fn digits_of(octets: &[u8; 21]) -> Parts
     ensures boots { result.boots ≡ boots_of (spelled octets.now) }
     ensures time { result.time ≡ time_of (spelled octets.now) }
-    ensures mark { result.mark ≡ mark_of (spelled octets.now) }
+    ensures discontinuity { result.discontinuity ≡ discontinuity_of (spelled octets.now) }
     ensures tag { result.tag ≡ tag_of (spelled octets.now) }
     ensures value { result.value ≡ sample_value (spelled octets.now) }
-    ensures whole { key result.boots result.time result.mark result.tag result.value ≡ spelled octets.now }
+    ensures whole { key result.boots result.time result.discontinuity result.tag result.value ≡ spelled octets.now }
     ensures octets { octets.now ≡ octets_of (spelled octets.now) }
 {
     parts_of(octets)
 }
 
 #[tactic(auto, unfolding(crate::specs::Record::layout))]
-fn laid_out(boots: u32, time: u32, mark: u32, tag: u8, value: u64) -> [u8; 21]
-    ensures { result ≡ layout boots time mark tag value }
+fn laid_out(boots: u32, time: u32, discontinuity: u32, tag: u8, value: u64) -> [u8; 21]
+    ensures { result ≡ layout boots time discontinuity tag value }
 {
     let mut record = [0; 21];
     record[..4].copy_from_slice(&boots.to_be_bytes());
     record[4..8].copy_from_slice(&time.to_be_bytes());
-    record[8..12].copy_from_slice(&mark.to_be_bytes());
+    record[8..12].copy_from_slice(&discontinuity.to_be_bytes());
     record[12] = tag;
     record[13..].copy_from_slice(&value.to_be_bytes());
     record
 }
 
-#[tactic(auto, unfolding(crate::specs::Record::boots_at, crate::specs::Record::time_at, crate::specs::Record::mark_at, crate::specs::Record::tag_at, crate::specs::Record::value_at))]
+#[tactic(auto, unfolding(crate::specs::Record::boots_at, crate::specs::Record::time_at, crate::specs::Record::discontinuity_at, crate::specs::Record::tag_at, crate::specs::Record::value_at))]
 fn parts_of(octets: &[u8; 21]) -> Parts
     ensures boots { result.boots ≡ boots_at octets.now }
     ensures time { result.time ≡ time_at octets.now }
-    ensures mark { result.mark ≡ mark_at octets.now }
+    ensures discontinuity { result.discontinuity ≡ discontinuity_at octets.now }
     ensures tag { result.tag ≡ tag_at octets.now }
     ensures value { result.value ≡ value_at octets.now }
     ensures boots_fit { result.boots < 2 ^ 32 }
     ensures time_fits { result.time < 2 ^ 32 }
-    ensures mark_fits { result.mark < 2 ^ 32 }
+    ensures discontinuity_fits { result.discontinuity < 2 ^ 32 }
     ensures tag_fits { result.tag < 2 ^ 8 }
     ensures value_fits { result.value < 2 ^ 64 }
 {
@@ -248,7 +248,7 @@ fn parts_of(octets: &[u8; 21]) -> Parts
     Parts {
         boots: u32::from_be_bytes([b0, b1, b2, b3]),
         time: u32::from_be_bytes([t0, t1, t2, t3]),
-        mark: u32::from_be_bytes([m0, m1, m2, m3]),
+        discontinuity: u32::from_be_bytes([m0, m1, m2, m3]),
         tag,
         value: u64::from_be_bytes([v0, v1, v2, v3, v4, v5, v6, v7]),
     }

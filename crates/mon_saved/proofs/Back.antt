@@ -13,7 +13,7 @@ use Rattle.mon_window.specs.Window.{Samples}
 use Rattle.mon_window.proofs.Promised.{from_list-rising, len-keep, len-rising}
 use Rattle.mon_board.specs.Board.{Board, window_of}
 use Rattle.mon_board.specs.Instance.{instances_of}
-use Rattle.mon_board.specs.Watch.{Watch, size_of, share_of}
+use Rattle.mon_board.specs.Watch.{Watch, size_of, epoch_of}
 use Rattle.mon_board.specs.Windows.{IsWhole, paired, samples_of, set_of, window, kept_by}
 use Rattle.mon_board.specs.declared.instance.Instance.{Instance}
 use Rattle.mon_board.specs.declared.instance.Watched.{Watched}
@@ -68,7 +68,7 @@ nothing_left (x ∷ xs) le = absurd (omega (arith, le))
 empty_beyond : (board : Board) (i : ℕ) → length board.watch.instances ≤ i → IsWhole board.watch (window_of board) i → set.from_list [] ≡ window_of board i
 empty_beyond board i le whole =
     let none : size_of board.watch i ≡ 0 = get_or-eq_default (map (λ (w : Watched). w.window) board.watch.instances) 0 (omega (arith, le, length-map board.watch.instances (λ (w : Watched). w.window))) in
-    let few = len-keep nat_cmp_total nat_cmp-IsAntisymmetric boots_of (size_of board.watch i) (share_of board.watch i) (window_of board i) in
+    let few = len-keep nat_cmp_total nat_cmp-IsAntisymmetric boots_of (size_of board.watch i) (epoch_of board.watch i) (window_of board i) in
     let kept = ap (λ (s : Samples). set.len s) whole in
     let count = len-rising nat_cmp_total nat_cmp-IsAntisymmetric (window_of board i) in
     ap (λ (v : List ℕ). set.from_list {R = nat_cmp} v) (sym (nothing_left (rising (window_of board i)) (omega (arith, none, few, kept, count)))) ∙ from_list-rising nat_cmp_total nat_cmp-IsAntisymmetric (window_of board i)

@@ -19,8 +19,8 @@ use Rattle.mon_saved.specs.declared.fault.ImageFault.{ImageFault}
 use Rattle.mon_saved.specs.declared.fault.ImageFault.TheVariants.{OutOfMemory, Truncated, BadVersion, OtherWatch, BadImage}
 use Rattle.mon_saved.specs.declared.image.Entry.{Entry}
 use Rattle.mon_saved.specs.Image.{ImageVersion, IsVersion, One, Two, entry_octets, entries_octets, of_boots, IsEntry, HasSizes, version_octet, before_count, image_octets, IsImage, SpellsImage}
-use Rattle.mon_saved.proofs.Shared.{shared_from, shared_when}
-use Rattle.mon_saved.specs.Reading.{lifted, octet_within, expected_at, numbers_are, instance_is, sizes_at, is_shared, saved_at, entry_at, entries_at, magic_at, incarnation_at, window_at, header_at, all_entries, image_at, Fails, Gives}
+use Rattle.mon_saved.proofs.Shared.{fits_epoch_from, fits_epoch_when}
+use Rattle.mon_saved.specs.Reading.{lifted, octet_within, expected_at, numbers_are, instance_is, sizes_at, fits_epoch, saved_at, entry_at, entries_at, magic_at, incarnation_at, window_at, header_at, all_entries, image_at, Fails, Gives}
 
 lifted_ok : {A : Type 0} (r : Result A LayoutFault) (x : A) → lifted r ≡ Ok x → r ≡ Ok x
 lifted_ok (Ok y) x e = ap (λ z. Ok z) (ok_is y x e)
@@ -121,7 +121,7 @@ saved_takes window epoch octets samples rest b e =
     let made : List ℕ × List ℕ = (samples, rest) in
     let s = bind_ok (octet_within 0 window BadImage octets) _ made e in
     let u = bind_ok (lifted (samples_at s.0.0 s.0.1)) _ made s.2 in
-    let w = wanted (is_shared epoch u.0.0) BadImage (Ok u.0) made u.2 in
+    let w = wanted (fits_epoch epoch u.0.0) BadImage (Ok u.0) made u.2 in
     let p = pair_is u.0.0 u.0.1 samples rest w.1 in
     let t = within_takes 0 window BadImage octets s.0.0 s.0.1 s.1 in
     let one : List ℕ = s.0.0 ∷ [] in
@@ -129,13 +129,13 @@ saved_takes window epoch octets samples rest b e =
     let laid : s.0.0 ∷ s.0.1 ≡ length u.0.0 ∷ samples_octets u.0.0 ++ rest = λ i. sym got.1 i ∷ (got.0 ∙ ap (λ (v : List ℕ). samples_octets u.0.0 ++ v) p.1) i in
     let few : length u.0.0 ≤ window = omega (arith, got.1, t.2) in
     subst (λ (v : List ℕ). (octets ≡ length v ∷ samples_octets v ++ rest) × (length v ≤ window) × AreSamples v × ((boots : ℕ) → of_boots boots v ≤ epoch)) p.0
-    (t.0 ∙ laid, few, got.2, shared_from epoch u.0.0 w.0)
+    (t.0 ∙ laid, few, got.2, fits_epoch_from epoch u.0.0 w.0)
 
 saved_again : (again : SamplesAgain) (window epoch : ℕ) (samples rest : List ℕ) → length samples ≤ window → AreSamples samples → ((boots : ℕ) → of_boots boots samples ≤ epoch)
     → saved_at (window, epoch) (length samples ∷ samples_octets samples ++ rest) ≡ Ok (samples, rest)
 unfolding saved_at
-saved_again again window epoch samples rest few are shared =
-    rw (within_again 0 window BadImage (length samples) (samples_octets samples ++ rest) (omega arith) few, again samples rest are, shared_when epoch samples shared) refl
+saved_again again window epoch samples rest few are epochs =
+    rw (within_again 0 window BadImage (length samples) (samples_octets samples ++ rest) (omega arith) few, again samples rest are, fits_epoch_when epoch samples epochs) refl
 
 -- ---- entries
 -- the one window of a version, or 0 if it has none
@@ -151,7 +151,7 @@ made_of w e s = Ok (record { window = w; epoch = e; samples = s.0 }, s.1)
 body : (i : Instance) (w e : ℕ) (octets : List ℕ) (x : Entry) (rest : List ℕ) → IsBytes octets → 1 ≤ w → w ≤ 64 → 1 ≤ e → e ≤ w
     → (instance_is i octets >>= λ r. saved_at (w, e) r >>= made_of w e) ≡ Ok (x, rest)
     → (octets ≡ instance_octets i.engine i.name ++ (length x.samples ∷ samples_octets x.samples ++ rest)) × IsEntry x × (x.window ≡ w) × (x.epoch ≡ e)
-body i w e octets x rest b some small share part h =
+body i w e octets x rest b some small epoch part h =
     let made : Entry × List ℕ = (x, rest) in
     let r = bind_ok (instance_is i octets) _ made h in
     let s = bind_ok (saved_at (w, e) r.0) _ made r.2 in
@@ -159,7 +159,7 @@ body i w e octets x rest b some small share part h =
     let p = pair_is got s.0.1 x rest s.2 in
     let t = instance_takes i octets r.0 r.1 in
     let u = saved_takes w e r.0 s.0.0 s.0.1 (IsBytes-after octets (instance_octets i.engine i.name) r.0 b t) s.1 in
-    let valid : IsEntry got = record { small = small; part = part; some = share; samples = u.2; few = u.1; shared = u.3 } in
+    let valid : IsEntry got = record { small = small; part = part; some = epoch; samples = u.2; few = u.1; epochs = u.3 } in
     let laid : octets ≡ instance_octets i.engine i.name ++ (length got.samples ∷ samples_octets got.samples ++ rest) =
     t ∙ ap (λ (v : List ℕ). instance_octets i.engine i.name ++ v) (u.0 ∙ ap (λ (v : List ℕ). length s.0.0 ∷ samples_octets s.0.0 ++ v) p.1) in
     subst (λ (y : Entry). (octets ≡ instance_octets i.engine i.name ++ (length y.samples ∷ samples_octets y.samples ++ rest)) × IsEntry y × (y.window ≡ w) × (y.epoch ≡ e)) p.0 (laid, valid, refl, refl)
@@ -353,9 +353,9 @@ unfolding entry_at entry_octets sizes_at
 entry_again again (One w) good i x rest is has =
     let tail : List ℕ = length x.samples ∷ samples_octets x.samples ++ rest in
     let few : length x.samples ≤ w = omega (arith, is.few, has.0) in
-    let shared = subst (λ (e : ℕ). (boots : ℕ) → of_boots boots x.samples ≤ e) has.1 is.shared in
+    let epochs = subst (λ (e : ℕ). (boots : ℕ) → of_boots boots x.samples ≤ e) has.1 is.epochs in
     let same_entry : made_entry w w x.samples ≡ x = λ k. made_entry (sym has.0 k) (sym has.1 k) x.samples in
-    rw (append_assoc (instance_octets i.engine i.name) (length x.samples ∷ samples_octets x.samples) rest, lt-ltb 0 w (omega (arith, good.0)), instance_again i tail, saved_again again w w x.samples rest few is.samples shared)
+    rw (append_assoc (instance_octets i.engine i.name) (length x.samples ∷ samples_octets x.samples) rest, lt-ltb 0 w (omega (arith, good.0)), instance_again i tail, saved_again again w w x.samples rest few is.samples epochs)
     (ap (λ (y : Entry). Ok (y, rest)) same_entry)
 entry_again again Two good i x rest is has =
     let tail : List ℕ = length x.samples ∷ samples_octets x.samples ++ rest in
@@ -365,7 +365,7 @@ entry_again again Two good i x rest is has =
       within_again 1 64 BadImage x.window (x.epoch ∷ front) (omega (arith, is.some, is.part)) is.small,
       within_again 1 x.window BadImage x.epoch front is.some is.part,
       instance_again i tail,
-      saved_again again x.window x.epoch x.samples rest is.few is.samples is.shared,
+      saved_again again x.window x.epoch x.samples rest is.few is.samples is.epochs,
     ) refl
 
 entries_again : (again : SamplesAgain) (v : ImageVersion) → IsVersion v → (instances : List Instance) (xs : List Entry) (rest : List ℕ) → length xs ≡ length instances → AllByRecursion IsEntry xs → AllByRecursion (HasSizes v) xs

@@ -15,7 +15,7 @@ use Rattle.std.proofs.Math.Seq.{drop-cons}
 use Rattle.std.proofs.Math.ListN.{drop_of_length-le}
 use Rattle.mon_oid.specs.Steps.{◌>>=◌}
 use Rattle.mon_sample.specs.Key.{boots_of, IsSample}
-use Rattle.mon_window.specs.Keep.{keep, of_epoch}
+use Rattle.mon_window.specs.Keep.{keep, with_boots}
 use Rattle.mon_window.specs.Window.{Samples, AreSizes}
 use Rattle.mon_window.specs.Top.{rising}
 use Rattle.mon_window.proofs.Promised.{rising-retain, len-rising}
@@ -160,42 +160,42 @@ size_is [] i w lt is = absurd (omega (arith, lt))
 size_is (v ∷ watched) zero w lt is = ap (λ (u : Watched). u.window) (sym is)
 size_is (v ∷ watched) (suc i) w lt is = size_is watched i w (omega (arith, lt)) is
 
-pub share_is : (watched : List Watched) (i : ℕ) (w : Watched) → i < length watched → w ≡ get_or watched i w → get_or (map (λ v. v.epoch) watched) i 0 ≡ w.epoch
-share_is [] i w lt is = absurd (omega (arith, lt))
-share_is (v ∷ watched) zero w lt is = ap (λ (u : Watched). u.epoch) (sym is)
-share_is (v ∷ watched) (suc i) w lt is = share_is watched i w (omega (arith, lt)) is
+pub epoch_is : (watched : List Watched) (i : ℕ) (w : Watched) → i < length watched → w ≡ get_or watched i w → get_or (map (λ v. v.epoch) watched) i 0 ≡ w.epoch
+epoch_is [] i w lt is = absurd (omega (arith, lt))
+epoch_is (v ∷ watched) zero w lt is = ap (λ (u : Watched). u.epoch) (sym is)
+epoch_is (v ∷ watched) (suc i) w lt is = epoch_is watched i w (omega (arith, lt)) is
 
-of_epoch_rising : (a : Samples) (boots : ℕ) → rising (of_epoch boots_of boots a) ≡ filter (λ s. nat_eq (boots_of s) boots) (rising a)
-unfolding of_epoch
-of_epoch_rising a boots = rising-retain nat_cmp_total nat_cmp-IsAntisymmetric a (λ s. nat_eq (boots_of s) boots)
+with_boots_rising : (a : Samples) (boots : ℕ) → rising (with_boots boots_of boots a) ≡ filter (λ s. nat_eq (boots_of s) boots) (rising a)
+unfolding with_boots
+with_boots_rising a boots = rising-retain nat_cmp_total nat_cmp-IsAntisymmetric a (λ s. nat_eq (boots_of s) boots)
 
--- the samples of a window that holds no more than it keeps are shared as it keeps them
-pub window_shared : (keep_share : (epoch : ℕ → ℕ) (n m : ℕ) (a : Samples) (e : ℕ) → set.len (of_epoch epoch e (keep epoch n m a)) ≤ m)
+-- the samples of a window that holds no more than it keeps are epochs as it keeps them
+pub window_fits_epoch : (keep_epoch : (epoch : ℕ → ℕ) (n m : ℕ) (a : Samples) (e : ℕ) → set.len (with_boots epoch e (keep epoch n m a)) ≤ m)
     (n m : ℕ) (a : Samples) → keep boots_of n m a ≡ a → (boots : ℕ) → of_boots boots (rising a) ≤ m
-window_shared keep_share n m a whole boots =
-    let same : of_epoch boots_of boots (keep boots_of n m a) ≡ of_epoch boots_of boots a = ap (of_epoch boots_of boots) whole in
-    omega (arith, ap (λ (s : Samples). set.len s) same, len-rising nat_cmp_total nat_cmp-IsAntisymmetric (of_epoch boots_of boots a), ap (λ (v : List ℕ). length v) (of_epoch_rising a boots), keep_share boots_of n m a boots)
+window_fits_epoch keep_epoch n m a whole boots =
+    let same : with_boots boots_of boots (keep boots_of n m a) ≡ with_boots boots_of boots a = ap (with_boots boots_of boots) whole in
+    omega (arith, ap (λ (s : Samples). set.len s) same, len-rising nat_cmp_total nat_cmp-IsAntisymmetric (with_boots boots_of boots a), ap (λ (v : List ℕ). length v) (with_boots_rising a boots), keep_epoch boots_of n m a boots)
 
 pub entry_valid : (w : Watched) (samples : List ℕ) → AreSizes w.window w.epoch → length samples ≤ w.window → AllByRecursion IsSample samples → IsStrictlySortedBy nat_cmp samples
     → ((boots : ℕ) → of_boots boots samples ≤ w.epoch) → IsEntry (entry_of w samples)
-entry_valid w samples sizes few each sorted shared = record {
+entry_valid w samples sizes few each sorted epochs = record {
   small = sizes.small;
   part = sizes.within;
   some = sizes.positive;
   samples = record { each = each; rising = sorted };
   few = few;
-  shared = shared;
+  epochs = epochs;
 }
 
-pub written_valid : (keep_share : (epoch : ℕ → ℕ) (n m : ℕ) (a : Samples) (e : ℕ) → set.len (of_epoch epoch e (keep epoch n m a)) ≤ m)
+pub written_valid : (keep_epoch : (epoch : ℕ → ℕ) (n m : ℕ) (a : Samples) (e : ℕ) → set.len (with_boots epoch e (keep epoch n m a)) ≤ m)
     (watch : Watch) (windows : ℕ → Samples) (i : ℕ) (w : Watched) → IsWatch watch → i < length watch.instances → w ≡ get_or watch.instances i w → IsWhole watch windows i
     → length (rising (windows i)) ≤ size_of watch i → AllByRecursion IsSample (rising (windows i)) → IsStrictlySortedBy nat_cmp (rising (windows i)) → IsEntry (entry_of w (rising (windows i)))
-written_valid keep_share watch windows i w is_watch lt is whole few each sorted =
+written_valid keep_epoch watch windows i w is_watch lt is whole few each sorted =
     let size = size_is watch.instances i w lt is in
-    let share = share_is watch.instances i w lt is in
+    let epoch = epoch_is watch.instances i w lt is in
     let sizes = subst (λ (v : Watched). AreSizes v.window v.epoch) (sym is) (All-get_or (λ (v : Watched). AreSizes v.window v.epoch) watch.instances i w lt is_watch.sized) in
-    let kept : keep boots_of w.window w.epoch (windows i) ≡ windows i = subst (λ (n : ℕ). keep boots_of n w.epoch (windows i) ≡ windows i) size (subst (λ (m : ℕ). keep boots_of (size_of watch i) m (windows i) ≡ windows i) share whole) in
-    entry_valid w (rising (windows i)) sizes (omega (arith, few, size)) each sorted (window_shared keep_share w.window w.epoch (windows i) kept)
+    let kept : keep boots_of w.window w.epoch (windows i) ≡ windows i = subst (λ (n : ℕ). keep boots_of n w.epoch (windows i) ≡ windows i) size (subst (λ (m : ℕ). keep boots_of (size_of watch i) m (windows i) ≡ windows i) epoch whole) in
+    entry_valid w (rising (windows i)) sizes (omega (arith, few, size)) each sorted (window_fits_epoch keep_epoch w.window w.epoch (windows i) kept)
 
 -- the entries of all instances, by their numbers
 pub entries_valid : (windows : ℕ → Samples) (i : ℕ) (watched : List Watched) → ((k : ℕ) (d : Watched) → k < length watched → IsEntry (entry_of (get_or watched k d) (rising (windows (i + k)))))

@@ -8,7 +8,7 @@ use Rattle.std.specs.Ordering.{nat_cmp}
 use Rattle.std.proofs.lemmas.Bool.{cases_Bool, cases_lt, cases_eq, eq-eqb, ne_eqb, and_parts, and_from, not-true, ltb-false, le-ltb}
 use Rattle.mon_sample.specs.Key.{boots_of}
 use Rattle.mon_saved.specs.Image.{of_boots}
-use Rattle.mon_saved.specs.Reading.{is_shared}
+use Rattle.mon_saved.specs.Reading.{fits_epoch}
 
 -- ---- counting
 count_same : (s : ℕ) (xs : List ℕ) (e : ℕ) → boots_of s ≡ e → of_boots e (s ∷ xs) ≡ suc (of_boots e xs)
@@ -37,7 +37,7 @@ boots_up : (x y : ℕ) → x ≤ y → boots_of x ≤ boots_of y
 boots_up x y h =
     let value : x / 2 ^ 64 ≤ y / 2 ^ 64 = omega (arith, h) in
     let tag : x / 2 ^ 64 / 2 ^ 8 ≤ y / 2 ^ 64 / 2 ^ 8 = omega arith in
-    let mark : x / 2 ^ 64 / 2 ^ 8 / 2 ^ 32 ≤ y / 2 ^ 64 / 2 ^ 8 / 2 ^ 32 = omega arith in
+    let discontinuity : x / 2 ^ 64 / 2 ^ 8 / 2 ^ 32 ≤ y / 2 ^ 64 / 2 ^ 8 / 2 ^ 32 = omega arith in
     omega arith
 
 -- no later element has a smaller boots number than the first
@@ -128,8 +128,8 @@ tests_from m all (s ∷ some) e =
     let p = and_parts (not (nat_lt m (of_boots (boots_of s) all))) (list_all (λ t. not (nat_lt m (of_boots (boots_of t) all))) some) e in
     (ltb-false m (of_boots (boots_of s) all) (not-true (nat_lt m (of_boots (boots_of s) all)) p.0), tests_from m all some p.1)
 
-pub shared_from : (m : ℕ) (xs : List ℕ) → is_shared m xs ≡ true → (e : ℕ) → of_boots e xs ≤ m
-shared_from m xs t e = elim (from_each m xs xs (tests_from m xs xs t) e) [
+pub fits_epoch_from : (m : ℕ) (xs : List ℕ) → fits_epoch m xs ≡ true → (e : ℕ) → of_boots e xs ≤ m
+fits_epoch_from m xs t e = elim (from_each m xs xs (tests_from m xs xs t) e) [
   | inl none ↦ omega (arith, none)
   | inr few ↦ few
 ]
@@ -140,14 +140,14 @@ tests_when m all (s ∷ some) few =
     and_from (not (nat_lt m (of_boots (boots_of s) all))) (list_all (λ t. not (nat_lt m (of_boots (boots_of t) all))) some)
     (ap not (le-ltb m (of_boots (boots_of s) all) (few (boots_of s)))) (tests_when m all some few)
 
-pub shared_when : (m : ℕ) (xs : List ℕ) → ((e : ℕ) → of_boots e xs ≤ m) → is_shared m xs ≡ true
-shared_when m xs few = tests_when m xs xs few
+pub fits_epoch_when : (m : ℕ) (xs : List ℕ) → ((e : ℕ) → of_boots e xs ≤ m) → fits_epoch m xs ≡ true
+fits_epoch_when m xs few = tests_when m xs xs few
 
-pub is_apart : (m : ℕ) (xs : List ℕ) (d : ℕ) → IsStrictlySortedBy nat_cmp xs → ((k : ℕ) → k + m < length xs → boots_of (get_or xs (k + m) d) ≡ boots_of (get_or xs k d) → ⊥) → is_shared m xs ≡ true
-is_apart m xs d sorted apart = shared_when m xs (few_when_apart m xs d sorted apart)
+pub is_apart : (m : ℕ) (xs : List ℕ) (d : ℕ) → IsStrictlySortedBy nat_cmp xs → ((k : ℕ) → k + m < length xs → boots_of (get_or xs (k + m) d) ≡ boots_of (get_or xs k d) → ⊥) → fits_epoch m xs ≡ true
+is_apart m xs d sorted apart = fits_epoch_when m xs (few_when_apart m xs d sorted apart)
 
-pub is_close : (m i : ℕ) (xs : List ℕ) (d : ℕ) → IsStrictlySortedBy nat_cmp xs → i + m < length xs → boots_of (get_or xs (i + m) d) ≡ boots_of (get_or xs i d) → is_shared m xs ≡ false
-is_close m i xs d sorted lt same = elim (cases_Bool (is_shared m xs)) [
+pub is_close : (m i : ℕ) (xs : List ℕ) (d : ℕ) → IsStrictlySortedBy nat_cmp xs → i + m < length xs → boots_of (get_or xs (i + m) d) ≡ boots_of (get_or xs i d) → fits_epoch m xs ≡ false
+is_close m i xs d sorted lt same = elim (cases_Bool (fits_epoch m xs)) [
   | inr none ↦ none
-  | inl is ↦ absurd (let few = shared_from m xs is (boots_of (get_or xs i d)) in omega (arith, few, many_when_same i m xs d sorted lt same))
+  | inl is ↦ absurd (let few = fits_epoch_from m xs is (boots_of (get_or xs i d)) in omega (arith, few, many_when_same i m xs d sorted lt same))
 ]

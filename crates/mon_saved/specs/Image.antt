@@ -54,7 +54,7 @@ pub record IsEntry (e : Entry) : Type 0 where
   pub some : 1 ≤ e.epoch
   pub samples : AreSamples e.samples
   pub few : length e.samples ≤ e.window
-  pub shared : (boots : ℕ) → of_boots boots e.samples ≤ e.epoch
+  pub epochs : (boots : ℕ) → of_boots boots e.samples ≤ e.epoch
 
 -- the one window of version 1 is in range
 abbrev pub IsVersion : ImageVersion → Type 0

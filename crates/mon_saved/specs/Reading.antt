@@ -82,15 +82,15 @@ sizes_at window octets = if nat_lt 0 window then Ok ((window, window), octets) e
     (octet_within 1 64 BadImage octets >>= λ w. octet_within 1 w.0 BadImage w.1 >>= λ e. Ok ((w.0, e.0), e.1))
 
 -- whether no boots number has more than this many of the samples
-abbrev pub is_shared : ℕ → List ℕ → Bool
-is_shared epoch samples = list_all (λ s. not (nat_lt epoch (of_boots (boots_of s) samples))) samples
+abbrev pub fits_epoch : ℕ → List ℕ → Bool
+fits_epoch epoch samples = list_all (λ s. not (nat_lt epoch (of_boots (boots_of s) samples))) samples
 
 -- samples that fit the window and the epoch, and what follows them
 unfoldable pub saved_at : ℕ × ℕ → List ℕ → Result (List ℕ × List ℕ) ImageFault
 saved_at sizes octets = do
   count ← octet_within 0 sizes.0 BadImage octets
   samples ← lifted (samples_at count.0 count.1)
-  if is_shared sizes.1 samples.0 then Ok samples else Err BadImage
+  if fits_epoch sizes.1 samples.0 then Ok samples else Err BadImage
 
 -- the entry_of of an instance, and what follows it
 unfoldable pub entry_at : ℕ → Instance → List ℕ → Result (Entry × List ℕ) ImageFault

@@ -8,7 +8,7 @@ ghost use Rattle.std.specs.Ordering.{nat_cmp};
 ghost use Rattle.mon_board.specs.Instance.{AreInstances, instances_of};
 ghost use Rattle.mon_saved.specs.declared.image.Image.{Image};
 ghost use Rattle.mon_saved.specs.Image.{SpellsImage};
-ghost use Rattle.mon_saved.specs.Reading.{Fails, Gives, octet_within, magic_at, incarnation_at, window_at, expected_at, numbers_are, instance_is, sizes_at, is_shared, saved_at, entry_at, all_entries, header_at, image_at};
+ghost use Rattle.mon_saved.specs.Reading.{Fails, Gives, octet_within, magic_at, incarnation_at, window_at, expected_at, numbers_are, instance_is, sizes_at, fits_epoch, saved_at, entry_at, all_entries, header_at, image_at};
 
 use crate::fault::ImageFault;
 use crate::image::{Entries, Entry, Image};
@@ -131,11 +131,11 @@ fn sizes_at(window: u8, octets: &[u8]) -> Result<(Sizes, &[u8]), ImageFault>
     Ok((Sizes { window, epoch }, rest))
 }
 
-/// Returns `true` if no boots number has more than `epoch` of rising samples: those of one boots
+/// Returns `true` if no boots number has more than `epoch` of rising samples: those of one boots number
 /// number are neighbours, so none of them is `epoch` places after another.
-fn is_shared(samples: &[Sample], epoch: usize) -> bool
+fn fits_epoch(samples: &[Sample], epoch: usize) -> bool
     requires rising { IsStrictlySortedBy nat_cmp samples.now }
-    ensures { result ≡ is_shared epoch samples.now }
+    ensures { result ≡ fits_epoch epoch samples.now }
 {
     for i in epoch..samples.len() {
         if samples[i].boots() == samples[i - epoch].boots() {
@@ -152,7 +152,7 @@ fn saved_at(alloc: Global, sizes: Sizes, octets: &[u8]) -> Result<(SampleList, &
 {
     let (count, rest) = octet_within(0, sizes.window, ImageFault::BadImage, octets)?;
     let (samples, rest) = samples_at(alloc, count, rest)?;
-    if is_shared(samples.as_slice(), usize::from(sizes.epoch)) {
+    if fits_epoch(samples.as_slice(), usize::from(sizes.epoch)) {
         return Ok((samples, rest));
     }
     Err(ImageFault::BadImage)

@@ -180,12 +180,12 @@ module _ (defs : List Definition) (find : List ℕ → Option (List ℕ)) (means
         let (v2, p2, h3) = bind_from (name_or_none find key.Mark t) _ x h2 in
         let (v3, p3, h4) = bind_from (default_at key.Window sizes.window (number_in 1 64) t) _ x h3 in
         let (v4, p4, h5) = bind_from (default_at key.Epoch (min sizes.epoch v3) (number_in 1 v3) t) _ x h4 in
-        let made : ObjectRow = record { name = v1; mark = v2; window = v3; epoch = v4 } in
+        let made : ObjectRow = record { name = v1; discontinuity = v2; window = v3; epoch = v4 } in
         let is : made ≡ x = ok_same made x h5 in
         subst (λ (y : ObjectRow). IsObject defs sizes t y) is (record {
           known = only_from (table_keys key.Objects) t _ p0;
           name = named_from key.Name t _ p1;
-          mark = maybe_from key.Mark t _ p2;
+          discontinuity = maybe_from key.Mark t _ p2;
           window = default_from key.Window (number_in 1 64) t _ sizes.window p3;
           epoch = default_from key.Epoch (number_in 1 v3) t _ (min sizes.epoch v3) p4;
         })
@@ -195,7 +195,7 @@ module _ (defs : List Definition) (find : List ℕ → Option (List ℕ)) (means
     object_of-to t x h =
         bind_to (only (table_keys key.Objects) t) _ tt x (only_to (table_keys key.Objects) t h.known)
         (bind_to (name_at find key.Name t) _ x.name x (named_to key.Name t _ h.name)
-        (bind_to (name_or_none find key.Mark t) _ x.mark x (maybe_to key.Mark t _ h.mark)
+        (bind_to (name_or_none find key.Mark t) _ x.discontinuity x (maybe_to key.Mark t _ h.discontinuity)
         (bind_to (default_at key.Window sizes.window (number_in 1 64) t) _ x.window x (default_to key.Window (number_in 1 64) t _ sizes.window h.window)
         (bind_to (default_at key.Epoch (min sizes.epoch x.window) (number_in 1 x.window) t) _ x.epoch x (default_to key.Epoch (number_in 1 x.window) t _ (min sizes.epoch x.window) h.epoch)
         refl))))

@@ -168,7 +168,7 @@ module _ (find : List ℕ → Option (List ℕ)) (sizes : Sizes) (fit : AreSizes
       let (v2, p2, h3) = bind_from (name_or_none find key.Mark t) _ o h2 in
       let (v3, p3, h4) = bind_from (default_at key.Window sizes.window (number_in 1 64) t) _ o h3 in
       let (v4, p4, h5) = bind_from (default_at key.Epoch (min sizes.epoch v3) (number_in 1 v3) t) _ o h4 in
-      let made : ObjectRow = record { name = v1; mark = v2; window = v3; epoch = v4 } in
+      let made : ObjectRow = record { name = v1; discontinuity = v2; window = v3; epoch = v4 } in
       let is : made ≡ o = ok_same made o h5 in
       let positive = fit.positive in
       let within = fit.within in

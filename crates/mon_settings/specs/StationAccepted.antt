@@ -84,7 +84,7 @@ MayHoldUpTo k most P t rows = (ds : Items) × HoldsOr k no_items (list_between 0
 pub record IsObject (defs : List Definition) (sizes : Sizes) (t : Members) (o : ObjectRow) : Type 0 where
   pub known : KnowsOnly (table_keys key.Objects) t
   pub name : Names defs key.Name t o.name
-  pub mark : MayName defs key.Mark t o.mark
+  pub discontinuity : MayName defs key.Mark t o.discontinuity
   pub window : HoldsOr key.Window sizes.window (number_in 1 64) t o.window
   pub epoch : HoldsOr key.Epoch (min sizes.epoch o.window) (number_in 1 o.window) t o.epoch
 

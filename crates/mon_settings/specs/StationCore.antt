@@ -24,10 +24,10 @@ core_code =
     (coded× coded_ℕ (coded× (watch.the_row).coded (coded× (coded_list (target.the_row).coded) (coded_list coded_ℕ))))
     (λ c. (c.station, (c.watch, (c.targets, c.peers)))) (λ p. record { station = p.0; watch = p.1.0; targets = p.1.1.0; peers = p.1.1.1 }) (λ _. refl)
 
--- the instance of the object's number is the one of its name at the engine, with its mark
+-- the instance of the object's number is the one of its name at the engine, with its discontinuity
 unfoldable pub IsPolledAs : Watch → List ℕ → Object → Type 0
 IsPolledAs watch engine o =
-    (w : Watched) × (slice_get watch.instances o.instance ≡ Some w) × (w.instance ≡ named engine o.name) × (w.mark ≡ o.mark)
+    (w : Watched) × (slice_get watch.instances o.instance ≡ Some w) × (w.instance ≡ named engine o.name) × (w.discontinuity ≡ o.discontinuity)
 
 -- the numbers of a target's objects are those of their instances in the watch
 unfoldable pub ArePolledAs : Watch → Target → Type 0

@@ -20,10 +20,10 @@ unfoldable pub object_of : (List ℕ → Option (List ℕ)) → Sizes → Member
 object_of find sizes t = do
   known ← only (table_keys key.Objects) t
   name ← name_at find key.Name t
-  mark ← name_or_none find key.Mark t
+  discontinuity ← name_or_none find key.Mark t
   window ← default_at key.Window sizes.window (number_in 1 64) t
   epoch ← default_at key.Epoch (min sizes.epoch window) (number_in 1 window) t
-  Ok (record { name = name; mark = mark; window = window; epoch = epoch })
+  Ok (record { name = name; discontinuity = discontinuity; window = window; epoch = epoch })
 
 -- an agent that is polled, for 1 to 16 objects
 unfoldable pub target_of : (List ℕ → Option (List ℕ)) → Sizes → Members → Result TargetRow SettingsFault

@@ -86,14 +86,14 @@ fn object_from(
     ensures { IfOk result (λ o. o ≡ object_from instances.now engine.now object.now) }
 {
     let number = number_of(instances, engine.as_slice(), &object.name).unwrap_or(0);
-    let mark = match &object.mark {
+    let discontinuity = match &object.discontinuity {
         Some(name) => Some(name.try_clone(alloc)?),
         None => None,
     };
     Ok(Object {
         instance: number as u16,
         name: object.name.try_clone(alloc)?,
-        mark,
+        discontinuity,
     })
 }
 

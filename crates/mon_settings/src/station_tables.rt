@@ -25,7 +25,7 @@ pub(crate) struct Around<'n> {
 #[derive(Drop)]
 pub(crate) struct ObjectRow {
     pub(crate) name: Oid,
-    pub(crate) mark: Option<Oid>,
+    pub(crate) discontinuity: Option<Oid>,
     pub(crate) window: usize,
     pub(crate) epoch: usize,
 }
@@ -90,12 +90,12 @@ impl Row<Around<'_>> for ObjectRow {
     fn read(around: &Around<'_>, reader: &Reader<'_>) -> Read<Self> {
         reader.only(table_keys(Key::Objects))?;
         let name = reader.object(around.names, Key::Name)?;
-        let mark = reader.object_or_none(around.names, Key::Mark)?;
+        let discontinuity = reader.object_or_none(around.names, Key::Mark)?;
         let window = reader.size_or(Key::Window, around.sizes.window, 64)?;
         let epoch = reader.size_or(Key::Epoch, around.sizes.epoch.min(window), window)?;
         Ok(ObjectRow {
             name,
-            mark,
+            discontinuity,
             window,
             epoch,
         })

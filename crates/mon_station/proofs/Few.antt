@@ -14,7 +14,7 @@ use Rattle.mon_window.proofs.Promised.{rising-retain}
 use Rattle.mon_board.specs.declared.instance.Watched.{Watched}
 use Rattle.mon_board.specs.Board.{Board, is_marked, window_of}
 use Rattle.mon_board.specs.Instance.{AreSized}
-use Rattle.mon_board.specs.Watch.{IsWatch, size_of, share_of}
+use Rattle.mon_board.specs.Watch.{IsWatch, size_of, epoch_of}
 use Rattle.mon_board.specs.Windows.{IsWhole}
 use Rattle.mon_exchange.specs.declared.sharing.Portion.{Portion}
 use Rattle.mon_exchange.specs.Portions.{or_empty, pieces, pieces_by, portion, portions_from, serial_after}
@@ -35,7 +35,7 @@ size_few (x ∷ ws) sized i = at (cases_lt i (length (x ∷ ws)))
 pub window_few : (b : Board) → IsWatch b.watch → ((i : ℕ) → IsWhole b.watch (window_of b) i) → ((epoch : ℕ → ℕ) (n m : ℕ) (a : Samples) → set.len (keep epoch n m a) ≤ n) → ((a : Samples) → set.len a ≡ length (rising a))
     → (i : ℕ) → length (rising (window_of b i)) ≤ 64
 window_few b watch whole few count i =
-    omega (arith, count (window_of b i), ap set.len (whole i), few boots_of (size_of b.watch i) (share_of b.watch i) (window_of b i), size_few b.watch.instances watch.sized i)
+    omega (arith, count (window_of b i), ap set.len (whole i), few boots_of (size_of b.watch i) (epoch_of b.watch i) (window_of b i), size_few b.watch.instances watch.sized i)
 
 -- ---- owed
 filter_fewer : (p : ℕ → Bool) (xs : List ℕ) → length (filter p xs) ≤ length xs

@@ -8,7 +8,7 @@ use Rattle.mon_window.specs.Keep.{keep}
 use Rattle.mon_window.specs.Window.{Samples}
 use Rattle.mon_board.specs.Board.{Board, window_of}
 use Rattle.mon_board.specs.Instance.{instances_of}
-use Rattle.mon_board.specs.Watch.{Watch, size_of, share_of}
+use Rattle.mon_board.specs.Watch.{Watch, size_of, epoch_of}
 use Rattle.mon_board.specs.Windows.{IsWhole, set_of, kept_by}
 use Rattle.mon_board.proofs.Promised.{kept_none, kept_twice, kept_union}
 use Rattle.mon_poller.specs.Polls.{no_polls}
@@ -77,9 +77,9 @@ module _ (read_back : (watch : Watch) (board again : Board) (incarnation read : 
       → kept_by watch i (kept_by t.watch i (t.taken i)) ≡ kept_by watch i (if test then t.taken i else kept_by t.watch i (t.taken i))
   from_window watch t i false is = refl
   from_window watch t i true is =
-      let sizes = both (size_of watch i == size_of t.watch i) (share_of watch i == share_of t.watch i) is in
+      let sizes = both (size_of watch i == size_of t.watch i) (epoch_of watch i == epoch_of t.watch i) is in
       let n : size_of watch i ≡ size_of t.watch i = eqb-true _ _ sizes.0 in
-      let m : share_of watch i ≡ share_of t.watch i = eqb-true _ _ sizes.1 in
+      let m : epoch_of watch i ≡ epoch_of t.watch i = eqb-true _ _ sizes.1 in
       (λ k. kept_by watch i (keep boots_of (sym n k) (sym m k) (t.taken i))) ∙ kept_twice watch i (t.taken i)
 
   reopened : (w : Setting) (old new : State) (t : SavedTaken) → IsAsSaved old t → IsReopened w old new → (i : ℕ) → window_of new.board i ≡ kept_by w.watch i (from_save w.watch (Some t) i)

@@ -2,7 +2,7 @@
 use Rattle.std.specs.Prelude.{ℕ, zero, suc, Bool, List, [], ◌∷◌, ◌==◌, ◌&&◌, if◌then◌else◌, Option, Some, None}
 use Rattle.std.specs.FinSet as set
 use Rattle.mon_window.specs.Window.{Samples}
-use Rattle.mon_board.specs.Watch.{Watch, size_of, share_of}
+use Rattle.mon_board.specs.Watch.{Watch, size_of, epoch_of}
 use Rattle.mon_board.specs.Windows.{set_of, kept_by}
 use Rattle.mon_poller.specs.Polls.{Polls, no_polls}
 use Rattle.mon_saved.specs.declared.image.Image.{Image}
@@ -52,7 +52,7 @@ at_place (suc n) (x ∷ xs) = at_place n xs
 
 -- whether two watches have one window and one epoch for an instance
 abbrev pub has_sizes : Watch → Watch → ℕ → Bool
-has_sizes a b i = (size_of a i == size_of b i) && (share_of a i == share_of b i)
+has_sizes a b i = (size_of a i == size_of b i) && (epoch_of a i == epoch_of b i)
 
 -- what a life of this watch has from a save: of an instance whose sizes are the same all that was
 -- taken, else what was in its window

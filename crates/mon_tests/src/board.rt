@@ -19,7 +19,7 @@ fn watched(alloc: Global, last: u8, window: usize, epoch: usize) -> Result<Watch
             engine: Octets::from_slice(alloc, &[128, 0, 0, 0, last])?,
             name: Oid::parse(alloc, NAME)?,
         },
-        mark: None,
+        discontinuity: None,
         window,
         epoch,
     })

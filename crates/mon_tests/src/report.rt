@@ -78,7 +78,7 @@ fn watch(
             engine: Octets::from_slice(alloc, &[128, 0, 0, 0, 1])?,
             name: Oid::parse(alloc, "1.3.6.1.2.1.2.2.1.10.1")?,
         },
-        mark: None,
+        discontinuity: None,
         window: sizes.0,
         epoch: sizes.1,
     })?;

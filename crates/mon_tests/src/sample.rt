@@ -14,7 +14,7 @@ fn read(record: &[u8; 21]) -> Result<Sample, SampleFault> {
 #[test]
 fn reads_and_writes(rt: HostRuntime) {
     let sample = read(&RECORD).unwrap_or(Sample::new(0, 0, 0, Kind::Gauge32, 0));
-    let fields = (sample.boots(), sample.time(), sample.mark());
+    let fields = (sample.boots(), sample.time(), sample.discontinuity());
     assert_eq!(rt; fields, (3, 100, 0));
     assert_eq!(rt; (sample.kind(), sample.value()), (Kind::Counter32, 7));
     assert_eq!(rt; sample.to_record(), RECORD);

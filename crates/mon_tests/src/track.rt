@@ -39,9 +39,9 @@ fn thousandths(totals: Totals) -> Option<u128> {
     totals.thousandths()
 }
 
-/// `join`, where the sizes and shares are equal.
+/// `join`, where the sizes and epochs are equal.
 fn join(track: &mut Track, other: &Track) -> bool {
-    if track.size() != other.size() || track.share() != other.share() {
+    if track.size() != other.size() || track.epoch() != other.epoch() {
         return false;
     }
     track.join(other);
@@ -88,7 +88,7 @@ fn shared(rt: &HostRuntime) -> Result<Track, Fail> {
 }
 
 #[test]
-fn keeps_a_share_of_each_boots_number(rt: HostRuntime) -> Result<(), Fail> {
+fn keeps_an_epoch_of_each_boots_number(rt: HostRuntime) -> Result<(), Fail> {
     let mut track = shared(&rt)?;
     let kept = [
         ticking(3, 110),

@@ -16,9 +16,9 @@ fn insert(window: &mut Window, sample: Sample) -> Inserted {
     window.insert(sample)
 }
 
-/// `join`, where the sizes and shares are equal.
+/// `join`, where the sizes and epochs are equal.
 fn join(window: &mut Window, other: &Window) -> bool {
-    if window.size() != other.size() || window.share() != other.share() {
+    if window.size() != other.size() || window.epoch() != other.epoch() {
         return false;
     }
     window.join(other);

@@ -22,10 +22,10 @@ use Rattle.mon_window.proofs.Kept.{insert-known, from_list-placed, sorted-placed
 use Rattle.mon_window.proofs.Leaving.{keep-fits, fits-room, keep-room, keep-old, sorted-moved, fits-moved, keep-moved, insert-moved, left-moved, place-moved, regain-moved}
 
 abbrev window : ℕ → ℕ → List ℕ → Window
-window n m xs = record { size = n; share = m; items = set.from_list xs }
+window n m xs = record { size = n; epoch = m; items = set.from_list xs }
 
 abbrev kept : Window → ℕ → Window
-kept w x = record { size = w.size; share = w.share; items = keep boots_of w.size w.share (set.insert w.items x) }
+kept w x = record { size = w.size; epoch = w.epoch; items = keep boots_of w.size w.epoch (set.insert w.items x) }
 
 module _ (n m x : ℕ) (xs : List ℕ) (w : Window) (view : window n m xs ≡ w) (s : IsStrictlySortedBy nat_cmp xs) (f : Fits boots_of n m xs) where
   list_is : rising w.items ≡ xs
@@ -33,16 +33,16 @@ module _ (n m x : ℕ) (xs : List ℕ) (w : Window) (view : window n m xs ≡ w)
 
   -- the window as it is kept
   became : (new : List ℕ) → set.from_list {R = nat_cmp} new ≡ keep boots_of n m (set.insert (set.from_list xs) x) → window n m new ≡ kept w x
-  became new is = subst (λ v. window n m new ≡ kept v x) view (λ i. record { size = n; share = m; items = is i })
+  became new is = subst (λ v. window n m new ≡ kept v x) view (λ i. record { size = n; epoch = m; items = is i })
 
   -- only the items are new
-  pub same-sizes : (new : List ℕ) → window n m new ≡ record { size = w.size; share = w.share; items = set.from_list new }
-  same-sizes new = subst (λ v. window n m new ≡ record { size = v.size; share = v.share; items = set.from_list new }) view refl
+  pub same-sizes : (new : List ℕ) → window n m new ≡ record { size = w.size; epoch = w.epoch; items = set.from_list new }
+  same-sizes new = subst (λ v. window n m new ≡ record { size = v.size; epoch = v.epoch; items = set.from_list new }) view refl
 
   -- ---- it was there
-  pub known-inserted : In x w.items → IsInsertion (keep boots_of w.size w.share) w.items w.items x Known
+  pub known-inserted : In x w.items → IsInsertion (keep boots_of w.size w.epoch) w.items w.items x Known
   known-inserted there = record {
-    items = ap (λ (v : Window). v.items) (subst (λ v. v ≡ kept v x) view (λ i. record { size = n; share = m; items = sym same i }));
+    items = ap (λ (v : Window). v.items) (subst (λ v. v ≡ kept v x) view (λ i. record { size = n; epoch = m; items = sym same i }));
     known = ((λ _. there), (λ _. refl));
     too_old = ((λ e. cc), (λ h. absurd (true≢false (sym there ∙ h.0))));
     added = tt;
@@ -56,7 +56,7 @@ module _ (n m x : ℕ) (xs : List ℕ) (w : Window) (view : window n m xs ≡ w)
       same = ap (keep boots_of n m) (insert-known nat_cmp_total nat_cmp-IsAntisymmetric (set.from_list xs) x here) ∙ keep-fits nat_cmp_total nat_cmp-IsAntisymmetric boots_of n m xs s f
 
   -- ---- the sample itself would leave
-  pub too_old-inserted : IsTooOld w x → IsInsertion (keep boots_of w.size w.share) w.items w.items x TooOld
+  pub too_old-inserted : IsTooOld w x → IsInsertion (keep boots_of w.size w.epoch) w.items w.items x TooOld
   too_old-inserted old = record {
     items = old.kept;
     known = ((λ e. cc), (λ there. absurd (true≢false (sym there ∙ old.absent))));
@@ -116,7 +116,7 @@ module _ (n m x : ℕ) (xs : List ℕ) (w : Window) (view : window n m xs ≡ w)
       displaced = ap set.from_list is ∙ from_list-placed nat_cmp_total nat_cmp-IsAntisymmetric x xs at s place ∙ ap (λ (v : Window). set.insert v.items x) view;
     }
 
-    pub joined-inserted : IsInsertion (keep boots_of w.size w.share) w.items (set.from_list new) x (Added at None)
+    pub joined-inserted : IsInsertion (keep boots_of w.size w.epoch) w.items (set.from_list new) x (Added at None)
     joined-inserted = record {
       items = ap (λ (v : Window). v.items) (became new joined-set);
       known = ((λ e. cc), (λ h. absurd (true≢false (sym h ∙ joined-absent))));
@@ -185,7 +185,7 @@ module _ (n m x : ℕ) (xs : List ℕ) (w : Window) (view : window n m xs ≡ w)
           );
         }
 
-        pub replaced-inserted : IsInsertion (keep boots_of w.size w.share) w.items (set.from_list new) x (Added (at - 1) (Some d))
+        pub replaced-inserted : IsInsertion (keep boots_of w.size w.epoch) w.items (set.from_list new) x (Added (at - 1) (Some d))
         replaced-inserted = record {
           items = ap (λ (v : Window). v.items) replaced-items;
           known = ((λ e. cc), (λ h. absurd (true≢false (sym h ∙ replaced-absent))));

@@ -16,17 +16,17 @@ use Rattle.mon_window.specs.Window.{Window, In}
 -- the sample isn't there, and isn't kept
 pub record IsTooOld (w : Window) (sample : ℕ) : Type 0 where
   pub absent : set.contains w.items sample ≡ false
-  pub kept : w.items ≡ keep boots_of w.size w.share (set.insert w.items sample)
+  pub kept : w.items ≡ keep boots_of w.size w.epoch (set.insert w.items sample)
 
 -- the sample belongs at the place, and the window is not full
 pub record IsJoining (w : Window) (sample at : ℕ) : Type 0 where
   pub place : IsPlace nat_cmp (rising w.items) sample at
-  pub room : HasRoom boots_of w.size w.share (boots_of sample) (rising w.items)
+  pub room : HasRoom boots_of w.size w.epoch (boots_of sample) (rising w.items)
 
 -- the sample belongs at the place, and what is at out, before it, leaves
 pub record IsReplacing (w : Window) (sample at out : ℕ) : Type 0 where
   pub place : IsPlace nat_cmp (rising w.items) sample at
-  pub leaving : IsLeaving boots_of w.size w.share (boots_of sample) (rising w.items) at out
+  pub leaving : IsLeaving boots_of w.size w.epoch (boots_of sample) (rising w.items) at out
   pub before : out < at
 
 -- what an insertion of the sample will do

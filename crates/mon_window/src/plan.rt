@@ -22,71 +22,71 @@ pub enum Plan {
 }
 
 /// Which of the items leaves as the sample joins them at its place, if one has to: the oldest of its boots number where
-/// `share` of that are there, else the oldest of all where `size` are there. At `at` it is the sample itself.
+/// `epoch` of that are there, else the oldest of all where `size` are there. At `at` it is the sample itself.
 pub(crate) fn leaving(
     items: &[Sample],
     size: usize,
-    share: usize,
+    epoch: usize,
     sample: &Sample,
     at: usize,
 ) -> Option<usize>
-    requires positive { 1 ≤ share }
+    requires positive { 1 ≤ epoch }
     requires sorted { IsStrictlySortedBy nat_cmp items.now }
-    requires fits { Fits boots_of size share items.now }
+    requires fits { Fits boots_of size epoch items.now }
     requires place { IsPlace nat_cmp items.now sample.now at }
-    ensures none { IfNone result (HasRoom boots_of size share (boots_of sample.now) items.now) }
-    ensures some { IfSome result (IsLeaving boots_of size share (boots_of sample.now) items.now at) }
+    ensures none { IfNone result (HasRoom boots_of size epoch (boots_of sample.now) items.now) }
+    ensures some { IfSome result (IsLeaving boots_of size epoch (boots_of sample.now) items.now at) }
 {
     let boots = sample.boots();
-    if share >= size {
-        return oldest(items, size, share, boots, at);
+    if epoch >= size {
+        return oldest(items, size, epoch, boots, at);
     }
-    if let Some(first) = taken_share(items, size, share, sample, at) {
+    if let Some(first) = full_epoch(items, size, epoch, sample, at) {
         return Some(first);
     }
     if items.len() >= size { Some(0) } else { None }
 }
 
-/// Where the samples of the sample's boots number begin, if `share` of them are there. They are searched for only where the
+/// Where the samples of the sample's boots number begin, if `epoch` of them are there. They are searched for only where the
 /// sample's place is not at their end.
-fn taken_share(
+fn full_epoch(
     items: &[Sample],
     size: usize,
-    share: usize,
+    epoch: usize,
     sample: &Sample,
     at: usize,
 ) -> Option<usize>
-    requires positive { 1 ≤ share }
+    requires positive { 1 ≤ epoch }
     requires sorted { IsStrictlySortedBy nat_cmp items.now }
-    requires fits { Fits boots_of size share items.now }
+    requires fits { Fits boots_of size epoch items.now }
     requires place { IsPlace nat_cmp items.now sample.now at }
-    ensures none { IfNone result (length (part boots_of (boots_of sample.now) items.now) < share) }
-    ensures some { IfSome result (IsLeaving boots_of size share (boots_of sample.now) items.now at) }
+    ensures none { IfNone result (length (part boots_of (boots_of sample.now) items.now) < epoch) }
+    ensures some { IfSome result (IsLeaving boots_of size epoch (boots_of sample.now) items.now at) }
 {
     let boots = sample.boots();
-    if at >= share && items[at - share].boots() == boots {
-        return Some(at - share);
+    if at >= epoch && items[at - epoch].boots() == boots {
+        return Some(at - epoch);
     }
     if at == items.len() || items[at].boots() != boots {
         return None;
     }
     let first = first_of(items, boots);
-    if has_share(items, share, first, boots) {
+    if fills_epoch(items, epoch, first, boots) {
         Some(first)
     } else {
         None
     }
 }
 
-/// Returns where the oldest sample of these boots is, or would be, if the share is no less than the
+/// Returns where the oldest sample of these boots is, or would be, if the epoch is no less than the
 /// size. It is called only where all the items are of these boots, so the oldest of these is the
 /// oldest of all.
-fn oldest(items: &[Sample], size: usize, share: usize, boots: u32, at: usize) -> Option<usize>
-    requires whole { size ≤ share }
+fn oldest(items: &[Sample], size: usize, epoch: usize, boots: u32, at: usize) -> Option<usize>
+    requires whole { size ≤ epoch }
     requires few { length items.now ≤ size }
     requires place { at ≤ length items.now }
-    ensures none { IfNone result (HasRoom boots_of size share boots items.now) }
-    ensures some { IfSome result (IsLeaving boots_of size share boots items.now at) }
+    ensures none { IfNone result (HasRoom boots_of size newest_each boots items.now) }
+    ensures some { IfSome result (IsLeaving boots_of size newest_each boots items.now at) }
 {
     if items.len() >= size { Some(0) } else { None }
 }
@@ -101,15 +101,15 @@ fn first_of(items: &[Sample], boots: u32) -> usize
     items.partition_point(|kept| kept.boots() < boots)
 }
 
-/// Returns `true` if `share` samples of these boots, which begin at `first`, are there: the place
+/// Returns `true` if `epoch` samples of these boots, which begin at `first`, are there: the place
 /// where the last of them would be shows it.
-fn has_share(items: &[Sample], share: usize, first: usize, boots: u32) -> bool
-    requires positive { 1 ≤ share }
+fn fills_epoch(items: &[Sample], epoch: usize, first: usize, boots: u32) -> bool
+    requires positive { 1 ≤ epoch }
     requires sorted { IsStrictlySortedBy nat_cmp items.now }
     requires bound { first ≤ length items.now }
     requires before { AllWithin (λ s. boots_of s < boots) items.now 0 first }
     requires after { AllWithin (λ s. boots ≤ boots_of s) items.now first (length items.now) }
-    ensures { IsTrue result ↔ (share ≤ length (part boots_of boots items.now)) }
+    ensures { IsTrue result ↔ (epoch ≤ length (part boots_of boots items.now)) }
 {
-    items.len() - first >= share && items[first + (share - 1)].boots() == boots
+    items.len() - first >= epoch && items[first + (epoch - 1)].boots() == boots
 }

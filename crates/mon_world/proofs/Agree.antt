@@ -13,7 +13,7 @@ use Rattle.mon_window.specs.Top.{rising}
 use Rattle.mon_window.specs.Window.{Samples, In}
 use Rattle.mon_window.proofs.Promised.{from_list-rising, in_none}
 use Rattle.mon_board.specs.declared.instance.Watched.{Watched}
-use Rattle.mon_board.specs.Watch.{Watch, share_of, size_of}
+use Rattle.mon_board.specs.Watch.{Watch, epoch_of, size_of}
 use Rattle.mon_board.specs.Windows.{kept_by}
 use Rattle.mon_board.proofs.Promised.{kept_meet}
 use Rattle.mon_exchange.specs.Peers.{incarnation_in}
@@ -57,7 +57,7 @@ module _ (keep_few : (epoch : ℕ → ℕ) (n m : ℕ) (a : Samples) → set.len
   pub no_window : (watch : Watch) (i k : ℕ) (a : Samples) → length watch.instances ≤ i → In k (kept_by watch i a) → ⊥
   no_window watch i k a le =
       let none : size_of watch i ≡ 0 = beyond (map (λ (w : Watched). w.window) watch.instances) i (omega (arith, le, length-map watch.instances (λ (w : Watched). w.window))) in
-      no_members (kept_by watch i a) k (omega (arith, none, count (kept_by watch i a), keep_few boots_of (size_of watch i) (share_of watch i) a))
+      no_members (kept_by watch i a) k (omega (arith, none, count (kept_by watch i a), keep_few boots_of (size_of watch i) (epoch_of watch i) a))
 
 -- windows that keep of what each other took
 pub windows_meet : (watch : Watch) (i : ℕ) (one two a b : Samples) → one ≡ kept_by watch i a → two ≡ kept_by watch i b → ((k : ℕ) → In k one → In k b) → ((k : ℕ) → In k two → In k a) → one ≡ two

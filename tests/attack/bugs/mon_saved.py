@@ -163,7 +163,7 @@ BUGS = {
     ),
     "takes_more_than_the_epoch_allows": (
         "src/reading.rt",
-        "    if is_shared(samples.as_slice(), usize::from(sizes.epoch)) {",
-        "    if is_shared(samples.as_slice(), usize::from(sizes.window)) {",
+        "    if fits_epoch(samples.as_slice(), usize::from(sizes.epoch)) {",
+        "    if fits_epoch(samples.as_slice(), usize::from(sizes.window)) {",
     ),
 }

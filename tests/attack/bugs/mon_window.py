@@ -3,13 +3,13 @@
 BUGS = {
     "size_counts_the_samples": (
         "src/window.rt",
-        "    pub fn size(&self) -> usize\n        ensures size { result ≡ self.now.size }\n        ensures sizes { AreSizes self.now.size self.now.share }\n    {\n        self.size\n",
-        "    pub fn size(&self) -> usize\n        ensures size { result ≡ self.now.size }\n        ensures sizes { AreSizes self.now.size self.now.share }\n    {\n        self.items.len()\n",
+        "    pub fn size(&self) -> usize\n        ensures size { result ≡ self.now.size }\n        ensures sizes { AreSizes self.now.size self.now.epoch }\n    {\n        self.size\n",
+        "    pub fn size(&self) -> usize\n        ensures size { result ≡ self.now.size }\n        ensures sizes { AreSizes self.now.size self.now.epoch }\n    {\n        self.items.len()\n",
     ),
-    "tells_the_greater_for_the_share": (
+    "tells_the_greater_for_the_epoch": (
         "src/window.rt",
-        "    {\n        self.share\n    }",
-        "    {\n        self.size.max(self.share)\n    }",
+        "    {\n        self.epoch\n    }",
+        "    {\n        self.size.max(self.epoch)\n    }",
     ),
     "keeps_the_order_of_arrival": (
         "src/window.rt",
@@ -41,50 +41,50 @@ BUGS = {
         "    items.partition_point(|kept| kept.boots() < boots)",
         "    items.partition_point(|kept| kept.boots() <= boots)",
     ),
-    "takes_one_for_a_whole_share": (
+    "takes_one_for_a_whole_epoch": (
         "src/plan.rt",
-        "items[first + (share - 1)].boots() == boots",
+        "items[first + (epoch - 1)].boots() == boots",
         "items[first].boots() == boots",
     ),
-    "wants_one_more_than_the_share": (
+    "wants_one_more_than_the_epoch": (
         "src/plan.rt",
-        "items.len() - first >= share",
-        "items.len() - first > share",
+        "items.len() - first >= epoch",
+        "items.len() - first > epoch",
     ),
     "holds_one_more": (
         "src/plan.rt",
         "        return Some(first);\n    }\n    if items.len() >= size { Some(0) } else { None }",
         "        return Some(first);\n    }\n    if items.len() > size { Some(0) } else { None }",
     ),
-    "holds_a_share_in_all": (
+    "holds_a_epoch_in_all": (
         "src/plan.rt",
         "        return Some(first);\n    }\n    if items.len() >= size { Some(0) } else { None }",
-        "        return Some(first);\n    }\n    if items.len() >= share { Some(0) } else { None }",
+        "        return Some(first);\n    }\n    if items.len() >= epoch { Some(0) } else { None }",
     ),
-    "sees_a_whole_share_one_late": (
+    "sees_a_whole_epoch_one_late": (
         "src/plan.rt",
-        "if at >= share && items[at - share]",
-        "if at > share && items[at - share]",
+        "if at >= epoch && items[at - epoch]",
+        "if at > epoch && items[at - epoch]",
     ),
-    "drops_the_last_of_the_share": (
+    "drops_the_last_of_the_epoch": (
         "src/plan.rt",
-        "        return Some(at - share);",
+        "        return Some(at - epoch);",
         "        return Some(at - 1);",
     ),
-    "looks_on_where_the_share_ends": (
+    "looks_on_where_the_epoch_ends": (
         "src/plan.rt",
         "    if at == items.len() || items[at].boots() != boots {",
         "    if at == items.len() || items[at].boots() == boots {",
     ),
     "takes_half_the_size_for_all": (
         "src/plan.rt",
-        "    if share >= size {",
-        "    if share >= size / 2 {",
+        "    if epoch >= size {",
+        "    if epoch >= size / 2 {",
     ),
     "holds_one_less": (
         "src/window.rt",
-        "Ok(Window { size, share, items })",
-        "Ok(Window { size: size.max(2) - 1, share: 1, items })",
+        "Ok(Window { size, epoch, items })",
+        "Ok(Window { size: size.max(2) - 1, epoch: 1, items })",
     ),
     "searches_backwards": (
         "src/window.rt",
@@ -96,12 +96,12 @@ BUGS = {
         "Ok(_) => return Plan::Known,",
         "Ok(_) => return Plan::TooOld,",
     ),
-    "applies_the_size_before_the_share": (
+    "applies_the_size_before_the_epoch": (
         "src/plan.rt",
-        "if at >= share && items[at - share].boots() == boots {",
-        "if items.len() < size && at >= share && items[at - share].boots() == boots {",
-        "if has_share(items, share, first, boots) {",
-        "if items.len() < size && has_share(items, share, first, boots) {",
+        "if at >= epoch && items[at - epoch].boots() == boots {",
+        "if items.len() < size && at >= epoch && items[at - epoch].boots() == boots {",
+        "if fills_epoch(items, epoch, first, boots) {",
+        "if items.len() < size && fills_epoch(items, epoch, first, boots) {",
     ),
     "drops_the_newest": (
         "src/window.rt",
@@ -121,7 +121,7 @@ BUGS = {
     "shrinks_as_it_joins": (
         "src/window.rt",
         "        let _ = &self.items;\n",
-        "        self.size = other.items.len().max(self.share);\n",
+        "        self.size = other.items.len().max(self.epoch);\n",
     ),
     "finds_every_sample": (
         "src/window.rt",

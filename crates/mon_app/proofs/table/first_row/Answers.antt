@@ -12,7 +12,7 @@ pub returns-clause-window : goal.returns-clause-window
 returns-clause-window c =
     let n = c.args.size in
     let x = c.args.sample in
-    let whole : Samples → Window = λ s. record { size = n; share = n; items = s } in
-    c.insert.ensures.sizes ∙ ap (λ (s : Samples). record { size = c.in_ok-window.window.size; share = c.in_ok-window.window.share; items = s }) c.insert.ensures.inserted.items
-    ∙ ap (λ (w : Window). record { size = w.size; share = w.share; items = keep boots_of w.size w.share (set.insert w.items x) }) c.in_ok-window.ensures
+    let whole : Samples → Window = λ s. record { size = n; epoch = n; items = s } in
+    c.insert.ensures.sizes ∙ ap (λ (s : Samples). record { size = c.in_ok-window.window.size; epoch = c.in_ok-window.window.epoch; items = s }) c.insert.ensures.inserted.items
+    ∙ ap (λ (w : Window). record { size = w.size; epoch = w.epoch; items = keep boots_of w.size w.epoch (set.insert w.items x) }) c.in_ok-window.ensures
     ∙ ap whole (keep-top nat_cmp_total nat_cmp-IsAntisymmetric boots_of n (set.insert set.empty x))

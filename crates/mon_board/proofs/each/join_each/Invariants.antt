@@ -8,4 +8,4 @@ use Rattle.mon_board.proofs.each.join_each.Given as goal
 
 -- the windows up to i are joined, and the others are as they were
 abbrev pub invariant-loop-i : goal.invariant-loop-i
-invariant-loop-i l = AreChangedTo (λ i old new. new ≡ record old { items = keep boots_of old.size old.share (set.union old.items (get_or (sets_of l.others) i set.empty)) }) l.initial.windows l.windows l.i
+invariant-loop-i l = AreChangedTo (λ i old new. new ≡ record old { items = keep boots_of old.size old.epoch (set.union old.items (get_or (sets_of l.others) i set.empty)) }) l.initial.windows l.windows l.i

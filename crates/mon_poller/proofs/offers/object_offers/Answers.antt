@@ -13,7 +13,7 @@ loop-object-preserved c =
     let o = c.object-item.result in
     let before = c.loop-object.pairs in
     let rest = c.loop-object.rest.now in
-    let after_first : c.after_first-rest.result.now ≡ drop (bindings_for o.mark) rest = c.after_first-rest.ensures ∙ ap (λ n. drop n rest) c.bindings_for.ensures in
+    let after_first : c.after_first-rest.result.now ≡ drop (bindings_for o.discontinuity) rest = c.after_first-rest.ensures ∙ ap (λ n. drop n rest) c.bindings_for.ensures in
     let put : c.match-sample_of.pairs ≡ before ++ offered stamp o c.sample_of.result = elim c.match-sample_of.branch [
       | in-Some+in_ok-push w ↦ w.pairs-is ∙ w.in_ok-push.ensures.pushed ∙ ap (λ s. before ++ offered stamp o s) (sym w.in-Some.is)
       | in_default w ↦ w.pairs-is ∙ sym (append-nil before) ∙ ap (λ s. before ++ offered stamp o s) (sym w.in_default.is)

@@ -7,8 +7,8 @@ use Rattle.mon_saved.specs.declared.fault.ImageFault.TheVariants.{BadImage}
 use Rattle.mon_saved.proofs.Images.{within_takes}
 use Rattle.mon_saved.proofs.reading.saved_at.Goals as goal
 
-pub is_shared-requires : goal.is_shared-requires
-is_shared-requires c =
+pub fits_epoch-requires : goal.fits_epoch-requires
+fits_epoch-requires c =
     let bytes : IsBytes c.args.octets.now = λ i. omega (arith, c.type_inv.octets i) in
     let first : List ℕ = c.in_ok-count.count ∷ [] in
     let counted = within_takes 0 _ BadImage c.args.octets.now c.in_ok-count.count c.in_ok-count.rest.now c.in_ok-count.ensures in

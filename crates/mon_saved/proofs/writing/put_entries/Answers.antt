@@ -25,7 +25,7 @@ loop-i-preserved c =
     let len = subst (λ (v : List ℕ). vec_len c.put_entry.new.out ≡ vec_len c.loop-i.out + length (entry_octets Two w.instance (entry_of w v))) samples c.put_entry.ensures.len in
     let each = subst (λ (v : List ℕ). AllByRecursion IsSample v) samples c.put_entry.ensures.samples in
     let there = subst (λ (v : List Watched). w ≡ get_or v i w) same c.index-watched-i.is in
-    let valid = written_valid c.bound.ensures.keep_share b.watch (window_of b) i w is_watch (subst (λ (v : List Watched). i < length v) same c.loop-i-test.true) there (c.watch.ensures.whole i) few each (c.rising_list.ensures.order (window_of b i)) in (
+    let valid = written_valid c.bound.ensures.keep_epoch b.watch (window_of b) i w is_watch (subst (λ (v : List Watched). i < length v) same c.loop-i-test.true) there (c.watch.ensures.whole i) few each (c.rising_list.ensures.order (window_of b i)) in (
       one_written (window_of b) ws i w _ c.loop-i.out.items _ c.loop-i-test.true c.index-watched-i.is c.loop-i.invariant.0 items,
       omega (arith, more, c.loop-i.invariant.1, len),
       omega (arith, c.loop-i.invariant.2, c.put_entry.ensures.capacity),

@@ -17,7 +17,7 @@ returns-in-Ok-clause-rows c = λ taken is.
     let found : StandsAt (instances_of c.as_slice.result.now) i (Ok c.in-Ok.at) = c.in-Ok.ensures.found (sorted_rows n taken c.as_slice.result.now (seen ∙ is)) in
     took_known n taken rows is x c.in-Ok.at c.index_mut-row.result.now c.insert.new.self lt
     (subst (λ rs. StandsAt (instances_of rs) i (Ok c.in-Ok.at)) seen found) c.index_mut-row.ensures.value
-    (c.insert.ensures.sizes ∙ ap (λ (s : Samples). record { size = c.index_mut-row.result.now.window.size; share = c.index_mut-row.result.now.window.share; items = s }) c.insert.ensures.inserted.items)
+    (c.insert.ensures.sizes ∙ ap (λ (s : Samples). record { size = c.index_mut-row.result.now.window.size; epoch = c.index_mut-row.result.now.window.epoch; items = s }) c.insert.ensures.inserted.items)
 
 pub returns-in_ok-insert-in-Err-clause-rows : goal.returns-in_ok-insert-in-Err-clause-rows
 returns-in_ok-insert-in-Err-clause-rows c = λ taken is.

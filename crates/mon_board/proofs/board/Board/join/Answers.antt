@@ -9,7 +9,7 @@ use Rattle.mon_board.specs.Board.{Board, AreWindows, AreAllMarks, sets_of, is_ma
 use Rattle.mon_board.specs.Each.{AreChanged}
 use Rattle.mon_board.specs.Marks.{Marks, AreKept, marked_in}
 use Rattle.mon_board.specs.Owed.{kept_marks}
-use Rattle.mon_board.specs.Watch.{Watch, size_of, share_of}
+use Rattle.mon_board.specs.Watch.{Watch, size_of, epoch_of}
 use Rattle.mon_board.proofs.Boards.{set_at, IsJoined, windows_joined, all_joined}
 use Rattle.mon_board.proofs.Marked.{marks_at, all_kept, marks_kept, as_kept}
 use Rattle.mon_board.proofs.Places.{written}
@@ -19,7 +19,7 @@ pub invariant_of-self : goal.invariant_of-self
 invariant_of-self c =
     let n = size_of c.self.inside.watch in
     let k = length c.self.inside.watch.instances in
-    let m = share_of c.self.inside.watch in
+    let m = epoch_of c.self.inside.watch in
     let ws = c.self.inside.windows.items in
     let theirs = c.other.inside.windows.items in
     let us = c.join_each.new.windows in
@@ -44,7 +44,7 @@ pub returns-clause-windows : goal.returns-clause-windows
 returns-clause-windows c = λ i.
     let n = size_of c.self.inside.watch in
     let k = length c.self.inside.watch.instances in
-    let m = share_of c.self.inside.watch in
+    let m = epoch_of c.self.inside.watch in
     let ws = c.self.inside.windows.items in
     let theirs = c.other.inside.windows.items in
     let us = c.join_each.new.windows in
@@ -55,7 +55,7 @@ returns-clause-windows c = λ i.
     let held : c.self.inside.windows.len ≡ length ws = search rules in
     let new : (with_items c.self.inside.windows us).items ≡ us = written ws us c.self.inside.windows.len held joined.number in
     ap (λ (l : List Window). set_at l i) new ∙ all_joined n m k ws theirs us c.self.invariant.0 other joined i
-    ∙ (λ j. keep boots_of (size_of (c.self.view_is j).watch i) (share_of (c.self.view_is j).watch i) (finset.union (window_of (c.self.view_is j) i) (window_of (c.other.view_is j) i)))
+    ∙ (λ j. keep boots_of (size_of (c.self.view_is j).watch i) (epoch_of (c.self.view_is j).watch i) (finset.union (window_of (c.self.view_is j) i) (window_of (c.other.view_is j) i)))
 
 pub returns-clause-marks : goal.returns-clause-marks
 returns-clause-marks c = λ slot.

@@ -4,7 +4,7 @@ use Rattle.std.specs.FinSet as finset
 use Rattle.mon_window.specs.Window.{Window, Samples}
 use Rattle.mon_board.specs.Board.{Board, is_marked, window_of}
 use Rattle.mon_board.specs.Marks.{AreMarks}
-use Rattle.mon_board.specs.Watch.{size_of, share_of}
+use Rattle.mon_board.specs.Watch.{size_of, epoch_of}
 use Rattle.mon_board.proofs.Boards.{set_at, set_at_is}
 use Rattle.mon_board.proofs.Marked.{same_number, marks_of_window, few_in, has_room, one_marked, still_marks, marks_marked}
 use Rattle.mon_board.proofs.board.Board.mark.Goals as goal
@@ -23,7 +23,7 @@ set-requires-clause-room c =
     let items : w.items ≡ set_at ws i = ap (λ (v : Window). v.items) c.index.ensures ∙ sym (set_at_is ws i w lt) in
     let there : finset.contains (set_at ws i) s ≡ true = ap (λ (a : Samples). finset.contains a s) (sym items) ∙ sym c.stands_in.ensures ∙ c.if-stands_in.true in
     let are : AreMarks (n i) (set_at ws i) old = subst (AreMarks (n i) (set_at ws i)) (sym c.index_mut.ensures.value) (marks_of_window n ws ms c.self.invariant.1 i old lt) in
-    has_room (n i) (set_at ws i) (few_in (n i) (share_of c.self.inside.watch i) (set_at ws i) (c.self.invariant.0.whole i)) old are s there
+    has_room (n i) (set_at ws i) (few_in (n i) (epoch_of c.self.inside.watch i) (set_at ws i) (c.self.invariant.0.whole i)) old are s there
 
 pub invariant_of-self : goal.invariant_of-self
 invariant_of-self c =
@@ -41,7 +41,7 @@ invariant_of-self c =
     let items : w.items ≡ set_at ws i = ap (λ (v : Window). v.items) c.index.ensures ∙ sym (set_at_is ws i w lt) in
     let there : finset.contains (set_at ws i) s ≡ true = ap (λ (a : Samples). finset.contains a s) (sym items) ∙ sym c.stands_in.ensures ∙ c.if-stands_in.true in
     let are : AreMarks (n i) (set_at ws i) old = subst (AreMarks (n i) (set_at ws i)) (sym c.index_mut.ensures.value) (marks_of_window n ws ms c.self.invariant.1 i old lt) in
-    let more : AreMarks (n i) (set_at ws i) new = one_marked (n i) (set_at ws i) (few_in (n i) (share_of c.self.inside.watch i) (set_at ws i) (c.self.invariant.0.whole i)) old are s there new c.set.ensures.samples c.set.ensures.room in
+    let more : AreMarks (n i) (set_at ws i) new = one_marked (n i) (set_at ws i) (few_in (n i) (epoch_of c.self.inside.watch i) (set_at ws i) (c.self.invariant.0.whole i)) old are s there new c.set.ensures.samples c.set.ensures.room in
     (c.self.invariant.0, still_marks n ws ms i below new ws c.self.invariant.1 refl (λ j ne. refl) more)
 
 pub returns-then-stands_in-clause-marks : goal.returns-then-stands_in-clause-marks

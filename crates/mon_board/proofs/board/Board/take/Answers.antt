@@ -3,7 +3,7 @@ use Rattle.mon_window.specs.Inserted.{IsInsertion}
 use Rattle.mon_board.specs.Board.{Board, KeepsMarks, sets_of, marks_of, window_of}
 use Rattle.mon_board.specs.Marks.{AreKept, marked_in}
 use Rattle.mon_board.specs.Windows.{IsTaken, kept_by}
-use Rattle.mon_board.specs.Watch.{size_of, share_of}
+use Rattle.mon_board.specs.Watch.{size_of, epoch_of}
 use Rattle.mon_board.proofs.Boards.{set_at, windows_after, taken_is, insertion_is, kept_changed, others_stay}
 use Rattle.mon_board.proofs.Marked.{marks_at, marks_after, marks_taken, kept_same, as_kept}
 use Rattle.mon_board.proofs.board.Board.take.Goals as goal
@@ -12,7 +12,7 @@ pub invariant_of-self : goal.invariant_of-self
 invariant_of-self c =
     let n = size_of c.self.inside.watch in
     let k = length c.self.inside.watch.instances in
-    let m = share_of c.self.inside.watch in
+    let m = epoch_of c.self.inside.watch in
     let ws = c.self.inside.windows.items in
     let ms = c.self.inside.marks.items in
     let i = c.from-place.result in
@@ -54,7 +54,7 @@ pub returns-clause-marks : goal.returns-clause-marks
 returns-clause-marks c =
     let n = size_of c.self.inside.watch in
     let k = length c.self.inside.watch.instances in
-    let m = share_of c.self.inside.watch in
+    let m = epoch_of c.self.inside.watch in
     let ws = c.self.inside.windows.items in
     let ms = c.self.inside.marks.items in
     let i = c.from-place.result in

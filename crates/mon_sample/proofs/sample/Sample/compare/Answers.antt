@@ -22,20 +22,20 @@ returns-then-is_ne c =
     let t = c.other.inside in
     let f = c.self.invariant in
     let g = c.other.invariant in
-    let rest : Ordering → Ordering = λ r. ordering_then (ordering_then (ordering_then r (nat_cmp s.mark t.mark)) (nat_cmp (kind_tag s.kind) (kind_tag t.kind))) (nat_cmp s.value t.value) in
+    let rest : Ordering → Ordering = λ r. ordering_then (ordering_then (ordering_then r (nat_cmp s.discontinuity t.discontinuity)) (nat_cmp (kind_tag s.kind) (kind_tag t.kind))) (nat_cmp s.value t.value) in
     let numbers : c.cmp-order.result ≡ nat_cmp (s.boots * 2 ^ 32 + s.time) (t.boots * 2 ^ 32 + t.time) = grind (arith, common_steps) in
     let stamps : c.cmp-order.result ≡ ordering_then (nat_cmp s.boots t.boots) (nat_cmp s.time t.time) =
     numbers ∙ sym (by_stamp s.boots s.time t.boots t.time (omega (arith, f.time_fits)) (omega (arith, g.time_fits))) in
     let chain : c.cmp-order.result ≡ rest (ordering_then (nat_cmp s.boots t.boots) (nat_cmp s.time t.time)) =
-    told c.cmp-order.result (nat_cmp s.mark t.mark) (nat_cmp (kind_tag s.kind) (kind_tag t.kind)) (nat_cmp s.value t.value) (sym c.is_ne.ensures ∙ c.if-is_ne.true) ∙ ap rest stamps in
+    told c.cmp-order.result (nat_cmp s.discontinuity t.discontinuity) (nat_cmp (kind_tag s.kind) (kind_tag t.kind)) (nat_cmp s.value t.value) (sym c.is_ne.ensures ∙ c.if-is_ne.true) ∙ ap rest stamps in
     let by_number : c.cmp-order.result ≡ nat_cmp c.args.self.now c.args.other.now =
     chain
-    ∙ by_fields s.boots s.time s.mark (kind_tag s.kind) s.value t.boots t.time t.mark (kind_tag t.kind) t.value
-    (omega (arith, f.time_fits)) f.mark_fits (tag_fits s.kind) (value_below s.kind s.value f.value_fits)
-    (omega (arith, g.time_fits)) g.mark_fits (tag_fits t.kind) (value_below t.kind t.value g.value_fits)
+    ∙ by_fields s.boots s.time s.discontinuity (kind_tag s.kind) s.value t.boots t.time t.discontinuity (kind_tag t.kind) t.value
+    (omega (arith, f.time_fits)) f.discontinuity_fits (tag_fits s.kind) (value_below s.kind s.value f.value_fits)
+    (omega (arith, g.time_fits)) g.discontinuity_fits (tag_fits t.kind) (value_below t.kind t.value g.value_fits)
     ∙ (λ i. nat_cmp (c.self.view_is i) (c.other.view_is i)) in
-    let is_s : IsSample c.args.self.now = subst IsSample c.self.view_is (is_sample s.boots s.time s.mark s.kind s.value f) in
-    let is_t : IsSample c.args.other.now = subst IsSample c.other.view_is (is_sample t.boots t.time t.mark t.kind t.value g) in
+    let is_s : IsSample c.args.self.now = subst IsSample c.self.view_is (is_sample s.boots s.time s.discontinuity s.kind s.value f) in
+    let is_t : IsSample c.args.other.now = subst IsSample c.other.view_is (is_sample t.boots t.time t.discontinuity t.kind t.value g) in
     record {
       number = by_number;
       octets = by_number ∙ sym (order c.args.self.now c.args.other.now (sample_below c.args.self.now is_s) (sample_below c.args.other.now is_t));
@@ -47,19 +47,19 @@ returns c =
     let t = c.other.inside in
     let f = c.self.invariant in
     let g = c.other.invariant in
-    let rest : Ordering → Ordering = λ r. ordering_then (ordering_then (ordering_then r (nat_cmp s.mark t.mark)) (nat_cmp (kind_tag s.kind) (kind_tag t.kind))) (nat_cmp s.value t.value) in
+    let rest : Ordering → Ordering = λ r. ordering_then (ordering_then (ordering_then r (nat_cmp s.discontinuity t.discontinuity)) (nat_cmp (kind_tag s.kind) (kind_tag t.kind))) (nat_cmp s.value t.value) in
     let numbers : c.cmp-order.result ≡ nat_cmp (s.boots * 2 ^ 32 + s.time) (t.boots * 2 ^ 32 + t.time) = grind (arith, common_steps) in
     let stamps : c.cmp-order.result ≡ ordering_then (nat_cmp s.boots t.boots) (nat_cmp s.time t.time) =
     numbers ∙ sym (by_stamp s.boots s.time t.boots t.time (omega (arith, f.time_fits)) (omega (arith, g.time_fits))) in
     let chain : c.then-3.result ≡ rest (ordering_then (nat_cmp s.boots t.boots) (nat_cmp s.time t.time)) = (let steps : c.then-3.result ≡ rest c.cmp-order.result = grind (arith, common_steps) in steps) ∙ ap rest stamps in
     let by_number : c.then-3.result ≡ nat_cmp c.args.self.now c.args.other.now =
     chain
-    ∙ by_fields s.boots s.time s.mark (kind_tag s.kind) s.value t.boots t.time t.mark (kind_tag t.kind) t.value
-    (omega (arith, f.time_fits)) f.mark_fits (tag_fits s.kind) (value_below s.kind s.value f.value_fits)
-    (omega (arith, g.time_fits)) g.mark_fits (tag_fits t.kind) (value_below t.kind t.value g.value_fits)
+    ∙ by_fields s.boots s.time s.discontinuity (kind_tag s.kind) s.value t.boots t.time t.discontinuity (kind_tag t.kind) t.value
+    (omega (arith, f.time_fits)) f.discontinuity_fits (tag_fits s.kind) (value_below s.kind s.value f.value_fits)
+    (omega (arith, g.time_fits)) g.discontinuity_fits (tag_fits t.kind) (value_below t.kind t.value g.value_fits)
     ∙ (λ i. nat_cmp (c.self.view_is i) (c.other.view_is i)) in
-    let is_s : IsSample c.args.self.now = subst IsSample c.self.view_is (is_sample s.boots s.time s.mark s.kind s.value f) in
-    let is_t : IsSample c.args.other.now = subst IsSample c.other.view_is (is_sample t.boots t.time t.mark t.kind t.value g) in
+    let is_s : IsSample c.args.self.now = subst IsSample c.self.view_is (is_sample s.boots s.time s.discontinuity s.kind s.value f) in
+    let is_t : IsSample c.args.other.now = subst IsSample c.other.view_is (is_sample t.boots t.time t.discontinuity t.kind t.value g) in
     record {
       number = by_number;
       octets = by_number ∙ sym (order c.args.self.now c.args.other.now (sample_below c.args.self.now is_s) (sample_below c.args.other.now is_t));

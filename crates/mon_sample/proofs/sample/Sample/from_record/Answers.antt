@@ -30,5 +30,5 @@ returns-then-not-holds-clause-only c = λ s is e.
 pub returns-clause-only : goal.returns-clause-only
 returns-clause-only c = λ s is e.
     let p = c.digits_of-parts.result in
-    ap (λ tag. Ok (key p.boots p.time p.mark tag p.value)) c.in-Some.ensures.tag
+    ap (λ tag. Ok (key p.boots p.time p.discontinuity tag p.value)) c.in-Some.ensures.tag
     ∙ ap Ok (c.digits_of-parts.ensures.whole ∙ spells c.args.octets.now s is e)

@@ -12,15 +12,15 @@ returns-in_default c =
     let xs = c.self.inside.items.items in
     let x = c.args.sample.now in
     let p : IsPlace nat_cmp xs x c.in-Err.at = subst (λ ys. IsPlace nat_cmp ys x c.in-Err.at) c.as_slice.ensures.value c.in-Err.ensures.absent in
-    let room : HasRoom boots_of c.self.inside.size c.self.inside.share (boots_of x) xs = subst (HasRoom boots_of c.self.inside.size c.self.inside.share (boots_of x)) c.as_slice-2.ensures.value c.in_default.ensures.none in
-    plan-joins c.self.inside.size c.self.inside.share x xs c.args.self.now c.self.view_is c.self.invariant.rising c.self.invariant.fits c.in-Err.at p room
+    let room : HasRoom boots_of c.self.inside.size c.self.inside.epoch (boots_of x) xs = subst (HasRoom boots_of c.self.inside.size c.self.inside.epoch (boots_of x)) c.as_slice-2.ensures.value c.in_default.ensures.none in
+    plan-joins c.self.inside.size c.self.inside.epoch x xs c.args.self.now c.self.view_is c.self.invariant.rising c.self.invariant.fits c.in-Err.at p room
 
 pub returns-then-out-at : goal.returns-then-out-at
 returns-then-out-at c =
     let xs = c.self.inside.items.items in
     let x = c.args.sample.now in
     let n = c.self.inside.size in
-    let m = c.self.inside.share in
+    let m = c.self.inside.epoch in
     let p : IsPlace nat_cmp xs x c.in-Err.at = subst (λ ys. IsPlace nat_cmp ys x c.in-Err.at) c.as_slice.ensures.value c.in-Err.ensures.absent in
     let leaving : IsLeaving boots_of n m (boots_of x) xs c.in-Err.at c.in-Some.out = subst (λ ys. IsLeaving boots_of n m (boots_of x) ys c.in-Err.at c.in-Some.out) c.as_slice-2.ensures.value c.in-Some.ensures.some in
     let itself : IsLeaving boots_of n m (boots_of x) xs c.in-Err.at c.in-Err.at = subst (IsLeaving boots_of n m (boots_of x) xs c.in-Err.at) c.if-out-at.true leaving in
@@ -31,7 +31,7 @@ returns c =
     let xs = c.self.inside.items.items in
     let x = c.args.sample.now in
     let n = c.self.inside.size in
-    let m = c.self.inside.share in
+    let m = c.self.inside.epoch in
     let p : IsPlace nat_cmp xs x c.in-Err.at = subst (λ ys. IsPlace nat_cmp ys x c.in-Err.at) c.as_slice.ensures.value c.in-Err.ensures.absent in
     let leaving : IsLeaving boots_of n m (boots_of x) xs c.in-Err.at c.in-Some.out = subst (λ ys. IsLeaving boots_of n m (boots_of x) ys c.in-Err.at c.in-Some.out) c.as_slice-2.ensures.value c.in-Some.ensures.some in
     let before : c.in-Some.out < c.in-Err.at = leaves_before boots_of n m (boots_of x) xs c.in-Err.at c.in-Some.out leaving c.if-out-at.false in

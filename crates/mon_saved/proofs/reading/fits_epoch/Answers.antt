@@ -2,7 +2,7 @@ use Rattle.std.proofs.Common.{◌≡◌, ◌+◌, ◌-◌, ◌∙◌, ℕ, sym, 
 use Rattle.std.proofs.lemmas.List.{get_or_default}
 use Rattle.mon_sample.specs.Key.{boots_of}
 use Rattle.mon_saved.proofs.Shared.{is_apart, is_close}
-use Rattle.mon_saved.proofs.reading.is_shared.Goals as goal
+use Rattle.mon_saved.proofs.reading.fits_epoch.Goals as goal
 
 pub returns-then-boots : goal.returns-then-boots
 returns-then-boots c =
