@@ -24,7 +24,7 @@ use crate::growing::{Growing, with_bindings};
 use crate::laws;
 use crate::ready::Ready;
 use crate::reply::{Reply, Silence};
-use crate::sending::{answered, returned, send, send_too_big};
+use crate::sending::{make_response, make_return, send, send_too_big};
 use mon_ber::{Octets, Value};
 use mon_mib::{Counter, Counters, Device, Gaps, Got, Mib, Moment, Settings};
 use mon_oid::Oid;
@@ -149,7 +149,7 @@ impl<D: Device + Drop> Agent<D> {
             return Ok(Ready::Answer(Reply::Silent(Silence::NotARequest)));
         }
         let Ok(access) = access else {
-            let denied = returned(message, AUTHORIZATION_ERROR, 0);
+            let denied = make_return(message, AUTHORIZATION_ERROR, 0);
             return Ok(Ready::Answer(send(alloc, denied, self.mib.settings().limit)?));
         };
         if need == Need::Write {
@@ -210,7 +210,7 @@ impl<D: Device + Drop> Agent<D> {
             IfOk result (IsReadOut known (IsInView self.now.policy.families (view_of access.entry)) message) }
     {
         let asked = pdu.bindings.into_vec();
-        let head = answered(community, pdu.request_id, Vec::new(alloc));
+        let head = make_response(community, pdu.request_id, Vec::new(alloc));
         if pdu.kind == PduKind::Get {
             self.read_names(alloc, access, head, asked, moment)
         } else {
@@ -298,7 +298,7 @@ impl<D: Device + Drop> Agent<D> {
             IfOk result (IsReading known (IsInView self.now.policy.families (view_of access.entry)) message) }
     {
         mon_pdu::laws::grows();
-        let head = answered(community, bulk.request_id, Vec::new(alloc));
+        let head = make_response(community, bulk.request_id, Vec::new(alloc));
         let mut reply = Growing::new(alloc, head, self.mib.settings().limit);
         self.bulk(alloc, &mut reply, access, &bulk, moment)?;
         Ok(reply.into_message())

@@ -15,7 +15,7 @@ use crate::agent::Agent;
 use crate::fault::AgentFault;
 use crate::ready::{Assigning, Ready};
 use crate::reply::Reply;
-use crate::sending::{NO_ERROR, returned, send_too_big, size_within, write};
+use crate::sending::{NO_ERROR, make_return, send_too_big, size_within, write};
 use mon_mib::{Commit, Device, Moment, SetFault};
 use mon_pdu::{Body, Message, write_within};
 use mon_vacm::Access;
@@ -47,7 +47,7 @@ impl<D: Device + Drop> Agent<D> {
         let Some(count) = count_bindings(&message.body) else {
             return Ok(Ready::Answer(send_too_big(alloc, message, limit)?));
         };
-        let response = returned(message, NO_ERROR, count);
+        let response = make_return(message, NO_ERROR, count);
         let Some(size) = size_within(&response, limit) else {
             return Ok(Ready::Answer(send_too_big(alloc, response, limit)?));
         };
@@ -61,7 +61,7 @@ impl<D: Device + Drop> Agent<D> {
                 response,
                 room: Vec::with_capacity(alloc, size)?,
             })),
-            Err(fault) => Ok(Ready::Answer(refused(alloc, response, size, fault)?)),
+            Err(fault) => Ok(Ready::Answer(make_refusal(alloc, response, size, fault)?)),
         }
     }
 
@@ -85,7 +85,7 @@ impl<D: Device + Drop> Agent<D> {
             room,
         } = set;
         let (error_status, place) = error_of(&self.mib.commit(plan));
-        let response = returned(response, error_status, index_of(place));
+        let response = make_return(response, error_status, index_of(place));
         let mut octets = room;
         write_within(&mut octets, &response);
         octets
@@ -101,7 +101,7 @@ fn count_bindings(body: &Body) -> Option<i32>
 }
 
 /// The response to a Set of which a variable binding is refused, in this many octets.
-fn refused(
+fn make_refusal(
     alloc: Global,
     response: Message,
     size: usize,
@@ -118,7 +118,7 @@ fn refused(
     match fault {
         SetFault::OutOfMemory => Err(AgentFault::OutOfMemory),
         SetFault::Refused { status, index } => {
-            let response = returned(response, status.number(), index_of(index));
+            let response = make_return(response, status.number(), index_of(index));
             Ok(Reply::Send(write(alloc, &response, size)?))
         }
     }

@@ -20,7 +20,7 @@ pub(crate) const NO_ERROR: i32 = 0;
 const TOO_BIG: i32 = 1;
 
 /// The response without an error.
-pub(crate) fn answered(community: Octets, request_id: i32, answers: Vec<Binding>) -> Message
+pub(crate) fn make_response(community: Octets, request_id: i32, answers: Vec<Binding>) -> Message
     ensures { result ≡ record { community = community; body = response_body request_id (pos 0) (pos 0) answers.items } }
 {
     Message {
@@ -30,7 +30,7 @@ pub(crate) fn answered(community: Octets, request_id: i32, answers: Vec<Binding>
 }
 
 /// The response to a message that has the variable bindings of the message itself, with this error.
-pub(crate) fn returned(message: Message, error_status: i32, error_index: i32) -> Message
+pub(crate) fn make_return(message: Message, error_status: i32, error_index: i32) -> Message
     ensures { result ≡ returned message error_status error_index }
 {
     Message {

@@ -11,7 +11,7 @@ use mon_app::{
 };
 use mon_ber::{Octets, Value};
 use mon_edge::failed_after;
-use mon_names::InNumbers;
+use mon_smi::InNumbers;
 use mon_oid::Oid;
 use mon_pdu::write_message;
 use std::alloc::{AllocError, Global};

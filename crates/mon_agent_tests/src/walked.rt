@@ -2,7 +2,7 @@
 
 use crate::small_agent::oid;
 use mon_app::{AppFault, Heard, SocketFault, Wire, walk};
-use mon_names::InNumbers;
+use mon_smi::InNumbers;
 use mon_oid::Oid;
 use std::alloc::Global;
 use std::test::Fail;

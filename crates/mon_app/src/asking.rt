@@ -97,7 +97,7 @@ fn reply_in(
     laws::again();
     match read_message(alloc, octets) {
         Ok(message) => Ok(reply_of(question, message)),
-        Err(fault) => unread(fault),
+        Err(fault) => skip_unread(fault),
     }
 }
 
@@ -113,7 +113,7 @@ fn reply_of(question: &Question<'_>, message: Message) -> Option<Message>
 }
 
 /// A datagram that could not be read holds no reply, unless memory ran out.
-fn unread(fault: PduFault) -> Result<Option<Message>, AllocError>
+fn skip_unread(fault: PduFault) -> Result<Option<Message>, AllocError>
     ensures { IfOk result (λ found. (found ≡ None) × (fault ≢ PduFault.OutOfMemory)) }
 {
     match fault {

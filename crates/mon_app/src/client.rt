@@ -12,7 +12,7 @@ use crate::fault::AppFault;
 use crate::printed::bindings_text;
 use crate::question::Question;
 use crate::wire::Wire;
-use mon_names::NameTexts;
+use mon_smi::NameTexts;
 use mon_pdu::{Bindings, Body, Message, Pdu};
 use std::alloc::Global;
 

@@ -57,8 +57,8 @@ impl<R: Clock> SocketWire<'_, R> {
     fn begin(&mut self, octets: &[u8]) -> Result<(), SocketFault>
         ensures { self.new.failures ≡ self.old.failures }
     {
-        self.began = Instant::now(self.rt).map_err(failed)?;
-        self.socket.send_to(octets, self.agent).map_err(failed)?;
+        self.began = Instant::now(self.rt).map_err(socket_failure)?;
+        self.socket.send_to(octets, self.agent).map_err(socket_failure)?;
         Ok(())
     }
 
@@ -66,12 +66,12 @@ impl<R: Clock> SocketWire<'_, R> {
     fn hear(&self, room: &mut [u8]) -> Result<Heard, SocketFault>
         ensures { IfOk result (FitsRoom (length room.new)) }
     {
-        let now = Instant::now(self.rt).map_err(failed)?;
+        let now = Instant::now(self.rt).map_err(socket_failure)?;
         let rest = rest_of_wait(now.duration_since(self.began));
         if rest.is_zero() {
             return Ok(Heard::Quiet);
         }
-        self.socket.set_read_timeout(Some(rest)).map_err(failed)?;
+        self.socket.set_read_timeout(Some(rest)).map_err(socket_failure)?;
         match self.socket.recv_from(room) {
             Ok((len, from)) => Ok(heard_from(self.agent, from, len, room.len())),
             Err(error) => match error.kind() {
@@ -138,7 +138,7 @@ pub(crate) fn socket_fault(error: io::Error) -> AppFault
 }
 
 /// A failed call of a socket.
-pub(crate) fn failed(error: io::Error) -> SocketFault
+pub(crate) fn socket_failure(error: io::Error) -> SocketFault
     ensures { result.reason ≡ reason_of (error_kind error) }
 {
     SocketFault {

@@ -6,7 +6,7 @@ ghost use Rattle.std.specs.Duration.{as_nanos};
 use crate::fault::{AppFault, SocketFault};
 use crate::port::{Port, Received};
 use crate::reason::SocketReason;
-use crate::socket::{failed, socket_fault};
+use crate::socket::{socket_failure, socket_fault};
 use mon_edge::failed_after;
 use mon_mib::Moment;
 use std::io;
@@ -59,7 +59,7 @@ impl<'a, R: Clock + Net> SocketPort<'a, R> {
 impl<R: Clock> SocketPort<'_, R> {
     /// Returns the time in the life of the agent, which is at most 2^31 seconds long.
     fn moment(&self) -> Result<Moment, SocketFault> {
-        let now = Instant::now(self.rt).map_err(failed)?;
+        let now = Instant::now(self.rt).map_err(socket_failure)?;
         moment_after(now.duration_since(self.began))
     }
 
@@ -80,7 +80,7 @@ impl<R: Clock> SocketPort<'_, R> {
                     });
                 }
                 Err(error) if error.kind() == io::ErrorKind::Interrupted => {}
-                Err(error) => return Err(failed(error)),
+                Err(error) => return Err(socket_failure(error)),
             }
         }
         Err(SocketFault {
@@ -118,7 +118,7 @@ impl<R: Clock> Port for SocketPort<'_, R> {
     fn reply(&mut self, octets: &[u8]) -> Result<(), SocketFault> {
         let sent = match self.socket.send_to(octets, self.from) {
             Ok(_) => Ok(()),
-            Err(error) => Err(failed(error)),
+            Err(error) => Err(socket_failure(error)),
         };
         self.failures = failed_after(self.failures, &sent);
         sent

@@ -11,7 +11,7 @@ use crate::printed::put_binding;
 use crate::question::{Asking, Question};
 use crate::wire::Wire;
 use mon_ber::Value;
-use mon_names::NameTexts;
+use mon_smi::NameTexts;
 use mon_oid::Oid;
 use mon_pdu::Binding;
 use std::alloc::Global;

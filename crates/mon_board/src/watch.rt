@@ -86,14 +86,14 @@ impl Watch {
     pub fn try_clone(&self, alloc: Global) -> Result<Self, AllocError>
         ensures { IfOk result (λ w. w ≡ self.now) }
     {
-        let instances = copied(alloc, self.instances.as_slice())?;
-        let rules = copied_rules(alloc, self.rules.as_slice())?;
+        let instances = copy_instances(alloc, self.instances.as_slice())?;
+        let rules = copy_rules(alloc, self.rules.as_slice())?;
         Ok(Watch { instances, rules })
     }
 }
 
 /// Equal values, in this order.
-fn copied(alloc: Global, all: &[Watched]) -> Result<Vec<Watched>, AllocError>
+fn copy_instances(alloc: Global, all: &[Watched]) -> Result<Vec<Watched>, AllocError>
     ensures { IfOk result (λ v. v.items ≡ all.now) }
 {
     let mut copies = Vec::with_capacity(alloc, all.len())?;
@@ -104,7 +104,7 @@ fn copied(alloc: Global, all: &[Watched]) -> Result<Vec<Watched>, AllocError>
 }
 
 /// Copies the rules.
-fn copied_rules(alloc: Global, all: &[Rule]) -> Result<Vec<Rule>, AllocError>
+fn copy_rules(alloc: Global, all: &[Rule]) -> Result<Vec<Rule>, AllocError>
     ensures { IfOk result (λ v. v.items ≡ all.now) }
 {
     let mut copies = Vec::with_capacity(alloc, all.len())?;

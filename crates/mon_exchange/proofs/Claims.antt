@@ -4,9 +4,9 @@ use Rattle.std.specs.Prelude.{IfOk, IfErr}
 use Rattle.std.specs.Int.{w32, to_be_bytes}
 use Rattle.std.proofs.lemmas.List.{append-nil, length-append}
 use Rattle.mon_ber.proofs.Promised.{IsBytes, IsBytes-after, bind_ok, ok_is}
-use Rattle.mon_layout.specs.Layout.{numbers_octets, instance_octets, samples_octets}
-use Rattle.mon_layout.specs.Reading.{u32_at}
-use Rattle.mon_layout.proofs.Promised.{u32_takes, u32_again}
+use Rattle.mon_fields.specs.Layout.{numbers_octets, instance_octets, samples_octets}
+use Rattle.mon_fields.specs.Reading.{u32_at}
+use Rattle.mon_fields.proofs.Promised.{u32_takes, u32_again}
 use Rattle.mon_exchange.specs.declared.claim.Claim.{Claim}
 use Rattle.mon_exchange.specs.declared.fault.ExchangeFault.{ExchangeFault}
 use Rattle.mon_exchange.specs.Claim.{kind_octet, counted_samples, claim_octets, IsClaim, SpellsClaim}

@@ -2,9 +2,9 @@
 use Rattle.std.proofs.Common.{ℕ, ◌≤◌, Bool, true, false, cond, List, length, Result, Ok, Err, subst, arith}
 use Rattle.std.specs.Prelude.{IfErr, nat_lt, ◌==◌, ◌||◌}
 use Rattle.mon_oid.specs.Steps.{◌>>=◌}
-use Rattle.mon_layout.specs.declared.fault.LayoutFault.{LayoutFault}
-use Rattle.mon_layout.specs.declared.fault.LayoutFault.TheVariants as layout
-use Rattle.mon_layout.specs.Reading.{octet_at, field_at, u32_at, samples_at}
+use Rattle.mon_fields.specs.declared.fault.LayoutFault.{LayoutFault}
+use Rattle.mon_fields.specs.declared.fault.LayoutFault.TheVariants as layout
+use Rattle.mon_fields.specs.Reading.{octet_at, field_at, u32_at, samples_at}
 use Rattle.mon_exchange.specs.declared.claim.Claim.{Claim}
 use Rattle.mon_exchange.specs.declared.claim.ClaimKind.TheVariants.{Offer, Confirm}
 use Rattle.mon_exchange.specs.declared.fault.ExchangeFault.{ExchangeFault}

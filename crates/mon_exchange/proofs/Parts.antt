@@ -8,11 +8,11 @@ use Rattle.std.proofs.lemmas.List.Elements.{All-from_recursion, recursion_from_A
 use Rattle.mon_oid.specs.Oid.{IsOid, IsRooted}
 use Rattle.mon_oid.specs.Steps.{◌>>=◌}
 use Rattle.mon_ber.proofs.Promised.{IsBytes, IsBytes-after, bind_ok, wanted, chosen, ok_is, pair_is}
-use Rattle.mon_layout.specs.declared.fault.LayoutFault.{LayoutFault}
-use Rattle.mon_layout.specs.declared.fault.LayoutFault.TheVariants as layout
-use Rattle.mon_layout.specs.Layout.{numbers_octets, samples_octets, AreSamples}
-use Rattle.mon_layout.specs.Reading.{Fails as FailsAsField, octet_at, field_at, u32_at, one_by_one, with_front, samples_at}
-use Rattle.mon_layout.proofs.Promised.{Chain, one_by_one_takes, one_by_one_again, goes_on, stops, guard, octet_takes, octet_again, field_takes, field_again, u32_takes, u32_again, samples_takes}
+use Rattle.mon_fields.specs.declared.fault.LayoutFault.{LayoutFault}
+use Rattle.mon_fields.specs.declared.fault.LayoutFault.TheVariants as layout
+use Rattle.mon_fields.specs.Layout.{numbers_octets, samples_octets, AreSamples}
+use Rattle.mon_fields.specs.Reading.{Fails as FailsAsField, octet_at, field_at, u32_at, one_by_one, with_front, samples_at}
+use Rattle.mon_fields.proofs.Promised.{Chain, one_by_one_takes, one_by_one_again, goes_on, stops, guard, octet_takes, octet_again, field_takes, field_again, u32_takes, u32_again, samples_takes}
 use Rattle.mon_exchange.specs.declared.claim.ClaimKind.{ClaimKind}
 use Rattle.mon_exchange.specs.declared.claim.ClaimKind.TheVariants.{Offer, Confirm}
 use Rattle.mon_exchange.specs.declared.fault.ExchangeFault.{ExchangeFault}

@@ -4,7 +4,7 @@ use Rattle.std.specs.Int.{w32, to_be_bytes}
 use Rattle.std.specs.List.Sorted.{IsStrictlySortedBy}
 use Rattle.std.specs.Ordering.{nat_cmp}
 use Rattle.mon_oid.specs.Oid.{IsOid}
-use Rattle.mon_layout.specs.Layout.{instance_octets, samples_octets, AreSamples}
+use Rattle.mon_fields.specs.Layout.{instance_octets, samples_octets, AreSamples}
 use Rattle.mon_board.specs.Instance.{IsEngine}
 use Rattle.mon_exchange.specs.declared.claim.Claim.{Claim}
 use Rattle.mon_exchange.specs.declared.claim.ClaimRef.{ClaimRef}

@@ -1,8 +1,8 @@
 -- Reading claims from left to right, with the first fault that is met.
 use Rattle.std.specs.Prelude.{◌≡◌, ℕ, Bool, List, length, slice_index, Option, None, Result, Ok, Err, nat_lt, ◌==◌, ◌||◌, ◌&&◌, if◌then◌else◌}
 use Rattle.mon_oid.specs.Steps.{◌>>=◌}
-use Rattle.mon_layout.specs.declared.fault.LayoutFault.{LayoutFault}
-use Rattle.mon_layout.specs.Reading.{octet_at, field_at, u32_at, one_by_one, samples_at}
+use Rattle.mon_fields.specs.declared.fault.LayoutFault.{LayoutFault}
+use Rattle.mon_fields.specs.Reading.{octet_at, field_at, u32_at, one_by_one, samples_at}
 use Rattle.mon_exchange.specs.declared.claim.Claim.{Claim}
 use Rattle.mon_exchange.specs.declared.claim.ClaimKind.{ClaimKind}
 use Rattle.mon_exchange.specs.declared.claim.ClaimKind.TheVariants.{Offer, Confirm}

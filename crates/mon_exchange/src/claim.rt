@@ -2,7 +2,7 @@ ghost use Rattle.std.specs.Prelude.{◌≡◌};
 ghost use Rattle.mon_exchange.specs.Claim.{claim_of, kind_octet};
 
 use mon_ber::Octets;
-use mon_layout::SampleList;
+use mon_fields::SampleList;
 use mon_oid::Oid;
 use mon_sample::Sample;
 

@@ -2,7 +2,7 @@ ghost use Rattle.std.specs.Prelude.{◌≡◌};
 ghost use Rattle.mon_exchange.specs.declared.fault.ExchangeFault.TheVariants.{OutOfMemory};
 ghost use Rattle.mon_exchange.specs.Fault.{exchange_fault, number_of, name_of};
 
-use mon_layout::LayoutFault;
+use mon_fields::LayoutFault;
 use std::alloc::{AllocError, AllocFailed};
 use thiserror::Error;
 

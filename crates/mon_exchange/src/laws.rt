@@ -19,7 +19,7 @@ pub fn one_spelling()
     ensures spelling { (a b : List ℕ) (c : Claim) → SpellsClaim a c → SpellsClaim b c → a ≡ b }
     ensures meaning { (octets : List ℕ) (c d : Claim) → SpellsClaim octets c → SpellsClaim octets d → c ≡ d }
 {
-    mon_layout::laws::samples();
+    mon_fields::laws::samples();
 }
 
 /// Marks that say what a station's claims have said still say it after more samples were taken, if

@@ -3,7 +3,7 @@
 
 ghost use Rattle.std.specs.Prelude.{◌≡◌, ◌≢◌, ◌≤◌, ◌<◌, IfOk, IfErr, Ok, length};
 ghost use Rattle.mon_oid.specs.Oid.{IsOid};
-ghost use Rattle.mon_layout.specs.Reading.{Gives as Fields};
+ghost use Rattle.mon_fields.specs.Reading.{Gives as Fields};
 ghost use Rattle.mon_exchange.specs.declared.claim.Claim.{Claim};
 ghost use Rattle.mon_exchange.specs.Claim.{SpellsClaim};
 ghost use Rattle.mon_exchange.specs.Fault.{number_of};
@@ -12,7 +12,7 @@ ghost use Rattle.mon_exchange.specs.Reading.{Fails, Gives, octet_is, claim_kind_
 use crate::claim::{Claim, ClaimKind};
 use crate::fault::ExchangeFault;
 use mon_ber::Octets;
-use mon_layout::{LayoutFault, SampleList, field_at, octet_at, samples_at, u32_at};
+use mon_fields::{LayoutFault, SampleList, field_at, octet_at, samples_at, u32_at};
 use mon_oid::Oid;
 use smallvec::SmallVec;
 use std::alloc::Global;
@@ -146,7 +146,7 @@ fn claimed_at(alloc: Global, octets: &[u8]) -> Result<(SampleList, &[u8]), Excha
 
 /// Nothing is left of the octets.
 #[tactic(auto, unfolding(crate::specs::Reading::all_read))]
-fn all_read(rest: &[u8]) -> Result<(), ExchangeFault>
+fn require_end(rest: &[u8]) -> Result<(), ExchangeFault>
     ensures { Gives (λ u. u) result (all_read rest.now (tt {0})) }
 {
     if !rest.is_empty() {
@@ -168,7 +168,7 @@ fn claim_at(alloc: Global, octets: &[u8]) -> Result<Claim, ExchangeFault>
     let (engine, rest) = engine_at(rest)?;
     let (name, rest) = oid_at(alloc, rest)?;
     let (samples, rest) = claimed_at(alloc, rest)?;
-    all_read(rest)?;
+    require_end(rest)?;
     let engine = Octets::from_slice(alloc, engine)?;
     Ok(Claim {
         kind,
@@ -195,6 +195,6 @@ pub fn read_claim(alloc: Global, octets: &[u8]) -> Result<Claim, ExchangeFault>
     ensures fault { IfErr result (λ e. Fails e (claim_at octets.now)) }
     ensures read { IfErr result (λ e. number_of e ≤ 6) }
 {
-    mon_layout::laws::samples();
+    mon_fields::laws::samples();
     claim_at(alloc, octets)
 }

@@ -8,7 +8,7 @@ ghost use Rattle.mon_exchange.specs.Portions.{IsPortion, offered_portions, piece
 ghost use Rattle.mon_window.specs.Top.{rising};
 
 use mon_board::Board;
-use mon_layout::SampleList;
+use mon_fields::SampleList;
 use mon_sample::Sample;
 use std::alloc::{AllocError, Global};
 

@@ -7,7 +7,7 @@ ghost use Rattle.std.specs.Ordering.{nat_cmp};
 ghost use Rattle.mon_exchange.specs.Claim.{IsClaim, IsSendable, SpellsClaim, claim_octets, claim_of};
 
 use crate::claim::ClaimRef;
-use mon_layout::{
+use mon_fields::{
     instance_size, put_instance, put_octet, put_octets, put_samples, put_u32, samples_size,
 };
 use std::alloc::{AllocError, Global};

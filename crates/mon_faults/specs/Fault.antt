@@ -4,7 +4,7 @@ use Rattle.mon_app.specs.AppFault as app
 use Rattle.mon_disk.specs.Fault as disk
 use Rattle.mon_mib.specs.DeviceFault as device
 use Rattle.mon_rehearsal.specs.Fault as rehearsal
-use Rattle.mon_rounds.specs.Trial as trial
+use Rattle.mon_rehearsal.specs.Trial as trial
 use Rattle.mon_saved.specs.Fault as saved
 use Rattle.mon_settings.specs.SettingsFault as settings
 use Rattle.mon_smi.specs.Faults.{number_of_names, name_of_names}

@@ -1,7 +1,7 @@
 -- Which key of a table is unknown.
 use Rattle.std.specs.Prelude.{ℕ, zero, suc, List, Option, Some, None, option_and_then}
 use Rattle.toml.specs.Data.{Data, Members, get_member, as_table, at}
-use Rattle.mon_settings.specs.declared.grammar.Kind.{Kind}
+use Rattle.mon_settings.specs.declared.grammar.SettingsKind.{SettingsKind}
 use Rattle.mon_settings.specs.declared.place.Place.{Place}
 use Rattle.mon_settings.specs.declared.place.Place.TheVariants as place
 use Rattle.mon_settings.specs.declared.place.Step.{Step}
@@ -38,12 +38,12 @@ step_keys (step.Value k) = table_keys k
 step_keys (step.Entry k number) = table_keys k
 
 -- the keys of the table at a place
-abbrev pub known_keys : Kind → Place → List Key
+abbrev pub known_keys : SettingsKind → Place → List Key
 known_keys whose place.Whole = top_keys whose
 known_keys whose (place.At last) = step_keys last
 known_keys whose (place.In table last) = step_keys last
 known_keys whose (place.Inside first table last) = step_keys last
 
 -- the first key of the table at a place that its grammar does not know, and none if there is no such table
-abbrev pub unknown_at : Kind → Place → Members → Option (List ℕ)
+abbrev pub unknown_at : SettingsKind → Place → Members → Option (List ℕ)
 unknown_at whose p t = option_and_then (first_unknown (known_keys whose p)) (table_at p t)

@@ -2,11 +2,11 @@
 
 use crate::position::{Position, position_at};
 use crate::unknown::{known_keys, unknown_key};
-use mon_settings::{Key, Kind, Place, SettingsFault};
+use mon_settings::{Key, SettingsKind, Place, SettingsFault};
 use std::alloc::{AllocError, Global};
 
 /// The names of keys, with commas between them.
-fn listed(alloc: Global, keys: &[Key]) -> Result<String, AllocError> {
+fn list_keys(alloc: Global, keys: &[Key]) -> Result<String, AllocError> {
     let mut names = String::new(alloc);
     for key in keys {
         if !names.is_empty() {
@@ -17,8 +17,8 @@ fn listed(alloc: Global, keys: &[Key]) -> Result<String, AllocError> {
     Ok(names)
 }
 
-fn unknown(alloc: Global, text: &str, kind: Kind, place: Place) -> Result<String, AllocError> {
-    let keys = listed(alloc, known_keys(kind, place))?;
+fn unknown(alloc: Global, text: &str, kind: SettingsKind, place: Place) -> Result<String, AllocError> {
+    let keys = list_keys(alloc, known_keys(kind, place))?;
     match unknown_key(alloc, text, kind, place)? {
         Some(name) => format!(in alloc; "{place}: {name:?} is no key here; the keys are {keys}"),
         None => format!(in alloc; "{place}: a key is unknown; the keys are {keys}"),
@@ -37,10 +37,10 @@ fn not_toml(alloc: Global, position: Position) -> Result<String, AllocError> {
 ///
 /// # Errors
 /// Out of memory.
-pub fn explained(
+pub fn explain(
     alloc: Global,
     fault: SettingsFault,
-    kind: Kind,
+    kind: SettingsKind,
     text: &str,
 ) -> Result<String, AllocError> {
     match fault {

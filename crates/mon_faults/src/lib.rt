@@ -9,5 +9,5 @@ mod fault;
 mod position;
 mod unknown;
 
-pub use explaining::explained;
+pub use explaining::explain;
 pub use fault::Fault;

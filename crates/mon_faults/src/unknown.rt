@@ -7,7 +7,7 @@ ghost use Rattle.toml.specs.Data.{get_member};
 ghost use Rattle.toml.specs.Parse.{parse_document};
 ghost use Rattle.toml.specs.View.{view, table_view};
 
-use mon_settings::{Key, Kind, Place, Step, first_unknown, table_keys, top_keys};
+use mon_settings::{Key, SettingsKind, Place, Step, first_unknown, table_keys, top_keys};
 use std::alloc::{AllocError, Global};
 use toml::{Table, Value};
 
@@ -66,7 +66,7 @@ fn step_keys(step: Step) -> &'static [Key]
 
 /// Returns the keys that the table at a place may have, and none for a place of which the settings
 /// have no table.
-pub(crate) fn known_keys(kind: Kind, place: Place) -> &'static [Key]
+pub(crate) fn known_keys(kind: SettingsKind, place: Place) -> &'static [Key]
     ensures { result.now ≡ known_keys kind place }
 {
     match place {
@@ -78,7 +78,7 @@ pub(crate) fn known_keys(kind: Kind, place: Place) -> &'static [Key]
 fn unknown_in(
     alloc: Global,
     tree: &Table,
-    kind: Kind,
+    kind: SettingsKind,
     place: Place,
 ) -> Result<Option<String>, AllocError>
     ensures { IfOk result (λ o. option_map string_bytes o ≡ unknown_at kind place (table_view tree.now)) }
@@ -101,7 +101,7 @@ fn unknown_in(
 pub(crate) fn unknown_key(
     alloc: Global,
     text: &str,
-    kind: Kind,
+    kind: SettingsKind,
     place: Place,
 ) -> Result<Option<String>, AllocError>
     ensures { IfOk result (λ o. option_map string_bytes o ≡ option_and_then (unknown_at kind place) (parse_document text.now)) }

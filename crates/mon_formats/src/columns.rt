@@ -7,7 +7,7 @@ ghost use Rattle.mon_formats.specs.Columns.{to_right, to_left, value_cell, rate_
 
 use crate::cells::count_samples;
 use mon_alarms::{AlarmState, Rule, state};
-use mon_names::NameTexts;
+use mon_smi::NameTexts;
 use mon_report::{Entry, write_rate};
 use mon_sample::Sample;
 use std::alloc::{AllocError, Global};

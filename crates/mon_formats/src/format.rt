@@ -10,7 +10,7 @@ use crate::figures::Figures;
 use crate::json::json_report;
 use crate::named::named_report;
 use crate::prometheus::prometheus_report;
-use mon_names::NameTexts;
+use mon_smi::NameTexts;
 use mon_report::Entry;
 use std::alloc::{AllocError, Global};
 

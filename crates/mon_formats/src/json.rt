@@ -8,7 +8,7 @@ ghost use Rattle.mon_formats.specs.Cells.{rate_of};
 ghost use Rattle.mon_formats.specs.Json.{exact, exact_signed, sample_data, raised_data, alarm_data, rate_data, totals_data, entry_data, report_data, json_report, ReadsAsReport};
 
 use mon_alarms::{AlarmState, Rule, state};
-use mon_names::NameTexts;
+use mon_smi::NameTexts;
 use mon_report::Entry;
 use mon_sample::Sample;
 use serde_json::{Value, json};

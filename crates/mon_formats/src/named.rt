@@ -5,7 +5,7 @@ ghost use Rattle.mon_report.specs.Report.{end_line};
 ghost use Rattle.mon_formats.specs.Named.{named_line, named_report};
 
 use crate::cells::count_samples;
-use mon_names::NameTexts;
+use mon_smi::NameTexts;
 use mon_report::{Entry, write_rest};
 use std::alloc::{AllocError, Global};
 

@@ -14,7 +14,7 @@ use crate::figures::Figures;
 use itoa::Buffer;
 use metric::Metric;
 use mon_alarms::{AlarmState, Rule, state};
-use mon_names::NameTexts;
+use mon_smi::NameTexts;
 use mon_rates::is_counter;
 use mon_report::{Entry, write_rate};
 use mon_sample::Sample;

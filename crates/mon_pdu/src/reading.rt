@@ -15,7 +15,7 @@ use mon_ber::{OCTET_STRING, Octets, SEQUENCE};
 use std::alloc::Global;
 
 /// All of the contents were used up.
-fn ended(rest: &[u8]) -> Result<(), PduFault>
+fn require_end(rest: &[u8]) -> Result<(), PduFault>
     ensures { Gives (λ u. u) result (ended rest.now (tt {0})) }
 {
     if !rest.is_empty() {
@@ -33,7 +33,7 @@ fn binding_at(alloc: Global, bytes: &[u8]) -> Result<(Binding, &[u8]), PduFault>
     let (contents, after) = element_at(SEQUENCE, bytes)?;
     let (name, rest) = name_at(alloc, contents)?;
     let (value, rest) = value_at(alloc, rest)?;
-    ended(rest)?;
+    require_end(rest)?;
     Ok((Binding { name, value }, after))
 }
 
@@ -70,7 +70,7 @@ fn body_of(alloc: Global, kind: Option<PduKind>, contents: &[u8]) -> Result<Body
     let (second, rest) = integer_at(rest)?;
     let (third, rest) = integer_at(rest)?;
     let (bindings, rest) = list_at(alloc, rest)?;
-    ended(rest)?;
+    require_end(rest)?;
     match kind {
         Some(kind) => Ok(Body::Pdu(Pdu {
             kind,
@@ -128,7 +128,7 @@ fn message_of(alloc: Global, contents: &[u8]) -> Result<Message, PduFault>
     let (community, rest) = element_at(OCTET_STRING, rest)?;
     let community = Octets::from_slice(alloc, community)?;
     let (body, rest) = body_at(alloc, rest)?;
-    ended(rest)?;
+    require_end(rest)?;
     Ok(Message { community, body })
 }
 

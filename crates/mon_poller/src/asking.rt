@@ -73,7 +73,7 @@ pub(crate) fn poll_octets(
     requires id { id < 2 ^ 31 }
     ensures { IfOk result (λ o. o ≡ poll_octets target.now id) }
 {
-    let message = nothing_asked(alloc, target, id)?;
+    let message = empty_request(alloc, target, id)?;
     match write_with(alloc, &message, list) {
         Ok(octets) => Ok(Octets::new(octets)),
         Err(PduFault::OutOfMemory) => Err(AllocError),
@@ -82,7 +82,7 @@ pub(crate) fn poll_octets(
 }
 
 /// A poll that asks for nothing.
-fn nothing_asked(alloc: Global, target: &Target, id: u32) -> Result<Message, AllocError>
+fn empty_request(alloc: Global, target: &Target, id: u32) -> Result<Message, AllocError>
     requires { id < 2 ^ 31 }
     ensures { IfOk result (λ m. m ≡ with_bindings (poll_message target.now id) []) }
 {
@@ -116,9 +116,9 @@ fn stamp_bindings(alloc: Global) -> Result<Vec<Binding>, AllocError>
     ensures short { IfOk result (λ v. length (list_contents v.items) ≤ 1989) }
 {
     let mut bindings = Vec::new(alloc);
-    bindings.push(unspecified(stamp_name(alloc, &ENGINE_ID)?))?;
-    bindings.push(unspecified(stamp_name(alloc, &ENGINE_BOOTS)?))?;
-    bindings.push(unspecified(stamp_name(alloc, &ENGINE_TIME)?))?;
+    bindings.push(name_binding(stamp_name(alloc, &ENGINE_ID)?))?;
+    bindings.push(name_binding(stamp_name(alloc, &ENGINE_BOOTS)?))?;
+    bindings.push(name_binding(stamp_name(alloc, &ENGINE_TIME)?))?;
     Ok(bindings)
 }
 
@@ -127,9 +127,9 @@ fn ask_for(alloc: Global, bindings: &mut Vec<Binding>, object: &Object) -> Resul
     ensures bindings { OnOk result (bindings.new.items ≡ bindings.old.items ++ map unspecified (object_names object.now)) }
     ensures short { OnOk result (length (list_contents bindings.new.items) ≤ length (list_contents bindings.old.items) + 1326) }
 {
-    bindings.push(unspecified(object.name.try_clone(alloc)?))?;
+    bindings.push(name_binding(object.name.try_clone(alloc)?))?;
     if let Some(discontinuity) = &object.discontinuity {
-        bindings.push(unspecified(discontinuity.try_clone(alloc)?))?;
+        bindings.push(name_binding(discontinuity.try_clone(alloc)?))?;
     }
     Ok(())
 }
@@ -145,7 +145,7 @@ fn stamp_name(alloc: Global, parts: &[u32; 11]) -> Result<Oid, AllocError>
 }
 
 /// A name whose value is asked for (`unSpecified`, RFC 3416 section 3).
-fn unspecified(name: Oid) -> Binding
+fn name_binding(name: Oid) -> Binding
     ensures binding { result ≡ unspecified name }
     ensures short { length (written_binding result) ≤ 663 }
 {

@@ -32,7 +32,7 @@ pub(crate) fn read(alloc: Global, octets: &[u8]) -> Result<Message, ResponseFaul
 
 /// The slot of the poll that the message responds to, the poll and the Response, or the first reason why it responds to none.
 #[tactic(auto, unfolding(crate::specs::Verdict::awaited))]
-pub(crate) fn awaited<'m>(
+pub(crate) fn find_awaited<'m>(
     targets: &[Target],
     polls: &Slab<OpenPoll>,
     from: Addr,

@@ -11,7 +11,7 @@ ghost use Rattle.mon_poller.specs.Verdict.{response_pdu, have_names, have_after,
 use crate::fault::ResponseFault;
 use crate::lent::Stamp;
 use crate::stamp::{
-    ENGINE_BOOTS, ENGINE_ID, ENGINE_TIME, discontinuity_in, octets_in, sampled, stamp_number,
+    ENGINE_BOOTS, ENGINE_ID, ENGINE_TIME, discontinuity_in, octets_in, read_sampled, stamp_number,
 };
 use crate::target::{Object, Target};
 use mon_ber::Value;
@@ -181,7 +181,7 @@ fn sample_of(stamp: &Stamp<'_>, object: &Object, bindings: &[Binding]) -> Option
 pub(crate) fn sample_at(stamp: &Stamp<'_>, value: &Value, discontinuity: Option<u32>) -> Option<Sample>
     ensures { result ≡ sampled_at (lent_stamp stamp.now) value.now discontinuity }
 {
-    let (kind, value) = sampled(value)?;
+    let (kind, value) = read_sampled(value)?;
     let discontinuity = discontinuity?;
     Some(Sample::new(stamp.boots, stamp.time, discontinuity, kind, value))
 }

@@ -10,7 +10,7 @@ ghost use Rattle.mon_poller.specs.Verdict.{to_offered};
 
 use crate::addr::Addr;
 use crate::asked::Asked;
-use crate::awaiting::{awaited, ends_poll, read};
+use crate::awaiting::{find_awaited, ends_poll, read};
 use crate::fault::{PollFault, ResponseFault};
 use crate::finding::{find, least_id};
 use crate::in_place::in_place;
@@ -156,7 +156,7 @@ impl Poller {
     }
 
     /// Returns `true` if a timeout of this poll sends it again. So a caller can allocate before
-    /// `timed_out` changes anything.
+    /// `time_out` changes anything.
     pub fn has_tries(&self, id: u32) -> bool
         ensures { IsTrue result ↔ IsSentAgain (timeout_verdict self.now.targets self.now.polls id) }
     {
@@ -169,7 +169,7 @@ impl Poller {
     /// Handles that the poll of this request-id was not answered in time: its datagram goes to its
     /// target again, or, if that was tried as often as it may be, the poll is closed. Only a datagram
     /// is allocated, so `GivenUp` and `NotOpen` allocate nothing.
-    pub fn timed_out(&mut self, alloc: Global, id: u32) -> Result<TimedOut, AllocError>
+    pub fn time_out(&mut self, alloc: Global, id: u32) -> Result<TimedOut, AllocError>
         ensures told { IfOk result (λ t. t ≡ timeout_verdict self.old.targets self.old.polls id) }
         ensures polls { OnOk result (self.new ≡ record self.old { polls = timed (tries_of self.old.targets) id self.old.polls }) }
         // Memory is taken for a datagram that is sent again, and for nothing else.
@@ -223,7 +223,7 @@ impl Poller {
             return Ok(offered);
         }
         let message = read(alloc, octets)?;
-        self.answered(alloc, from, &message)
+        self.close_answered(alloc, from, &message)
     }
 
     /// What a datagram from this address offers, where it has what its poll asked for, spelled as that was asked.
@@ -241,7 +241,7 @@ impl Poller {
     }
 
     /// What a message from this address offers.
-    fn answered(
+    fn close_answered(
         &mut self,
         alloc: Global,
         from: Addr,
@@ -250,7 +250,7 @@ impl Poller {
         ensures told { Gives (λ o. o) result (response_verdict self.old.targets self.old.polls.open_polls from (Some message.now)) }
         ensures polls { self.new ≡ record self.old { polls = after_response (ends result) (Some message.now) self.old.polls } }
     {
-        let (key, poll, pdu) = awaited(self.targets.as_slice(), &self.polls, from, message)?;
+        let (key, poll, pdu) = find_awaited(self.targets.as_slice(), &self.polls, from, message)?;
         let target = self.targets.at(usize::from(poll.target));
         let answered = poll_answer(alloc, target, pdu);
         if ends_poll(&answered) {

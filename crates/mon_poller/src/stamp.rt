@@ -42,7 +42,7 @@ pub fn stamp_number(value: &Value) -> Option<u32>
 }
 
 /// The kind and the value modulo 2^64 of a value of a sampled kind.
-pub fn sampled(value: &Value) -> Option<(Kind, u64)>
+pub fn read_sampled(value: &Value) -> Option<(Kind, u64)>
     ensures value { result ≡ sampled value.now }
     ensures holds { IfSome result (λ v. IsTrue (holds v.0 v.1)) }
 {

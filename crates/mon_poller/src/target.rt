@@ -84,12 +84,12 @@ impl Objects {
     pub fn try_clone(&self, alloc: Global) -> Result<Self, AllocError>
         ensures { IfOk result (λ o. o ≡ self.now) }
     {
-        Ok(Objects::new(copied(alloc, self.items.as_slice())?))
+        Ok(Objects::new(copy_objects(alloc, self.items.as_slice())?))
     }
 }
 
 /// Equal objects, in this order.
-fn copied(alloc: Global, all: &[Object]) -> Result<Vec<Object>, AllocError>
+fn copy_objects(alloc: Global, all: &[Object]) -> Result<Vec<Object>, AllocError>
     ensures { IfOk result (λ v. v.items ≡ all.now) }
 {
     let mut copies = Vec::with_capacity(alloc, all.len())?;

@@ -59,7 +59,7 @@ fn start(alloc: Global, polls: &mut Poller, target: u16) -> Option<String> {
 
 fn timeout(alloc: Global, polls: &mut Poller, id: u32) -> Option<String> {
     let tries = polls.has_tries(id);
-    match polls.timed_out(alloc, id).ok()? {
+    match polls.time_out(alloc, id).ok()? {
         TimedOut::Again { target, octets } => {
             let octets = hex::encode(alloc, octets.as_slice()).ok()?;
             format!(in alloc; "again {target} {octets} ({tries})").ok()

@@ -5,3 +5,4 @@ pub mod Reading
 pub mod Rehearsed
 pub mod Script
 pub mod ScriptFault
+pub mod Trial

@@ -2,4 +2,3 @@ mod Changing
 mod Onward
 mod Notices
 mod Wholly
-mod Windowed

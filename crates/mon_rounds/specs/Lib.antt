@@ -1,7 +1,6 @@
 pub mod Alarms
 pub mod AtSocket
 pub mod Course
-pub mod Found
 pub mod Given
 pub mod Next
 pub mod Noted
@@ -9,5 +8,4 @@ pub mod Order
 pub mod Orderly
 pub mod Reached
 pub mod Reception
-pub mod Trial
 pub mod Whole

@@ -69,7 +69,7 @@ impl Course {
     ///
     /// # Errors
     /// `AllocError`: then the next call returns these lines too.
-    pub fn changed(&mut self, alloc: Global, board: &Board) -> Result<Vec<String>, AllocError>
+    pub fn take_changes(&mut self, alloc: Global, board: &Board) -> Result<Vec<String>, AllocError>
         ensures lines { IfOk result (λ v. map string_bytes v.items ≡ map (change_line board.now.watch) (changes_from 0 self.old.alarms.items (states_of board.now))) }
         ensures told { OnOk result (self.new.alarms.items ≡ states_of board.now) }
         ensures kept { OnErr result (self.new.alarms ≡ self.old.alarms) }

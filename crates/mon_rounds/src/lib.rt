@@ -1,8 +1,7 @@
-//! A station's rounds over sockets. It follows no standard.  To run a station: `Addresses::of` its
+//! A station's rounds over sockets. It follows no standard. To run a station: `Addresses::of` its
 //! settings, a `SocketReceiver` and a `SocketOutbox` on one `Socket`, and `Rounds` over the
 //! receiver. `run_round` runs one round on a `Station`, `rest` receives between two rounds, and
-//! `RoundReport::of` says what is reported of it. `saved_board` returns the windows that a disk
-//! holds; `selftest` tries a station without a socket.
+//! `RoundReport::of` says what is reported of it.
 //! Contract: a round polls each target, receives, offers each peer what it is owed, receives again
 //! and saves, in this order; what it gives a station is fixed by what its receiver got, and only a
 //! datagram from a target or a peer begins a wait again.
@@ -15,10 +14,8 @@ mod receiver;
 mod reporting;
 mod round;
 mod running;
-mod saved;
 mod socket;
 mod source;
-mod trial;
 
 pub use addresses::Addresses;
 pub use course::{Course, debts_of, is_due, left_of};
@@ -26,7 +23,5 @@ pub use receiver::{Arrival, Receiver, ReceiverFault, Wait};
 pub use reporting::{Notice, RoundReport};
 pub use round::{Phase, Round, RoundEvent};
 pub use running::{rest, run_round};
-pub use saved::{board_in, saved_board};
 pub use socket::{Socket, SocketOutbox, SocketReceiver};
 pub use source::Rounds;
-pub use trial::{Trial, TrialFault, selftest};

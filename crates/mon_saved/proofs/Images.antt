@@ -11,10 +11,10 @@ use Rattle.std.proofs.lemmas.List.Concat.{flat_map-cons}
 use Rattle.mon_oid.specs.Steps.{◌>>=◌}
 use Rattle.mon_ber.proofs.Promised.{IsBytes, IsBytes-after, bind_ok, wanted, chosen, ok_is, pair_is}
 use Rattle.mon_board.specs.declared.instance.Instance.{Instance}
-use Rattle.mon_layout.specs.declared.fault.LayoutFault.{LayoutFault}
-use Rattle.mon_layout.specs.Layout.{numbers_octets, instance_octets, samples_octets, AreSamples}
-use Rattle.mon_layout.specs.Reading.{octet_at, field_at, samples_at, u32_at}
-use Rattle.mon_layout.proofs.Promised.{guard, octet_takes, octet_again, field_takes, field_again, samples_takes, u32_takes, u32_again}
+use Rattle.mon_fields.specs.declared.fault.LayoutFault.{LayoutFault}
+use Rattle.mon_fields.specs.Layout.{numbers_octets, instance_octets, samples_octets, AreSamples}
+use Rattle.mon_fields.specs.Reading.{octet_at, field_at, samples_at, u32_at}
+use Rattle.mon_fields.proofs.Promised.{guard, octet_takes, octet_again, field_takes, field_again, samples_takes, u32_takes, u32_again}
 use Rattle.mon_saved.specs.declared.fault.ImageFault.{ImageFault}
 use Rattle.mon_saved.specs.declared.fault.ImageFault.TheVariants.{OutOfMemory, Truncated, BadVersion, OtherWatch, BadImage}
 use Rattle.mon_saved.specs.declared.image.Entry.{Entry}

@@ -24,9 +24,9 @@ use Rattle.mon_board.specs.declared.instance.Watched.{Watched}
 use Rattle.mon_board.specs.Instance.{instances_of}
 use Rattle.mon_board.specs.Watch.{Watch, IsWatch, size_of}
 use Rattle.mon_board.specs.Windows.{IsWhole}
-use Rattle.mon_layout.specs.Layout.{instance_octets, samples_octets}
-use Rattle.mon_layout.specs.Reading.{with_front}
-use Rattle.mon_layout.proofs.Promised.{length-instance, length-samples}
+use Rattle.mon_fields.specs.Layout.{instance_octets, samples_octets}
+use Rattle.mon_fields.specs.Reading.{with_front}
+use Rattle.mon_fields.proofs.Promised.{length-instance, length-samples}
 use Rattle.mon_saved.specs.declared.fault.ImageFault.{ImageFault}
 use Rattle.mon_saved.specs.declared.fault.ImageFault.TheVariants.{OutOfMemory, Truncated, BadVersion, OtherWatch, BadImage}
 use Rattle.mon_saved.specs.declared.image.Entry.{Entry}

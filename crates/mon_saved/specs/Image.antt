@@ -4,7 +4,7 @@ use Rattle.std.specs.List.{AllByRecursion, filter}
 use Rattle.std.specs.Int.{w16, w32, to_be_bytes}
 use Rattle.mon_sample.specs.Key.{boots_of}
 use Rattle.mon_board.specs.declared.instance.Instance.{Instance}
-use Rattle.mon_layout.specs.Layout.{instance_octets, samples_octets, AreSamples}
+use Rattle.mon_fields.specs.Layout.{instance_octets, samples_octets, AreSamples}
 use Rattle.mon_saved.specs.declared.image.Entry.{Entry}
 use Rattle.mon_saved.specs.declared.image.Image.{Image}
 

@@ -7,8 +7,8 @@ use Rattle.std.specs.List.{list_all}
 use Rattle.mon_oid.specs.Steps.{◌>>=◌}
 use Rattle.mon_sample.specs.Key.{boots_of}
 use Rattle.mon_board.specs.declared.instance.Instance.{Instance}
-use Rattle.mon_layout.specs.declared.fault.LayoutFault.{LayoutFault}
-use Rattle.mon_layout.specs.Reading.{octet_at, field_at, u32_at, samples_at}
+use Rattle.mon_fields.specs.declared.fault.LayoutFault.{LayoutFault}
+use Rattle.mon_fields.specs.Reading.{octet_at, field_at, u32_at, samples_at}
 use Rattle.mon_saved.specs.declared.fault.ImageFault.{ImageFault}
 use Rattle.mon_saved.specs.declared.fault.ImageFault.TheVariants.{OutOfMemory, Truncated, BadVersion, OtherWatch, BadImage}
 use Rattle.mon_saved.specs.declared.image.Entry.{Entry}

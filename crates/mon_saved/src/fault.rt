@@ -4,7 +4,7 @@ ghost use Rattle.std.specs.Prelude.{◌≡◌};
 ghost use Rattle.mon_saved.specs.declared.fault.ImageFault.TheVariants.{OutOfMemory};
 ghost use Rattle.mon_saved.specs.Fault.{image_fault, number_of, name_of};
 
-use mon_layout::LayoutFault;
+use mon_fields::LayoutFault;
 use std::alloc::{AllocError, AllocFailed};
 use thiserror::Error;
 

@@ -2,7 +2,7 @@
 
 ghost use Rattle.std.specs.Prelude.{◌≡◌};
 
-use mon_layout::SampleList;
+use mon_fields::SampleList;
 use std::marker::Model;
 
 /// What an image says of an instance.

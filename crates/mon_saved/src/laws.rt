@@ -15,7 +15,7 @@ ghost use Rattle.mon_saved.specs.Written.{image_of, written_image};
 pub fn one_image()
     ensures { (octets : List ℕ) (instances : List AnyInstance) (a b : AnyImage) → SpellsImage octets instances a → SpellsImage octets instances b → a ≡ b }
 {
-    mon_layout::laws::samples();
+    mon_fields::laws::samples();
 }
 
 /// The image of a board has the samples of its windows.

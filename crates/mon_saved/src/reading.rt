@@ -13,7 +13,7 @@ ghost use Rattle.mon_saved.specs.Reading.{Fails, Gives, octet_within, magic_at, 
 use crate::fault::ImageFault;
 use crate::image::{Entries, Entry, Image};
 use mon_board::{Instance, Watch, Watched};
-use mon_layout::{SampleList, field_at, octet_at, samples_at, u32_at};
+use mon_fields::{SampleList, field_at, octet_at, samples_at, u32_at};
 use mon_sample::Sample;
 use std::alloc::Global;
 
@@ -240,6 +240,6 @@ pub fn read(alloc: Global, watch: &Watch, octets: &[u8]) -> Result<Image, ImageF
     // Which fault it is: the first from left to right.
     ensures fault { IfErr result (λ e. Fails e (image_at (instances_of watch.now.instances) octets.now)) }
 {
-    mon_layout::laws::samples();
+    mon_fields::laws::samples();
     image_at(alloc, watch, octets)
 }

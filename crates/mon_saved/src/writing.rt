@@ -12,7 +12,7 @@ ghost use Rattle.mon_saved.specs.Image.{Two, SpellsImage, IsEntry, entry_octets,
 ghost use Rattle.mon_saved.specs.Written.{entry_of, entries_from, image_of, written_image};
 
 use mon_board::{Board, Watched};
-use mon_layout::{
+use mon_fields::{
     instance_size, put_instance, put_octet, put_octets, put_samples, put_u32, samples_size,
 };
 use mon_sample::Sample;

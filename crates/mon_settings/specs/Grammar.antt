@@ -1,7 +1,7 @@
 -- The grammar of the settings: which keys each table may have. It is said here and nowhere else.
 use Rattle.std.specs.Prelude.{List, [], ◌∷◌}
-use Rattle.mon_settings.specs.declared.grammar.Kind.{Kind}
-use Rattle.mon_settings.specs.declared.grammar.Kind.TheVariants as kind
+use Rattle.mon_settings.specs.declared.grammar.SettingsKind.{SettingsKind}
+use Rattle.mon_settings.specs.declared.grammar.SettingsKind.TheVariants as kind
 use Rattle.mon_settings.specs.declared.key.Key.{Key}
 use Rattle.mon_settings.specs.declared.key.Key.TheVariants as key
 
@@ -40,6 +40,6 @@ table_keys key.Alarm = key.Engine ∷ key.Name ∷ key.Rising ∷ key.Falling �
 table_keys _ = []
 
 -- the keys of a text's top table
-abbrev pub top_keys : Kind → List Key
+abbrev pub top_keys : SettingsKind → List Key
 top_keys kind.Agent = agent_keys
 top_keys kind.Station = station_keys

@@ -10,7 +10,7 @@ ghost use Rattle.mon_settings.specs.Text.{IsReadAs, IsRefusal, Says};
 ghost use Rattle.toml.specs.View.{table_view};
 
 use crate::fault::{Read, SettingsFault};
-use crate::grammar::{Kind, top_keys};
+use crate::grammar::{SettingsKind, top_keys};
 use crate::key::Key;
 use crate::leaf::Reader;
 use crate::tables::{read_interfaces, read_policy};
@@ -80,7 +80,7 @@ fn read_tree(reader: &Reader<'_>) -> Read<AgentSettings>
     ensures gives { Reads (λ s. agent_view s) (agent_of (table_view reader.now.table.now)) result }
     ensures indexes { IfOk result (λ s. AreIndexes (indexes_of s.interfaces.items)) }
 {
-    reader.only(top_keys(Kind::Agent))?;
+    reader.only(top_keys(SettingsKind::Agent))?;
     let System {
         listen,
         settings,

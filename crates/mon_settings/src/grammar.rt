@@ -8,7 +8,7 @@ use crate::key::Key::*;
 
 /// Whose settings a text holds.
 #[derive(Clone, Copy, Debug, PartialEq, Eq)]
-pub enum Kind {
+pub enum SettingsKind {
     /// An agent's, as `read_agent` reads them.
     Agent,
     /// A station's, as `read_station` reads them.
@@ -48,11 +48,11 @@ pub fn table_keys(key: Key) -> &'static [Key]
 }
 
 /// Returns the keys of a text's top table.
-pub fn top_keys(kind: Kind) -> &'static [Key]
+pub fn top_keys(kind: SettingsKind) -> &'static [Key]
     ensures { result.now ≡ top_keys kind }
 {
     match kind {
-        Kind::Agent => &AGENT,
-        Kind::Station => &STATION,
+        SettingsKind::Agent => &AGENT,
+        SettingsKind::Station => &STATION,
     }
 }

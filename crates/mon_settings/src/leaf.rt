@@ -42,7 +42,7 @@ impl<'t> Reader<'t> {
     }
 
     /// The value at a key, which must be there.
-    pub(crate) fn needed(&self, key: Key) -> Read<&'t Value>
+    pub(crate) fn need(&self, key: Key) -> Read<&'t Value>
         ensures there { IfOk result (λ v. get_member (key_name key) (table_view self.now.table.now) ≡ Some (view v.now)) }
         ensures missing { IfErr result (λ e. (get_member (key_name key) (table_view self.now.table.now) ≡ None) × (e ≡ missing_key key)) }
     {
@@ -55,7 +55,7 @@ impl<'t> Reader<'t> {
         ensures great { IfOk result (λ n. least ≤ n) }
         ensures small { IfOk result (λ n. n ≤ most) }
     {
-        match number_in(self.needed(key)?, least, most) {
+        match number_in(self.need(key)?, least, most) {
             Some(n) => Ok(n),
             None => Err(SettingsFault::bad(key)),
         }
@@ -76,7 +76,7 @@ impl<'t> Reader<'t> {
         requires { most < 2 ^ 31 }
         ensures { result ≡ needed_at key (int_in least most) (table_view self.now.table.now) }
     {
-        int_in(self.needed(key)?, least, most).ok_or(SettingsFault::bad(key))
+        int_in(self.need(key)?, least, most).ok_or(SettingsFault::bad(key))
     }
 
     /// Returns the signed number at a key, or another number if the key is left out.
@@ -94,7 +94,7 @@ impl<'t> Reader<'t> {
     pub(crate) fn long(&self, key: Key) -> Read<i64>
         ensures { result ≡ needed_at key as_integer (table_view self.now.table.now) }
     {
-        self.needed(key)?
+        self.need(key)?
             .as_integer()
             .ok_or(SettingsFault::bad(key))
     }
@@ -103,14 +103,14 @@ impl<'t> Reader<'t> {
     pub(crate) fn truth(&self, key: Key) -> Read<bool>
         ensures { result ≡ needed_at key as_bool (table_view self.now.table.now) }
     {
-        self.needed(key)?.as_bool().ok_or(SettingsFault::bad(key))
+        self.need(key)?.as_bool().ok_or(SettingsFault::bad(key))
     }
 
     /// The address at a key.
     pub(crate) fn addr(&self, key: Key) -> Read<Addr>
         ensures { result ≡ needed_at key addr_in (table_view self.now.table.now) }
     {
-        let text = self.needed(key)?.as_str();
+        let text = self.need(key)?.as_str();
         text.and_then(Addr::parse).ok_or(SettingsFault::bad(key))
     }
 
@@ -118,7 +118,7 @@ impl<'t> Reader<'t> {
     pub(crate) fn model(&self, key: Key) -> Read<SecurityModel>
         ensures { result ≡ needed_at key model_in (table_view self.now.table.now) }
     {
-        let number = self.needed(key)?.as_integer();
+        let number = self.need(key)?.as_integer();
         number.and_then(model_of).ok_or(SettingsFault::bad(key))
     }
 
@@ -127,7 +127,7 @@ impl<'t> Reader<'t> {
         ensures gives { Reads (λ s. s.now) (needed_at key (text_in least most) (table_view self.now.table.now)) result }
         ensures no_memory { result ≢ Err SettingsFault.OutOfMemory }
     {
-        match text_in(self.needed(key)?, least, most) {
+        match text_in(self.need(key)?, least, most) {
             Some(text) => Ok(text),
             None => Err(SettingsFault::bad(key)),
         }
@@ -158,8 +158,8 @@ impl<'t> Reader<'t> {
     pub(crate) fn hex(&self, key: Key, least: usize, most: usize) -> Read<Octets>
         ensures { Reads (λ o. o) (needed_at key (hex_in least most) (table_view self.now.table.now)) result }
     {
-        match self.needed(key)?.as_str() {
-            Some(text) => decoded(self.alloc, text, key, least, most),
+        match self.need(key)?.as_str() {
+            Some(text) => decode_hex(self.alloc, text, key, least, most),
             None => Err(SettingsFault::bad(key)),
         }
     }
@@ -179,8 +179,8 @@ impl<'t> Reader<'t> {
     pub(crate) fn oid(&self, key: Key) -> Read<Oid>
         ensures { Reads (λ o. o) (needed_at key oid_in (table_view self.now.table.now)) result }
     {
-        match self.needed(key)?.as_str() {
-            Some(text) => parsed(self.alloc, text, key),
+        match self.need(key)?.as_str() {
+            Some(text) => parse_oid(self.alloc, text, key),
             None => Err(SettingsFault::bad(key)),
         }
     }
@@ -190,8 +190,8 @@ impl<'t> Reader<'t> {
     pub(crate) fn object(&self, names: &Names, key: Key) -> Read<Oid>
         ensures { Reads (λ o. o) (name_at (resolution names.now) key (table_view self.now.table.now)) result }
     {
-        match self.needed(key)?.as_str() {
-            Some(text) => resolved(self.alloc, names, key, text),
+        match self.need(key)?.as_str() {
+            Some(text) => resolve_name(self.alloc, names, key, text),
             None => Err(SettingsFault::bad(key)),
         }
     }
@@ -246,7 +246,7 @@ pub(crate) fn text_in(value: &Value, least: usize, most: usize) -> Option<&str>
     }
 }
 
-fn decoded(alloc: Global, text: &str, key: Key, least: usize, most: usize) -> Read<Octets>
+fn decode_hex(alloc: Global, text: &str, key: Key, least: usize, most: usize) -> Read<Octets>
     ensures { Reads (λ o. o) (or_bad key (hex_of least most text.now)) result }
 {
     match hex::decode(alloc, text) {
@@ -257,7 +257,7 @@ fn decoded(alloc: Global, text: &str, key: Key, least: usize, most: usize) -> Re
     }
 }
 
-fn parsed(alloc: Global, text: &str, key: Key) -> Read<Oid>
+fn parse_oid(alloc: Global, text: &str, key: Key) -> Read<Oid>
     ensures { Reads (λ o. o) (or_bad key (oid_of text.now)) result }
 {
     match Oid::parse(alloc, text) {
@@ -276,18 +276,18 @@ fn refused(fault: OidFault, key: Key) -> SettingsFault
 }
 
 /// What the text at a key resolves to.
-fn resolved(alloc: Global, names: &Names, key: Key, text: &str) -> Read<Oid>
+fn resolve_name(alloc: Global, names: &Names, key: Key, text: &str) -> Read<Oid>
     ensures { Reads (λ o. o) (or_unknown key (resolution names.now text.now)) result }
 {
     crate::laws::resolving();
     match names.resolve(alloc, text) {
         Ok(oid) => Ok(oid),
-        Err(fault) => Err(unresolved(fault, key)),
+        Err(fault) => Err(refuse_name(fault, key)),
     }
 }
 
 /// What a name at a key that does not resolve is to the settings.
-fn unresolved(fault: NamesFault, key: Key) -> SettingsFault
+fn refuse_name(fault: NamesFault, key: Key) -> SettingsFault
     ensures { result ≡ unresolved key fault }
 {
     match fault {

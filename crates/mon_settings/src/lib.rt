@@ -25,7 +25,7 @@ mod wanted;
 
 pub use agent::{AgentSettings, read_agent};
 pub use fault::SettingsFault;
-pub use grammar::{Kind, table_keys, top_keys};
+pub use grammar::{SettingsKind, table_keys, top_keys};
 pub use key::Key;
 pub use keys::first_unknown;
 pub use modules::module_files;

@@ -84,7 +84,7 @@ impl Reader<'_> {
     ) -> Read<Vec<R>>
         ensures { Reads (λ rs. rs.items) (rows_between key least most (R.row_of around.now) (table_view self.now.table.now)) result }
     {
-        match list_between(self.needed(key)?, least, most) {
+        match list_between(self.need(key)?, least, most) {
             Some(values) => read_rows(self.alloc, around, key, values),
             None => Err(SettingsFault::bad(key)),
         }

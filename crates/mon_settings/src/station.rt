@@ -11,7 +11,7 @@ ghost use Rattle.mon_settings.specs.Text.{IsReadAs, IsRefusal, Says};
 ghost use Rattle.toml.specs.View.{table_view};
 
 use crate::fault::{Read, SettingsFault};
-use crate::grammar::{Kind, top_keys};
+use crate::grammar::{SettingsKind, top_keys};
 use crate::key::Key;
 use crate::leaf::Reader;
 use crate::modules::modules_at;
@@ -182,7 +182,7 @@ fn rules_at(reader: &Reader<'_>, around: &Around<'_>, instances: &[Watched]) -> 
 fn read_tree(reader: &Reader<'_>, names: &Names) -> Read<StationSettings>
     ensures { Reads station_view (station_of (resolution names.now) (table_view reader.now.table.now)) result }
 {
-    reader.only(top_keys(Kind::Station))?;
+    reader.only(top_keys(SettingsKind::Station))?;
     let scalars = read_scalars(reader)?;
     let around = Around {
         names,

@@ -128,7 +128,7 @@ impl Core {
         ensures { IfOk result (λ c. c ≡ record self.now { station = station; peers = peers.now }) }
     {
         let watch = self.watch.try_clone(alloc)?;
-        let targets = copied(alloc, self.targets.as_slice())?;
+        let targets = copy_targets(alloc, self.targets.as_slice())?;
         let peers = numbers(alloc, peers)?;
         Ok(Core {
             station,
@@ -140,7 +140,7 @@ impl Core {
 }
 
 /// Equal targets, in this order.
-fn copied(alloc: Global, all: &[Target]) -> Result<Vec<Target>, AllocError>
+fn copy_targets(alloc: Global, all: &[Target]) -> Result<Vec<Target>, AllocError>
     ensures { IfOk result (λ v. v.items ≡ all.now) }
 {
     let mut copies = Vec::with_capacity(alloc, all.len())?;

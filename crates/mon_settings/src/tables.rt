@@ -143,7 +143,7 @@ fn growth_of(reader: &Reader<'_>) -> Read<Growth>
 fn growth_at(reader: &Reader<'_>, key: Key) -> Read<Growth>
     ensures { result ≡ growth_at key (table_view reader.now.table.now) }
 {
-    match reader.needed(key)?.as_table() {
+    match reader.need(key)?.as_table() {
         Some(table) => growth_of(&Reader {
             alloc: reader.alloc,
             table,

@@ -3,7 +3,7 @@ use Rattle.std.proofs.Common.{◌≡◌, ℕ, zero, suc, ◌+◌, ◌-◌, ◌<�
 use Rattle.std.specs.Prelude.{option_to_list, codes, IfOk}
 use Rattle.std.proofs.Math.Seq.{drop-cons}
 use Rattle.std.proofs.lemmas.List.{length-map, map-append, take_all}
-use Rattle.mon_smi.specs.declared.kind.Kind.TheVariants.{Assign}
+use Rattle.mon_smi.specs.declared.kind.TokenKind.TheVariants.{Assign}
 use Rattle.mon_smi.specs.declared.token.Span.{Span}
 use Rattle.mon_smi.specs.declared.token.Token.{Token}
 use Rattle.mon_smi.specs.declared.definition.Definition.{Definition}

@@ -2,7 +2,7 @@
 -- also stuck.
 use Rattle.std.proofs.Common.{◌≡◌, ℕ, zero, suc, ◌+◌, ◌<◌, ◌≤◌, List, [], ◌∷◌, ◌++◌, length, take, drop, Option, Some, None, Result, Ok, Err, rules, sym, refl, ap, ◌∙◌, subst, arith, append_assoc, append-nil, take-append-drop, length-take-le, length-append, ◌⊎◌, ⊎_elim}
 use Rattle.std.specs.Prelude.{IfSome, IfOk, IsErr, IsTrue}
-use Rattle.mon_smi.specs.declared.kind.Kind.{Kind}
+use Rattle.mon_smi.specs.declared.kind.TokenKind.{TokenKind}
 use Rattle.mon_smi.specs.declared.token.Token.{Token}
 use Rattle.mon_smi.specs.declared.token.Piece.{Piece}
 use Rattle.mon_smi.specs.declared.text_fault.TextFault.{TextFault}
@@ -20,7 +20,7 @@ if_some P None p is h = absurd (cc)
 if_some P (Some q) p is h = subst P (one_piece q p is) h
 
 -- another token at this place is no longer
-no_longer : (text : List ℕ) (kind other : Kind) (n m : ℕ) → piece_at text ≡ Some (piece kind n) → m ≤ length text → IsSpelled other (take m text) → m ≤ n
+no_longer : (text : List ℕ) (kind other : TokenKind) (n m : ℕ) → piece_at text ≡ Some (piece kind n) → m ≤ length text → IsSpelled other (take m text) → m ≤ n
 no_longer text kind other n m is within spelled =
     let f = found_at other (take m text) (drop m text) spelled in
     let there : Some (piece f.found f.len) ≡ Some (piece kind n) = sym f.is ∙ ap piece_at (take-append-drop m text) ∙ is in
@@ -33,7 +33,7 @@ no_longer text kind other n m is within spelled =
 pub takes : (text : List ℕ) (p : Piece) → piece_at text ≡ Some p → IsPiece p text
 takes text p is = go p.kind p.len is (if_some (Taken text) (piece_at text) p is (spelled_at text))
   where
-    go : (kind : Option Kind) (n : ℕ) → piece_at text ≡ Some (record { kind = kind; len = n }) → TakenAs kind n text → IsPieceOf kind n text
+    go : (kind : Option TokenKind) (n : ℕ) → piece_at text ≡ Some (record { kind = kind; len = n }) → TakenAs kind n text → IsPieceOf kind n text
     go None n found taken = taken
     go (Some kind) n found taken = record { within = taken.0; spelled = taken.1; longest = λ other m within spelled. no_longer text kind other n m found within spelled }
 
@@ -41,7 +41,7 @@ takes text p is = go p.kind p.len is (if_some (Taken text) (piece_at text) p is 
 pub again : (text : List ℕ) (p : Piece) → IsPiece p text → piece_at text ≡ Some p
 again text p is = go p.kind p.len is
   where
-    go : (kind : Option Kind) (n : ℕ) → IsPieceOf kind n text → piece_at text ≡ Some (record { kind = kind; len = n })
+    go : (kind : Option TokenKind) (n : ℕ) → IsPieceOf kind n text → piece_at text ≡ Some (record { kind = kind; len = n })
     go None n passed = passed_at n text passed
     go (Some kind) n longest =
         let f = found_at kind (take n text) (drop n text) longest.spelled in
@@ -51,7 +51,7 @@ again text p is = go p.kind p.len is
         let below = f.most in
         let len : length (take n text) ≡ n = length-take-le n text longest.within in
         let n_is : f.len ≡ n = omega arith in
-        found ∙ ap (λ (k : Kind). Some (piece k f.len)) (f.same (omega arith)) ∙ ap (λ k. Some (piece kind k)) n_is
+        found ∙ ap (λ (k : TokenKind). Some (piece k f.len)) (f.same (omega arith)) ∙ ap (λ k. Some (piece kind k)) n_is
 
 pub nothing_stands : (text : List ℕ) → 0 < length text → piece_at text ≡ None → NothingStands text
 nothing_stands text some none = (some, λ p is. let found : piece_at text ≡ Some p = again text p is in absurd (cc))
@@ -64,14 +64,14 @@ nothing_there p is = absurd (cc)
 pub piece_within : (text : List ℕ) (p : Piece) → piece_at text ≡ Some p → p.len ≤ length text
 piece_within text p is = go p.kind p.len (takes text p is)
   where
-    go : (kind : Option Kind) (n : ℕ) → IsPieceOf kind n text → n ≤ length text
+    go : (kind : Option TokenKind) (n : ℕ) → IsPieceOf kind n text → n ≤ length text
     go None n passed = passed.0
     go (Some kind) n longest = longest.within
 
 pub piece_some : (text : List ℕ) (p : Piece) → piece_at text ≡ Some p → 0 < p.len
 piece_some text p is = go p.kind p.len (takes text p is)
   where
-    no_token : (kind : Kind) → IsSpelled kind [] → ⊥
+    no_token : (kind : TokenKind) → IsSpelled kind [] → ⊥
     no_token kind spelled = let f = found_at kind [] [] spelled in nothing_there (piece f.found f.len) f.is
 
     no_comment : (rest : List ℕ) → IsComment [] rest → ⊥
@@ -83,7 +83,7 @@ piece_some text p is = go p.kind p.len (takes text p is)
     none_taken : ((b : ℕ) × (take 0 text ≡ b ∷ []) × IsTrue (is_space b)) ⊎ IsComment (take 0 text) (drop 0 text) → ⊥
     none_taken passed = ⊎_elim (λ space. let no : length (take 0 text) ≡ 1 = ap (λ (l : List ℕ). length l) space.1 in absurd (omega arith)) (λ comment. no_comment (drop 0 text) comment) passed
 
-    go : (kind : Option Kind) (n : ℕ) → IsPieceOf kind n text → 0 < n
+    go : (kind : Option TokenKind) (n : ℕ) → IsPieceOf kind n text → 0 < n
     go None zero passed = absurd (none_taken passed.1)
     go (Some kind) zero longest = absurd (no_token kind longest.spelled)
     go kind (suc n) is_piece = omega arith

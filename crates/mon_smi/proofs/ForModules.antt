@@ -4,8 +4,8 @@ use Rattle.std.specs.Prelude.{IsTrue, ◌||◌, ◌&&◌, not, codes, option_to_
 use Rattle.std.specs.List.{flat_map}
 use Rattle.std.specs.Char.{is_ascii_lowercase, is_ascii_uppercase}
 use Rattle.std.proofs.lemmas.Bool.Decides.{nat_tests}
-use Rattle.mon_smi.specs.declared.kind.Kind.{Kind}
-use Rattle.mon_smi.specs.declared.kind.Kind.TheVariants.{Assign, Semicolon, Quoted}
+use Rattle.mon_smi.specs.declared.kind.TokenKind.{TokenKind}
+use Rattle.mon_smi.specs.declared.kind.TokenKind.TheVariants.{Assign, Semicolon, Quoted}
 use Rattle.mon_smi.specs.declared.part.Part.TheVariants.{Text}
 use Rattle.mon_smi.specs.declared.definition.Definition.{Definition}
 use Rattle.mon_smi.specs.Lexemes.{Lexeme, word, number, mark, is_word, is_mark, begins_small, begins_capital}
@@ -17,7 +17,7 @@ use Rattle.mon_smi.proofs.ForValues.{TakesOne, pair_parts, some_parts, from_left
 
 -- ---- heads
 
-up_to_takes : (kind : Kind) (ls rest : List Lexeme) → up_to kind ls ≡ Ok rest → (front : List Lexeme) × IsFree kind front × (ls ≡ front ++ rest) × ((more : List Lexeme) × (rest ≡ mark kind ∷ more))
+up_to_takes : (kind : TokenKind) (ls rest : List Lexeme) → up_to kind ls ≡ Ok rest → (front : List Lexeme) × IsFree kind front × (ls ≡ front ++ rest) × ((more : List Lexeme) × (rest ≡ mark kind ∷ more))
 up_to_takes kind [] rest is = absurd (cc)
 up_to_takes kind (l ∷ ls) rest is =
     ⊎_elim
@@ -30,7 +30,7 @@ up_to_takes kind (l ∷ ls) rest is =
     no_mark : is_mark kind l ≡ false → l ≡ mark kind → ⊥
     no_mark no_case same = let yes_case : is_mark kind l ≡ true = ap (is_mark kind) same ∙ mark_self kind in absurd (cc)
 
-up_to_again : (kind : Kind) (front more : List Lexeme) → IsFree kind front → up_to kind (front ++ mark kind ∷ more) ≡ Ok (mark kind ∷ more)
+up_to_again : (kind : TokenKind) (front more : List Lexeme) → IsFree kind front → up_to kind (front ++ mark kind ∷ more) ≡ Ok (mark kind ∷ more)
 up_to_again kind [] more free = rw (mark_self kind) refl
 up_to_again kind (l ∷ ls) more free = rw (other_mark kind l free.0) (up_to_again kind ls more free.1)
 

@@ -3,8 +3,8 @@ use Rattle.std.proofs.Common.{◌≡◌, ℕ, zero, suc, ◌-◌, Bool, true, fa
 use Rattle.std.specs.Prelude.{IsTrue, ◌||◌, ◌&&◌, ◌==◌, not, codes, if◌then◌else◌}
 use Rattle.std.proofs.lemmas.Bool.{eqb-true}
 use Rattle.std.proofs.lemmas.Bool.Decides.{nat_tests}
-use Rattle.mon_smi.specs.declared.kind.Kind.{Kind}
-use Rattle.mon_smi.specs.declared.kind.Kind.TheVariants.{Word, Number, Quoted, Hex, Binary, Assign, Range, LeftBrace, RightBrace, LeftParen, RightParen, LeftBracket, RightBracket, Comma, Semicolon, Dot, Bar}
+use Rattle.mon_smi.specs.declared.kind.TokenKind.{TokenKind}
+use Rattle.mon_smi.specs.declared.kind.TokenKind.TheVariants.{Word, Number, Quoted, Hex, Binary, Assign, Range, LeftBrace, RightBrace, LeftParen, RightParen, LeftBracket, RightBracket, Comma, Semicolon, Dot, Bar}
 use Rattle.mon_smi.specs.declared.part.Part.{Part}
 use Rattle.mon_smi.specs.declared.part.Part.TheVariants.{Syntax, Text, Access, Status, Word, Group}
 use Rattle.mon_smi.specs.Lexemes.{Lexeme, word, number, mark, code_of, same_text, is_word, is_mark, begins_capital, is_capital, is_any_word}
@@ -45,13 +45,13 @@ pub same_self : (w : List ℕ) → same_text w w ≡ true
 same_self [] = refl
 same_self (a ∷ xs) = rw (same_number a) (same_self xs)
 
-abbrev kind_of : ℕ → Kind
+abbrev kind_of : ℕ → TokenKind
 kind_of n =
     if n == 0 then Word else (if n == 1 then Number else (if n == 2 then Quoted else (if n == 3 then Hex else (if n == 4 then Binary else (if n == 5 then Assign else
     (if n == 6 then Range else (if n == 7 then LeftBrace else (if n == 8 then RightBrace else (if n == 9 then LeftParen else (if n == 10 then RightParen else (if n == 11 then LeftBracket else
     (if n == 12 then RightBracket else (if n == 13 then Comma else (if n == 14 then Semicolon else (if n == 15 then Dot else Bar)))))))))))))))
 
-kind_back : (k : Kind) → kind_of (code_of k) ≡ k
+kind_back : (k : TokenKind) → kind_of (code_of k) ≡ k
 kind_back Word = refl
 kind_back Number = refl
 kind_back Quoted = refl
@@ -75,15 +75,15 @@ word_is w (word v) is = ap (λ (x : List ℕ). word x) (same_is v w is)
 word_is w (number d) is = absurd (cc)
 word_is w (mark k) is = absurd (cc)
 
-pub mark_is : (k : Kind) (l : Lexeme) → is_mark k l ≡ true → l ≡ mark k
+pub mark_is : (k : TokenKind) (l : Lexeme) → is_mark k l ≡ true → l ≡ mark k
 mark_is k (word v) is = absurd (cc)
 mark_is k (number d) is = absurd (cc)
-mark_is k (mark j) is = ap (λ (x : Kind). mark x) (sym (kind_back j) ∙ ap kind_of (eqb-true (code_of j) (code_of k) is) ∙ kind_back k)
+mark_is k (mark j) is = ap (λ (x : TokenKind). mark x) (sym (kind_back j) ∙ ap kind_of (eqb-true (code_of j) (code_of k) is) ∙ kind_back k)
 
 pub word_self : (w : List ℕ) → is_word w (word w) ≡ true
 word_self w = same_self w
 
-pub mark_self : (k : Kind) → is_mark k (mark k) ≡ true
+pub mark_self : (k : TokenKind) → is_mark k (mark k) ≡ true
 mark_self k = same_number (code_of k)
 
 -- ---- readers of what follows
@@ -152,10 +152,10 @@ word_takes w = one_takes (is_word w) (IsThis (word w)) (λ l is. ap (λ (x : Lex
 pub word_again : (w : List ℕ) → Again (IsThis (word w)) Any (word_at w)
 word_again w = one_again (is_word w) (IsThis (word w)) (λ text is. (word w, is, word_self w))
 
-pub mark_takes : (k : Kind) → Takes (IsThis (mark k)) (mark_at k)
+pub mark_takes : (k : TokenKind) → Takes (IsThis (mark k)) (mark_at k)
 mark_takes k = one_takes (is_mark k) (IsThis (mark k)) (λ l is. ap (λ (x : Lexeme). x ∷ []) (mark_is k l is))
 
-pub mark_again : (k : Kind) → Again (IsThis (mark k)) Any (mark_at k)
+pub mark_again : (k : TokenKind) → Again (IsThis (mark k)) Any (mark_at k)
 mark_again k = one_again (is_mark k) (IsThis (mark k)) (λ text is. (mark k, is, mark_self k))
 
 pub this_word : (w : List ℕ) (l : Lexeme) → is_word w l ≡ true → l ∷ [] ≡ word w ∷ []
@@ -163,7 +163,7 @@ this_word w l is = ap (λ (x : Lexeme). x ∷ []) (word_is w l is)
 
 -- ---- groups
 
-nested_takes : (left right : Kind) (depth : ℕ) (ls rest : List Lexeme) → nested_at left right depth ls ≡ Ok rest → (inner : List Lexeme) × IsNested left right depth inner × (ls ≡ inner ++ mark right ∷ rest)
+nested_takes : (left right : TokenKind) (depth : ℕ) (ls rest : List Lexeme) → nested_at left right depth ls ≡ Ok rest → (inner : List Lexeme) × IsNested left right depth inner × (ls ≡ inner ++ mark right ∷ rest)
 nested_takes left right depth [] rest is = absurd (cc)
 nested_takes left right depth (l ∷ ls) rest is =
     ⊎_elim
@@ -180,17 +180,17 @@ nested_takes left right depth (l ∷ ls) rest is =
     (chosen (is_mark right l) (cond (depth == 0) (Ok ls) (nested_at left right (depth - 1) ls)) (nested_at left right depth ls) rest other.1))
     (chosen (is_mark left l) (nested_at left right (suc depth) ls) (cond (is_mark right l) (cond (depth == 0) (Ok ls) (nested_at left right (depth - 1) ls)) (nested_at left right depth ls)) rest is)
   where
-    no_mark : (k : Kind) (x : Lexeme) → is_mark k x ≡ false → x ≡ mark k → ⊥
+    no_mark : (k : TokenKind) (x : Lexeme) → is_mark k x ≡ false → x ≡ mark k → ⊥
     no_mark k x no_case same = let yes_case : is_mark k x ≡ true = ap (is_mark k) same ∙ mark_self k in absurd (cc)
 
     positive : (n : ℕ) → (n == 0) ≡ false → n ≡ suc (n - 1)
     positive zero some = absurd (cc)
     positive (suc n) some = omega arith
 
-pub other_mark : (k : Kind) (l : Lexeme) → (l ≡ mark k → ⊥) → is_mark k l ≡ false
+pub other_mark : (k : TokenKind) (l : Lexeme) → (l ≡ mark k → ⊥) → is_mark k l ≡ false
 other_mark k l other = not_false (is_mark k l) (λ is. other (mark_is k l is))
 
-nested_again : (left right : Kind) → is_mark left (mark right) ≡ false → (depth : ℕ) (inner rest : List Lexeme) → IsNested left right depth inner → nested_at left right depth (inner ++ mark right ∷ rest) ≡ Ok rest
+nested_again : (left right : TokenKind) → is_mark left (mark right) ≡ false → (depth : ℕ) (inner rest : List Lexeme) → IsNested left right depth inner → nested_at left right depth (inner ++ mark right ∷ rest) ≡ Ok rest
 nested_again left right apart depth [] rest is = rw (apart, mark_self right, is) refl
 nested_again left right apart depth (l ∷ ls) rest is =
     ⊎_elim
@@ -209,7 +209,7 @@ nested_again left right apart depth (l ∷ ls) rest is =
     positive : (n : ℕ) → (suc n == 0) ≡ false
     positive n = grind (arith, nat_tests)
 
-pub group_takes : (left right : Kind) → Takes (IsBalanced left right) (group_at left right)
+pub group_takes : (left right : TokenKind) → Takes (IsBalanced left right) (group_at left right)
 unfolding group_at
 group_takes left right ls rest is =
     let x = bind_ok (mark_at left ls) (nested_at left right 0) rest is in
@@ -217,7 +217,7 @@ group_takes left right ls rest is =
     let q = nested_takes left right 0 x.0 rest x.2 in
     (mark left ∷ q.0 ++ mark right ∷ [], (q.0, refl, q.1), p.2 ∙ ap (λ (k : List Lexeme). k ++ x.0) p.1 ∙ ap (λ (k : List Lexeme). mark left ∷ k) (q.2 ∙ sym (append_assoc q.0 (mark right ∷ []) rest)))
 
-pub group_again : (left right : Kind) → is_mark left (mark right) ≡ false → Again (IsBalanced left right) Any (group_at left right)
+pub group_again : (left right : TokenKind) → is_mark left (mark right) ≡ false → Again (IsBalanced left right) Any (group_at left right)
 unfolding group_at
 group_again left right apart text rest is follows =
     let whole : text ++ rest ≡ mark left ∷ is.0 ++ mark right ∷ rest = ap (λ (k : List Lexeme). k ++ rest) is.1 ∙ ap (λ (k : List Lexeme). mark left ∷ k) (append_assoc is.0 (mark right ∷ []) rest) in

@@ -6,8 +6,8 @@ use Rattle.std.proofs.lemmas.Str.{IsUtf8-from_ascii}
 use Rattle.std.proofs.lemmas.List.{drop-drop, get_or_past, take_more, take_all}
 use Rattle.std.proofs.lemmas.Bool.Decides.{nat_tests}
 use Rattle.std.proofs.str.Laws.{order}
-use Rattle.mon_smi.specs.declared.kind.Kind.{Kind}
-use Rattle.mon_smi.specs.declared.kind.Kind.TheVariants as kinds
+use Rattle.mon_smi.specs.declared.kind.TokenKind.{TokenKind}
+use Rattle.mon_smi.specs.declared.kind.TokenKind.TheVariants as kinds
 use Rattle.mon_smi.specs.declared.token.Token.{Token}
 use Rattle.mon_smi.specs.declared.token.Piece.{Piece}
 use Rattle.mon_smi.specs.declared.definition.Definition.{Definition}
@@ -64,7 +64,7 @@ number_utf8 text number =
 
 -- ---- tokens are in the text
 
-piece_within : (kind : Option Kind) (n : ℕ) (rest : List ℕ) → IsPieceOf kind n rest → n ≤ length rest
+piece_within : (kind : Option TokenKind) (n : ℕ) (rest : List ℕ) → IsPieceOf kind n rest → n ≤ length rest
 piece_within None n rest piece = piece.0
 piece_within (Some kind) n rest piece = piece.within
 
@@ -76,7 +76,7 @@ tokens_at text (p ∷ ps) start rest is within read =
     let others : AreTokensOf text (tokens_of (start + p.len) ps) = tokens_at text ps (start + p.len) (drop p.len rest) (ap (λ (l : List ℕ). drop p.len l) is ∙ drop-drop p.len start text) (omega arith) read.1 in
     go p.kind read.0 others
   where
-    go : (kind : Option Kind) → IsPieceOf kind p.len rest → AreTokensOf text (tokens_of (start + p.len) ps) → AreTokensOf text (token_of start p.len kind ++ tokens_of (start + p.len) ps)
+    go : (kind : Option TokenKind) → IsPieceOf kind p.len rest → AreTokensOf text (tokens_of (start + p.len) ps) → AreTokensOf text (token_of start p.len kind ++ tokens_of (start + p.len) ps)
     go None piece others = others
     go (Some kind) piece others =
         let below : p.len ≤ length rest = piece.within in
@@ -99,7 +99,7 @@ rises (p ∷ ps) at start rest le read =
     let some : 0 < p.len = piece_some rest p (again rest p read.0) in
     go p.kind some (rises ps at (start + p.len) (drop p.len rest) (omega arith) read.1) (rises ps (start + p.len) (start + p.len) (drop p.len rest) (omega arith) read.1)
   where
-    go : (kind : Option Kind) → 0 < p.len → RisesFrom at (tokens_of (start + p.len) ps) → RisesFrom (start + p.len) (tokens_of (start + p.len) ps) → RisesFrom at (token_of start p.len kind ++ tokens_of (start + p.len) ps)
+    go : (kind : Option TokenKind) → 0 < p.len → RisesFrom at (tokens_of (start + p.len) ps) → RisesFrom (start + p.len) (tokens_of (start + p.len) ps) → RisesFrom at (token_of start p.len kind ++ tokens_of (start + p.len) ps)
     go None some passed behind = passed
     go (Some kind) some passed behind = (le, omega arith, behind)
 
@@ -156,11 +156,11 @@ no_fault text name defs (Err (Duplicate span)) fault is distinct =
     let same = one_module text name fault.0 defs fault.1 is fault.4 in
     absurd (again_twice fault.1 fault.2 fault.3 fault.5 (subst AreDistinct same.1 distinct))
 
-pub word_slice : (kind : Kind) (slice text : List ℕ) → kind ≡ kinds.Word → slice ≡ text → IsSpelled kind text → IsUtf8 slice
-word_slice kind slice text is same spelled = subst IsUtf8 (sym same) (word_utf8 text (subst (λ (k : Kind). IsSpelled k text) is spelled))
+pub word_slice : (kind : TokenKind) (slice text : List ℕ) → kind ≡ kinds.Word → slice ≡ text → IsSpelled kind text → IsUtf8 slice
+word_slice kind slice text is same spelled = subst IsUtf8 (sym same) (word_utf8 text (subst (λ (k : TokenKind). IsSpelled k text) is spelled))
 
-pub number_slice : (kind : Kind) (slice text : List ℕ) → kind ≡ kinds.Number → slice ≡ text → IsSpelled kind text → IsUtf8 slice
-number_slice kind slice text is same spelled = subst IsUtf8 (sym same) (number_utf8 text (subst (λ (k : Kind). IsSpelled k text) is spelled))
+pub number_slice : (kind : TokenKind) (slice text : List ℕ) → kind ≡ kinds.Number → slice ≡ text → IsSpelled kind text → IsUtf8 slice
+number_slice kind slice text is same spelled = subst IsUtf8 (sym same) (number_utf8 text (subst (λ (k : TokenKind). IsSpelled k text) is spelled))
 
 -- ---- distinct names
 

@@ -7,8 +7,8 @@ use Rattle.std.proofs.lemmas.Bool.Decides.{nat_tests}
 use Rattle.std.proofs.lemmas.List.{drop_at}
 use Rattle.mon_smi.specs.declared.read_fault.ReadFault.{ReadFault}
 use Rattle.mon_smi.specs.declared.read_fault.ReadFault.TheVariants.{OutOfMemory, BrokenOff}
-use Rattle.mon_smi.specs.declared.kind.Kind.{Kind}
-use Rattle.mon_smi.specs.declared.kind.Kind.TheVariants.{LeftBrace, RightBrace, LeftParen, RightParen}
+use Rattle.mon_smi.specs.declared.kind.TokenKind.{TokenKind}
+use Rattle.mon_smi.specs.declared.kind.TokenKind.TheVariants.{LeftBrace, RightBrace, LeftParen, RightParen}
 use Rattle.mon_smi.specs.Tokens.{AreAll}
 use Rattle.mon_smi.specs.Lexemes.{Lexeme, word, number, mark}
 use Rattle.mon_oid.specs.Steps.{◌>>=◌}
@@ -307,7 +307,7 @@ component_some text n is =
     is.2
 
 -- a component begins with a number or a word
-component_begins : (k : Kind) (text : List Lexeme) (n : ℕ) (rest : List Lexeme) → IsComponent text n → begins k (text ++ rest) ≡ false
+component_begins : (k : TokenKind) (text : List Lexeme) (n : ℕ) (rest : List Lexeme) → IsComponent text n → begins k (text ++ rest) ≡ false
 component_begins k text n rest is =
     ⊎_elim (λ plain. ap (λ (t : List Lexeme). begins k (t ++ rest)) plain) (λ named. ap (λ (t : List Lexeme). begins k (t ++ rest)) named.1) is.2
 

@@ -9,22 +9,22 @@ use Rattle.std.proofs.lemmas.List.{drop_at}
 use Rattle.mon_smi.specs.Words.{IsWord}
 use Rattle.mon_smi.specs.Tokens.{AreAll, AreDigits, IsQuoted, IsBits, doubled, IsSpelled, is_space, is_bit, is_hyphen, IsPassed, IsComment}
 use Rattle.mon_smi.specs.Scan.{run_at, word_at, closes_at, comment_at, closed_bits, token, piece_at}
-use Rattle.mon_smi.specs.declared.kind.Kind.{Kind}
-use Rattle.mon_smi.specs.declared.kind.Kind.TheVariants.{Word, Number, Quoted, Hex, Binary, Assign, Range, LeftBrace, RightBrace, LeftParen, RightParen, LeftBracket, RightBracket, Comma, Semicolon, Dot, Bar}
+use Rattle.mon_smi.specs.declared.kind.TokenKind.{TokenKind}
+use Rattle.mon_smi.specs.declared.kind.TokenKind.TheVariants.{Word, Number, Quoted, Hex, Binary, Assign, Range, LeftBrace, RightBrace, LeftParen, RightParen, LeftBracket, RightBracket, Comma, Semicolon, Dot, Bar}
 use Rattle.mon_smi.specs.declared.token.Piece.{Piece}
 use Rattle.mon_smi.proofs.Runs.{run_longest, run_front, word_longest}
 use Rattle.mon_smi.proofs.Quoted.{closes_again}
 use Rattle.mon_smi.proofs.Comments.{comment_again}
 
-abbrev pub piece : Kind → ℕ → Piece
+abbrev pub piece : TokenKind → ℕ → Piece
 piece kind n = record { kind = Some kind; len = n }
 
 abbrev pub nothing : ℕ → Piece
 nothing n = record { kind = None; len = n }
 
 -- a token is there, at least as long, and of this kind if it is no longer
-pub record FoundAt (kind : Kind) (front rest : List ℕ) : Type 0 where
-  pub found : Kind
+pub record FoundAt (kind : TokenKind) (front rest : List ℕ) : Type 0 where
+  pub found : TokenKind
   pub len : ℕ
   pub is : piece_at (front ++ rest) ≡ Some (piece found len)
   pub most : length front ≤ len
@@ -106,7 +106,7 @@ all_hex : (digits : List ℕ) → AreAll is_bit digits → AreAll is_ascii_hexdi
 all_hex [] all = tt
 all_hex (b ∷ bs) all = (bit_is_hex b all.0, all_hex bs all.1)
 
-at_letter : (kind : Kind) (digits : List ℕ) (letter : ℕ) (rest : List ℕ) → AreAll is_ascii_hexdigit digits
+at_letter : (kind : TokenKind) (digits : List ℕ) (letter : ℕ) (rest : List ℕ) → AreAll is_ascii_hexdigit digits
     → closed_bits (length digits) (run_at is_bit (digits ++ (39 ∷ letter ∷ rest))) (39 ∷ letter ∷ rest) ≡ Some (piece kind (suc (suc (suc (length digits))))) → FoundAt kind (39 ∷ digits ++ 39 ∷ letter ∷ []) rest
 unfolding piece_at
 at_letter kind digits letter rest all closed =
@@ -137,7 +137,7 @@ found_binary front rest bits =
     run : (letter : ℕ) → run_at is_bit (bits.0 ++ (39 ∷ letter ∷ rest)) ≡ length bits.0
     run letter = run_front is_bit bits.0 (39 ∷ letter ∷ rest) bits.3 refl
 
-found_mark : (kind : Kind) (front text rest : List ℕ) → front ≡ text → piece_at (text ++ rest) ≡ Some (piece kind (length text)) → FoundAt kind front rest
+found_mark : (kind : TokenKind) (front text rest : List ℕ) → front ≡ text → piece_at (text ++ rest) ≡ Some (piece kind (length text)) → FoundAt kind front rest
 found_mark kind front text rest is found = subst (λ (f : List ℕ). FoundAt kind f rest) (sym is) (record { found = kind; len = length text; is = found; most = omega arith; same = λ e. refl })
 
 found_dot : (front rest : List ℕ) → front ≡ 46 ∷ [] → FoundAt Dot front rest
@@ -148,7 +148,7 @@ found_dot front rest is = subst (λ (f : List ℕ). FoundAt Dot f rest) (sym is)
     go true second = record { found = Range; len = 2; is = rw second refl; most = omega arith; same = λ (e : 1 ≡ 2). absurd (omega arith) }
     go false second = record { found = Dot; len = 1; is = rw second refl; most = omega arith; same = λ e. refl }
 
-pub found_at : (kind : Kind) (front rest : List ℕ) → IsSpelled kind front → FoundAt kind front rest
+pub found_at : (kind : TokenKind) (front rest : List ℕ) → IsSpelled kind front → FoundAt kind front rest
 unfolding piece_at
 found_at Word front rest is = found_word front rest is
 found_at Number front rest is = ⊎_elim (λ digits. found_digits front rest digits) (λ signed. subst (λ (f : List ℕ). FoundAt Number f rest) (sym signed.1) (found_signed signed.0 rest signed.2)) is

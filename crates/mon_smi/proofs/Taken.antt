@@ -7,15 +7,15 @@ use Rattle.std.proofs.lemmas.List.{take_at, drop_at}
 use Rattle.mon_smi.specs.Words.{GoesOn}
 use Rattle.mon_smi.specs.Tokens.{AreAll, AreDigits, IsSpelled, is_space, is_bit, IsPassed, IsComment}
 use Rattle.mon_smi.specs.Scan.{run_at, word_at, closes_at, comment_at, token, passed, signed, hyphen_at, quoted_at, closed_bits, quoted_bits_at, assign_at, dot_at, mark_at, behind_at, piece_at}
-use Rattle.mon_smi.specs.declared.kind.Kind.{Kind}
-use Rattle.mon_smi.specs.declared.kind.Kind.TheVariants.{Word, Number, Quoted, Hex, Binary, Assign, Range, LeftBrace, RightBrace, LeftParen, RightParen, LeftBracket, RightBracket, Comma, Semicolon, Dot, Bar}
+use Rattle.mon_smi.specs.declared.kind.TokenKind.{TokenKind}
+use Rattle.mon_smi.specs.declared.kind.TokenKind.TheVariants.{Word, Number, Quoted, Hex, Binary, Assign, Range, LeftBrace, RightBrace, LeftParen, RightParen, LeftBracket, RightBracket, Comma, Semicolon, Dot, Bar}
 use Rattle.mon_smi.specs.declared.token.Piece.{Piece}
 use Rattle.mon_smi.proofs.Scanned.{is_word, some_byte}
 use Rattle.mon_smi.proofs.Runs.{by_test, run_within, run_all, word_within, word_goes, word_stops}
 use Rattle.mon_smi.proofs.Quoted.{Closes, closes_takes}
 use Rattle.mon_smi.proofs.Comments.{comment_takes}
 
-abbrev pub TakenAs : Option Kind → ℕ → List ℕ → Type 0
+abbrev pub TakenAs : Option TokenKind → ℕ → List ℕ → Type 0
 TakenAs None n text = IsPassed n text
 TakenAs (Some kind) n text = (n ≤ length text) × IsSpelled kind (take n text)
 

@@ -1,8 +1,8 @@
 -- The grammar of modules, by cases on their tokens (RFC 2578 sections 3 and 7, RFC 2579 section 3).
 use Rattle.std.specs.Prelude.{◌⊎◌, ◌≡◌, ◌≢◌, ℕ, suc, ◌+◌, ◌-◌, ◌*◌, ◌<◌, ◌≤◌, ◌^◌, List, [], ◌∷◌, ◌++◌, length, IsTrue, Option, Some, None, option_to_list, codes}
 use Rattle.std.specs.List.{flat_map}
-use Rattle.mon_smi.specs.declared.kind.Kind.{Kind}
-use Rattle.mon_smi.specs.declared.kind.Kind.TheVariants.{Quoted, Assign, LeftBrace, RightBrace, LeftParen, RightParen, Semicolon}
+use Rattle.mon_smi.specs.declared.kind.TokenKind.{TokenKind}
+use Rattle.mon_smi.specs.declared.kind.TokenKind.TheVariants.{Quoted, Assign, LeftBrace, RightBrace, LeftParen, RightParen, Semicolon}
 use Rattle.mon_smi.specs.declared.part.Part.{Part}
 use Rattle.mon_smi.specs.declared.part.Part.TheVariants.{Syntax, Text, Access, Status, Word, Group}
 use Rattle.mon_smi.specs.declared.token.Token.{Token}
@@ -26,12 +26,12 @@ IsWordOf [] ls = ⊥
 IsWordOf (w ∷ ws) ls = IsThis (word w) ls ⊎ IsWordOf ws ls
 
 -- no such mark is among them
-abbrev pub IsFree : Kind → List Lexeme → Type 0
+abbrev pub IsFree : TokenKind → List Lexeme → Type 0
 IsFree kind [] = Unit {0}
 IsFree kind (l ∷ ls) = (l ≢ mark kind) × IsFree kind ls
 
 -- between these two marks each opening one has its closing one, this many being open at the start
-abbrev pub IsNested : Kind → Kind → ℕ → List Lexeme → Type 0
+abbrev pub IsNested : TokenKind → TokenKind → ℕ → List Lexeme → Type 0
 IsNested left right depth [] = depth ≡ 0
 IsNested left right depth (l ∷ ls) =
     ((l ≡ mark left) × IsNested left right (suc depth) ls)
@@ -39,7 +39,7 @@ IsNested left right depth (l ∷ ls) =
     ⊎ ((l ≢ mark left) × (l ≢ mark right) × IsNested left right depth ls))
 
 -- a balanced group between these two marks
-abbrev pub IsBalanced : Kind → Kind → List Lexeme → Type 0
+abbrev pub IsBalanced : TokenKind → TokenKind → List Lexeme → Type 0
 IsBalanced left right ls = (inner : List Lexeme) × (ls ≡ mark left ∷ inner ++ mark right ∷ []) × IsNested left right 0 inner
 
 -- the name of a type: two words, SEQUENCE OF a name, or one word with a capital letter first

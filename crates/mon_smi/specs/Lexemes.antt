@@ -1,8 +1,8 @@
 -- What the grammar of modules sees of a token.
 use Rattle.std.specs.Prelude.{ℕ, ◌-◌, ◌≤◌, List, [], ◌∷◌, length, take, drop, map, Bool, true, false, ◌&&◌, ◌==◌, Option, Some, None, slice_index}
 use Rattle.std.specs.Char.{is_ascii_lowercase, is_ascii_uppercase}
-use Rattle.mon_smi.specs.declared.kind.Kind.{Kind}
-use Rattle.mon_smi.specs.declared.kind.Kind.TheVariants.{Word, Number, Quoted, Hex, Binary, Assign, Range, LeftBrace, RightBrace, LeftParen, RightParen, LeftBracket, RightBracket, Comma, Semicolon, Dot, Bar}
+use Rattle.mon_smi.specs.declared.kind.TokenKind.{TokenKind}
+use Rattle.mon_smi.specs.declared.kind.TokenKind.TheVariants.{Word, Number, Quoted, Hex, Binary, Assign, Range, LeftBrace, RightBrace, LeftParen, RightParen, LeftBracket, RightBracket, Comma, Semicolon, Dot, Bar}
 use Rattle.mon_smi.specs.declared.token.Token.{Token}
 use Rattle.mon_smi.specs.Tokens.{IsSpelled}
 
@@ -10,10 +10,10 @@ use Rattle.mon_smi.specs.Tokens.{IsSpelled}
 pub data Lexeme : Type 0 where
   word : List ℕ → Lexeme
   number : List ℕ → Lexeme
-  mark : Kind → Lexeme
+  mark : TokenKind → Lexeme
 
 -- a token of this kind and text
-abbrev pub lexeme_of : Kind → List ℕ → Lexeme
+abbrev pub lexeme_of : TokenKind → List ℕ → Lexeme
 lexeme_of Word text = word text
 lexeme_of Number text = number text
 lexeme_of Quoted text = mark Quoted
@@ -52,7 +52,7 @@ AreTokensOf text [] = Unit {0}
 AreTokensOf text (t ∷ ts) = IsTokenOf text t × AreTokensOf text ts
 
 -- kinds by number
-abbrev pub code_of : Kind → ℕ
+abbrev pub code_of : TokenKind → ℕ
 code_of Word = 0
 code_of Number = 1
 code_of Quoted = 2
@@ -85,7 +85,7 @@ is_word w (number v) = false
 is_word w (mark k) = false
 
 -- whether a token is this mark
-abbrev pub is_mark : Kind → Lexeme → Bool
+abbrev pub is_mark : TokenKind → Lexeme → Bool
 is_mark k (word v) = false
 is_mark k (number v) = false
 is_mark k (mark j) = code_of j == code_of k

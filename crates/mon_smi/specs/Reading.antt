@@ -4,8 +4,8 @@ use Rattle.std.specs.Prelude.{◌≡◌, ℕ, zero, suc, ◌+◌, ◌-◌, ◌*�
 use Rattle.mon_oid.specs.Steps.{◌>>=◌}
 use Rattle.mon_smi.specs.declared.read_fault.ReadFault.{ReadFault}
 use Rattle.mon_smi.specs.declared.read_fault.ReadFault.TheVariants.{OutOfMemory, BrokenOff}
-use Rattle.mon_smi.specs.declared.kind.Kind.{Kind}
-use Rattle.mon_smi.specs.declared.kind.Kind.TheVariants.{Quoted, Assign, LeftBrace, RightBrace, LeftParen, RightParen, Semicolon}
+use Rattle.mon_smi.specs.declared.kind.TokenKind.{TokenKind}
+use Rattle.mon_smi.specs.declared.kind.TokenKind.TheVariants.{Quoted, Assign, LeftBrace, RightBrace, LeftParen, RightParen, Semicolon}
 use Rattle.mon_smi.specs.declared.definition.Definition.{Definition}
 use Rattle.mon_smi.specs.declared.part.Part.{Part}
 use Rattle.mon_smi.specs.declared.part.Part.TheVariants.{Syntax, Text, Access, Status, Word, Group}
@@ -40,11 +40,11 @@ abbrev pub word_at : List ℕ → List Lexeme → Read (List Lexeme)
 word_at w ls = one (is_word w) ls
 
 -- this mark
-abbrev pub mark_at : Kind → List Lexeme → Read (List Lexeme)
+abbrev pub mark_at : TokenKind → List Lexeme → Read (List Lexeme)
 mark_at kind ls = one (is_mark kind) ls
 
 -- this mark comes next
-abbrev pub begins : Kind → List Lexeme → Bool
+abbrev pub begins : TokenKind → List Lexeme → Bool
 begins kind [] = false
 begins kind (l ∷ ls) = is_mark kind l
 
@@ -61,14 +61,14 @@ name_at (l ∷ ls) = option_map (λ w. (w, ls)) (word_of l)
 -- ---- types and groups
 
 -- the rest of a group of which this many are open inside
-abbrev pub nested_at : Kind → Kind → ℕ → List Lexeme → Read (List Lexeme)
+abbrev pub nested_at : TokenKind → TokenKind → ℕ → List Lexeme → Read (List Lexeme)
 nested_at left right depth [] = Err []
 nested_at left right depth (l ∷ ls) =
     if is_mark left l then nested_at left right (suc depth) ls else
     (if is_mark right l then (if depth == 0 then Ok ls else nested_at left right (depth - 1) ls) else nested_at left right depth ls)
 
 -- a balanced group, and what follows it
-unfoldable pub group_at : Kind → Kind → List Lexeme → Read (List Lexeme)
+unfoldable pub group_at : TokenKind → TokenKind → List Lexeme → Read (List Lexeme)
 group_at left right ls = do
   rest ← mark_at left ls
   nested_at left right 0 rest
@@ -245,7 +245,7 @@ is_macro l = is_word (codes "MODULE-IDENTITY") l || (is_word (codes "OBJECT-IDEN
     || (is_word (codes "NOTIFICATION-GROUP") l || (is_word (codes "MODULE-COMPLIANCE") l || is_word (codes "AGENT-CAPABILITIES") l)))))
 
 -- all up to this mark
-abbrev pub up_to : Kind → List Lexeme → Read (List Lexeme)
+abbrev pub up_to : TokenKind → List Lexeme → Read (List Lexeme)
 up_to kind [] = Err []
 up_to kind (l ∷ ls) = if is_mark kind l then Ok (l ∷ ls) else up_to kind ls
 

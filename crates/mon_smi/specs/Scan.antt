@@ -3,8 +3,8 @@ use Rattle.std.specs.Prelude.{ℕ, suc, ◌+◌, List, [], ◌∷◌, slice_inde
 use Rattle.std.specs.Char.{is_ascii_alphabetic, is_ascii_digit, is_ascii_hexdigit}
 use Rattle.mon_smi.specs.Words.{is_part}
 use Rattle.mon_smi.specs.Tokens.{is_space, is_hyphen, is_bit}
-use Rattle.mon_smi.specs.declared.kind.Kind.{Kind}
-use Rattle.mon_smi.specs.declared.kind.Kind.TheVariants.{Word, Number, Quoted, Hex, Binary, Assign, Range, LeftBrace, RightBrace, LeftParen, RightParen, LeftBracket, RightBracket, Comma, Semicolon, Dot, Bar}
+use Rattle.mon_smi.specs.declared.kind.TokenKind.{TokenKind}
+use Rattle.mon_smi.specs.declared.kind.TokenKind.TheVariants.{Word, Number, Quoted, Hex, Binary, Assign, Range, LeftBrace, RightBrace, LeftParen, RightParen, LeftBracket, RightBracket, Comma, Semicolon, Dot, Bar}
 use Rattle.mon_smi.specs.declared.token.Piece.{Piece}
 
 -- how many bytes at the front pass the test
@@ -35,7 +35,7 @@ remark_at [] = 0
 remark_at (b ∷ bs) = if b == 10 || (b == 45 && slice_index bs 0 == 45) then 0 else suc (remark_at bs)
 
 -- a token of this kind and length
-abbrev pub token : Kind → ℕ → Option Piece
+abbrev pub token : TokenKind → ℕ → Option Piece
 token kind n = Some (record { kind = Some kind; len = n })
 
 -- this many bytes of space or comment

@@ -4,8 +4,8 @@ use Rattle.std.specs.Prelude.{◌⊎◌, ◌≡◌, ◌≢◌, ℕ, suc, ◌+◌
 use Rattle.std.specs.List.{flat_map}
 use Rattle.std.specs.Char.{is_ascii_digit, is_ascii_hexdigit}
 use Rattle.mon_smi.specs.Words.{IsWord}
-use Rattle.mon_smi.specs.declared.kind.Kind.{Kind}
-use Rattle.mon_smi.specs.declared.kind.Kind.TheVariants.{Word, Number, Quoted, Hex, Binary, Assign, Range, LeftBrace, RightBrace, LeftParen, RightParen, LeftBracket, RightBracket, Comma, Semicolon, Dot, Bar}
+use Rattle.mon_smi.specs.declared.kind.TokenKind.{TokenKind}
+use Rattle.mon_smi.specs.declared.kind.TokenKind.TheVariants.{Word, Number, Quoted, Hex, Binary, Assign, Range, LeftBrace, RightBrace, LeftParen, RightParen, LeftBracket, RightBracket, Comma, Semicolon, Dot, Bar}
 use Rattle.mon_smi.specs.declared.token.Token.{Token}
 use Rattle.mon_smi.specs.declared.token.Piece.{Piece}
 use Rattle.mon_smi.specs.declared.text_fault.TextFault.{TextFault}
@@ -43,7 +43,7 @@ abbrev pub is_bit : ℕ → Bool
 is_bit b = b == 48 || b == 49
 
 -- the text is spelled as a token of this kind
-abbrev pub IsSpelled : Kind → List ℕ → Type 0
+abbrev pub IsSpelled : TokenKind → List ℕ → Type 0
 IsSpelled Word text = IsWord text
 IsSpelled Number text = IsNumberToken text
 IsSpelled Quoted text = IsQuoted text
@@ -63,10 +63,10 @@ IsSpelled Dot text = text ≡ codes "."
 IsSpelled Bar text = text ≡ codes "|"
 
 -- the first n bytes are a token of this kind, and no more bytes of the front are a token of any kind
-pub record IsLongestToken (kind : Kind) (n : ℕ) (text : List ℕ) : Type 0 where
+pub record IsLongestToken (kind : TokenKind) (n : ℕ) (text : List ℕ) : Type 0 where
   pub within : n ≤ length text
   pub spelled : IsSpelled kind (take n text)
-  pub longest : (other : Kind) (m : ℕ) → m ≤ length text → IsSpelled other (take m text) → m ≤ n
+  pub longest : (other : TokenKind) (m : ℕ) → m ≤ length text → IsSpelled other (take m text) → m ≤ n
 
 -- blank, tab, LF, VT, FF or CR
 abbrev pub is_space : ℕ → Bool
@@ -113,7 +113,7 @@ IsPassed n text = (n ≤ length text)
     × (((b : ℕ) × (take n text ≡ b ∷ []) × IsTrue (is_space b)) ⊎ IsComment (take n text) (drop n text))
 
 -- the longest token of this kind, or with no kind space or a comment, has this many bytes
-abbrev pub IsPieceOf : Option Kind → ℕ → List ℕ → Type 0
+abbrev pub IsPieceOf : Option TokenKind → ℕ → List ℕ → Type 0
 IsPieceOf None n text = IsPassed n text
 IsPieceOf (Some kind) n text = IsLongestToken kind n text
 
@@ -136,7 +136,7 @@ bytes_of [] = 0
 bytes_of (p ∷ ps) = p.len + bytes_of ps
 
 -- a piece that begins at this place is a token, or none
-abbrev pub token_of : ℕ → ℕ → Option Kind → List Token
+abbrev pub token_of : ℕ → ℕ → Option TokenKind → List Token
 token_of start len None = []
 token_of start len (Some kind) = record { kind = kind; span = record { start = start; end = start + len } } ∷ []
 

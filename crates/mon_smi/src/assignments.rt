@@ -4,7 +4,7 @@ ghost use Rattle.std.specs.Prelude.{◌≡◌};
 ghost use Rattle.mon_smi.specs.Reading.{Gives, is_macro, one, up_to, identifier_at, object_at, macro_at, head_at, definition_at, is_convention, textual_at, type_body_at, assignment_of, assignment_at};
 
 use crate::definition::Definition;
-use crate::kind::Kind;
+use crate::kind::TokenKind;
 use crate::lexeme::{Lexeme, begins_capital, begins_small};
 use crate::numbers::Numbers;
 use crate::read_fault::ReadFault;
@@ -41,7 +41,7 @@ fn macro_name_at<'a, 's>(ls: &'a [Lexeme<'s>]) -> Result<&'a [Lexeme<'s>], ReadF
 
 /// The first such mark, and what follows it.
 pub(crate) fn up_to<'a, 's>(
-    kind: Kind,
+    kind: TokenKind,
     ls: &'a [Lexeme<'s>],
 ) -> Result<&'a [Lexeme<'s>], ReadFault<'a, 's>>
     ensures { Gives (λ rest. rest.now) result (up_to kind ls.now) }
@@ -80,7 +80,7 @@ fn macro_at<'a, 's>(ls: &'a [Lexeme<'s>]) -> Result<&'a [Lexeme<'s>], ReadFault<
     ensures { Gives (λ rest. rest.now) result (macro_at ls.now) }
 {
     let rest = macro_name_at(ls)?;
-    up_to(Kind::Assign, rest)
+    up_to(TokenKind::Assign, rest)
 }
 
 /// Reads what comes between a value's name and its assignment mark.
@@ -107,7 +107,7 @@ fn definition_at<'a, 's>(
     ensures { Gives (λ x. (x.0, x.1.now)) result (definition_at name.now ls.now) }
 {
     let rest = head_at(ls)?;
-    let rest = mark_at(Kind::Assign, rest)?;
+    let rest = mark_at(TokenKind::Assign, rest)?;
     let (value, rest) = value_at(alloc, rest)?;
     let name = Word::from_str(alloc, name)?;
     let parent = match value.parent {
@@ -134,7 +134,7 @@ fn is_convention(ls: &[Lexeme]) -> bool
     };
     first.is_word("TEXTUAL-CONVENTION")
         && (second.is_word("DISPLAY-HINT") || second.is_word("STATUS"))
-        && !begins(Kind::Assign, rest)
+        && !begins(TokenKind::Assign, rest)
 }
 
 /// A textual convention.
@@ -151,7 +151,7 @@ fn textual_at<'a, 's>(ls: &'a [Lexeme<'s>]) -> Result<&'a [Lexeme<'s>], ReadFaul
 fn type_body_at<'a, 's>(ls: &'a [Lexeme<'s>]) -> Result<&'a [Lexeme<'s>], ReadFault<'a, 's>>
     ensures { Gives (λ rest. rest.now) result (type_body_at ls.now) }
 {
-    let rest = mark_at(Kind::Assign, ls)?;
+    let rest = mark_at(TokenKind::Assign, ls)?;
     if is_convention(rest) {
         return textual_at(rest);
     }

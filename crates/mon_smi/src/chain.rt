@@ -43,7 +43,7 @@ fn chain<'a>(
 }
 
 /// The numbers of a chain, with others after them.
-fn joined(alloc: Global, mut chain: Vec<&Definition>, rest: &[u32]) -> Result<Vec<u32>, NamesFault>
+fn join_parents(alloc: Global, mut chain: Vec<&Definition>, rest: &[u32]) -> Result<Vec<u32>, NamesFault>
     ensures found { IfOk result (λ v. (v.items ≡ chain_numbers (map (λ d. d.now) chain.entry.items) ++ rest.now) × (length v.items ≤ 128)) }
     ensures fault { IfErr result (λ e. IsFaultOfJoining e (chain_numbers (map (λ d. d.now) chain.entry.items) ++ rest.now)) }
 {
@@ -76,7 +76,7 @@ pub(crate) fn identifier_of(
     ensures fault { IfErr result (λ e. IsFaultOfName e defs.now word.now rest.now) }
 {
     let parents = chain(alloc, places, defs, word)?;
-    let numbers = joined(alloc, parents, rest)?;
+    let numbers = join_parents(alloc, parents, rest)?;
     match Oid::from_parts(alloc, numbers.as_slice()) {
         Ok(oid) => Ok(oid),
         Err(OidFault::OutOfMemory) => Err(NamesFault::OutOfMemory),

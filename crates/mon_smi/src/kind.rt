@@ -2,7 +2,7 @@
 
 /// What a token of a module's text is (RFC 2578 section 3 writes modules in a subset of ASN.1).
 #[derive(Clone, Copy, Debug, PartialEq, Eq)]
-pub enum Kind {
+pub enum TokenKind {
     /// A letter, then letters, digits, `_` and single `-`, which is not last.
     Word,
     /// Digits, or `-` and digits.

@@ -55,7 +55,7 @@ impl<'a> Labels<'a> {
         let mut by_identifier = BTreeMap::new(alloc);
         for definition in defs {
             let name = definition.name.as_str();
-            let Some(oid) = identified(alloc, places, defs, name)? else {
+            let Some(oid) = identify(alloc, places, defs, name)? else {
                 continue;
             };
             if is_known(by_identifier.get(oid.parts()).copied(), name) {
@@ -122,7 +122,7 @@ impl<'a> Labels<'a> {
 }
 
 /// Returns the identifier that a name means.
-fn identified(
+fn identify(
     alloc: Global,
     places: &BTreeMap<String, usize>,
     defs: &[Definition],

@@ -5,7 +5,7 @@ ghost use Rattle.std.specs.Str.{IsUtf8};
 ghost use Rattle.std.specs.Option.{option_map};
 ghost use Rattle.mon_smi.specs.Lexemes.{IsTokenOf, AreTokensOf, lexeme_at, lexemes, code_of, same_text, is_word, is_mark, word_of, digits_of, begins_small, begins_capital, is_any_word, is_capital};
 
-use crate::kind::Kind;
+use crate::kind::TokenKind;
 use crate::scan::byte_at;
 use crate::token::{Span, Token};
 use std::alloc::{AllocError, Global};
@@ -14,7 +14,7 @@ use std::marker::Model;
 /// A token of a text, with its text where it is a word or a number.
 #[derive(Drop)]
 pub(crate) struct Lexeme<'a> {
-    kind: Kind,
+    kind: TokenKind,
     text: &'a str,
 }
 
@@ -53,8 +53,8 @@ fn lexeme_at(text: &[u8], token: Token) -> Lexeme
 {
     let slice = slice_of(text, token.span);
     let text = match token.kind {
-        Kind::Word => text_of(slice),
-        Kind::Number => text_of(slice),
+        TokenKind::Word => text_of(slice),
+        TokenKind::Number => text_of(slice),
         _ => "",
     };
     Lexeme {
@@ -82,7 +82,7 @@ pub(crate) fn lexemes<'a>(
 }
 
 /// The number of a kind.
-fn code_of(kind: Kind) -> u8
+fn code_of(kind: TokenKind) -> u8
     ensures { result ≡ code_of kind }
 {
     kind as u8
@@ -101,17 +101,17 @@ impl<'a> Lexeme<'a> {
         ensures { result ≡ is_word text.now self.now }
     {
         match self.kind {
-            Kind::Word => same_text(self.text, text),
+            TokenKind::Word => same_text(self.text, text),
             _ => false,
         }
     }
 
     /// Returns `true` if it is a token of this kind, which is neither a word nor a number.
-    pub fn is_mark(&self, kind: Kind) -> bool
+    pub fn is_mark(&self, kind: TokenKind) -> bool
         ensures { result ≡ is_mark kind self.now }
     {
         match self.kind {
-            Kind::Word | Kind::Number => false,
+            TokenKind::Word | TokenKind::Number => false,
             _ => code_of(self.kind) == code_of(kind),
         }
     }
@@ -121,7 +121,7 @@ impl<'a> Lexeme<'a> {
         ensures { option_map (λ w. w.now) result ≡ word_of self.now }
     {
         match self.kind {
-            Kind::Word => Some(self.text),
+            TokenKind::Word => Some(self.text),
             _ => None,
         }
     }
@@ -131,7 +131,7 @@ impl<'a> Lexeme<'a> {
         ensures { option_map (λ d. d.now) result ≡ digits_of self.now }
     {
         match self.kind {
-            Kind::Number => Some(self.text),
+            TokenKind::Number => Some(self.text),
             _ => None,
         }
     }
@@ -140,7 +140,7 @@ impl<'a> Lexeme<'a> {
     pub fn is_any_word(&self) -> bool
         ensures { result ≡ is_any_word self.now }
     {
-        matches!(self.kind, Kind::Word)
+        matches!(self.kind, TokenKind::Word)
     }
 
     /// Returns `true` if it is a word with a capital first letter.
@@ -148,7 +148,7 @@ impl<'a> Lexeme<'a> {
         ensures { result ≡ is_capital self.now }
     {
         match self.kind {
-            Kind::Word => begins_capital(self.text),
+            TokenKind::Word => begins_capital(self.text),
             _ => false,
         }
     }

@@ -10,7 +10,7 @@ ghost use Rattle.mon_smi.specs.Reading.{Gives, ends_module, imported_at, imports
 
 use crate::assignments::{assignment_at, up_to};
 use crate::definition::{Definition, Definitions, Module};
-use crate::kind::Kind;
+use crate::kind::TokenKind;
 use crate::lexeme::{Lexeme, begins_capital, lexemes};
 use crate::lexer::tokens;
 use crate::places::first_twice;
@@ -36,8 +36,8 @@ fn ends_module(ls: &[Lexeme]) -> bool
 fn imported_at<'a, 's>(ls: &'a [Lexeme<'s>]) -> Result<&'a [Lexeme<'s>], ReadFault<'a, 's>>
     ensures { Gives (λ rest. rest.now) result (imported_at ls.now) }
 {
-    let rest = up_to(Kind::Semicolon, ls)?;
-    mark_at(Kind::Semicolon, rest)
+    let rest = up_to(TokenKind::Semicolon, ls)?;
+    mark_at(TokenKind::Semicolon, rest)
 }
 
 /// What is imported, or nothing.
@@ -95,7 +95,7 @@ fn module_body_at<'a, 's>(alloc: Global, ls: &'a [Lexeme<'s>]) -> Result<Body, R
     ensures starts { IfOk result (λ body. AllBegin ls.now body.starts.items body.defs.items) }
 {
     let rest = word_at("DEFINITIONS", ls)?;
-    let rest = mark_at(Kind::Assign, rest)?;
+    let rest = mark_at(TokenKind::Assign, rest)?;
     let rest = word_at("BEGIN", rest)?;
     let rest = imports_at(rest)?;
     definitions_at(alloc, rest)
@@ -166,7 +166,7 @@ fn fault_of(tokens: &[Token], fault: ReadFault) -> TextFault
 }
 
 /// A module of these tokens, how many are left where each definition begins, and where they are no module the fault of the text.
-fn module_read(
+fn read_tokens(
     alloc: Global,
     tokens: &[Token],
     ls: &[Lexeme],
@@ -188,7 +188,7 @@ fn module_of(alloc: Global, text: &str) -> Result<Module, TextFault>
 {
     let tokens = tokens(alloc, text)?;
     let lexemes = lexemes(alloc, text.as_bytes(), tokens.as_slice())?;
-    let (read, starts) = module_read(alloc, tokens.as_slice(), lexemes.as_slice())?;
+    let (read, starts) = read_tokens(alloc, tokens.as_slice(), lexemes.as_slice())?;
     distinct(alloc, read, starts.as_slice(), tokens.as_slice())
 }
 

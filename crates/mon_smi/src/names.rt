@@ -84,7 +84,7 @@ impl Names {
         ensures distinct { AreDistinct self.now }
     {
         mon_oid::laws::one_reading();
-        resolved(alloc, &self.places, self.defs.as_slice(), text)
+        resolve_in(alloc, &self.places, self.defs.as_slice(), text)
     }
 
     /// The name with the longest identifier that the other one begins with (of equal ones the least
@@ -105,7 +105,7 @@ impl Names {
 }
 
 /// The identifier that a text means.
-fn resolved(
+fn resolve_in(
     alloc: Global,
     places: &BTreeMap<String, usize>,
     defs: &[Definition],

@@ -4,14 +4,14 @@ ghost use Rattle.std.specs.Prelude.{◌≡◌, ◌<◌, ◌^◌};
 ghost use Rattle.mon_smi.specs.Tokens.{is_space};
 ghost use Rattle.mon_smi.specs.Scan.{token, passed, signed, hyphen_at, quoted_at, closed_bits, quoted_bits_at, assign_at, dot_at, mark_at, behind_at, piece_at};
 
-use crate::kind::Kind;
+use crate::kind::TokenKind;
 use crate::scan::{
     behind, bits_len, byte_at, closing_len, comment_len, digits_len, hex_digits_len, word_len,
 };
 use crate::token::Piece;
 
 /// A token of this length.
-fn token(kind: Kind, len: usize) -> Option<Piece>
+fn token(kind: TokenKind, len: usize) -> Option<Piece>
     ensures { result ≡ token kind len }
 {
     Some(Piece {
@@ -21,7 +21,7 @@ fn token(kind: Kind, len: usize) -> Option<Piece>
 }
 
 /// This many bytes that are no token.
-fn passed(len: usize) -> Option<Piece>
+fn skip(len: usize) -> Option<Piece>
     ensures { result ≡ passed len }
 {
     Some(Piece { kind: None, len })
@@ -32,13 +32,13 @@ fn hyphen_at(text: &[u8]) -> Option<Piece>
     ensures { result ≡ hyphen_at text.now }
 {
     if byte_at(text, 0) == b'-' {
-        return passed(comment_len(text) + 1);
+        return skip(comment_len(text) + 1);
     }
     let digits = digits_len(text);
     if digits == 0 {
         return None;
     }
-    token(Kind::Number, digits + 1)
+    token(TokenKind::Number, digits + 1)
 }
 
 /// A string, after its opening quote.
@@ -46,7 +46,7 @@ fn quoted_at(text: &[u8]) -> Option<Piece>
     ensures { result ≡ quoted_at text.now }
 {
     match closing_len(text) {
-        Some(len) => token(Kind::Quoted, len + 1),
+        Some(len) => token(TokenKind::Quoted, len + 1),
         None => None,
     }
 }
@@ -60,8 +60,8 @@ fn closed_bits(digits: usize, bits: usize, text: &[u8]) -> Option<Piece>
         return None;
     };
     match *letter {
-        b'h' | b'H' => token(Kind::Hex, digits + 3),
-        b'b' | b'B' if bits == digits => token(Kind::Binary, digits + 3),
+        b'h' | b'H' => token(TokenKind::Hex, digits + 3),
+        b'b' | b'B' if bits == digits => token(TokenKind::Binary, digits + 3),
         _ => None,
     }
 }
@@ -79,7 +79,7 @@ fn assign_at(text: &[u8]) -> Option<Piece>
     ensures { result ≡ assign_at text.now }
 {
     if byte_at(text, 0) == b':' && byte_at(text, 1) == b'=' {
-        return token(Kind::Assign, 3);
+        return token(TokenKind::Assign, 3);
     }
     None
 }
@@ -89,9 +89,9 @@ fn dot_at(text: &[u8]) -> Option<Piece>
     ensures { result ≡ dot_at text.now }
 {
     if byte_at(text, 0) == b'.' {
-        return token(Kind::Range, 2);
+        return token(TokenKind::Range, 2);
     }
-    token(Kind::Dot, 1)
+    token(TokenKind::Dot, 1)
 }
 
 /// A mark of one byte.
@@ -99,15 +99,15 @@ fn mark_at(byte: u8) -> Option<Piece>
     ensures { result ≡ mark_at byte }
 {
     match byte {
-        b'{' => token(Kind::LeftBrace, 1),
-        b'}' => token(Kind::RightBrace, 1),
-        b'(' => token(Kind::LeftParen, 1),
-        b')' => token(Kind::RightParen, 1),
-        b'[' => token(Kind::LeftBracket, 1),
-        b']' => token(Kind::RightBracket, 1),
-        b',' => token(Kind::Comma, 1),
-        b';' => token(Kind::Semicolon, 1),
-        b'|' => token(Kind::Bar, 1),
+        b'{' => token(TokenKind::LeftBrace, 1),
+        b'}' => token(TokenKind::RightBrace, 1),
+        b'(' => token(TokenKind::LeftParen, 1),
+        b')' => token(TokenKind::RightParen, 1),
+        b'[' => token(TokenKind::LeftBracket, 1),
+        b']' => token(TokenKind::RightBracket, 1),
+        b',' => token(TokenKind::Comma, 1),
+        b';' => token(TokenKind::Semicolon, 1),
+        b'|' => token(TokenKind::Bar, 1),
         _ => None,
     }
 }
@@ -142,13 +142,13 @@ pub(crate) fn piece_at(text: &[u8]) -> Option<Piece>
         return None;
     };
     if is_space(*first) {
-        return passed(1);
+        return skip(1);
     }
     if first.is_ascii_alphabetic() {
-        return token(Kind::Word, word_len(text));
+        return token(TokenKind::Word, word_len(text));
     }
     if first.is_ascii_digit() {
-        return token(Kind::Number, digits_len(text));
+        return token(TokenKind::Number, digits_len(text));
     }
     behind_at(*first, rest)
 }

@@ -4,7 +4,7 @@ ghost use Rattle.std.specs.Prelude.{◌≡◌, ◌≤◌, ◌-◌, length, drop}
 ghost use Rattle.mon_smi.specs.Reading.{Gives, word_at, mark_at, begins, begins_word, one, nested_at, group_at, is_pair, is_sequence_of, type_name_at, maybe_group, type_at, is_access, is_status, part_at, clause_at, optional_at, index_at, syntax_at, described_at, object_type_at, convention_at};
 ghost use Rattle.mon_smi.specs.Lexemes.{is_capital, is_any_word};
 
-use crate::kind::Kind;
+use crate::kind::TokenKind;
 use crate::lexeme::Lexeme;
 use crate::part::Part;
 use crate::read_fault::ReadFault;
@@ -35,7 +35,7 @@ pub(crate) fn word_at<'a, 's>(
 
 /// This mark, and what follows it.
 pub(crate) fn mark_at<'a, 's>(
-    kind: Kind,
+    kind: TokenKind,
     ls: &'a [Lexeme<'s>],
 ) -> Result<&'a [Lexeme<'s>], ReadFault<'a, 's>>
     ensures { Gives (λ rest. rest.now) result (mark_at kind ls.now) }
@@ -50,7 +50,7 @@ pub(crate) fn mark_at<'a, 's>(
 }
 
 /// Returns `true` if this mark comes next.
-pub(crate) fn begins(kind: Kind, ls: &[Lexeme]) -> bool
+pub(crate) fn begins(kind: TokenKind, ls: &[Lexeme]) -> bool
     ensures { result ≡ begins kind ls.now }
 {
     let [first, ..] = ls else {
@@ -71,8 +71,8 @@ pub(crate) fn begins_word(word: &str, ls: &[Lexeme]) -> bool
 
 /// The rest of a group, after its opening mark.
 fn nested_at<'a, 's>(
-    left: Kind,
-    right: Kind,
+    left: TokenKind,
+    right: TokenKind,
     ls: &'a [Lexeme<'s>],
 ) -> Result<&'a [Lexeme<'s>], ReadFault<'a, 's>>
     ensures { Gives (λ rest. rest.now) result (nested_at left right 0 ls.now) }
@@ -96,8 +96,8 @@ fn nested_at<'a, 's>(
 /// A group between these marks.
 #[tactic(auto, unfolding(crate::specs::Reading::group_at))]
 fn group_at<'a, 's>(
-    left: Kind,
-    right: Kind,
+    left: TokenKind,
+    right: TokenKind,
     ls: &'a [Lexeme<'s>],
 ) -> Result<&'a [Lexeme<'s>], ReadFault<'a, 's>>
     ensures { Gives (λ rest. rest.now) result (group_at left right ls.now) }
@@ -114,7 +114,7 @@ fn is_pair(word: &str, other: &str, ls: &[Lexeme]) -> bool
     let [first, second, rest @ ..] = ls else {
         return false;
     };
-    first.is_word(word) && second.is_word(other) && !begins(Kind::Assign, rest)
+    first.is_word(word) && second.is_word(other) && !begins(TokenKind::Assign, rest)
 }
 
 /// Returns `true` if a type comes next that is a sequence of another one.
@@ -162,11 +162,11 @@ fn type_name_at<'a, 's>(ls: &'a [Lexeme<'s>]) -> Result<&'a [Lexeme<'s>], ReadFa
 fn maybe_group<'a, 's>(ls: &'a [Lexeme<'s>]) -> Result<&'a [Lexeme<'s>], ReadFault<'a, 's>>
     ensures { Gives (λ rest. rest.now) result (maybe_group ls.now) }
 {
-    if begins(Kind::LeftBrace, ls) {
-        return group_at(Kind::LeftBrace, Kind::RightBrace, ls);
+    if begins(TokenKind::LeftBrace, ls) {
+        return group_at(TokenKind::LeftBrace, TokenKind::RightBrace, ls);
     }
-    if begins(Kind::LeftParen, ls) {
-        return group_at(Kind::LeftParen, Kind::RightParen, ls);
+    if begins(TokenKind::LeftParen, ls) {
+        return group_at(TokenKind::LeftParen, TokenKind::RightParen, ls);
     }
     Ok(ls)
 }
@@ -244,11 +244,11 @@ fn part_at<'a, 's>(part: Part, ls: &'a [Lexeme<'s>]) -> Result<&'a [Lexeme<'s>],
 {
     match part {
         Part::Syntax => type_at(ls),
-        Part::Text => mark_at(Kind::Quoted, ls),
+        Part::Text => mark_at(TokenKind::Quoted, ls),
         Part::Access => access_at(ls),
         Part::Status => status_at(ls),
         Part::Word => any_word_at(ls),
-        Part::Group => group_at(Kind::LeftBrace, Kind::RightBrace, ls),
+        Part::Group => group_at(TokenKind::LeftBrace, TokenKind::RightBrace, ls),
     }
 }
 

@@ -3,7 +3,7 @@
 ghost use Rattle.std.specs.Prelude.{◌≡◌, ◌≤◌, ◌-◌, length, take, drop, IfSome, IfNone};
 ghost use Rattle.std.specs.Str.{IsUtf8};
 
-use crate::kind::Kind;
+use crate::kind::TokenKind;
 
 /// The bytes of a text from `start` up to, and without, `end`.
 #[derive(Clone, Copy, Debug, PartialEq, Eq)]
@@ -30,7 +30,7 @@ impl Span {
 #[derive(Clone, Copy, Debug, PartialEq, Eq)]
 pub struct Token {
     /// What it is.
-    pub kind: Kind,
+    pub kind: TokenKind,
     /// Where it is.
     pub span: Span,
 }
@@ -39,7 +39,7 @@ pub struct Token {
 #[derive(Clone, Copy)]
 pub struct Piece {
     /// The kind of the token.
-    pub kind: Option<Kind>,
+    pub kind: Option<TokenKind>,
     /// The number of bytes.
     pub len: usize,
 }

@@ -4,7 +4,7 @@ ghost use Rattle.std.specs.Prelude.{◌≡◌, ◌≤◌, ◌-◌, length, drop,
 ghost use Rattle.std.specs.Option.{option_map};
 ghost use Rattle.mon_smi.specs.Reading.{Gives, name_at, number_of, sub_at, in_parens_at, component_at, parent_at, enough, numbers_at, value_at};
 
-use crate::kind::Kind;
+use crate::kind::TokenKind;
 use crate::lexeme::Lexeme;
 use crate::read_fault::ReadFault;
 use crate::rules::{begins, last, mark_at};
@@ -67,9 +67,9 @@ fn sub_at<'a, 's>(ls: &'a [Lexeme<'s>]) -> Result<(u32, &'a [Lexeme<'s>]), ReadF
 fn in_parens_at<'a, 's>(ls: &'a [Lexeme<'s>]) -> Result<(u32, &'a [Lexeme<'s>]), ReadFault<'a, 's>>
     ensures { Gives (λ x. (x.0, x.1.now)) result (in_parens_at ls.now) }
 {
-    let rest = mark_at(Kind::LeftParen, ls)?;
+    let rest = mark_at(TokenKind::LeftParen, ls)?;
     let (number, rest) = sub_at(rest)?;
-    let rest = mark_at(Kind::RightParen, rest)?;
+    let rest = mark_at(TokenKind::RightParen, rest)?;
     Ok((number, rest))
 }
 
@@ -90,7 +90,7 @@ fn parent_at<'a, 's>(ls: &'a [Lexeme<'s>]) -> (Option<&'a str>, &'a [Lexeme<'s>]
 {
     match name_at(ls) {
         Some((word, rest)) => {
-            if begins(Kind::LeftParen, rest) {
+            if begins(TokenKind::LeftParen, rest) {
                 return (None, ls);
             }
             (Some(word), rest)
@@ -109,7 +109,7 @@ fn numbers_at<'a, 's>(
 {
     let mut numbers = Vec::new(alloc);
     let mut left = ls.len();
-    while !begins(Kind::RightBrace, last(ls, left)) {
+    while !begins(TokenKind::RightBrace, last(ls, left)) {
         let (number, rest) = component_at(last(ls, left))?;
         numbers.push(number)?;
         left = rest.len();
@@ -142,13 +142,13 @@ pub(crate) fn value_at<'a, 's>(
 ) -> Result<(Value<'a>, &'a [Lexeme<'s>]), ReadFault<'a, 's>>
     ensures { Gives (λ x. ((option_map (λ w. w.now) x.0.parent, x.0.numbers.items), x.1.now)) result (value_at ls.now) }
 {
-    let inner = mark_at(Kind::LeftBrace, ls)?;
+    let inner = mark_at(TokenKind::LeftBrace, ls)?;
     let (parent, behind) = parent_at(inner);
     let (numbers, left) = numbers_at(alloc, behind)?;
     let rest = last(behind, left);
     if !enough(parent, numbers.as_slice()) {
         return Err(ReadFault::BrokenOff(rest));
     }
-    let rest = mark_at(Kind::RightBrace, rest)?;
+    let rest = mark_at(TokenKind::RightBrace, rest)?;
     Ok((Value { parent, numbers }, rest))
 }

@@ -11,3 +11,4 @@ mod Said
 mod Headline
 mod Stopping
 mod Taken
+mod Windowed

@@ -1,4 +1,5 @@
 pub mod Fault
+pub mod Found
 pub mod Lived
 pub mod Opened
 pub mod Ran

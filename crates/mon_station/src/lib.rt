@@ -10,10 +10,12 @@ pub mod laws;
 mod life;
 mod opening;
 mod running;
+mod saved;
 mod sharing;
 mod station;
 
 pub use event::{Event, Outgoing, OwnedEvent, To, Told};
 pub use fault::{Innermost, StationFault};
 pub use running::{Answer, Outbox, OutboxFault, Run, Source, SourceFault};
+pub use saved::{board_in, saved_board};
 pub use station::Station;

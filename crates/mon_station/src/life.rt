@@ -16,7 +16,7 @@ use mon_ber::Octets;
 use mon_board::{Board, Pairs};
 use mon_disk::HEAD_ROOM;
 use mon_exchange::{Claim, ClaimKind, ClaimRef, Peers, read_claim, write_claim};
-use mon_layout::put_octets;
+use mon_fields::put_octets;
 use mon_poller::{Addr, Poller, TimedOut};
 use mon_sample::Sample;
 use mon_saved::{image_size, write_within};
@@ -107,7 +107,7 @@ impl Life {
     {
         self.settled();
         let room = self.room_to_send_again(alloc, id)?;
-        let timed_out = self.poller.timed_out(alloc, id)?;
+        let timed_out = self.poller.time_out(alloc, id)?;
         Ok(Self::told_timeout(alloc, room, timed_out))
     }
 
@@ -168,7 +168,7 @@ impl Life {
         match self.poller.response(alloc, from, octets) {
             Ok(offered) => {
                 self.board.take_pairs(offered.pairs.as_slice());
-                Ok(told_taken(alloc, offered.pairs))
+                Ok(tell_taken(alloc, offered.pairs))
             }
             Err(fault) => Err(StationFault::from(fault)),
         }
@@ -298,7 +298,7 @@ fn told_one(alloc: Global, room: Vec<Outgoing>, out: Outgoing) -> Told
 }
 
 /// These samples were taken.
-fn told_taken(alloc: Global, taken: Pairs) -> Told
+fn tell_taken(alloc: Global, taken: Pairs) -> Told
     ensures taken { result.taken ≡ taken }
     ensures sends { result.sends.items ≡ [] }
     ensures noted { result.noted ≡ None }
@@ -319,5 +319,5 @@ pub(crate) fn told_none(alloc: Global) -> Told
     ensures noted { result.noted ≡ None }
     ensures given_up { result.given_up ≡ None }
 {
-    told_taken(alloc, Pairs::new(alloc))
+    tell_taken(alloc, Pairs::new(alloc))
 }

@@ -189,7 +189,7 @@ impl<D: Disk + Drop> Station<D> {
             Ok(Some(event)) => {
                 let answer = self.turn(alloc, outbox, event, &mut run.send_faults);
                 run.answers.push(answer).unwrap();
-                run.refused = counted(run.refused, answer);
+                run.refused = count_refused(run.refused, answer);
                 true
             }
             Ok(None) => false,
@@ -224,7 +224,7 @@ impl<D: Disk + Drop> Station<D> {
         match self.step(alloc, event.lend()) {
             Ok(told) => {
                 hand(outbox, told.sends.as_slice(), send_faults);
-                answered(&told)
+                answer_of(&told)
             }
             Err(fault) => shown(fault),
         }
@@ -232,7 +232,7 @@ impl<D: Disk + Drop> Station<D> {
 }
 
 /// The faults with one more answer.
-fn counted(refused: u64, answer: Answer) -> u64
+fn count_refused(refused: u64, answer: Answer) -> u64
     requires { refused < u64.MAX }
     ensures { result ≡ refused + faults_in (answer ∷ []) }
 {
@@ -253,7 +253,7 @@ fn hand<O: Outbox>(outbox: &mut O, sends: &[Outgoing], send_faults: &mut u64)
 }
 
 /// Returns what a run shows of an event.
-fn answered(told: &Told) -> Answer
+fn answer_of(told: &Told) -> Answer
     ensures { result ≡ ran.shown None told.now.taken told.now.given_up }
 {
     match told.given_up {

@@ -1,6 +1,6 @@
 use mon_oid::{Oid, OidFault};
 use mon_smi::{
-    Definition, Definitions, Kind, Module, Names, NamesFault, Numbers, Span, TextFault, Token,
+    Definition, Definitions, TokenKind, Module, Names, NamesFault, Numbers, Span, TextFault, Token,
     Word, read_module, tokens,
 };
 use std::alloc::{AllocError, Global};
@@ -151,15 +151,15 @@ fn cuts_a_module(rt: HostRuntime) -> Result<(), Fail> {
     assert_eq!(rt; found.len(), 45);
     assert_eq!(rt;
         found.get(2).map(|t| (t.kind, t.span.start, t.span.end)),
-        Some((Kind::Assign, 19, 22))
+        Some((TokenKind::Assign, 19, 22))
     );
     assert_eq!(rt;
         found.get(22).map(|t| (t.kind, t.span.start, t.span.end)),
-        Some((Kind::Quoted, 163, 166))
+        Some((TokenKind::Quoted, 163, 166))
     );
     assert_eq!(rt;
         found.get(44).map(|t| (t.kind, t.span.start, t.span.end)),
-        Some((Kind::Word, 264, 267))
+        Some((TokenKind::Word, 264, 267))
     );
     Ok(())
 }

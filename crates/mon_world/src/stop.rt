@@ -20,7 +20,7 @@ use std::alloc::{AllocError, Global};
 ///
 /// # Errors
 /// `OutOfMemory`; and the keeper's fault where it refused the save before the first call.
-pub(crate) fn stopped(
+pub(crate) fn stop_at(
     alloc: Global,
     station: &Station<MemoryDisk>,
     calls: u8,

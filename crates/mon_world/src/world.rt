@@ -19,7 +19,7 @@ use crate::opening::{core_at, open_all};
 use crate::sending::{Datagram, Sent, append, sent_between};
 use crate::speaker::speaker;
 use crate::step::Step;
-use crate::stop::{stopped, unsaved};
+use crate::stop::{stop_at, unsaved};
 use mon_disk::MemoryDisk;
 use mon_settings::Core;
 use mon_station::{Event, Station, Told};
@@ -234,7 +234,7 @@ impl World {
             return Err(WorldFault::BadStop);
         }
         unsaved(&self.stations[place]);
-        let disk = stopped(self.alloc, &self.stations[place], calls, keep)?;
+        let disk = stop_at(self.alloc, &self.stations[place], calls, keep)?;
         self.reopen(place, disk)
     }
 

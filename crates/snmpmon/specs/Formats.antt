@@ -1,8 +1,8 @@
 -- The formats of reports, by what the arguments ask for.
 use Rattle.mon_formats.specs.declared.format.Format.{Format}
 use Rattle.mon_formats.specs.declared.format.Format.TheVariants as format
-use Rattle.mon_words.specs.declared.format.ReportFormat.{ReportFormat}
-use Rattle.mon_words.specs.declared.format.ReportFormat.TheVariants.{Text, Json, Prometheus, Columns}
+use Rattle.mon_cli.specs.declared.format.ReportFormat.{ReportFormat}
+use Rattle.mon_cli.specs.declared.format.ReportFormat.TheVariants.{Text, Json, Prometheus, Columns}
 
 -- the format of a report that the arguments ask for
 abbrev pub format_of : ReportFormat → Format

@@ -3,15 +3,15 @@
 use crate::failure::Failure;
 use crate::files::{print, read_input_text, read_text};
 use crate::naming::names_of;
-use crate::settings::unset;
+use crate::settings::settings_failure;
 use mon_agent::Agent;
 use mon_answers::{Scene, answer_lines};
 use mon_app::{AppFault, SocketPort, Untaken, serve};
 use mon_faults::Fault;
 use mon_mib::{Device, FuseDevice, Moment, SimDevice};
-use mon_settings::{AgentSettings, Kind, read_agent};
+use mon_settings::{AgentSettings, SettingsKind, read_agent};
 use mon_smi::{Labels, Names};
-use mon_words::{AgentWords, AnswerWords};
+use mon_cli::{AgentArgs, AnswerArgs};
 use std::alloc::{AllocError, Global};
 use std::net::{Ipv4Addr, Net, SocketAddrV4};
 use std::rt::{Clock, Files};
@@ -22,17 +22,17 @@ const MOMENTS: &str = "a moment up to 214748364799";
 /// Serves the agent of the settings, as many datagrams as the arguments say.
 pub fn agent<R: Clock + Files + Net + Eprint + AllocGlobal>(
     rt: &R,
-    words: AgentWords<'_>,
+    words: AgentArgs<'_>,
 ) -> Result<(), Failure> {
     let told = told_of(rt, words.settings, words.boots)?;
     let listen = SocketAddrV4::new(Ipv4Addr::from(told.listen.octets), told.listen.port);
     let device = SimDevice::new(told.interfaces, told.texts)?;
     let agent = Agent::new(told.policy, told.settings, device);
-    listened(rt, listen, agent, words.count)
+    open_port(rt, listen, agent, words.count)
 }
 
 /// Listens at an address, says so, and serves this many datagrams.
-fn listened<R: Clock + Net + Eprint + AllocGlobal>(
+fn open_port<R: Clock + Net + Eprint + AllocGlobal>(
     rt: &R,
     listen: SocketAddrV4,
     agent: Agent<SimDevice>,
@@ -91,7 +91,7 @@ fn told_of<R: Files + AllocGlobal>(
     let text = read_text(rt, path)?;
     let mut told = match read_agent(rt.alloc(), &text) {
         Ok(told) => told,
-        Err(fault) => return Err(unset(rt.alloc(), Kind::Agent, path, &text, fault)),
+        Err(fault) => return Err(settings_failure(rt.alloc(), SettingsKind::Agent, path, &text, fault)),
     };
     if let Some(boots) = boots {
         told.settings.boots = boots;
@@ -102,9 +102,9 @@ fn told_of<R: Files + AllocGlobal>(
 /// Prints what the agent of the settings answers to the datagrams on standard input.
 pub fn answer<R: Files + Input + Print + AllocGlobal>(
     rt: &R,
-    words: AnswerWords<'_, '_>,
+    words: AnswerArgs<'_, '_>,
 ) -> Result<(), Failure> {
-    let AnswerWords { scene, named, .. } = words;
+    let AnswerArgs { scene, named, .. } = words;
     let told = told_of(rt, words.settings, words.boots)?;
     let mut agent = fused_agent(told, scene.fuses)?;
     let at = moment_of(rt.alloc(), scene.at)?;

@@ -10,10 +10,9 @@ use mon_app::{
 };
 use mon_ber::Value;
 use mon_faults::Fault;
-use mon_names::{InNumbers, NameTexts};
 use mon_oid::Oid;
-use mon_smi::Names;
-use mon_words::{BulkWords, Request, SetWords};
+use mon_smi::{InNumbers, NameTexts, Names};
+use mon_cli::{BulkArgs, Request, SetArgs};
 use std::alloc::{AllocError, Global};
 use std::net::{Net, SocketAddrV4};
 use std::rt::{Clock, Files};
@@ -40,7 +39,7 @@ pub fn next<R: Clock + Files + Net + Print + AllocGlobal>(
 /// Prints many variables after some names.
 pub fn bulk<R: Clock + Files + Net + Print + AllocGlobal>(
     rt: &R,
-    words: BulkWords<'_, '_>,
+    words: BulkArgs<'_, '_>,
 ) -> Result<(), Failure> {
     let repeats = Repeats {
         non_repeaters: words.non_repeaters,
@@ -52,7 +51,7 @@ pub fn bulk<R: Clock + Files + Net + Print + AllocGlobal>(
 /// Has the agent assign a value to the variable that is asked about, and prints its answer.
 pub fn set<R: Clock + Files + Net + Print + AllocGlobal>(
     rt: &R,
-    words: SetWords<'_, '_>,
+    words: SetArgs<'_, '_>,
 ) -> Result<(), Failure> {
     let query = query_of(rt, words.request)?;
     let value = read_value(rt.alloc(), words.kind, words.value)?;
@@ -107,7 +106,7 @@ fn query_of<'a, R: Files + AllocGlobal>(
     let agent = agent_at(rt.alloc(), request.address)?;
     let community = community(rt.alloc(), request.community)?;
     let known = names_of(rt, request.named.modules)?;
-    let asked = asked(rt.alloc(), request.names, &known)?;
+    let asked = ask_names(rt.alloc(), request.names, &known)?;
     Ok(Query {
         agent,
         community,
@@ -141,7 +140,7 @@ fn is_community(word: &str) -> bool
 }
 
 /// The identifiers that words name.
-fn asked(alloc: Global, words: &[&str], known: &Names) -> Result<Vec<Oid>, Failure> {
+fn ask_names(alloc: Global, words: &[&str], known: &Names) -> Result<Vec<Oid>, Failure> {
     let mut asked = Vec::new(alloc);
     for word in words {
         asked.push(asked_for(alloc, known, word)?)?;
@@ -202,14 +201,14 @@ fn print_shown<'a, R: Clock + Net + Print + AllocGlobal, S: NameTexts>(
         community: query.community,
         names: query.asked.as_slice(),
     };
-    match answered(rt, query.agent.address, &question, names) {
+    match answer_query(rt, query.agent.address, &question, names) {
         Ok(text) => print(rt, text.as_bytes()),
-        Err(fault) => Err(unanswered(rt.alloc(), query, fault)),
+        Err(fault) => Err(answer_failure(rt.alloc(), query, fault)),
     }
 }
 
 /// What an agent answers to a question.
-fn answered<R: Clock + Net + AllocGlobal, S: NameTexts>(
+fn answer_query<R: Clock + Net + AllocGlobal, S: NameTexts>(
     rt: &R,
     agent: SocketAddrV4,
     question: &Question<'_>,
@@ -242,13 +241,13 @@ fn walk_shown<R: Clock + Net + AllocGlobal, S: NameTexts>(
     let [start] = query.asked.as_slice() else {
         return Ok(());
     };
-    match walked(rt, query, start, names, text) {
+    match walk_agent(rt, query, start, names, text) {
         Ok(()) => Ok(()),
-        Err(fault) => Err(unanswered(rt.alloc(), query, fault)),
+        Err(fault) => Err(answer_failure(rt.alloc(), query, fault)),
     }
 }
 
-fn walked<R: Clock + Net + AllocGlobal, S: NameTexts>(
+fn walk_agent<R: Clock + Net + AllocGlobal, S: NameTexts>(
     rt: &R,
     query: &Query<'_>,
     start: &Oid,
@@ -260,7 +259,7 @@ fn walked<R: Clock + Net + AllocGlobal, S: NameTexts>(
 }
 
 /// Why the agent gave no answer that is printed.
-fn unanswered(alloc: Global, query: &Query<'_>, fault: AppFault) -> Failure {
+fn answer_failure(alloc: Global, query: &Query<'_>, fault: AppFault) -> Failure {
     match fault {
         AppFault::AgentStatus { status, index } => Failure::said(
             Fault::App(fault),

@@ -1,7 +1,7 @@
 //! The commands: what each reads, computes and prints.
 
 ghost use Rattle.std.specs.Prelude.{◌≤◌};
-ghost use Rattle.mon_words.specs.Asked.{IsWithin};
+ghost use Rattle.mon_cli.specs.Asked.{IsWithin};
 
 use crate::agent::{agent, answer};
 use crate::client::{bulk, get, next, set, walk};
@@ -13,7 +13,7 @@ use crate::station::{rehearsal, report, self_test, station};
 use clap::error::ErrorKind;
 use mon_app::Recorded;
 use mon_smi::Names;
-use mon_words::{Asked, ReplayWords, VERSION, asked, read};
+use mon_cli::{Asked, ReplayArgs, VERSION, read_command, read};
 use std::alloc::AllocError;
 use std::fs::File;
 use std::net::Net;
@@ -27,27 +27,27 @@ pub fn start<R: Env + Clock + Files<File = File> + Net + Input + Print + Eprint 
     let words: Result<Vec<String>, _> = match env::args(rt) {
         Ok(args) => args.collect(rt.alloc()),
         Err(error) if error.kind() == io::ErrorKind::OutOfMemory => {
-            return failed(rt, &Failure::from(AllocError));
+            return report_failure(rt, &Failure::from(AllocError));
         }
         Err(_) => return unreadable(rt),
     };
     let Ok(words) = words else {
-        return failed(rt, &Failure::from(AllocError));
+        return report_failure(rt, &Failure::from(AllocError));
     };
     match read(rt.alloc(), words.as_slice()) {
-        Ok(matches) => match run(rt, asked(&matches)) {
+        Ok(matches) => match run(rt, read_command(&matches)) {
             Ok(()) => 0,
-            Err(failure) => failed(rt, &failure),
+            Err(failure) => report_failure(rt, &failure),
         },
-        Err(error) => refused(rt, &error),
+        Err(error) => report_usage(rt, &error),
     }
 }
 
 /// Prints why the arguments were refused, or the help that they asked for, and returns the exit
 /// status.
-fn refused<R: Print + Eprint + AllocGlobal>(rt: &R, error: &clap::Error) -> u8 {
+fn report_usage<R: Print + Eprint + AllocGlobal>(rt: &R, error: &clap::Error) -> u8 {
     if error.kind() == ErrorKind::OutOfMemory {
-        return failed(rt, &Failure::from(AllocError));
+        return report_failure(rt, &Failure::from(AllocError));
     }
     let printed = error.print(rt);
     if error.exit_code() != 0 {
@@ -55,7 +55,7 @@ fn refused<R: Print + Eprint + AllocGlobal>(rt: &R, error: &clap::Error) -> u8 {
     }
     match printed {
         Ok(()) => 0,
-        Err(error) => failed(rt, &Failure::stream(rt.alloc(), "standard output", error)),
+        Err(error) => report_failure(rt, &Failure::stream(rt.alloc(), "standard output", error)),
     }
 }
 
@@ -67,7 +67,7 @@ fn unreadable(rt: &impl Eprint) -> u8 {
 
 /// Prints why a command failed, and returns the exit status. If printing fails too, only the status
 /// says so.
-fn failed(rt: &impl Eprint, failure: &Failure) -> u8 {
+fn report_failure(rt: &impl Eprint, failure: &Failure) -> u8 {
     failure.tell(rt);
     1
 }
@@ -100,7 +100,7 @@ fn run<R: Clock + Files<File = File> + Net + Input + Print + Eprint + AllocGloba
 /// Prints the windows of the responses on standard input, or their report if asked to.
 fn replaying<R: Files + Input + Print + Eprint + AllocGlobal>(
     rt: &R,
-    words: ReplayWords<'_, '_>,
+    words: ReplayArgs<'_, '_>,
 ) -> Result<(), Failure>
     requires { (1 ≤ words.size) × (words.size ≤ 64) }
 {

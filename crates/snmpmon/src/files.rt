@@ -51,7 +51,7 @@ fn write_file<R: Files<File = File>>(rt: &R, path: &str, octets: &[u8]) -> io::R
 pub fn read_input<R: Input + AllocGlobal>(rt: &R) -> Result<Vec<u8>, Failure> {
     match read_all(rt.alloc(), &mut Counted::new(rt.reader())) {
         Ok(octets) => Ok(octets),
-        Err(fault) => Err(unread(rt.alloc(), INPUT, fault)),
+        Err(fault) => Err(input_failure(rt.alloc(), INPUT, fault)),
     }
 }
 
@@ -97,12 +97,12 @@ fn unread_file<R: Files + AllocGlobal>(rt: &R, path: &str, fault: AppFault) -> F
         Ok(found) if found.is_dir() => {
             Failure::stream(alloc, path, io::Error::from(io::ErrorKind::IsADirectory))
         }
-        _ => unread(alloc, path, fault),
+        _ => input_failure(alloc, path, fault),
     }
 }
 
 /// What could not be read to its end.
-fn unread(alloc: Global, place: &str, fault: AppFault) -> Failure {
+fn input_failure(alloc: Global, place: &str, fault: AppFault) -> Failure {
     Failure::at(alloc, place, Fault::App(fault))
 }
 

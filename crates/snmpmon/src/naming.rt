@@ -55,13 +55,13 @@ pub fn no_module(alloc: Global, path: &str, text: &str, fault: TextFault) -> Fai
 pub fn asked_for(alloc: Global, names: &Names, word: &str) -> Result<Oid, Failure> {
     match names.resolve(alloc, word) {
         Ok(oid) => Ok(oid),
-        Err(NamesFault::Unknown) => Err(unnamed(alloc, word)),
+        Err(NamesFault::Unknown) => Err(name_failure(alloc, word)),
         Err(fault) => Err(Failure::at(alloc, word, Fault::Names(fault))),
     }
 }
 
 /// A word whose name is not defined.
-fn unnamed(alloc: Global, word: &str) -> Failure {
+fn name_failure(alloc: Global, word: &str) -> Failure {
     let fault = NamesFault::Unknown;
     Failure::said(
         Fault::Names(fault),

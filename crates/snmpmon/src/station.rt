@@ -6,24 +6,24 @@ use crate::failure::Failure;
 use crate::files::{print, read_first, read_input, read_text};
 use crate::naming::add_module;
 use crate::printing::Printing;
-use crate::settings::unset;
+use crate::settings::settings_failure;
 use crate::telling::{shown, tell_notices};
 use mon_app::AppFault;
 use mon_board::Board;
+use mon_cli::{Named, Printed, RehearseArgs, ReportArgs, ReportFormat, StationArgs, Timing};
 use mon_disk::{Disk, DiskError, FileDisk, SLOT_SIZE};
 use mon_faults::Fault;
 use mon_formats::Figures;
 use mon_poller::Addr;
-use mon_rehearsal::rehearse;
+use mon_rehearsal::{rehearse, run_trial};
 use mon_report::write_report;
 use mon_rounds::{
     Addresses, Course, Receiver, RoundReport, Rounds, Socket, SocketOutbox, SocketReceiver,
-    board_in, debts_of, is_due, left_of, rest, run_round, selftest,
+    debts_of, is_due, left_of, rest, run_round,
 };
-use mon_settings::{Kind, StationSettings, module_files, read_station};
+use mon_settings::{SettingsKind, StationSettings, module_files, read_station};
 use mon_smi::Names;
-use mon_station::{Outbox, Run, Station, StationFault};
-use mon_words::{Named, Printed, RehearseWords, ReportFormat, ReportWords, StationWords, Timing};
+use mon_station::{Outbox, Run, Station, StationFault, board_in};
 use std::alloc::{AllocError, Global};
 use std::fs::File;
 use std::io::{BufWriter, Write};
@@ -34,9 +34,9 @@ use std::{fs, io};
 
 /// What a running station works with.
 #[derive(Drop)]
-struct Running<S: Receiver + Drop, O: Outbox + Drop> {
+struct Live<S: Receiver + Drop, O: Outbox + Drop> {
     station: Station<FileDisk>,
-    lines: Lines<S, O>,
+    transport: Transport<S, O>,
     /// What the last round, or the time after it, did.
     run: Run,
     course: Course,
@@ -45,7 +45,7 @@ struct Running<S: Receiver + Drop, O: Outbox + Drop> {
 
 /// What a station receives and sends by, and where its targets and peers are reached.
 #[derive(Drop)]
-struct Lines<S: Receiver + Drop, O: Outbox + Drop> {
+struct Transport<S: Receiver + Drop, O: Outbox + Drop> {
     rounds: Rounds<S>,
     outbox: O,
     addresses: Addresses,
@@ -74,41 +74,41 @@ const MOST_RESTS: u32 = u32::MAX;
 /// Runs the station of the settings through its rounds, and prints its report.
 pub fn station<R: Clock + Files<File = File> + Net + Print + Eprint + AllocGlobal>(
     rt: &R,
-    words: StationWords<'_, '_>,
+    words: StationArgs<'_, '_>,
 ) -> Result<(), Failure> {
     let (settings, printing) = settings_of(rt, words.settings, words.printed)?;
     let out = out_of(rt.alloc(), words.out)?;
     let (disk, socket) = opened(rt, &settings)?;
     let listen = settings.listen;
-    let at = used(rt.alloc(), listen, socket.address())?;
-    let lines = lines_of(rt, &settings, &socket)?;
-    let running = begun(rt, settings, at, disk, lines, Reports { printing, out })?;
-    run_rounds(rt, running, words.timing)
+    let at = or_socket_failure(rt.alloc(), listen, socket.address())?;
+    let transport = open_transport(rt, &settings, &socket)?;
+    let live = start_station(rt, settings, at, disk, transport, Reports { printing, out })?;
+    run_rounds(rt, live, words.timing)
 }
 
 /// Makes what the station of the settings receives and sends by, over this socket.
-fn lines_of<'a, R: Clock + AllocGlobal>(
+fn open_transport<'a, R: Clock + AllocGlobal>(
     rt: &'a R,
     settings: &StationSettings,
     socket: &'a Socket,
-) -> Result<Lines<SocketReceiver<'a, R>, SocketOutbox<'a>>, Failure> {
+) -> Result<Transport<SocketReceiver<'a, R>, SocketOutbox<'a>>, Failure> {
     let alloc = rt.alloc();
-    let receiver = used(
+    let receiver = or_socket_failure(
         alloc,
         settings.listen,
         SocketReceiver::new(rt, alloc, socket),
     )?;
     let outbox = SocketOutbox::new(socket, Addresses::of(alloc, settings)?);
-    Ok(lines_by(alloc, settings, receiver, outbox)?)
+    Ok(make_transport(alloc, settings, receiver, outbox)?)
 }
 
 /// Makes what the station of the settings receives and sends by.
-fn lines_by<S: Receiver + Drop, O: Outbox + Drop>(
+fn make_transport<S: Receiver + Drop, O: Outbox + Drop>(
     alloc: Global,
     settings: &StationSettings,
     receiver: S,
     outbox: O,
-) -> Result<Lines<S, O>, AllocError> {
+) -> Result<Transport<S, O>, AllocError> {
     let addresses = Addresses::of(alloc, settings)?;
     let rounds = Rounds::new(
         alloc,
@@ -117,7 +117,7 @@ fn lines_by<S: Receiver + Drop, O: Outbox + Drop>(
         receiver,
     )?;
     let peers = Vec::from_slice(alloc, settings.core.peers())?;
-    Ok(Lines {
+    Ok(Transport {
         rounds,
         outbox,
         addresses,
@@ -130,55 +130,55 @@ fn run_rounds<
     R: Clock + Files<File = File> + Print + Eprint + AllocGlobal,
     S: Receiver + Drop,
     O: Outbox + Drop,
->(rt: &R, running: Running<S, O>, timing: Timing) -> Result<(), Failure> {
-    let mut running = running;
+>(rt: &R, live: Live<S, O>, timing: Timing) -> Result<(), Failure> {
+    let mut live = live;
     for number in 1..=timing.rounds {
         let began = now(rt)?;
-        one_round(rt, &mut running, number);
-        write_out(rt, &running);
+        run_one(rt, &mut live, number);
+        write_out(rt, &live);
         if number != timing.rounds {
-            between(rt, &mut running, number, began, timing)?;
+            between(rt, &mut live, number, began, timing)?;
         }
     }
-    print_report(rt, &running)
+    print_report(rt, &live)
 }
 
 /// Runs one round, and prints its notices.
-fn one_round<R: Eprint + AllocGlobal, S: Receiver + Drop, O: Outbox + Drop>(
+fn run_one<R: Eprint + AllocGlobal, S: Receiver + Drop, O: Outbox + Drop>(
     rt: &R,
-    running: &mut Running<S, O>,
+    live: &mut Live<S, O>,
     number: u32,
 ) {
     let ran = run_round(
         rt.alloc(),
-        &mut running.station,
-        &mut running.lines.rounds,
-        &mut running.lines.outbox,
-        &mut running.run,
+        &mut live.station,
+        &mut live.transport.rounds,
+        &mut live.transport.outbox,
+        &mut live.run,
     );
-    after(rt, running, number, ran);
+    after(rt, live, number, ran);
 }
 
 /// Prints the report where it is due after this round, and hands the station what comes until the next one is to begin.
 fn between<R: Clock + Print + Eprint + AllocGlobal, S: Receiver + Drop, O: Outbox + Drop>(
     rt: &R,
-    running: &mut Running<S, O>,
+    live: &mut Live<S, O>,
     number: u32,
     began: Instant,
     timing: Timing,
 ) -> Result<(), Failure> {
     if is_due(number, timing.report_every) {
-        print_between(rt, running)?;
+        print_between(rt, live)?;
     }
     let interval = Duration::from_secs(u64::from(timing.interval));
-    pause(rt, running, number, began, interval)
+    pause(rt, live, number, began, interval)
 }
 
 /// Prints the report of the windows in the file of the settings. The station is not started, and
 /// the file is only read.
 pub fn report<R: Files<File = File> + Print + AllocGlobal>(
     rt: &R,
-    words: ReportWords<'_, '_>,
+    words: ReportArgs<'_, '_>,
 ) -> Result<(), Failure> {
     let (settings, printing) = settings_of(rt, words.settings, words.printed)?;
     let alloc = rt.alloc();
@@ -197,14 +197,14 @@ fn saved_in<R: Files<File = File> + AllocGlobal>(
     let octets = read_first(rt, &settings.file, 2 * SLOT_SIZE + 1)?;
     match board_in(alloc, settings.core.watch(), octets.as_slice()) {
         Ok(board) => Ok(board),
-        Err(fault) => Err(unkept(alloc, &settings.file, fault)),
+        Err(fault) => Err(file_failure(alloc, &settings.file, fault)),
     }
 }
 
 /// Prints what the steps on standard input make of stations in memory.
 pub fn rehearsal<R: Files + Input + Print + AllocGlobal>(
     rt: &R,
-    words: RehearseWords<'_>,
+    words: RehearseArgs<'_>,
 ) -> Result<(), Failure>
     requires { (1 ≤ words.stations) × (words.stations ≤ 16) }
 {
@@ -221,7 +221,7 @@ pub fn rehearsal<R: Files + Input + Print + AllocGlobal>(
 
 /// Prints what a station in memory measured of an agent in memory.
 pub fn self_test<R: Print + AllocGlobal>(rt: &R) -> Result<(), Failure> {
-    let trial = selftest(rt.alloc())?;
+    let trial = run_trial(rt.alloc())?;
     print(rt, trial.text.as_slice())
 }
 
@@ -235,7 +235,7 @@ fn settings_of<R: Files + AllocGlobal>(
     let text = read_text(rt, path)?;
     let files = match module_files(alloc, &text) {
         Ok(files) => files,
-        Err(fault) => return Err(unset(alloc, Kind::Station, path, &text, fault)),
+        Err(fault) => return Err(settings_failure(alloc, SettingsKind::Station, path, &text, fault)),
     };
     let mut names = Names::new(alloc)?;
     for file in files.as_slice() {
@@ -246,7 +246,7 @@ fn settings_of<R: Files + AllocGlobal>(
             let printing = Printing::of(rt, printed, names, files.as_slice())?;
             Ok((settings, printing))
         }
-        Err(fault) => Err(unset(alloc, Kind::Station, path, &text, fault)),
+        Err(fault) => Err(settings_failure(alloc, SettingsKind::Station, path, &text, fault)),
     }
 }
 
@@ -303,29 +303,29 @@ fn is_short(size: u64) -> bool
 }
 
 /// Opens the station, and prints where it is.
-fn begun<R: Eprint + AllocGlobal, S: Receiver + Drop, O: Outbox + Drop>(
+fn start_station<R: Eprint + AllocGlobal, S: Receiver + Drop, O: Outbox + Drop>(
     rt: &R,
     settings: StationSettings,
     at: SocketAddr,
     disk: FileDisk,
-    lines: Lines<S, O>,
+    transport: Transport<S, O>,
     reports: Reports,
-) -> Result<Running<S, O>, Failure> {
+) -> Result<Live<S, O>, Failure> {
     let alloc = rt.alloc();
     let StationSettings { core, file, .. } = settings;
     let (number, targets, peers) = (core.station(), core.targets().len(), core.peers().len());
     let station = match Station::open(alloc, core, disk) {
         Ok(station) => station,
-        Err((fault, _)) => return Err(unkept(alloc, &file, fault)),
+        Err((fault, _)) => return Err(file_failure(alloc, &file, fault)),
     };
     let course = Course::new(alloc, station.board())?;
     let incarnation = station.incarnation();
     let _ = eprintln!(rt;
         "snmpmon: station {number} at {at}, incarnation {incarnation}, file {file}, targets: {targets}, peers: {peers}"
     );
-    Ok(Running {
+    Ok(Live {
         station,
-        lines,
+        transport,
         run: Run::new(alloc),
         course,
         reports,
@@ -336,12 +336,12 @@ fn begun<R: Eprint + AllocGlobal, S: Receiver + Drop, O: Outbox + Drop>(
 /// the station goes on.
 fn after<R: Eprint + AllocGlobal, S: Receiver + Drop, O: Outbox + Drop>(
     rt: &R,
-    running: &mut Running<S, O>,
+    live: &mut Live<S, O>,
     number: u32,
     ran: Result<(), StationFault>,
 ) {
     let told = match ran {
-        Ok(()) => told_of(rt, running, number),
+        Ok(()) => report_round(rt, live, number),
         Err(fault) => Err(Failure::from(fault)),
     };
     if let Err(failure) = told {
@@ -349,18 +349,18 @@ fn after<R: Eprint + AllocGlobal, S: Receiver + Drop, O: Outbox + Drop>(
     }
 }
 
-fn told_of<R: Eprint + AllocGlobal, S: Receiver + Drop, O: Outbox + Drop>(
+fn report_round<R: Eprint + AllocGlobal, S: Receiver + Drop, O: Outbox + Drop>(
     rt: &R,
-    running: &mut Running<S, O>,
+    live: &mut Live<S, O>,
     number: u32,
 ) -> Result<(), Failure> {
     let alloc = rt.alloc();
-    let report = RoundReport::of(alloc, running.lines.rounds.round(), &running.run)?;
-    running.course.add(&report);
-    tell_notices(rt, number, &running.lines.addresses, &report);
-    for line in running
+    let report = RoundReport::of(alloc, live.transport.rounds.round(), &live.run)?;
+    live.course.add(&report);
+    tell_notices(rt, number, &live.transport.addresses, &report);
+    for line in live
         .course
-        .changed(alloc, running.station.board())?
+        .take_changes(alloc, live.station.board())?
         .as_slice()
     {
         let _ = eprintln!(rt; "snmpmon: {line}");
@@ -371,7 +371,7 @@ fn told_of<R: Eprint + AllocGlobal, S: Receiver + Drop, O: Outbox + Drop>(
 /// Hands the station what comes until the next round is to begin.
 fn pause<R: Clock + Eprint + AllocGlobal, S: Receiver + Drop, O: Outbox + Drop>(
     rt: &R,
-    running: &mut Running<S, O>,
+    live: &mut Live<S, O>,
     number: u32,
     began: Instant,
     interval: Duration,
@@ -383,13 +383,13 @@ fn pause<R: Clock + Eprint + AllocGlobal, S: Receiver + Drop, O: Outbox + Drop>(
         }
         let ran = rest(
             rt.alloc(),
-            &mut running.station,
-            &mut running.lines.rounds,
-            &mut running.lines.outbox,
+            &mut live.station,
+            &mut live.transport.rounds,
+            &mut live.transport.outbox,
             left,
-            &mut running.run,
+            &mut live.run,
         );
-        after(rt, running, number, ran);
+        after(rt, live, number, ran);
     }
     Ok(())
 }
@@ -406,9 +406,9 @@ fn now<R: Clock + AllocGlobal>(rt: &R) -> Result<Instant, Failure> {
 /// on.
 fn print_between<R: Print + Eprint + AllocGlobal, S: Receiver + Drop, O: Outbox + Drop>(
     rt: &R,
-    running: &Running<S, O>,
+    live: &Live<S, O>,
 ) -> Result<(), Failure> {
-    let Err(failure) = print_report(rt, running) else {
+    let Err(failure) = print_report(rt, live) else {
         return Ok(());
     };
     if !failure.is_of_memory() {
@@ -421,14 +421,14 @@ fn print_between<R: Print + Eprint + AllocGlobal, S: Receiver + Drop, O: Outbox 
 /// Prints the report of a station's windows. Lines of text with names in numbers need no memory.
 fn print_report<R: Print + AllocGlobal, S: Receiver + Drop, O: Outbox + Drop>(
     rt: &R,
-    running: &Running<S, O>,
+    live: &Live<S, O>,
 ) -> Result<(), Failure> {
-    let board = running.station.board();
-    if running.reports.printing.is_plain() {
+    let board = live.station.board();
+    if live.reports.printing.is_plain() {
         return print_lines(rt, board);
     }
-    let figures = figures_of(rt.alloc(), running)?;
-    let text = running
+    let figures = make_figures(rt.alloc(), live)?;
+    let text = live
         .reports
         .printing
         .report(rt.alloc(), board, Some(&figures))?;
@@ -456,39 +456,39 @@ fn print_lines<R: Print + AllocGlobal>(rt: &R, board: &Board) -> Result<(), Fail
 /// reported, and the station goes on.
 fn write_out<R: Files<File = File> + Eprint + AllocGlobal, S: Receiver + Drop, O: Outbox + Drop>(
     rt: &R,
-    running: &Running<S, O>,
+    live: &Live<S, O>,
 ) {
-    let Some(path) = &running.reports.out else {
+    let Some(path) = &live.reports.out else {
         return;
     };
-    if let Err(failure) = written_out(rt, running, path) {
+    if let Err(failure) = write_report_file(rt, live, path) {
         failure.tell(rt);
     }
 }
 
-fn written_out<R: Files<File = File> + AllocGlobal, S: Receiver + Drop, O: Outbox + Drop>(
+fn write_report_file<R: Files<File = File> + AllocGlobal, S: Receiver + Drop, O: Outbox + Drop>(
     rt: &R,
-    running: &Running<S, O>,
+    live: &Live<S, O>,
     path: &str,
 ) -> Result<(), Failure> {
-    let figures = figures_of(rt.alloc(), running)?;
-    let board = running.station.board();
-    running
+    let figures = make_figures(rt.alloc(), live)?;
+    let board = live.station.board();
+    live
         .reports
         .printing
         .write(rt, path, board, Some(&figures))
 }
 
 /// What a station says of itself.
-fn figures_of<S: Receiver + Drop, O: Outbox + Drop>(
+fn make_figures<S: Receiver + Drop, O: Outbox + Drop>(
     alloc: Global,
-    running: &Running<S, O>,
+    live: &Live<S, O>,
 ) -> Result<Figures, AllocError> {
     Ok(Figures {
-        incarnation: running.station.incarnation(),
-        taken: running.course.taken(),
-        given_up: running.course.given_up(),
-        debts: debts_of(alloc, &running.station, running.lines.peers.as_slice())?,
+        incarnation: live.station.incarnation(),
+        taken: live.course.taken(),
+        given_up: live.course.given_up(),
+        debts: debts_of(alloc, &live.station, live.transport.peers.as_slice())?,
     })
 }
 
@@ -501,7 +501,7 @@ fn in_file<T: Drop>(alloc: Global, path: &str, given: io::Result<T>) -> Result<T
 }
 
 /// What a call of the station's socket gave.
-fn used<T: Drop>(alloc: Global, listen: Addr, given: io::Result<T>) -> Result<T, Failure> {
+fn or_socket_failure<T: Drop>(alloc: Global, listen: Addr, given: io::Result<T>) -> Result<T, Failure> {
     match given {
         Ok(value) => Ok(value),
         Err(error) => Err(Failure::socket(alloc, shown(listen), error)),
@@ -509,6 +509,6 @@ fn used<T: Drop>(alloc: Global, listen: Addr, given: io::Result<T>) -> Result<T,
 }
 
 /// Why a station's file gave no station or no report.
-fn unkept(alloc: Global, path: &str, fault: StationFault) -> Failure {
+fn file_failure(alloc: Global, path: &str, fault: StationFault) -> Failure {
     Failure::at(alloc, path, Fault::from(fault))
 }

@@ -38,8 +38,8 @@ BUGS = {
     ),
     "refusal_names_none": (
         "src/assigning.rt",
-        "            let response = returned(response, status.number(), index_of(index));",
-        "            let response = returned(response, status.number(), index_of(index.min(0)));",
+        "            let response = make_return(response, status.number(), index_of(index));",
+        "            let response = make_return(response, status.number(), index_of(index.min(0)));",
     ),
     "set_is_no_request": (
         "src/agent.rt",
@@ -143,8 +143,8 @@ BUGS = {
     ),
     "denies_with_index_1": (
         "src/agent.rt",
-        "            let denied = returned(message, AUTHORIZATION_ERROR, 0);",
-        "            let denied = returned(message, AUTHORIZATION_ERROR, 1);",
+        "            let denied = make_return(message, AUTHORIZATION_ERROR, 0);",
+        "            let denied = make_return(message, AUTHORIZATION_ERROR, 1);",
     ),
     "hides_a_name_as_no_instance": (
         "src/agent.rt",
@@ -193,8 +193,8 @@ BUGS = {
     ),
     "set_is_measured_without_index": (
         "src/assigning.rt",
-        "        let response = returned(message, NO_ERROR, count);",
-        "        let response = returned(message, NO_ERROR, count.min(0));",
+        "        let response = make_return(message, NO_ERROR, count);",
+        "        let response = make_return(message, NO_ERROR, count.min(0));",
     ),
     "commit_failed_names_none": (
         "src/assigning.rt",

@@ -18,8 +18,8 @@ BUGS = {
     ),
     "compares_with_the_newest": (
         "src/alarm.rt",
-        "        let level = observed(samples[..left].last(), sample);",
-        "        let level = observed(samples.last(), sample);",
+        "        let level = observe(samples[..left].last(), sample);",
+        "        let level = observe(samples.last(), sample);",
     ),
     "ends_clear": (
         "src/alarm.rt",

@@ -88,8 +88,8 @@ BUGS = {
     ),
     "prints_time_before_boots": (
         "src/text.rt",
-        '    write!(text, "  {boots} {time} {mark} ")?;',
-        '    write!(text, "  {time} {boots} {mark} ")?;',
+        '    write!(text, "  {boots} {time} {discontinuity} ")?;',
+        '    write!(text, "  {time} {boots} {discontinuity} ")?;',
     ),
     "reads_a_counter_as_gauge": (
         "src/value.rt",
@@ -304,12 +304,12 @@ BUGS = {
     "walks_in_numbers": (
         "src/walking.rt",
         "put_binding(alloc, &mut line, &found, names)?;",
-        "put_binding(alloc, &mut line, &found, &mon_names::InNumbers)?;",
+        "put_binding(alloc, &mut line, &found, &mon_smi::InNumbers)?;",
     ),
     "prints_values_in_numbers": (
         "src/printed.rt",
         "    let name = names.text(alloc, name)?;",
-        "    let name = mon_names::InNumbers.text(alloc, name)?;",
+        "    let name = mon_smi::InNumbers.text(alloc, name)?;",
     ),
     "leaves_out_the_name": (
         "src/printed.rt",

@@ -123,8 +123,8 @@ BUGS = {
     ),
     "finds_what_is_not_there": (
         "src/marks.rt",
-        "        Ok(_) => true,\n        Err(_) => false,\n    }\n}\n\n/// Returns the place of the sample among rising ones, or belongs.",
-        "        Ok(_) => true,\n        Err(at) => at > 63,\n    }\n}\n\n/// Returns the place of the sample among rising ones, or belongs.",
+        "        Ok(_) => true,\n        Err(_) => false,\n    }\n}\n\n/// Returns the place of the sample among rising ones, or where it belongs.",
+        "        Ok(_) => true,\n        Err(at) => at > 63,\n    }\n}\n\n/// Returns the place of the sample among rising ones, or where it belongs.",
     ),
     "keeps_by_the_first_window": (
         "src/each.rt",

@@ -123,8 +123,8 @@ BUGS = {
     ),
     "clones_no_unsynced_writes": (
         "src/memory.rt",
-        "calls: copied(self.alloc, &self.calls[self.since..])?,",
-        "calls: copied(self.alloc, &self.calls[self.calls.len()..])?,",
+        "calls: copy_calls(self.alloc, &self.calls[self.since..])?,",
+        "calls: copy_calls(self.alloc, &self.calls[self.calls.len()..])?,",
     ),
     "clones_unsynced_octets_as_synced": (
         "src/memory.rt",

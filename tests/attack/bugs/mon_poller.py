@@ -1,7 +1,7 @@
 """Bugs of mon_poller for planted_bugs: by a name the file, what stands there once, and the bug in its place."""
 
 BUGS = {
-    "a_gauge_is_no_mark": (
+    "a_gauge_is_no_discontinuity": (
         "src/stamp.rt",
         "        Value::Counter32(number) | Value::Gauge32(number) | Value::TimeTicks(number) => {",
         "        Value::Counter32(number) | Value::TimeTicks(number) => {",
@@ -96,10 +96,10 @@ BUGS = {
         "    let Some(time) = stamp_number(&third.value) else {",
         "    let Some(time) = stamp_number(&second.value) else {",
     ),
-    "the_object_as_its_mark": (
+    "the_object_as_its_discontinuity": (
         "src/offers.rt",
-        "            [_, second, ..] => mark_in(&second.value),",
-        "            [first, _, ..] => mark_in(&first.value),",
+        "            [_, second, ..] => discontinuity_in(&second.value),",
+        "            [first, _, ..] => discontinuity_in(&first.value),",
     ),
     "a_mark_is_not_passed_over": (
         "src/offers.rt",
@@ -123,13 +123,13 @@ BUGS = {
     ),
     "time_before_boots": (
         "src/asking.rt",
-        "    bindings.push(unspecified(stamp_name(alloc, &ENGINE_BOOTS)?))?;\n    bindings.push(unspecified(stamp_name(alloc, &ENGINE_TIME)?))?;",
-        "    bindings.push(unspecified(stamp_name(alloc, &ENGINE_TIME)?))?;\n    bindings.push(unspecified(stamp_name(alloc, &ENGINE_BOOTS)?))?;",
+        "    bindings.push(name_binding(stamp_name(alloc, &ENGINE_BOOTS)?))?;\n    bindings.push(name_binding(stamp_name(alloc, &ENGINE_TIME)?))?;",
+        "    bindings.push(name_binding(stamp_name(alloc, &ENGINE_TIME)?))?;\n    bindings.push(name_binding(stamp_name(alloc, &ENGINE_BOOTS)?))?;",
     ),
     "asks_for_the_object_twice": (
         "src/asking.rt",
-        "        bindings.push(unspecified(mark.try_clone(alloc)?))?;",
-        "        bindings.push(unspecified(object.name.try_clone(alloc)?))?;",
+        "        bindings.push(name_binding(discontinuity.try_clone(alloc)?))?;",
+        "        bindings.push(name_binding(object.name.try_clone(alloc)?))?;",
     ),
     "asks_with_the_engine_as_community": (
         "src/asking.rt",
@@ -186,10 +186,10 @@ BUGS = {
         "const MOST_COMMUNITY: usize = 512;",
         "const MOST_COMMUNITY: usize = 513;",
     ),
-    "a_copy_of_the_object_without_its_mark": (
+    "a_copy_of_the_object_without_its_discontinuity": (
         "src/target.rt",
-        "            mark,\n",
-        "            mark: None,\n",
+        "            discontinuity,\n",
+        "            discontinuity: None,\n",
     ),
     "reads_another_port": (
         "src/addr.rt",
@@ -203,17 +203,17 @@ BUGS = {
     ),
     "swaps_boots_and_time": (
         "src/offers.rt",
-        "    Some(Sample::new(stamp.boots, stamp.time, mark, kind, value))",
-        "    Some(Sample::new(stamp.time, stamp.boots, mark, kind, value))",
+        "    Some(Sample::new(stamp.boots, stamp.time, discontinuity, kind, value))",
+        "    Some(Sample::new(stamp.time, stamp.boots, discontinuity, kind, value))",
     ),
     "takes_any_host": (
         "src/awaiting.rt",
         "    if from != target.address {",
         "    if from.port != target.address.port {",
     ),
-    "takes_an_integer_as_a_mark": (
+    "takes_an_integer_as_a_discontinuity": (
         "src/offers.rt",
-        "            [_, second, ..] => mark_in(&second.value),",
+        "            [_, second, ..] => discontinuity_in(&second.value),",
         "            [_, second, ..] => stamp_number(&second.value),",
     ),
     "sends_another_datagram_again": (
@@ -266,12 +266,12 @@ BUGS = {
         "        return if list.is_empty() { Some(()) } else { None };",
         "        return Some(());",
     ),
-    "in_place_without_a_mark": (
+    "in_place_without_a_discontinuity": (
         "src/in_place.rt",
-        "&value, mark_in(&mark), pairs)?;",
+        "&value, discontinuity_in(&discontinuity), pairs)?;",
         "&value, Some(0), pairs)?;",
     ),
-    "in_place_with_a_mark_of_none": (
+    "in_place_with_a_discontinuity_of_none": (
         "src/in_place.rt",
         "&value, Some(0), pairs)?;",
         "&value, Some(1), pairs)?;",
@@ -333,7 +333,7 @@ BUGS = {
     ),
     "takes_other_names": (
         "src/offers.rt",
-        "    mark.parts() == binding.name.parts() && name_objects(objects, bindings)",
-        "    mark.parts().len() == binding.name.parts().len() && name_objects(objects, bindings)",
+        "    discontinuity.parts() == binding.name.parts() && name_objects(objects, bindings)",
+        "    discontinuity.parts().len() == binding.name.parts().len() && name_objects(objects, bindings)",
     ),
 }

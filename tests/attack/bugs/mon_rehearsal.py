@@ -166,4 +166,29 @@ BUGS = {
         "    let innermost = fault.innermost();",
         '    let innermost = mon_station::Innermost::new("mon_world", fault.number(), fault.name());',
     ),
+    "says_ok_whatever_came": (
+        "src/trial.rt",
+        "    if text.as_slice() != wanted {",
+        "    if text.is_empty() {",
+    ),
+    "tests_itself_without_a_trial": (
+        "src/trial.rt",
+        "    let text = find_again(alloc, settings.core.watch(), &station)?;\n",
+        "    let mut text = Vec::new(alloc);\n    text.extend_from_slice(REPORT.as_bytes())?;\n",
+    ),
+    "a_trial_that_is_not_saved": (
+        "src/trial.rt",
+        "    save(alloc, &mut station)?;\n    Ok(station)",
+        "    Ok(station)",
+    ),
+    "tells_the_trial_for_its_station": (
+        "src/trial.rt",
+        "            TrialFault::Refused(fault) => fault.innermost(),",
+        '            TrialFault::Refused(_) => Innermost::new("mon_rounds", self.number(), self.name()),',
+    ),
+    "forgets_why_the_station_refused": (
+        "src/trial.rt",
+        "            other => TrialFault::Refused(other),",
+        "            _ => TrialFault::Unexpected,",
+    ),
 }

@@ -68,11 +68,6 @@ BUGS = {
         "        if let Notice::GaveUp(_) = notice {",
         "        if let Notice::GaveUp(_) | Notice::NotPolled(..) = notice {",
     ),
-    "a_report_of_empty_windows": (
-        "src/saved.rt",
-        "        Some(octets) => image_board(alloc, watch, octets.as_slice()),",
-        "        Some(_) => Ok(Board::new(alloc, watch.try_clone(alloc)?)?),",
-    ),
     "all_alarms_are_clear": (
         "src/alarms.rt",
         "        states.push(state(rule, board.items(rule.instance())))?;",
@@ -117,11 +112,6 @@ BUGS = {
         "src/round.rt",
         "            Phase::Listening => Some(self.save()),",
         "            Phase::Listening => None,",
-    ),
-    "says_ok_whatever_came": (
-        "src/trial.rt",
-        "    if text.as_slice() != wanted {",
-        "    if text.is_empty() {",
     ),
     "shares_before_it_polls": (
         "src/round.rt",
@@ -207,36 +197,6 @@ BUGS = {
         "src/reporting.rt",
         "        RoundEvent::FromPeer(from) => Some(Notice::BadClaim(from, fault)),",
         "        RoundEvent::FromPeer(_) => None,",
-    ),
-    "windows_not_found_are_too_large": (
-        "src/saved.rt",
-        "        Err(error) => Err((StationFault::from(error.fault), error.disk)),",
-        "        Err(error) => Err((StationFault::Keeper(mon_disk::KeeperFault::TooLarge), error.disk)),",
-    ),
-    "a_bad_image_is_the_disks_fault": (
-        "src/saved.rt",
-        "            Err(fault) => Err((fault, keeper.into_disk())),",
-        "            Err(_) => Err((StationFault::Keeper(mon_disk::KeeperFault::DiskFault), keeper.into_disk())),",
-    ),
-    "tests_itself_without_a_trial": (
-        "src/trial.rt",
-        "    let text = found_again(alloc, settings.core.watch(), &station)?;\n",
-        "    let mut text = Vec::new(alloc);\n    text.extend_from_slice(REPORT.as_bytes())?;\n",
-    ),
-    "a_trial_that_is_not_saved": (
-        "src/trial.rt",
-        "    save(alloc, &mut station)?;\n    Ok(station)",
-        "    Ok(station)",
-    ),
-    "tells_the_trial_for_its_station": (
-        "src/trial.rt",
-        "            TrialFault::Refused(fault) => fault.innermost(),",
-        '            TrialFault::Refused(_) => Innermost::new("mon_rounds", self.number(), self.name()),',
-    ),
-    "forgets_why_the_station_refused": (
-        "src/trial.rt",
-        "            other => TrialFault::Refused(other),",
-        "            _ => TrialFault::Unexpected,",
     ),
     "sends_to_the_port_after": (
         "src/socket.rt",

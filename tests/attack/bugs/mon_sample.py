@@ -6,14 +6,14 @@ BUGS = {
         "        self.boots",
         "        self.time",
     ),
-    "kind_by_the_mark": (
+    "kind_by_the_discontinuity": (
         "src/sample.rt",
         "        self.kind\n",
-        "        if self.mark == 7 { Kind::Gauge32 } else { self.kind }\n",
+        "        if self.discontinuity == 7 { Kind::Gauge32 } else { self.kind }\n",
     ),
-    "mark_is_the_time": (
+    "discontinuity_is_the_time": (
         "src/sample.rt",
-        "        self.mark",
+        "        self.discontinuity",
         "        self.time",
     ),
     "means_a_counter": (
@@ -51,10 +51,10 @@ BUGS = {
         "        self.time",
         "        self.boots",
     ),
-    "value_is_the_mark": (
+    "value_is_the_discontinuity": (
         "src/sample.rt",
         "        self.value",
-        "        u64::from(self.mark)",
+        "        u64::from(self.discontinuity)",
     ),
     "wide_integer": (
         "src/kind.rt",

@@ -138,7 +138,7 @@ BUGS = {
     ),
     "forgets_to_look_for_unknown_keys": (
         "src/agent.rt",
-        "    reader.only(top_keys(Kind::Agent))?;\n",
+        "    reader.only(top_keys(SettingsKind::Agent))?;\n",
         "",
     ),
     "calls_memory_not_toml": (
@@ -433,8 +433,8 @@ BUGS = {
     ),
     "knows_a_stations_keys_in_an_agents_settings": (
         "src/grammar.rt",
-        "        Kind::Agent => &AGENT,",
-        "        Kind::Agent => &STATION,",
+        "        SettingsKind::Agent => &AGENT,",
+        "        SettingsKind::Agent => &STATION,",
     ),
     "leaves_rules_in_the_order_of_the_alarms": (
         "src/placing.rt",

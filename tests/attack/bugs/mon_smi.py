@@ -1,6 +1,28 @@
 """Bugs of mon_smi for planted_bugs: by a name the file, what stands there once, and the bug in its place."""
 
+NUMBERS = "        oid.text(alloc)\n"
+NAMES = "        self.name_of(alloc, oid)\n"
+
+
+def changed(call, how):
+    """A text that is changed before it is given."""
+    return f"        let mut text = {call}?;\n        {how}\n        Ok(text)\n"
+
+
 BUGS = {
+    **{
+        name: ("src/printing.rt", old, new)
+        for name, old, new in (
+            ("gives_no_numbers", NUMBERS, "        let _ = oid;\n        Ok(String::new(alloc))\n"),
+            ("gives_numbers_after_a_dot", NUMBERS, '        let numbers = oid.text(alloc)?;\n        format!(in alloc; ".{numbers}")\n'),
+            ("gives_numbers_and_a_space", NUMBERS, changed("oid.text(alloc)", 'text.push_str(" ")?;')),
+            ("gives_short_numbers_alone", NUMBERS, changed("oid.text(alloc)", "if text.len() > 10 {\n            text.clear();\n        }")),
+            ("gives_no_name", NAMES, "        let _ = oid;\n        Ok(String::new(alloc))\n"),
+            ("gives_a_name_after_a_dot", NAMES, '        let name = self.name_of(alloc, oid)?;\n        format!(in alloc; ".{name}")\n'),
+            ("gives_a_name_and_a_space", NAMES, changed("self.name_of(alloc, oid)", 'text.push_str(" ")?;')),
+            ("gives_a_name_twice", NAMES, '        let name = self.name_of(alloc, oid)?;\n        format!(in alloc; "{name}{name}")\n'),
+        )
+    },
     "again_at_the_front": (
         "src/places.rt",
         "            return Ok(Some(i));",
@@ -108,8 +130,8 @@ BUGS = {
     ),
     "resolves_another_text": (
         "src/names.rt",
-        "        resolved(alloc, &self.places, self.defs.as_slice(), text)",
-        '        resolved(alloc, &self.places, self.defs.as_slice(), "iso.3")',
+        "        resolve_in(alloc, &self.places, self.defs.as_slice(), text)",
+        '        resolve_in(alloc, &self.places, self.defs.as_slice(), "iso.3")',
     ),
     "strings_are_unexpected": (
         "src/lexer.rt",
@@ -143,13 +165,13 @@ BUGS = {
     ),
     "ends_a_comment_one_early": (
         "src/pieces.rt",
-        "        return passed(comment_len(text) + 1);",
-        "        return passed(comment_len(text));",
+        "        return skip(comment_len(text) + 1);",
+        "        return skip(comment_len(text));",
     ),
     "takes_any_digits_for_bits": (
         "src/pieces.rt",
-        "        b'b' | b'B' if bits == digits => token(Kind::Binary, digits + 3),",
-        "        b'b' | b'B' => token(Kind::Binary, digits + 3),",
+        "        b'b' | b'B' if bits == digits => token(TokenKind::Binary, digits + 3),",
+        "        b'b' | b'B' => token(TokenKind::Binary, digits + 3),",
     ),
     "takes_a_return_for_no_space": (
         "src/pieces.rt",
@@ -183,7 +205,7 @@ BUGS = {
     ),
     "takes_a_kind_before_an_assignment": (
         "src/rules.rt",
-        "    first.is_word(word) && second.is_word(other) && !begins(Kind::Assign, rest)",
+        "    first.is_word(word) && second.is_word(other) && !begins(TokenKind::Assign, rest)",
         "    first.is_word(word) && second.is_word(other)",
     ),
     "looks_for_the_shortest_prefix": (

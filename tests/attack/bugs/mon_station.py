@@ -118,8 +118,8 @@ BUGS = {
     ),
     "a_refused_event_ends_the_run": (
         "src/running.rt",
-        "                run.refused = counted(run.refused, answer);\n                true",
-        "                run.refused = counted(run.refused, answer);\n                matches!(answer, Answer::Handled(_))",
+        "                run.refused = count_refused(run.refused, answer);\n                true",
+        "                run.refused = count_refused(run.refused, answer);\n                matches!(answer, Answer::Handled(_))",
     ),
     "a_failing_source_ends_the_run": (
         "src/running.rt",
@@ -133,7 +133,7 @@ BUGS = {
     ),
     "an_answer_is_refused_for_fine": (
         "src/running.rt",
-        "                answered(&told)\n            }\n            Err(fault) => shown(fault),",
+        "                answer_of(&told)\n            }\n            Err(fault) => shown(fault),",
         "                Answer::Refused(StationFault::NoMoreIncarnations)\n            }\n            Err(fault) => shown(fault),",
     ),
     "failed_sends_are_not_counted": (
@@ -375,5 +375,20 @@ BUGS = {
         "src/fault.rt",
         'write!(f, "{part} {number} {name}")',
         'write!(f, "{part} {name} {number}")',
+    ),
+    "a_report_of_empty_windows": (
+        "src/saved.rt",
+        "        Some(octets) => image_board(alloc, watch, octets.as_slice()),",
+        "        Some(_) => Ok(Board::new(alloc, watch.try_clone(alloc)?)?),",
+    ),
+    "windows_not_found_are_too_large": (
+        "src/saved.rt",
+        "        Err(error) => Err((StationFault::from(error.fault), error.disk)),",
+        "        Err(error) => Err((StationFault::Keeper(mon_disk::KeeperFault::TooLarge), error.disk)),",
+    ),
+    "a_bad_image_is_the_disks_fault": (
+        "src/saved.rt",
+        "            Err(fault) => Err((fault, keeper.into_disk())),",
+        "            Err(_) => Err((StationFault::Keeper(mon_disk::KeeperFault::DiskFault), keeper.into_disk())),",
     ),
 }

@@ -113,8 +113,8 @@ BUGS = {
     ),
     "keeps_nothing_at_a_stop_of_the_second": (
         "src/world.rt",
-        "let disk = stopped(self.alloc, &self.stations[place], calls, keep)?;",
-        "let disk = stopped(self.alloc, &self.stations[place], calls, keep && number != 2)?;",
+        "let disk = stop_at(self.alloc, &self.stations[place], calls, keep)?;",
+        "let disk = stop_at(self.alloc, &self.stations[place], calls, keep && number != 2)?;",
     ),
     "makes_all_calls_of_a_save": (
         "src/stop.rt",

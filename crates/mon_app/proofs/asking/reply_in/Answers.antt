@@ -10,6 +10,6 @@ returns-in-Ok c = record {
 
 pub returns-in-Err : goal.returns-in-Err
 returns-in-Err c = record {
-  found = unread_gives_none (asked_in c.args.question.now) c.args.octets.now c.in-Err.fault c.unread.result c.unread.ensures;
-  none = unread_holds_none c.again.ensures (asked_in c.args.question.now) c.args.octets.now c.in-Err.fault c.unread.result c.in-Err.ensures.exact c.unread.ensures;
+  found = unread_gives_none (asked_in c.args.question.now) c.args.octets.now c.in-Err.fault c.skip_unread.result c.skip_unread.ensures;
+  none = unread_holds_none c.again.ensures (asked_in c.args.question.now) c.args.octets.now c.in-Err.fault c.skip_unread.result c.in-Err.ensures.exact c.skip_unread.ensures;
 }

@@ -1,8 +1,8 @@
 use Rattle.std.proofs.Common.{rules, ◌≡◌, ◌<◌, ◌-◌, ◌∙◌, ◌++◌, ◌∷◌, [], None, ap, sym, ℕ, length, arith}
 use Rattle.std.proofs.lemmas.List.{length_push}
 use Rattle.std.proofs.lemmas.Result.{err_from_is_err_and}
-use Rattle.mon_layout.specs.Reading.{with_front, one_by_one}
-use Rattle.mon_layout.proofs.Promised.{is_done}
+use Rattle.mon_fields.specs.Reading.{with_front, one_by_one}
+use Rattle.mon_fields.proofs.Promised.{is_done}
 use Rattle.mon_exchange.specs.Reading.{next_number}
 use Rattle.mon_exchange.proofs.Parts.{fails, one_more}
 use Rattle.mon_exchange.proofs.reading.sub_identifiers_at.Goals as goal

@@ -1,5 +1,5 @@
 use Rattle.std.proofs.Common.{◌≡◌, ◌≤◌, ◌-◌, length, None}
-use Rattle.mon_layout.specs.Reading.{one_by_one, with_front}
+use Rattle.mon_fields.specs.Reading.{one_by_one, with_front}
 use Rattle.mon_exchange.specs.Reading.{next_number, sub_identifiers_at}
 use Rattle.mon_exchange.proofs.reading.sub_identifiers_at.Given as goal
 

@@ -1,6 +1,6 @@
 use Rattle.std.proofs.Common.{rules, ◌≡◌, ◌≤◌, length, arith}
-use Rattle.mon_layout.specs.Layout.{instance_octets, samples_octets}
-use Rattle.mon_layout.proofs.Promised.{length-instance, length-samples}
+use Rattle.mon_fields.specs.Layout.{instance_octets, samples_octets}
+use Rattle.mon_fields.proofs.Promised.{length-instance, length-samples}
 use Rattle.mon_exchange.proofs.writing.claim_size.Goals as goal
 
 pub overflow_add-result-2 : goal.overflow_add-result-2

@@ -1,6 +1,6 @@
 use Rattle.std.proofs.Common.{◌≡◌, drop}
 use Rattle.mon_board.specs.Instance.{instances_of}
-use Rattle.mon_layout.specs.Reading.{with_front}
+use Rattle.mon_fields.specs.Reading.{with_front}
 use Rattle.mon_saved.specs.Reading.{entries_at}
 use Rattle.mon_saved.proofs.reading.entries_at.Given as goal
 

@@ -2,7 +2,7 @@ use Rattle.std.proofs.Common.{ℕ, List, [], ◌∷◌, sym, subst, arith}
 use Rattle.std.specs.List.Sorted.{IsStrictlySortedBy}
 use Rattle.std.specs.Ordering.{nat_cmp}
 use Rattle.mon_ber.proofs.Promised.{IsBytes, IsBytes-after}
-use Rattle.mon_layout.proofs.Promised.{samples_takes}
+use Rattle.mon_fields.proofs.Promised.{samples_takes}
 use Rattle.mon_saved.specs.declared.fault.ImageFault.TheVariants.{BadImage}
 use Rattle.mon_saved.proofs.Images.{within_takes}
 use Rattle.mon_saved.proofs.reading.saved_at.Goals as goal

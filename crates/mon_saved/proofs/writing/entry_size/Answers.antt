@@ -1,6 +1,6 @@
 use Rattle.std.proofs.Common.{rules, ◌≡◌, length, arith}
-use Rattle.mon_layout.specs.Layout.{instance_octets}
-use Rattle.mon_layout.proofs.Promised.{length-instance, length-samples}
+use Rattle.mon_fields.specs.Layout.{instance_octets}
+use Rattle.mon_fields.proofs.Promised.{length-instance, length-samples}
 use Rattle.mon_saved.specs.Written.{entry_of}
 use Rattle.mon_saved.proofs.Loops.{length-entry}
 use Rattle.mon_saved.proofs.writing.entry_size.Goals as goal

@@ -1,6 +1,6 @@
 use Rattle.std.proofs.Common.{◌≡◌, ◌-◌, List, [], true, false, length, drop, Ok, Err, rules, refl, subst}
 use Rattle.std.proofs.lemmas.Result.{err_from_is_err_and}
-use Rattle.mon_smi.specs.declared.kind.Kind.TheVariants.{RightBrace}
+use Rattle.mon_smi.specs.declared.kind.TokenKind.TheVariants.{RightBrace}
 use Rattle.mon_smi.specs.Reading.{Fails, sub_at, component_at, single, begins, numbers_at}
 use Rattle.mon_smi.specs.Grammar.{IsComponent}
 use Rattle.mon_smi.specs.Lexemes.{Lexeme}

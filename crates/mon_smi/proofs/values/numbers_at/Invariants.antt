@@ -1,4 +1,4 @@
-use Rattle.mon_smi.specs.declared.kind.Kind.TheVariants.{RightBrace}
+use Rattle.mon_smi.specs.declared.kind.TokenKind.TheVariants.{RightBrace}
 use Rattle.mon_smi.specs.Reading.{component_at, single, begins}
 use Rattle.mon_smi.proofs.ForValues.{IsBehind}
 use Rattle.mon_smi.proofs.values.numbers_at.Given as goal

@@ -21,9 +21,9 @@ write_within-requires-clause-room g c =
     let place : place_of outcome ≤ length (bindings_of set.response.body) =
     place_within g.D.Device.held g.D.Device.refuses (length (bindings_of set.response.body)) set.plan (g.D.Device.held c.args.self.now.mib.device)
     (g.D.Device.held c.commit.new.self.device) outcome c.requires.numbers c.commit.ensures.outcome in
-    let told : c.returned-response.result ≡ returned set.response (status_of outcome) (pos (place_of outcome)) =
-    passed_on set.response c.returned-response.result c.error_of-error_status.result.0 c.index_of.result (status_of outcome) (place_of outcome)
-    (status_fits outcome) (omega (arith, place, c.requires.few)) c.returned-response.ensures c.error_of-error_status.ensures.status
+    let told : c.make_return-response.result ≡ returned set.response (status_of outcome) (pos (place_of outcome)) =
+    passed_on set.response c.make_return-response.result c.error_of-error_status.result.0 c.index_of.result (status_of outcome) (place_of outcome)
+    (status_fits outcome) (omega (arith, place, c.requires.few)) c.make_return-response.ensures c.error_of-error_status.ensures.status
     (c.index_of.ensures ∙ ap pos c.error_of-error_status.ensures.place) in
     omega (
       arith,
@@ -40,11 +40,11 @@ write_within-requires-clause-fits g c =
     let place : place_of outcome ≤ length (bindings_of set.response.body) =
     place_within g.D.Device.held g.D.Device.refuses (length (bindings_of set.response.body)) set.plan (g.D.Device.held c.args.self.now.mib.device)
     (g.D.Device.held c.commit.new.self.device) outcome c.requires.numbers c.commit.ensures.outcome in
-    let told : c.returned-response.result ≡ returned set.response (status_of outcome) (pos (place_of outcome)) =
-    passed_on set.response c.returned-response.result c.error_of-error_status.result.0 c.index_of.result (status_of outcome) (place_of outcome)
-    (status_fits outcome) (omega (arith, place, c.requires.few)) c.returned-response.ensures c.error_of-error_status.ensures.status
+    let told : c.make_return-response.result ≡ returned set.response (status_of outcome) (pos (place_of outcome)) =
+    passed_on set.response c.make_return-response.result c.error_of-error_status.result.0 c.index_of.result (status_of outcome) (place_of outcome)
+    (status_fits outcome) (omega (arith, place, c.requires.few)) c.make_return-response.ensures c.error_of-error_status.ensures.status
     (c.index_of.ensures ∙ ap pos c.error_of-error_status.ensures.place) in
-    has_length c.returned-response.result (length (written_message set.response))
+    has_length c.make_return-response.result (length (written_message set.response))
     (omega (arith, ap (λ r. length (written_message r)) told, outcome_shorter c.shrinks.ensures set.response c.requires.greatest_is outcome place)) c.requires.small
 
 pub returns-clause-shorter : goal.returns-clause-shorter
@@ -54,10 +54,10 @@ returns-clause-shorter g c =
     let place : place_of outcome ≤ length (bindings_of set.response.body) =
     place_within g.D.Device.held g.D.Device.refuses (length (bindings_of set.response.body)) set.plan (g.D.Device.held c.args.self.now.mib.device)
     (g.D.Device.held c.commit.new.self.device) outcome c.requires.numbers c.commit.ensures.outcome in
-    let told : c.returned-response.result ≡ returned set.response (status_of outcome) (pos (place_of outcome)) =
-    passed_on set.response c.returned-response.result c.error_of-error_status.result.0 c.index_of.result (status_of outcome) (place_of outcome)
-    (status_fits outcome) (omega (arith, place, c.requires.few)) c.returned-response.ensures c.error_of-error_status.ensures.status
+    let told : c.make_return-response.result ≡ returned set.response (status_of outcome) (pos (place_of outcome)) =
+    passed_on set.response c.make_return-response.result c.error_of-error_status.result.0 c.index_of.result (status_of outcome) (place_of outcome)
+    (status_fits outcome) (omega (arith, place, c.requires.few)) c.make_return-response.ensures c.error_of-error_status.ensures.status
     (c.index_of.ensures ∙ ap pos c.error_of-error_status.ensures.place) in
-    let put : c.write_within.new.out.items ≡ written_message c.returned-response.result =
-    c.write_within.ensures.items ∙ ap (λ l. l ++ written_message c.returned-response.result) c.requires.empty in
+    let put : c.write_within.new.out.items ≡ written_message c.make_return-response.result =
+    c.write_within.ensures.items ∙ ap (λ l. l ++ written_message c.make_return-response.result) c.requires.empty in
     omega (arith, ap length put, ap (λ r. length (written_message r)) told, outcome_shorter c.shrinks.ensures set.response c.requires.greatest_is outcome place)

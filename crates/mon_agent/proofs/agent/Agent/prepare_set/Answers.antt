@@ -32,8 +32,8 @@ returns-in_ok-with_capacity-in-Ok-clause-ready g c =
     let known = known_of c.args.self.now.mib.settings c.args.self.now.mib.counters (g.D.Device.held c.args.self.now.mib.device) c.args.moment in
     let sees = IsInView c.args.self.now.policy.families c.args.access.view.now in
     let count : c.in-Some.count ≡ pos (length (bindings_of m.body)) = search rules in
-    let told : c.returned-response.result ≡ greatest m = search rules in
-    let fits : IsWithinLimit c.args.self.now.mib.settings.limit c.returned-response.result = search rules in
+    let told : c.make_return-response.result ≡ greatest m = search rules in
+    let fits : IsWithinLimit c.args.self.now.mib.settings.limit c.make_return-response.result = search rules in
     let same : c.bindings-bindings.result.now ≡ bindings_of m.body = search rules in
     record {
       fits = subst (IsWithinLimit c.args.self.now.mib.settings.limit) told fits;
@@ -42,16 +42,16 @@ returns-in_ok-with_capacity-in-Ok-clause-ready g c =
       is = told;
     }
 
-pub returns-in_ok-refused-in-Err-clause-ready : goal.returns-in_ok-refused-in-Err-clause-ready
-returns-in_ok-refused-in-Err-clause-ready g c =
+pub returns-in_ok-make_refusal-in-Err-clause-ready : goal.returns-in_ok-make_refusal-in-Err-clause-ready
+returns-in_ok-make_refusal-in-Err-clause-ready g c =
     let D = g.D.Device in
     let m = c.args.message in
     let known = known_of c.args.self.now.mib.settings c.args.self.now.mib.counters (D.held c.args.self.now.mib.device) c.args.moment in
     let sees = IsInView c.args.self.now.policy.families c.args.access.view.now in
     let count : c.in-Some.count ≡ pos (length (bindings_of m.body)) = search rules in
-    let told : c.returned-response.result ≡ greatest m = search rules in
-    let fits : IsWithinLimit c.args.self.now.mib.settings.limit c.returned-response.result = search rules in
+    let told : c.make_return-response.result ≡ greatest m = search rules in
+    let fits : IsWithinLimit c.args.self.now.mib.settings.limit c.make_return-response.result = search rules in
     let same : c.bindings-bindings.result.now ≡ bindings_of m.body = search rules in
-    refused_ready D.held D.failed D.refuses c.args.self.now.policy known c.args.self.now.mib.device sees m c.returned-response.result c.in-Err.fault
-    c.in_ok-refused-in-Err.field-0 (refused_shorter c.shrinks.ensures (greatest m) refl) told (subst (IsWithinLimit c.args.self.now.mib.settings.limit) told fits)
-    (subst (λ bs. IsSetFault known sees bs c.in-Err.fault) same c.in-Err.ensures.refused) c.in_ok-refused-in-Err.ensures
+    refused_ready D.held D.failed D.refuses c.args.self.now.policy known c.args.self.now.mib.device sees m c.make_return-response.result c.in-Err.fault
+    c.in_ok-make_refusal-in-Err.field-0 (refused_shorter c.shrinks.ensures (greatest m) refl) told (subst (IsWithinLimit c.args.self.now.mib.settings.limit) told fits)
+    (subst (λ bs. IsSetFault known sees bs c.in-Err.fault) same c.in-Err.ensures.refused) c.in_ok-make_refusal-in-Err.ensures

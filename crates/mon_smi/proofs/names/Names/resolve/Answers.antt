@@ -6,5 +6,5 @@ use Rattle.mon_smi.proofs.names.Names.resolve.Goals as goal
 
 pub returns-clause-accepted : goal.returns-clause-accepted
 returns-clause-accepted c = λ q means is.
-    accepted c.one_reading.ensures c.resolved.result c.as_slice.result.now c.args.text.now (subst AreDistinct (sym c.as_slice.ensures.value) c.self.invariant.0) c.resolved.ensures.fault q
+    accepted c.one_reading.ensures c.resolve_in.result c.as_slice.result.now c.args.text.now (subst AreDistinct (sym c.as_slice.ensures.value) c.self.invariant.0) c.resolve_in.ensures.fault q
     (subst (λ (defs : List Definition). MeansNumbers defs c.args.text.now q) (sym (c.as_slice.ensures.value ∙ c.self.view_is)) means) is

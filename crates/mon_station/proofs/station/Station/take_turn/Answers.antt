@@ -29,7 +29,7 @@ returns-in-Ok-Some-clause-called g c =
         answers = more ∙ ap (λ (a : Answer). old ++ a ∷ []) turned.shown_is;
         faults = omega arith;
         room = search rules;
-        refused = λ was. c.counted-run.ensures ∙ ap (λ n. n + faults_in (answer ∷ [])) was ∙ sym (faults_more old answer) ∙ ap faults_in (sym more);
+        refused = λ was. c.count_refused-run.ensures ∙ ap (λ n. n + faults_in (answer ∷ [])) was ∙ sym (faults_more old answer) ∙ ap faults_in (sym more);
       };
       going_is = refl;
     }

@@ -1,0 +1,19 @@
+//! The command line of `snmpmon`: its commands, their options and their help.
+#![tactic(auto)]
+
+mod choice;
+mod format;
+mod lines;
+mod matches;
+mod meaning;
+mod texts;
+mod parser;
+
+pub use choice::Choice;
+pub use format::ReportFormat;
+pub use matches::read_command;
+pub use meaning::{
+    AgentArgs, AnswerArgs, Asked, BulkArgs, Named, Printed, RehearseArgs, ReplayArgs,
+    ReportArgs, Request, Scene, SetArgs, StationArgs, Timing,
+};
+pub use parser::{VERSION, read};

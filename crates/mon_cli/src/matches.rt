@@ -1,0 +1,257 @@
+//! What the arguments ask for, by the matches that clap makes of them.
+
+ghost use Rattle.std.specs.Prelude.{◌≡◌, codes, option_map};
+ghost use Rattle.clap.specs.Words.{first_of, found_of, one_of, rows_of, subcommand_rows_of};
+ghost use Rattle.clap.specs.Walk.{texts};
+ghost use Rattle.mon_cli.specs.Asked.{AreAllowed, AreThere, AsksFor, IsAgent, IsAnswer, IsFormat, IsInteger, IsNamed, IsNumber, IsNumberOr, IsPrinted, IsRequest, IsScene, IsStation, IsTiming, IsWithin, Says, all_in, is_on, text_in, wants_report};
+ghost use Rattle.mon_cli.specs.Program.{IsParse};
+ghost use Rattle.mon_cli.specs.Table.{arguments};
+ghost use Rattle.mon_cli.specs.declared.choice.Choice.TheVariants as commands;
+ghost use Rattle.mon_cli.specs.declared.meaning.Asked.TheVariants as asked;
+
+use crate::choice::Choice;
+use crate::format::ReportFormat;
+use crate::meaning::{
+    AgentArgs, AnswerArgs, Asked, BulkArgs, Named, Printed, RehearseArgs, ReplayArgs,
+    ReportArgs, Request, Scene, SetArgs, StationArgs, Timing,
+};
+use clap::ArgMatches;
+
+/// How many samples a window keeps if the arguments do not say.
+const USUAL_SIZE: u32 = 8;
+
+/// The text of an argument, if it has one.
+fn find_value<'a>(matches: &ArgMatches<'a>, id: &str) -> Option<&'a str>
+    ensures { option_map (λ t. t.now) result ≡ first_of id.now (rows_of (found_of matches.now)) }
+{
+    matches.get_str(id)
+}
+
+/// The text of an argument, empty where it has none.
+fn text<'a>(matches: &ArgMatches<'a>, id: &str) -> &'a str
+    ensures { result.now ≡ text_in id.now (rows_of (found_of matches.now)) }
+{
+    find_value(matches, id).unwrap_or_default()
+}
+
+/// Returns all values of an argument, in the order of the command line.
+fn all<'m, 'a>(matches: &'m ArgMatches<'a>, id: &str) -> &'m [&'a str]
+    ensures { texts result.now ≡ all_in id.now (rows_of (found_of matches.now)) }
+{
+    matches.get_raw(id).unwrap_or_default()
+}
+
+/// Returns `true` if a flag was given: its value is then the text `true`.
+fn is_on(matches: &ArgMatches<'_>, id: &str) -> bool
+    ensures { result ≡ is_on id.now (rows_of (found_of matches.now)) }
+{
+    match find_value(matches, id) {
+        Some(text) => text == "true",
+        None => false,
+    }
+}
+
+/// The number of an argument, up to 4294967295.
+fn number(matches: &ArgMatches<'_>, id: &str) -> Option<u32>
+    ensures { IsNumber 32 (one_of id.now (rows_of (found_of matches.now))) result }
+{
+    matches.get_one::<u32>(id)
+}
+
+/// Returns the number that an argument has, or this one if it has none.
+fn number_or(matches: &ArgMatches<'_>, id: &str, other: u32) -> u32
+    ensures { IsNumberOr 32 other (one_of id.now (rows_of (found_of matches.now))) result }
+{
+    number(matches, id).unwrap_or(other)
+}
+
+/// The number of an argument, up to 18446744073709551615, or 0.
+fn wide_number(matches: &ArgMatches<'_>, id: &str) -> u64
+    ensures { IsNumberOr 64 0 (one_of id.now (rows_of (found_of matches.now))) result }
+{
+    matches.get_one::<u64>(id).unwrap_or(0)
+}
+
+/// The number of an argument, up to 2147483647.
+fn small_number(matches: &ArgMatches<'_>, id: &str) -> Option<i32>
+    ensures { IsInteger (one_of id.now (rows_of (found_of matches.now))) result }
+{
+    matches.get_one::<i32>(id)
+}
+
+/// Returns the modules that the arguments give.
+fn named<'m, 'a>(matches: &'m ArgMatches<'a>) -> Named<'m, 'a>
+    ensures { IsNamed (rows_of (found_of matches.now)) result }
+{
+    Named {
+        modules: all(matches, "module"),
+        shown: is_on(matches, "names"),
+    }
+}
+
+/// Returns the format that the arguments give.
+fn format(matches: &ArgMatches<'_>) -> ReportFormat
+    ensures { IsFormat (is_on (codes "columns") (rows_of (found_of matches.now))) (text_in (codes "format") (rows_of (found_of matches.now))) result }
+{
+    if is_on(matches, "columns") {
+        return ReportFormat::Columns;
+    }
+    ReportFormat::named(text(matches, "format")).unwrap_or(ReportFormat::Text)
+}
+
+/// Returns how a report is printed.
+fn read_printed<'m, 'a>(matches: &'m ArgMatches<'a>) -> Printed<'m, 'a>
+    ensures { IsPrinted (rows_of (found_of matches.now)) result }
+{
+    Printed {
+        format: format(matches),
+        named: named(matches),
+    }
+}
+
+/// Returns `true` if the report of a replay is asked for.
+fn reports(matches: &ArgMatches<'_>) -> bool
+    ensures { result ≡ wants_report (rows_of (found_of matches.now)) }
+{
+    is_on(matches, "report") || is_on(matches, "columns") || find_value(matches, "format").is_some()
+}
+
+/// Returns whom a client command asks about which variables.
+fn request<'m, 'a>(matches: &'m ArgMatches<'a>) -> Request<'m, 'a>
+    ensures { IsRequest (rows_of (found_of matches.now)) result }
+{
+    Request {
+        address: text(matches, "ADDRESS"),
+        community: text(matches, "COMMUNITY"),
+        names: all(matches, "NAME"),
+        named: named(matches),
+    }
+}
+
+/// Returns when rounds are run.
+fn timing(matches: &ArgMatches<'_>) -> Timing
+    ensures { IsTiming (rows_of (found_of matches.now)) result }
+{
+    Timing {
+        rounds: number_or(matches, "rounds", 1),
+        interval: number_or(matches, "interval", 0),
+        report_every: number_or(matches, "report-every", 0),
+    }
+}
+
+/// Returns how datagrams come to an agent without a socket.
+fn scene(matches: &ArgMatches<'_>) -> Scene
+    ensures { IsScene (rows_of (found_of matches.now)) result }
+{
+    Scene {
+        at: wide_number(matches, "at"),
+        fuses: wide_number(matches, "fuses"),
+        times: number_or(matches, "times", 1),
+    }
+}
+
+/// Returns the agent to serve.
+fn agent<'a>(matches: &ArgMatches<'a>) -> AgentArgs<'a>
+    ensures { IsAgent (rows_of (found_of matches.now)) result }
+{
+    AgentArgs {
+        settings: text(matches, "SETTINGS"),
+        boots: small_number(matches, "boots"),
+        count: number_or(matches, "count", 0),
+    }
+}
+
+/// Returns the agent that answers recorded datagrams.
+fn answer<'m, 'a>(matches: &'m ArgMatches<'a>) -> AnswerArgs<'m, 'a>
+    ensures { IsAnswer (rows_of (found_of matches.now)) result }
+{
+    AnswerArgs {
+        settings: text(matches, "SETTINGS"),
+        boots: small_number(matches, "boots"),
+        scene: scene(matches),
+        named: named(matches),
+    }
+}
+
+/// Returns the station to run.
+fn station<'m, 'a>(matches: &'m ArgMatches<'a>) -> StationArgs<'m, 'a>
+    ensures { IsStation (rows_of (found_of matches.now)) result }
+{
+    StationArgs {
+        settings: text(matches, "SETTINGS"),
+        timing: timing(matches),
+        out: find_value(matches, "out"),
+        printed: read_printed(matches),
+    }
+}
+
+/// Returns what is printed of recorded responses.
+fn replay<'m, 'a>(matches: &'m ArgMatches<'a>) -> ReplayArgs<'m, 'a>
+    requires { AreAllowed (arguments commands.Replay) (rows_of (found_of matches.now)) }
+    ensures says { Says commands.Replay (rows_of (found_of matches.now)) (asked.Replay result) }
+    ensures within { IsWithin (asked.Replay result) }
+{
+    ReplayArgs {
+        size: number_or(matches, "N", USUAL_SIZE),
+        reports: reports(matches),
+        printed: read_printed(matches),
+    }
+}
+
+/// Returns what the arguments of a command ask for.
+fn asked_by<'m, 'a>(choice: Choice, matches: &'m ArgMatches<'a>) -> Asked<'m, 'a>
+    requires allowed { AreAllowed (arguments choice) (rows_of (found_of matches.now)) }
+    requires there { AreThere (arguments choice) (rows_of (found_of matches.now)) }
+    ensures says { Says choice (rows_of (found_of matches.now)) result }
+    ensures within { IsWithin result }
+{
+    match choice {
+        Choice::Replay => Asked::Replay(replay(matches)),
+        Choice::Get => Asked::Get(request(matches)),
+        Choice::Next => Asked::Next(request(matches)),
+        Choice::Bulk => Asked::Bulk(BulkArgs {
+            request: request(matches),
+            non_repeaters: small_number(matches, "non-repeaters").unwrap_or(0),
+            max_repetitions: small_number(matches, "max-repetitions").unwrap_or(0),
+        }),
+        Choice::Walk => Asked::Walk(request(matches)),
+        Choice::Set => Asked::Set(SetArgs {
+            request: request(matches),
+            kind: text(matches, "KIND"),
+            value: text(matches, "VALUE"),
+        }),
+        Choice::Mib => Asked::Mib(text(matches, "FILE")),
+        Choice::SelfTest => Asked::SelfTest,
+        Choice::Agent => Asked::Agent(agent(matches)),
+        Choice::Answer => Asked::Answer(answer(matches)),
+        Choice::Station => Asked::Station(station(matches)),
+        Choice::Report => Asked::Report(ReportArgs {
+            settings: text(matches, "SETTINGS"),
+            printed: read_printed(matches),
+        }),
+        Choice::Rehearse => Asked::Rehearse(RehearseArgs {
+            settings: text(matches, "SETTINGS"),
+            stations: number_or(matches, "K", 1),
+        }),
+    }
+}
+
+/// Returns what the arguments ask for. Without a command they ask for a replay, all of whose
+/// arguments are left out.
+pub fn read_command<'m, 'a>(matches: &'m ArgMatches<'a>) -> Asked<'m, 'a>
+    requires { IsParse matches.now }
+    ensures says { AsksFor (is_on (codes "version") (rows_of (found_of matches.now))) (rows_of (found_of matches.now)) (subcommand_rows_of matches.now) result }
+    ensures within { IsWithin result }
+{
+    if is_on(matches, "version") {
+        return Asked::Version;
+    }
+    match matches.subcommand() {
+        Some((name, below)) => match Choice::named(name) {
+            Some(choice) => asked_by(choice, below),
+            // The command line knows no other commands.
+            None => unreachable!(),
+        },
+        None => Asked::Replay(replay(matches)),
+    }
+}

@@ -1,0 +1,144 @@
+//! What the arguments ask for.
+
+use crate::format::ReportFormat;
+
+/// Modules whose names are known, and whether names are printed by them.
+#[derive(Clone, Copy)]
+pub struct Named<'m, 'a> {
+    /// The files of the modules, in the order of the command line.
+    pub modules: &'m [&'a str],
+    pub shown: bool,
+}
+
+/// How a report is printed.
+#[derive(Clone, Copy)]
+pub struct Printed<'m, 'a> {
+    pub format: ReportFormat,
+    pub named: Named<'m, 'a>,
+}
+
+/// Which agent is asked about which variables.
+#[derive(Clone, Copy)]
+pub struct Request<'m, 'a> {
+    pub address: &'a str,
+    pub community: &'a str,
+    /// The names of the variables, in the order of the command line.
+    pub names: &'m [&'a str],
+    pub named: Named<'m, 'a>,
+}
+
+/// How an agent without a socket gets its datagrams.
+#[derive(Clone, Copy)]
+pub struct Scene {
+    /// The time of its clock, in hundredths of a second after its start.
+    pub at: u64,
+    /// Bit k is 1 where the device fails its change number k, from 0.
+    pub fuses: u64,
+    /// How many times each datagram comes.
+    pub times: u32,
+}
+
+/// When a station's rounds are run, and where its reports go.
+#[derive(Clone, Copy)]
+pub struct Timing {
+    pub rounds: u32,
+    /// How many seconds lie between the beginnings of two rounds, at least; 0 for none.
+    pub interval: u32,
+    /// After how many rounds each the report is printed; 0 for never.
+    pub report_every: u32,
+}
+
+/// What `replay` is to print of recorded responses.
+#[derive(Clone, Copy)]
+pub struct ReplayArgs<'m, 'a> {
+    /// How many samples a window keeps.
+    pub size: u32,
+    /// `true` if the report is printed, and not the windows.
+    pub reports: bool,
+    pub printed: Printed<'m, 'a>,
+}
+
+/// What `bulk` asks for.
+#[derive(Clone, Copy)]
+pub struct BulkArgs<'m, 'a> {
+    pub request: Request<'m, 'a>,
+    pub non_repeaters: i32,
+    pub max_repetitions: i32,
+}
+
+/// What `set` assigns to which variable.
+#[derive(Clone, Copy)]
+pub struct SetArgs<'m, 'a> {
+    pub request: Request<'m, 'a>,
+    pub kind: &'a str,
+    pub value: &'a str,
+}
+
+/// The agent that `agent` serves.
+#[derive(Clone, Copy)]
+pub struct AgentArgs<'a> {
+    /// The file of its settings.
+    pub settings: &'a str,
+    pub boots: Option<i32>,
+    /// How many datagrams are served.
+    pub count: u32,
+}
+
+/// The agent that `answer` hands recorded datagrams.
+#[derive(Clone, Copy)]
+pub struct AnswerArgs<'m, 'a> {
+    /// The file of its settings.
+    pub settings: &'a str,
+    pub boots: Option<i32>,
+    pub scene: Scene,
+    pub named: Named<'m, 'a>,
+}
+
+/// The station that `station` runs.
+#[derive(Clone, Copy)]
+pub struct StationArgs<'m, 'a> {
+    /// The file of its settings.
+    pub settings: &'a str,
+    pub timing: Timing,
+    /// The file that each round's report is written to.
+    pub out: Option<&'a str>,
+    pub printed: Printed<'m, 'a>,
+}
+
+/// The station whose windows `report` prints.
+#[derive(Clone, Copy)]
+pub struct ReportArgs<'m, 'a> {
+    /// The file of its settings.
+    pub settings: &'a str,
+    pub printed: Printed<'m, 'a>,
+}
+
+/// The stations that `rehearse` makes.
+#[derive(Clone, Copy)]
+pub struct RehearseArgs<'a> {
+    /// The file of their settings.
+    pub settings: &'a str,
+    /// How many they are.
+    pub stations: u32,
+}
+
+/// What the arguments ask for, by their command.
+#[derive(Clone, Copy)]
+pub enum Asked<'m, 'a> {
+    /// The program's name and version.
+    Version,
+    Replay(ReplayArgs<'m, 'a>),
+    Get(Request<'m, 'a>),
+    Next(Request<'m, 'a>),
+    Bulk(BulkArgs<'m, 'a>),
+    Walk(Request<'m, 'a>),
+    Set(SetArgs<'m, 'a>),
+    Agent(AgentArgs<'a>),
+    Answer(AnswerArgs<'m, 'a>),
+    /// The names of the module in this file.
+    Mib(&'a str),
+    Station(StationArgs<'m, 'a>),
+    Report(ReportArgs<'m, 'a>),
+    SelfTest,
+    Rehearse(RehearseArgs<'a>),
+}

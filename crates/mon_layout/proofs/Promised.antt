@@ -1,5 +1,0 @@
--- What crates above may cite.
-pub use Rattle.mon_layout.proofs.OneByOne.{Chain, one_by_one_takes, one_by_one_again, goes_on, stops, is_done}
-pub use Rattle.mon_layout.proofs.Fields.{guard, bytes_front, octet_takes, octet_again, field_takes, field_again, u32_takes, u32_again}
-pub use Rattle.mon_layout.proofs.Loops.{length-numbers, length-samples, length-instance}
-pub use Rattle.mon_layout.proofs.Samples.{samples_takes, samples_again}

@@ -1,6 +1,0 @@
-use Rattle.std.proofs.Common.{◌≡◌, take}
-use Rattle.mon_poller.proofs.target.copied.Given as goal
-
--- what was copied so far
-abbrev pub invariant-loop-object : goal.invariant-loop-object
-invariant-loop-object l = l.copies.items ≡ take l.object-index l.all

@@ -1,8 +1,0 @@
-use Rattle.std.proofs.Common.{fold, take}
-use Rattle.clap.specs.Words.{App}
-use Rattle.mon_words.specs.Program.{HasApp, with_line}
-use Rattle.mon_words.proofs.words.with_lines.Given as goal
-
--- the command has the arguments of the lines before this one
-abbrev pub invariant-loop-line : goal.invariant-loop-line
-invariant-loop-line l = (before : App) → HasApp before l.fn.command → HasApp (fold (with_line l.fn.lists) before (take l.line-index l.fn.lines)) l.command

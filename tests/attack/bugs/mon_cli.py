@@ -1,0 +1,87 @@
+"""Bugs of mon_cli for planted_bugs: by a name the file, what stands there once, and the bug in its place."""
+
+
+def taking(argument, form, old, bug):
+    """A bug in what an argument takes, which its id and how it is given name."""
+    head = f'    id: "{argument}",\n    form: Form::{form},\n    takes: Takes::'
+    return ("src/lines.rt", f"{head}{old},\n", f"{head}{bug},\n")
+
+
+# Each range of the command line: the argument, how it is given, its kind, its ends as they stand, and its ends turned.
+RANGES = {
+    f"{name}_{end}": taking(argument, form, f"One(Value::{kind}({low}, {high}))", f"One(Value::{kind}({ends}))")
+    for name, argument, form, kind, low, high, below, above in (
+        ("size", "N", "Place", "Number", "1", "64", "0", "63"),
+        ("stations", "K", "Place", "Number", "1", "16", "0", "17"),
+        ("rounds", "rounds", "Long", "Number", "1", "1_000_000", "0", "1_000_001"),
+        ("interval", "interval", "Long", "Number", "1", "86_400", "0", "86_399"),
+        ("report_every", "report-every", "Long", "Number", "1", "1_000_000", "2", "999_999"),
+        ("boots", "boots", "Long", "Number", "1", "2_147_483_647", "0", "2_147_483_646"),
+        ("count", "count", "Long", "Number", "1", "4_294_967_295", "0", "4_294_967_294"),
+        ("times", "times", "Long", "Number", "1", "4_294_967_295", "2", "4_294_967_294"),
+        ("at", "at", "Long", "Natural", "0", "214_748_364_799", "1", "214_748_364_798"),
+        ("fuses", "fuses", "Long", "Natural", "0", "18_446_744_073_709_551_615", "1", "18_446_744_073_709_551_614"),
+        ("non_repeaters", "non-repeaters", "Short('n')", "Number", "0", "2_147_483_647", "1", "2_147_483_646"),
+        ("max_repetitions", "max-repetitions", "Short('m')", "Number", "0", "2_147_483_647", "1", "2_147_483_646"),
+    )
+    for end, ends in (("begins_elsewhere", f"{below}, {high}"), ("ends_elsewhere", f"{low}, {above}"))
+}
+
+# Arguments that are given in another way, take something else, or may be left out.
+LINES = {
+    "only_one_module": taking("module", "Both('m')", "Each(Value::Text)", "One(Value::Text)"),
+    "only_one_module_of_bulk": taking("module", "Long", "Each(Value::Text)", "One(Value::Text)"),
+    "only_one_name": ("src/lines.rt", "Takes::Many(Value::Text)", "Takes::One(Value::Text)"),
+    "any_text_for_a_format": ("src/lines.rt", "Takes::One(Value::Format)", "Takes::One(Value::Text)"),
+    "a_format_for_a_kind": ("src/lines.rt", "Takes::One(Value::Kind)", "Takes::One(Value::Format)"),
+    "names_want_a_value": taking("names", "Long", "Nothing", "One(Value::Text)"),
+    "another_letter_for_a_module": ("src/lines.rt", "Form::Both('m')", "Form::Both('M')"),
+    "bulk_letters_swapped": ("src/lines.rt", "Form::Short('n')", "Form::Short('m')", "    id: \"max-repetitions\",\n    form: Form::Short('m')", "    id: \"max-repetitions\",\n    form: Form::Short('n')"),
+    "columns_under_another_id": ("src/lines.rt", '    id: "columns",', '    id: "column",'),
+    "rounds_may_be_left_out": ("src/lines.rt", '    needed: true,\n    shown: "rounds",', '    needed: false,\n    shown: "rounds",'),
+    "value_may_be_left_out": ("src/lines.rt", '    needed: true,\n    shown: "VALUE",', '    needed: false,\n    shown: "VALUE",'),
+    "boots_must_be_given": ("src/lines.rt", '    needed: false,\n    shown: "boots",', '    needed: true,\n    shown: "boots",'),
+    "station_without_out": ("src/lines.rt", "    OUT,\n    FORMAT,", "    FORMAT,\n    FORMAT,"),
+    "answer_without_names": ("src/lines.rt", "TIMES, MODULE, NAMES]", "TIMES, MODULE, MODULE]"),
+    "set_value_before_kind": ("src/lines.rt", "NAME, KIND, VALUE, MODULE", "NAME, VALUE, KIND, MODULE"),
+    "no_rehearse": ("src/parser.rt", "    Choice::SelfTest,\n    Choice::Rehearse,", "    Choice::SelfTest,\n    Choice::SelfTest,"),
+    "a_format_by_another_word": ("src/parser.rt", '"text", "json", "prometheus", "columns"', '"text", "json", "prom", "columns"'),
+    "a_kind_by_another_word": ("src/parser.rt", '    "gauge32",', '    "gauge",'),
+}
+
+# Bodies of functions.
+BODIES = {
+    "a_next_is_a_get": ("src/choice.rt", '            "next" => Some(Choice::Next),', '            "next" => Some(Choice::Get),'),
+    "walk_by_another_word": ("src/choice.rt", 'Choice::Walk => "walk"', 'Choice::Walk => "tree"'),
+    "takes_any_word_for_a_replay": ("src/choice.rt", "            _ => None,", "            _ => Some(Choice::Replay),"),
+    "json_is_text": ("src/format.rt", '"json" => Some(ReportFormat::Json)', '"json" => Some(ReportFormat::Text)'),
+    "get_has_the_words_of_walk": ("src/lines.rt", "        Choice::Get | Choice::Next => ASKING.as_slice(),\n        Choice::Bulk => BULK.as_slice(),\n        Choice::Walk => WALK.as_slice(),", "        Choice::Get | Choice::Walk => WALK.as_slice(),\n        Choice::Bulk => BULK.as_slice(),\n        Choice::Next => ASKING.as_slice(),"),
+    "the_first_module_alone": ("src/matches.rt", "    matches.get_raw(id).unwrap_or_default()", "    let values = matches.get_raw(id).unwrap_or_default();\n    if values.len() > 1 { &values[..1] } else { values }"),
+    "no_flag_is_on": ("src/matches.rt", 'text == "true"', 'text == "yes"'),
+    "no_number_is_zero": ("src/matches.rt", "number(matches, id).unwrap_or(other)", "number(matches, id).unwrap_or(0)"),
+    "names_for_columns": ("src/matches.rt", '    if is_on(matches, "columns") {', '    if is_on(matches, "names") {'),
+    "columns_for_names": ("src/matches.rt", 'shown: is_on(matches, "names")', 'shown: is_on(matches, "columns")'),
+    "report_without_format": ("src/matches.rt", ' || find_value(matches, "format").is_some()', ' || find_value(matches, "module").is_some()'),
+    "community_at_the_address": ("src/matches.rt", 'community: text(matches, "COMMUNITY")', 'community: text(matches, "ADDRESS")'),
+    "interval_for_report_every": ("src/matches.rt", 'number_or(matches, "report-every", 0)', 'number_or(matches, "interval", 0)'),
+    "answers_twice": ("src/matches.rt", 'number_or(matches, "times", 1)', 'number_or(matches, "times", 2)'),
+    "fuses_at_the_time": ("src/matches.rt", 'fuses: wide_number(matches, "fuses")', 'fuses: wide_number(matches, "at")'),
+    "out_to_the_settings": ("src/matches.rt", 'out: find_value(matches, "out")', 'out: find_value(matches, "SETTINGS")'),
+    "version_is_a_command": ("src/matches.rt", '    if is_on(matches, "version") {', '    if is_on(matches, "names") {'),
+    "no_command_is_a_selftest": ("src/matches.rt", "None => Asked::Replay(replay(matches))", "None => Asked::SelfTest"),
+    "replays_what_stands_before_the_command": ("src/matches.rt", "Some(choice) => asked_by(choice, below)", "Some(choice) => asked_by(choice, matches)"),
+    "replays_in_place_of_each_command": ("src/matches.rt", "Some(choice) => asked_by(choice, below)", "Some(_) => Asked::Replay(replay(matches))"),
+    "no_size_at_first": ("src/matches.rt", "const USUAL_SIZE: u32 = 8;", "const USUAL_SIZE: u32 = 0;"),
+    "a_size_beyond_the_table": ("src/matches.rt", 'size: number_or(matches, "N", USUAL_SIZE)', 'size: number_or(matches, "N", USUAL_SIZE).max(65)'),
+    "a_station_more": ("src/matches.rt", 'stations: number_or(matches, "K", 1)', 'stations: number_or(matches, "K", 1).saturating_add(1)'),
+    "serves_once_more": ("src/matches.rt", 'count: number_or(matches, "count", 0)', 'count: number_or(matches, "count", 0).wrapping_add(1)'),
+    "kinds_for_formats": ("src/parser.rt", "Value::Format => ValueParser::Names(lists.formats)", "Value::Format => ValueParser::Names(lists.kinds)"),
+    "a_letter_alone": ("src/parser.rt", "arg.short(letter).long(line.id)", "arg.short(letter)"),
+    "appends_nothing": ("src/parser.rt", "        Takes::Each(value) => arg\n            .action(ArgAction::Append)", "        Takes::Each(value) => arg\n            .action(ArgAction::Set)"),
+    "all_are_needed": ("src/parser.rt", ".required(line.needed)", ".required(true)"),
+    "the_words_of_another_command": ("src/parser.rt", "with_lines(alloc, lists, command, lines_of(choice))", "with_lines(alloc, lists, command, lines_of(Choice::Mib))"),
+    "one_command_alone": ("src/parser.rt", "one(alloc, lists, *choice)?", "one(alloc, lists, Choice::Mib)?"),
+    "version_twice": ("src/parser.rt", "with_lines(alloc, lists, command, FIRST.as_slice())?", "with_lines(alloc, lists, command, &[])?"),
+}
+
+BUGS = LINES | BODIES | RANGES

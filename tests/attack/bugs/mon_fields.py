@@ -1,0 +1,84 @@
+"""Bugs of mon_fields for planted_bugs: by a name the file, what stands there once, and the bug in its place."""
+
+BUGS = {
+    "gives_the_octet_again": (
+        "src/reading.rt",
+        "    Ok((*octet, rest))",
+        "    Ok((*octet, octets))",
+    ),
+    "numbers_of_three_octets": (
+        "src/reading.rt",
+        "    let (field, rest) = field_at(4, octets)?;",
+        "    let (field, rest) = field_at(3, octets)?;",
+    ),
+    "a_number_gives_all_octets_again": (
+        "src/reading.rt",
+        "    Ok((u32::from_be_bytes(number), rest))",
+        "    Ok((u32::from_be_bytes(number), octets))",
+    ),
+    "the_engines_length_without_its_last_bit": (
+        "src/writing.rt",
+        "    put_octet(out, engine.len() as u8);",
+        "    put_octet(out, engine.len() as u8 & 0xFE);",
+    ),
+    "one_sample_less": (
+        "src/reading.rt",
+        "    while samples.len() < count {",
+        "    while samples.len() + 1 < count {",
+    ),
+    "samples_that_tie_with_the_first": (
+        "src/reading.rt",
+        "        None => true,",
+        "        None => false,",
+    ),
+    "forgets_the_last_sample": (
+        "src/reading.rt",
+        "        last = Some(sample);",
+        "        last = None;",
+    ),
+    "gives_the_octets_of_the_last_sample_again": (
+        "src/reading.rt",
+        "        rest = after;",
+        "        rest = rest;",
+    ),
+    "calls_samples_that_fall_bad": (
+        "src/reading.rt",
+        "return Err(LayoutFault::NotRising);",
+        "return Err(LayoutFault::BadSample);",
+    ),
+    "numbers_in_the_other_order": (
+        "src/writing.rt",
+        "    put_octets(out, &number.to_be_bytes());",
+        "    put_octets(out, &number.to_le_bytes());",
+    ),
+    "measures_an_instance_one_octet_less": (
+        "src/writing.rt",
+        "    2 + engine.len() + 4 * name.parts().len()",
+        "    1 + engine.len() + 4 * name.parts().len()",
+    ),
+    "leaves_the_engine_out": (
+        "src/writing.rt",
+        "    put_octets(out, engine);",
+        "    put_octets(out, &engine[engine.len()..]);",
+    ),
+    "writes_an_octet_more": (
+        "src/writing.rt",
+        "    out.push(octet).unwrap();",
+        "    out.push(octet ^ 1).unwrap();",
+    ),
+    "calls_a_bad_sample_cut_short": (
+        "src/reading.rt",
+        "Err(_) => Err(LayoutFault::BadSample)",
+        "Err(_) => Err(LayoutFault::Truncated)",
+    ),
+    "measures_20_octets_a_sample": (
+        "src/writing.rt",
+        "    21 * samples.len()",
+        "    20 * samples.len()",
+    ),
+    "writes_the_engines_length_twice": (
+        "src/writing.rt",
+        "    put_octet(out, parts.len() as u8);",
+        "    put_octet(out, engine.len() as u8);",
+    ),
+}
