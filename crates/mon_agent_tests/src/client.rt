@@ -11,9 +11,9 @@ use mon_app::{
 };
 use mon_ber::{Octets, Value};
 use mon_edge::failed_after;
-use mon_smi::InNumbers;
 use mon_oid::Oid;
 use mon_pdu::write_message;
+use mon_smi::InNumbers;
 use std::alloc::{AllocError, Global};
 use std::test::Fail;
 

@@ -2,8 +2,8 @@
 
 use crate::small_agent::oid;
 use mon_app::{AppFault, Heard, SocketFault, Wire, walk};
-use mon_smi::InNumbers;
 use mon_oid::Oid;
+use mon_smi::InNumbers;
 use std::alloc::Global;
 use std::test::Fail;
 

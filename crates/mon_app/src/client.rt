@@ -12,8 +12,8 @@ use crate::fault::AppFault;
 use crate::printed::bindings_text;
 use crate::question::Question;
 use crate::wire::Wire;
-use mon_smi::NameTexts;
 use mon_pdu::{Bindings, Body, Message, Pdu};
+use mon_smi::NameTexts;
 use std::alloc::Global;
 
 /// Asks an agent, and returns its answer as text: a line for each variable binding of the reply.

@@ -6,9 +6,9 @@ ghost use Rattle.std.specs.Fmt.{signed_decimal};
 ghost use Rattle.mon_app.specs.Printed.{is_seen, escaped, hex_text, string_text, number_text, kind_text, quad_text, address_text, value_shown, binding_line};
 
 use mon_ber::Value;
-use mon_smi::NameTexts;
 use mon_oid::Oid;
 use mon_pdu::Binding;
+use mon_smi::NameTexts;
 use std::alloc::{AllocError, Global};
 
 /// The bindings, a line each: the name and the value with its kind. The names, and values that are names, are printed as

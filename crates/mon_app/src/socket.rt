@@ -58,7 +58,9 @@ impl<R: Clock> SocketWire<'_, R> {
         ensures { self.new.failures ≡ self.old.failures }
     {
         self.began = Instant::now(self.rt).map_err(socket_failure)?;
-        self.socket.send_to(octets, self.agent).map_err(socket_failure)?;
+        self.socket
+            .send_to(octets, self.agent)
+            .map_err(socket_failure)?;
         Ok(())
     }
 
@@ -71,7 +73,9 @@ impl<R: Clock> SocketWire<'_, R> {
         if rest.is_zero() {
             return Ok(Heard::Quiet);
         }
-        self.socket.set_read_timeout(Some(rest)).map_err(socket_failure)?;
+        self.socket
+            .set_read_timeout(Some(rest))
+            .map_err(socket_failure)?;
         match self.socket.recv_from(room) {
             Ok((len, from)) => Ok(heard_from(self.agent, from, len, room.len())),
             Err(error) => match error.kind() {

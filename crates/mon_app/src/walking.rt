@@ -11,9 +11,9 @@ use crate::printed::put_binding;
 use crate::question::{Asking, Question};
 use crate::wire::Wire;
 use mon_ber::Value;
-use mon_smi::NameTexts;
 use mon_oid::Oid;
 use mon_pdu::Binding;
+use mon_smi::NameTexts;
 use std::alloc::Global;
 use std::slice;
 

@@ -23,8 +23,8 @@ pub fn front()
 
 /// What is read from octets was spelled by those in front of what is left.
 pub fn taken()
-    ensures { (bytes : List ℕ) (v : Value) (rest : List ℕ) → All (λ octet. octet < 256) bytes → value_at bytes ≡ Ok (v, rest)
-        → (text : List ℕ) × Spells text v × (bytes ≡ text ++ rest) }
+    ensures { (octets : List ℕ) (v : Value) (rest : List ℕ) → All (λ octet. octet < 256) octets → value_at octets ≡ Ok (v, rest)
+        → (text : List ℕ) × Spells text v × (octets ≡ text ++ rest) }
 {}
 
 /// What spells a value is read, whatever follows it.

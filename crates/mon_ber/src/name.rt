@@ -18,16 +18,16 @@ const MAX_PARTS: usize = 128;
 
 /// A number in base 128, and what follows it.
 #[tactic(auto, unfolding(crate::specs::Reading::subidentifier_at))]
-fn subidentifier_at(bytes: &[u8]) -> Result<(u64, &[u8]), BerFault>
-    ensures gives { Gives (λ x. (x.0, x.1.now)) result (subidentifier_at bytes.now) }
-    ensures shorter { IfOk result (λ x. length x.1.now < length bytes.now) }
+fn subidentifier_at(octets: &[u8]) -> Result<(u64, &[u8]), BerFault>
+    ensures gives { Gives (λ x. (x.0, x.1.now)) result (subidentifier_at octets.now) }
+    ensures shorter { IfOk result (λ x. length x.1.now < length octets.now) }
     ensures no_memory { result ≢ Err BerFault.OutOfMemory }
 {
-    if bytes.first() == Some(&0x80) {
+    if octets.first() == Some(&0x80) {
         return Err(BerFault::BadOid);
     }
     let mut number: u64 = 0;
-    let mut rest = bytes;
+    let mut rest = octets;
     while let [octet, after @ ..] = rest {
         rest = after;
         number = 128 * number + u64::from(*octet & 0x7f);
@@ -59,16 +59,16 @@ fn first_two(number: u64) -> Result<(u32, u32), BerFault>
 }
 
 /// The sub-identifiers that the octets spell, all of them, after those that were read before.
-fn with_others(mut parts: SmallVec<u32, 16>, bytes: &[u8]) -> Result<SmallVec<u32, 16>, BerFault>
+fn with_others(mut parts: SmallVec<u32, 16>, octets: &[u8]) -> Result<SmallVec<u32, 16>, BerFault>
     requires { IsOid parts.items }
     ensures gives { Gives (λ v. v.items) result
-        (with_front parts.items (subidentifiers_of (128 - length parts.items) bytes.now)) }
+        (with_front parts.items (subidentifiers_of (128 - length parts.items) octets.now)) }
     ensures valid { IfOk result (λ v. IsOid v.items) }
     ensures inline { (all : List ℕ) → 16 ≤ parts.capacity → length all ≤ 16
-        → with_front parts.items (subidentifiers_of (128 - length parts.items) bytes.now) ≡ Ok all → IsOk result }
+        → with_front parts.items (subidentifiers_of (128 - length parts.items) octets.now) ≡ Ok all → IsOk result }
 {
     laws::pushed();
-    let mut rest = bytes;
+    let mut rest = octets;
     while !rest.is_empty() {
         if parts.len() == MAX_PARTS {
             return Err(BerFault::BadOid);

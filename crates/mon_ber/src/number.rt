@@ -7,7 +7,7 @@ ghost use Rattle.mon_ber.specs.Reading.{Gives, number_of, integer_of, unsigned_o
 use crate::fault::BerFault;
 
 /// The number of which these are the digits in base 256.
-pub fn big_endian(octets: &[u8]) -> u128
+pub(crate) fn big_endian(octets: &[u8]) -> u128
     requires { length octets.now ≤ 9 }
     ensures value { result ≡ big_endian octets.now }
     ensures below { result < 256 ^ length octets.now }
@@ -41,7 +41,7 @@ fn number_of(contents: &[u8]) -> Result<i128, BerFault>
 
 /// Reads an INTEGER of 32 bits. `BadLength` unless it has 1 to 9 octets, else `OutOfRange`.
 #[tactic(auto, unfolding(crate::specs::Reading::integer_of))]
-pub fn integer_of(contents: &[u8]) -> Result<i32, BerFault>
+pub(crate) fn integer_of(contents: &[u8]) -> Result<i32, BerFault>
     ensures gives { Gives (λ z. z) result (integer_of contents.now) }
     ensures no_memory { result ≢ Err BerFault.OutOfMemory }
 {
@@ -50,7 +50,7 @@ pub fn integer_of(contents: &[u8]) -> Result<i32, BerFault>
 
 /// Reads a number from 0 to 4294967295. `BadLength` unless it has 1 to 9 octets, else `OutOfRange`.
 #[tactic(auto, unfolding(crate::specs::Reading::unsigned_of))]
-pub fn u32_of(contents: &[u8]) -> Result<u32, BerFault>
+pub(crate) fn u32_of(contents: &[u8]) -> Result<u32, BerFault>
     ensures gives { Gives (λ n. n) result (unsigned_of (2 ^ 32) contents.now) }
     ensures no_memory { result ≢ Err BerFault.OutOfMemory }
 {
@@ -60,7 +60,7 @@ pub fn u32_of(contents: &[u8]) -> Result<u32, BerFault>
 /// Reads a number from 0 to 18446744073709551615. `BadLength` unless it has 1 to 9 octets, else
 /// `OutOfRange`.
 #[tactic(auto, unfolding(crate::specs::Reading::unsigned_of))]
-pub fn u64_of(contents: &[u8]) -> Result<u64, BerFault>
+pub(crate) fn u64_of(contents: &[u8]) -> Result<u64, BerFault>
     ensures gives { Gives (λ n. n) result (unsigned_of (2 ^ 64) contents.now) }
     ensures no_memory { result ≢ Err BerFault.OutOfMemory }
 {

@@ -8,7 +8,7 @@ use std::marker::Model;
 /// Octets of any number, which contracts see as their list.
 #[derive(Debug, Drop)]
 pub struct Octets {
-    bytes: Vec<u8>,
+    octets: Vec<u8>,
 }
 
 impl Model for Octets {
@@ -16,37 +16,37 @@ impl Model for Octets {
 
     ghost Value = { List ℕ };
 
-    ghost view = { λ o. o.bytes.items };
+    ghost view = { λ o. o.octets.items };
 }
 
 impl Octets {
     /// The octets of a vector, which is taken over.
-    pub fn new(bytes: Vec<u8>) -> Self
-        ensures { result ≡ bytes.items }
+    pub fn new(octets: Vec<u8>) -> Self
+        ensures { result ≡ octets.items }
     {
-        Octets { bytes }
+        Octets { octets }
     }
 
     /// A copy of these octets.
-    pub fn from_slice(alloc: Global, bytes: &[u8]) -> Result<Self, AllocError>
-        ensures { IfOk result (λ o. o ≡ bytes.now) }
+    pub fn from_slice(alloc: Global, octets: &[u8]) -> Result<Self, AllocError>
+        ensures { IfOk result (λ o. o ≡ octets.now) }
     {
-        Ok(Octets::new(Vec::from_slice(alloc, bytes)?))
+        Ok(Octets::new(Vec::from_slice(alloc, octets)?))
     }
 
     /// The octets.
     pub fn as_slice(&self) -> &[u8]
         ensures { result.now ≡ self.now }
     {
-        self.bytes.as_slice()
+        self.octets.as_slice()
     }
 
     /// The octets as a vector, with no copy.
     pub fn into_vec(self) -> Vec<u8>
         ensures { result.items ≡ self }
     {
-        let Octets { bytes } = self;
-        bytes
+        let Octets { octets } = self;
+        octets
     }
 
     /// Equal octets.

@@ -66,51 +66,51 @@ fn value_of(alloc: Global, tag: Tag, contents: &[u8]) -> Result<Value, BerFault>
 
 /// A value, and what follows it. The octets and long identifiers in it are copied to the heap.
 #[tactic(auto, unfolding(crate::specs::Reading::value_at))]
-pub fn value_at(alloc: Global, bytes: &[u8]) -> Result<(Value, &[u8]), BerFault>
-    ensures gives { Gives (λ x. (x.0, x.1.now)) result (value_at bytes.now) }
-    ensures inline { (v : Value) (rest : List ℕ) → value_at bytes.now ≡ Ok (v, rest) → IsInline v → IsOk result }
-    ensures shorter { IfOk result (λ x. length x.1.now < length bytes.now) }
+pub fn value_at(alloc: Global, octets: &[u8]) -> Result<(Value, &[u8]), BerFault>
+    ensures gives { Gives (λ x. (x.0, x.1.now)) result (value_at octets.now) }
+    ensures inline { (v : Value) (rest : List ℕ) → value_at octets.now ≡ Ok (v, rest) → IsInline v → IsOk result }
+    ensures shorter { IfOk result (λ x. length x.1.now < length octets.now) }
 {
-    let (tag, rest) = tag_at(bytes)?;
+    let (tag, rest) = tag_at(octets)?;
     let (contents, rest) = contents_at(rest)?;
     let value = value_of(alloc, tag, contents)?;
     Ok((value, rest))
 }
 
 /// The value that the octets begin with, and how many octets it takes (RFC 3417 section 8).
-pub fn read_value(alloc: Global, bytes: &[u8]) -> Result<(Value, usize), BerFault>
+pub fn read_value(alloc: Global, octets: &[u8]) -> Result<(Value, usize), BerFault>
     // What is read is spelled so.
-    ensures found { IfOk result (λ x. (x.1 ≤ length bytes.now) × Spells (take x.1 bytes.now) x.0) }
+    ensures found { IfOk result (λ x. (x.1 ≤ length octets.now) × Spells (take x.1 octets.now) x.0) }
     // What is spelled so is read, unless memory runs out.
-    ensures only { (v : Value) (k : ℕ) → k ≤ length bytes.now → Spells (take k bytes.now) v
+    ensures only { (v : Value) (k : ℕ) → k ≤ length octets.now → Spells (take k octets.now) v
         → Gives (λ x. x) result (Ok (v, k)) }
     // Only octets, and identifiers of more than 16 sub-identifiers, are allocated.
-    ensures inline { (v : Value) (k : ℕ) → k ≤ length bytes.now → Spells (take k bytes.now) v → IsInline v → IsOk result }
+    ensures inline { (v : Value) (k : ℕ) → k ≤ length octets.now → Spells (take k octets.now) v → IsInline v → IsOk result }
     // Which fault it is: the first from left to right.
-    ensures fault { IfErr result (λ e. Fails e (value_at bytes.now)) }
+    ensures fault { IfErr result (λ e. Fails e (value_at octets.now)) }
 {
-    let (value, rest) = value_at(alloc, bytes)?;
-    Ok((value, bytes.len() - rest.len()))
+    let (value, rest) = value_at(alloc, octets)?;
+    Ok((value, octets.len() - rest.len()))
 }
 
 /// An INTEGER of 32 bits, and what follows it.
 #[tactic(auto, unfolding(crate::specs::Reading::integer_at))]
-pub fn integer_at(bytes: &[u8]) -> Result<(i32, &[u8]), BerFault>
-    ensures gives { Gives (λ x. (x.0, x.1.now)) result (integer_at bytes.now) }
-    ensures shorter { IfOk result (λ x. length x.1.now < length bytes.now) }
+pub fn integer_at(octets: &[u8]) -> Result<(i32, &[u8]), BerFault>
+    ensures gives { Gives (λ x. (x.0, x.1.now)) result (integer_at octets.now) }
+    ensures shorter { IfOk result (λ x. length x.1.now < length octets.now) }
     ensures no_memory { result ≢ Err BerFault.OutOfMemory }
 {
-    let (contents, rest) = element_at(INTEGER, bytes)?;
+    let (contents, rest) = element_at(INTEGER, octets)?;
     Ok((integer_of(contents)?, rest))
 }
 
 /// An OBJECT IDENTIFIER, and what follows it.
 #[tactic(auto, unfolding(crate::specs::Reading::name_at))]
-pub fn name_at(alloc: Global, bytes: &[u8]) -> Result<(Oid, &[u8]), BerFault>
-    ensures gives { Gives (λ x. (x.0, x.1.now)) result (name_at bytes.now) }
-    ensures inline { (parts rest : List ℕ) → name_at bytes.now ≡ Ok (parts, rest) → length parts ≤ 16 → IsOk result }
-    ensures shorter { IfOk result (λ x. length x.1.now < length bytes.now) }
+pub fn name_at(alloc: Global, octets: &[u8]) -> Result<(Oid, &[u8]), BerFault>
+    ensures gives { Gives (λ x. (x.0, x.1.now)) result (name_at octets.now) }
+    ensures inline { (parts rest : List ℕ) → name_at octets.now ≡ Ok (parts, rest) → length parts ≤ 16 → IsOk result }
+    ensures shorter { IfOk result (λ x. length x.1.now < length octets.now) }
 {
-    let (contents, rest) = element_at(OBJECT_IDENTIFIER, bytes)?;
+    let (contents, rest) = element_at(OBJECT_IDENTIFIER, octets)?;
     Ok((name_of(alloc, contents)?, rest))
 }

@@ -6,14 +6,14 @@ mod format;
 mod lines;
 mod matches;
 mod meaning;
-mod texts;
 mod parser;
+mod texts;
 
 pub use choice::Choice;
 pub use format::ReportFormat;
 pub use matches::read_command;
 pub use meaning::{
-    AgentArgs, AnswerArgs, Asked, BulkArgs, Named, Printed, RehearseArgs, ReplayArgs,
-    ReportArgs, Request, Scene, SetArgs, StationArgs, Timing,
+    AgentArgs, AnswerArgs, Asked, BulkArgs, Named, Printed, RehearseArgs, ReplayArgs, ReportArgs,
+    Request, Scene, SetArgs, StationArgs, Timing,
 };
 pub use parser::{VERSION, read};

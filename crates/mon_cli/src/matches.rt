@@ -12,8 +12,8 @@ ghost use Rattle.mon_cli.specs.declared.meaning.Asked.TheVariants as asked;
 use crate::choice::Choice;
 use crate::format::ReportFormat;
 use crate::meaning::{
-    AgentArgs, AnswerArgs, Asked, BulkArgs, Named, Printed, RehearseArgs, ReplayArgs,
-    ReportArgs, Request, Scene, SetArgs, StationArgs, Timing,
+    AgentArgs, AnswerArgs, Asked, BulkArgs, Named, Printed, RehearseArgs, ReplayArgs, ReportArgs,
+    Request, Scene, SetArgs, StationArgs, Timing,
 };
 use clap::ArgMatches;
 

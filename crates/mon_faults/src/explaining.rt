@@ -2,7 +2,7 @@
 
 use crate::position::{Position, position_at};
 use crate::unknown::{known_keys, unknown_key};
-use mon_settings::{Key, SettingsKind, Place, SettingsFault};
+use mon_settings::{Key, Place, SettingsFault, SettingsKind};
 use std::alloc::{AllocError, Global};
 
 /// The names of keys, with commas between them.
@@ -17,7 +17,12 @@ fn list_keys(alloc: Global, keys: &[Key]) -> Result<String, AllocError> {
     Ok(names)
 }
 
-fn unknown(alloc: Global, text: &str, kind: SettingsKind, place: Place) -> Result<String, AllocError> {
+fn unknown(
+    alloc: Global,
+    text: &str,
+    kind: SettingsKind,
+    place: Place,
+) -> Result<String, AllocError> {
     let keys = list_keys(alloc, known_keys(kind, place))?;
     match unknown_key(alloc, text, kind, place)? {
         Some(name) => format!(in alloc; "{place}: {name:?} is no key here; the keys are {keys}"),

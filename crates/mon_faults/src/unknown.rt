@@ -7,7 +7,7 @@ ghost use Rattle.toml.specs.Data.{get_member};
 ghost use Rattle.toml.specs.Parse.{parse_document};
 ghost use Rattle.toml.specs.View.{view, table_view};
 
-use mon_settings::{Key, SettingsKind, Place, Step, first_unknown, table_keys, top_keys};
+use mon_settings::{Key, Place, SettingsKind, Step, first_unknown, table_keys, top_keys};
 use std::alloc::{AllocError, Global};
 use toml::{Table, Value};
 

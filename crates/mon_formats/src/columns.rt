@@ -7,9 +7,9 @@ ghost use Rattle.mon_formats.specs.Columns.{to_right, to_left, value_cell, rate_
 
 use crate::cells::count_samples;
 use mon_alarms::{AlarmState, Rule, state};
-use mon_smi::NameTexts;
 use mon_report::{Entry, write_rate};
 use mon_sample::Sample;
+use mon_smi::NameTexts;
 use std::alloc::{AllocError, Global};
 
 /// How wide the columns of values and rates are, in octets.

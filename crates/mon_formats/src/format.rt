@@ -10,8 +10,8 @@ use crate::figures::Figures;
 use crate::json::json_report;
 use crate::named::named_report;
 use crate::prometheus::prometheus_report;
-use mon_smi::NameTexts;
 use mon_report::Entry;
+use mon_smi::NameTexts;
 use std::alloc::{AllocError, Global};
 
 /// A format of a report.

@@ -8,9 +8,9 @@ ghost use Rattle.mon_formats.specs.Cells.{rate_of};
 ghost use Rattle.mon_formats.specs.Json.{exact, exact_signed, sample_data, raised_data, alarm_data, rate_data, totals_data, entry_data, report_data, json_report, ReadsAsReport};
 
 use mon_alarms::{AlarmState, Rule, state};
-use mon_smi::NameTexts;
 use mon_report::Entry;
 use mon_sample::Sample;
+use mon_smi::NameTexts;
 use serde_json::{Value, json};
 use std::alloc::{AllocError, Global};
 

@@ -5,8 +5,8 @@ ghost use Rattle.mon_report.specs.Report.{end_line};
 ghost use Rattle.mon_formats.specs.Named.{named_line, named_report};
 
 use crate::cells::count_samples;
-use mon_smi::NameTexts;
 use mon_report::{Entry, write_rest};
+use mon_smi::NameTexts;
 use std::alloc::{AllocError, Global};
 
 /// The report as lines of text.

@@ -40,29 +40,29 @@ pub struct Frame<'a> {
 
 /// The frame of the message that the octets begin with; what follows it is passed over. None where they begin with no message, or with a GetBulk, or where
 /// only the variable bindings are to blame that they begin with none: those are not looked at.
-pub fn read_frame(bytes: &[u8]) -> Option<Frame<'_>>
+pub fn read_frame(octets: &[u8]) -> Option<Frame<'_>>
     // What it holds is there, whatever the octets of its list are; if it isn't, no frame is
     // returned.
-    ensures framed { IfSome result (λ f. BeginsWithFrame bytes.now (held f)) }
-    ensures none { IfNone result ((h : Held) → BeginsWithFrame bytes.now h → ⊥) }
+    ensures framed { IfSome result (λ f. BeginsWithFrame octets.now (held f)) }
+    ensures none { IfNone result ((h : Held) → BeginsWithFrame octets.now h → ⊥) }
     // With the variable bindings that its list spells it is the message.
-    ensures found { IfSome result (λ f. (bindings : List AnyBinding) → AreSpelled IsBinding f.list.now bindings → BeginsWithMessage bytes.now (framed f bindings)) }
+    ensures found { IfSome result (λ f. (bindings : List AnyBinding) → AreSpelled IsBinding f.list.now bindings → BeginsWithMessage octets.now (framed f bindings)) }
     // Each message with another PDU than a GetBulk has a frame.
-    ensures only { (m : AnyMessage) (p : AnyPdu) → m.body ≡ bodies.Pdu p → BeginsWithMessage bytes.now m → IsSome result }
+    ensures only { (m : AnyMessage) (p : AnyPdu) → m.body ≡ bodies.Pdu p → BeginsWithMessage octets.now m → IsSome result }
     // Its list spells the variable bindings.
-    ensures spells { (m : AnyMessage) (p : AnyPdu) → m.body ≡ bodies.Pdu p → BeginsWithMessage bytes.now m
+    ensures spells { (m : AnyMessage) (p : AnyPdu) → m.body ≡ bodies.Pdu p → BeginsWithMessage octets.now m
         → IfSome result (λ f. AreSpelled IsBinding f.list.now p.bindings) }
 {
-    frame_at(bytes).ok()
+    frame_at(octets).ok()
 }
 
 /// The frame of the message that the octets begin with, or why there is none.
 #[tactic(auto, unfolding(crate::specs::Framed::frame_at))]
-fn frame_at(bytes: &[u8]) -> Result<Frame<'_>, BerFault>
-    ensures gives { Gives held result (frame_at bytes.now) }
+fn frame_at(octets: &[u8]) -> Result<Frame<'_>, BerFault>
+    ensures gives { Gives held result (frame_at octets.now) }
     ensures no_memory { result ≢ Err BerFault.OutOfMemory }
 {
-    let (contents, _) = element_at(SEQUENCE, bytes)?;
+    let (contents, _) = element_at(SEQUENCE, octets)?;
     frame_of(contents)
 }
 
@@ -95,11 +95,11 @@ fn frame_of(contents: &[u8]) -> Result<Frame<'_>, BerFault>
 
 /// The kind of PDU that the octets begin with the tag of, and what follows it.
 #[tactic(auto, unfolding(crate::specs::Framed::kind_at))]
-fn kind_at(bytes: &[u8]) -> Result<(PduKind, &[u8]), BerFault>
-    ensures gives { Gives (λ x. (x.0, x.1.now)) result (kind_at bytes.now) }
+fn kind_at(octets: &[u8]) -> Result<(PduKind, &[u8]), BerFault>
+    ensures gives { Gives (λ x. (x.0, x.1.now)) result (kind_at octets.now) }
     ensures no_memory { result ≢ Err BerFault.OutOfMemory }
 {
-    let [tag, rest @ ..] = bytes else {
+    let [tag, rest @ ..] = octets else {
         return Err(BerFault::Truncated);
     };
     match PduKind::from_octet(*tag) {
@@ -127,14 +127,14 @@ fn fields_of(contents: &[u8]) -> Result<(i32, i32, i32, &[u8]), BerFault>
 /// Returns the value of the variable binding that the octets begin with, if these octets spell its
 /// name, and what follows it. Returns `None` if they begin with no such variable binding, or if
 /// memory for its value ran out.
-pub fn named_value<'b>(alloc: Global, name: &[u8], bytes: &'b [u8]) -> Option<(Value, &'b [u8])>
+pub fn named_value<'b>(alloc: Global, name: &[u8], octets: &'b [u8]) -> Option<(Value, &'b [u8])>
     ensures found { IfSome result (λ r. (oid : List ℕ) → Spells name.now (Name oid)
-        → (text : List ℕ) × IsBinding text (record { name = oid; value = r.0 }) × (bytes.now ≡ text ++ r.1.now)) }
+        → (text : List ℕ) × IsBinding text (record { name = oid; value = r.0 }) × (octets.now ≡ text ++ r.1.now)) }
     // A value that needs no memory is found.
     ensures inline { (text rest spelled : List ℕ) (v : AnyValue) → IsElement 0x30 (name.now ++ spelled) text → Spells spelled v → IsInline v
-        → bytes.now ≡ text ++ rest → IsSome result }
+        → octets.now ≡ text ++ rest → IsSome result }
 {
-    let (contents, after) = element_at(SEQUENCE, bytes).ok()?;
+    let (contents, after) = element_at(SEQUENCE, octets).ok()?;
     let rest = contents.strip_prefix(name)?;
     let (value, rest) = value_at(alloc, rest).ok()?;
     if !rest.is_empty() {

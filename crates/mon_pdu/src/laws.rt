@@ -18,31 +18,31 @@ pub fn front()
 
 /// The message that reading gives is spelled where the octets begin.
 pub fn takes()
-    ensures { (bytes : List ℕ) (m : Message) → AreOctets bytes → message_at bytes ≡ Ok m → BeginsWithMessage bytes m }
+    ensures { (octets : List ℕ) (m : Message) → AreOctets octets → message_at octets ≡ Ok m → BeginsWithMessage octets m }
 {}
 
 /// Reading yields the message if the octets begin with a spelling of it.
 pub fn again()
-    ensures { (bytes : List ℕ) (m : Message) → BeginsWithMessage bytes m → message_at bytes ≡ Ok m }
+    ensures { (octets : List ℕ) (m : Message) → BeginsWithMessage octets m → message_at octets ≡ Ok m }
 {}
 
 /// Reading yields the fault of a version exactly where the octets begin with a SEQUENCE that begins
 /// with that version, not 1.
 pub fn version()
-    ensures { (bytes : List ℕ) (v : ℤ) → AreOctets bytes
-        → message_at bytes ≡ Err (BadVersion v) ↔ (IsVersioned bytes v × (v ≢ pos 1)) }
+    ensures { (octets : List ℕ) (v : ℤ) → AreOctets octets
+        → message_at octets ≡ Err (BadVersion v) ↔ (IsVersioned octets v × (v ≢ pos 1)) }
 {}
 
 /// Reading yields the fault of a PDU exactly where the tag of no PDU follows version 1 and a
 /// community.
 pub fn unknown_pdu()
-    ensures { (bytes : List ℕ) (t : ℕ) → AreOctets bytes
-        → message_at bytes ≡ Err (UnknownPdu t) ↔ HasUnknownPdu bytes t }
+    ensures { (octets : List ℕ) (t : ℕ) → AreOctets octets
+        → message_at octets ≡ Err (UnknownPdu t) ↔ HasUnknownPdu octets t }
 {}
 
 /// A fault of a call, other than out of memory, is the fault that reading gives.
 pub fn told()
-    ensures { (bytes : List ℕ) (e : PduFault) → e ≢ OutOfMemory → Fails e (message_at bytes) → message_at bytes ≡ Err e }
+    ensures { (octets : List ℕ) (e : PduFault) → e ≢ OutOfMemory → Fails e (message_at octets) → message_at octets ≡ Err e }
 {}
 
 /// What is written for a message is one of its spellings.

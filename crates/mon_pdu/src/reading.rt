@@ -26,11 +26,11 @@ fn require_end(rest: &[u8]) -> Result<(), PduFault>
 
 /// A variable binding, and what follows it.
 #[tactic(auto, unfolding(crate::specs::Reading::binding_at))]
-fn binding_at(alloc: Global, bytes: &[u8]) -> Result<(Binding, &[u8]), PduFault>
-    ensures gives { Gives (λ x. (x.0, x.1.now)) result (binding_at bytes.now) }
-    ensures shorter { IfOk result (λ x. length x.1.now < length bytes.now) }
+fn binding_at(alloc: Global, octets: &[u8]) -> Result<(Binding, &[u8]), PduFault>
+    ensures gives { Gives (λ x. (x.0, x.1.now)) result (binding_at octets.now) }
+    ensures shorter { IfOk result (λ x. length x.1.now < length octets.now) }
 {
-    let (contents, after) = element_at(SEQUENCE, bytes)?;
+    let (contents, after) = element_at(SEQUENCE, octets)?;
     let (name, rest) = name_at(alloc, contents)?;
     let (value, rest) = value_at(alloc, rest)?;
     require_end(rest)?;
@@ -53,10 +53,10 @@ fn all_bindings(alloc: Global, contents: &[u8]) -> Result<Vec<Binding>, PduFault
 
 /// The SEQUENCE of variable bindings, and what follows it.
 #[tactic(auto, unfolding(crate::specs::Reading::list_at))]
-fn list_at(alloc: Global, bytes: &[u8]) -> Result<(Bindings, &[u8]), PduFault>
-    ensures { Gives (λ x. (x.0, x.1.now)) result (list_at bytes.now) }
+fn list_at(alloc: Global, octets: &[u8]) -> Result<(Bindings, &[u8]), PduFault>
+    ensures { Gives (λ x. (x.0, x.1.now)) result (list_at octets.now) }
 {
-    let (contents, after) = element_at(SEQUENCE, bytes)?;
+    let (contents, after) = element_at(SEQUENCE, octets)?;
     let bindings = all_bindings(alloc, contents)?;
     Ok((Bindings::new(bindings), after))
 }
@@ -90,19 +90,23 @@ fn body_of(alloc: Global, kind: Option<PduKind>, contents: &[u8]) -> Result<Body
 
 /// The PDU after its tag, and what follows it.
 #[tactic(auto, unfolding(crate::specs::Reading::behind_tag))]
-fn behind_tag(alloc: Global, kind: Option<PduKind>, bytes: &[u8]) -> Result<(Body, &[u8]), PduFault>
-    ensures { Gives (λ x. (x.0, x.1.now)) result (behind_tag kind bytes.now) }
+fn behind_tag(
+    alloc: Global,
+    kind: Option<PduKind>,
+    octets: &[u8],
+) -> Result<(Body, &[u8]), PduFault>
+    ensures { Gives (λ x. (x.0, x.1.now)) result (behind_tag kind octets.now) }
 {
-    let (contents, rest) = contents_at(bytes)?;
+    let (contents, rest) = contents_at(octets)?;
     Ok((body_of(alloc, kind, contents)?, rest))
 }
 
 /// The PDU, and what follows it.
 #[tactic(auto, unfolding(crate::specs::Reading::body_at))]
-fn body_at(alloc: Global, bytes: &[u8]) -> Result<(Body, &[u8]), PduFault>
-    ensures { Gives (λ x. (x.0, x.1.now)) result (body_at bytes.now) }
+fn body_at(alloc: Global, octets: &[u8]) -> Result<(Body, &[u8]), PduFault>
+    ensures { Gives (λ x. (x.0, x.1.now)) result (body_at octets.now) }
 {
-    let [tag, rest @ ..] = bytes else {
+    let [tag, rest @ ..] = octets else {
         return Err(PduFault::Truncated);
     };
     if *tag == 0xa5 {
@@ -134,32 +138,32 @@ fn message_of(alloc: Global, contents: &[u8]) -> Result<Message, PduFault>
 
 /// The message; what follows it is passed over.
 #[tactic(auto, unfolding(crate::specs::Reading::message_at))]
-fn message_at(alloc: Global, bytes: &[u8]) -> Result<Message, PduFault>
-    ensures gives { Gives (λ m. m) result (message_at bytes.now) }
-    ensures version { (v : ℤ) → message_at bytes.now ≡ Err (PduFault.BadVersion v) → result ≢ Err PduFault.OutOfMemory }
+fn message_at(alloc: Global, octets: &[u8]) -> Result<Message, PduFault>
+    ensures gives { Gives (λ m. m) result (message_at octets.now) }
+    ensures version { (v : ℤ) → message_at octets.now ≡ Err (PduFault.BadVersion v) → result ≢ Err PduFault.OutOfMemory }
 {
-    let (contents, _) = element_at(SEQUENCE, bytes)?;
+    let (contents, _) = element_at(SEQUENCE, octets)?;
     message_of(alloc, contents)
 }
 
 /// The message that the octets begin with; what follows it is passed over. The faults come from left to right,
 /// the first one counts, and the version is tested before the community and the PDU are read (RFC 3417 section 8).
-pub fn read_message(alloc: Global, bytes: &[u8]) -> Result<Message, PduFault>
+pub fn read_message(alloc: Global, octets: &[u8]) -> Result<Message, PduFault>
     // What is read is spelled where the octets begin.
-    ensures found { IfOk result (λ m. BeginsWithMessage bytes.now m) }
+    ensures found { IfOk result (λ m. BeginsWithMessage octets.now m) }
     // A message that is spelled where the octets begin is read, unless memory runs out.
-    ensures only { (m : Message) → BeginsWithMessage bytes.now m → Gives (λ m. m) result (Ok m) }
+    ensures only { (m : Message) → BeginsWithMessage octets.now m → Gives (λ m. m) result (Ok m) }
 
     // Another version is refused as such, also where no memory is left, and nothing else is.
-    ensures version { (v : ℤ) → result ≡ Err (PduFault.BadVersion v) ↔ (IsVersioned bytes.now v × (v ≢ pos 1)) }
+    ensures version { (v : ℤ) → result ≡ Err (PduFault.BadVersion v) ↔ (IsVersioned octets.now v × (v ≢ pos 1)) }
 
     // So is the tag of no PDU after a community, unless memory runs out.
-    ensures unknown { (t : ℕ) → result ≡ Err (PduFault.UnknownPdu t) → HasUnknownPdu bytes.now t }
-    ensures unknown_only { (t : ℕ) → HasUnknownPdu bytes.now t
+    ensures unknown { (t : ℕ) → result ≡ Err (PduFault.UnknownPdu t) → HasUnknownPdu octets.now t }
+    ensures unknown_only { (t : ℕ) → HasUnknownPdu octets.now t
         → Gives (λ m. m) result (Err (PduFault.UnknownPdu t)) }
 
     // The result is what reading gives, or `OutOfMemory`.
-    ensures exact { Gives (λ m. m) result (message_at bytes.now) }
+    ensures exact { Gives (λ m. m) result (message_at octets.now) }
 {
-    message_at(alloc, bytes)
+    message_at(alloc, octets)
 }

@@ -141,7 +141,13 @@ fn put_pairs(
         return None;
     };
     let (discontinuity, list) = named_value(alloc, name.as_slice(), list)?;
-    put_pair(stamp, object.instance, &value, discontinuity_in(&discontinuity), pairs)?;
+    put_pair(
+        stamp,
+        object.instance,
+        &value,
+        discontinuity_in(&discontinuity),
+        pairs,
+    )?;
     put_pairs(alloc, stamp, objects, names, list, pairs)
 }
 

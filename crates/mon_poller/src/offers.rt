@@ -174,11 +174,19 @@ fn sample_of(stamp: &Stamp<'_>, object: &Object, bindings: &[Binding]) -> Option
     let [first, ..] = bindings else {
         return None;
     };
-    sample_at(stamp, &first.value, discontinuity_value(&object.discontinuity, bindings))
+    sample_at(
+        stamp,
+        &first.value,
+        discontinuity_value(&object.discontinuity, bindings),
+    )
 }
 
 /// The sample of a value and a discontinuity: the value is of a sampled kind, and the discontinuity is there.
-pub(crate) fn sample_at(stamp: &Stamp<'_>, value: &Value, discontinuity: Option<u32>) -> Option<Sample>
+pub(crate) fn sample_at(
+    stamp: &Stamp<'_>,
+    value: &Value,
+    discontinuity: Option<u32>,
+) -> Option<Sample>
     ensures { result ≡ sampled_at (lent_stamp stamp.now) value.now discontinuity }
 {
     let (kind, value) = read_sampled(value)?;

@@ -10,7 +10,7 @@ ghost use Rattle.mon_poller.specs.Verdict.{to_offered};
 
 use crate::addr::Addr;
 use crate::asked::Asked;
-use crate::awaiting::{find_awaited, ends_poll, read};
+use crate::awaiting::{ends_poll, find_awaited, read};
 use crate::fault::{PollFault, ResponseFault};
 use crate::finding::{find, least_id};
 use crate::in_place::in_place;

@@ -94,9 +94,7 @@ impl<'t> Reader<'t> {
     pub(crate) fn long(&self, key: Key) -> Read<i64>
         ensures { result ≡ needed_at key as_integer (table_view self.now.table.now) }
     {
-        self.need(key)?
-            .as_integer()
-            .ok_or(SettingsFault::bad(key))
+        self.need(key)?.as_integer().ok_or(SettingsFault::bad(key))
     }
 
     /// The truth value at a key.

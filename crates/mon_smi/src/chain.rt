@@ -43,7 +43,11 @@ fn chain<'a>(
 }
 
 /// The numbers of a chain, with others after them.
-fn join_parents(alloc: Global, mut chain: Vec<&Definition>, rest: &[u32]) -> Result<Vec<u32>, NamesFault>
+fn join_parents(
+    alloc: Global,
+    mut chain: Vec<&Definition>,
+    rest: &[u32],
+) -> Result<Vec<u32>, NamesFault>
     ensures found { IfOk result (λ v. (v.items ≡ chain_numbers (map (λ d. d.now) chain.entry.items) ++ rest.now) × (length v.items ≤ 128)) }
     ensures fault { IfErr result (λ e. IsFaultOfJoining e (chain_numbers (map (λ d. d.now) chain.entry.items) ++ rest.now)) }
 {

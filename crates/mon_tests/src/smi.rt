@@ -1,6 +1,6 @@
 use mon_oid::{Oid, OidFault};
 use mon_smi::{
-    Definition, Definitions, TokenKind, Module, Names, NamesFault, Numbers, Span, TextFault, Token,
+    Definition, Definitions, Module, Names, NamesFault, Numbers, Span, TextFault, Token, TokenKind,
     Word, read_module, tokens,
 };
 use std::alloc::{AllocError, Global};

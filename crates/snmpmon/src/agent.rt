@@ -7,11 +7,11 @@ use crate::settings::settings_failure;
 use mon_agent::Agent;
 use mon_answers::{Scene, answer_lines};
 use mon_app::{AppFault, SocketPort, Untaken, serve};
+use mon_cli::{AgentArgs, AnswerArgs};
 use mon_faults::Fault;
 use mon_mib::{Device, FuseDevice, Moment, SimDevice};
 use mon_settings::{AgentSettings, SettingsKind, read_agent};
 use mon_smi::{Labels, Names};
-use mon_cli::{AgentArgs, AnswerArgs};
 use std::alloc::{AllocError, Global};
 use std::net::{Ipv4Addr, Net, SocketAddrV4};
 use std::rt::{Clock, Files};
@@ -91,7 +91,13 @@ fn told_of<R: Files + AllocGlobal>(
     let text = read_text(rt, path)?;
     let mut told = match read_agent(rt.alloc(), &text) {
         Ok(told) => told,
-        Err(fault) => return Err(settings_failure(rt.alloc(), SettingsKind::Agent, path, &text, fault)),
+        Err(fault) => return Err(settings_failure(
+            rt.alloc(),
+            SettingsKind::Agent,
+            path,
+            &text,
+            fault,
+        )),
     };
     if let Some(boots) = boots {
         told.settings.boots = boots;

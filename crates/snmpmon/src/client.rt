@@ -9,10 +9,10 @@ use mon_app::{
     AppFault, Asking, Question, Repeats, SocketWire, ValueKind, answer_text, status_name, value_of,
 };
 use mon_ber::Value;
+use mon_cli::{BulkArgs, Request, SetArgs};
 use mon_faults::Fault;
 use mon_oid::Oid;
 use mon_smi::{InNumbers, NameTexts, Names};
-use mon_cli::{BulkArgs, Request, SetArgs};
 use std::alloc::{AllocError, Global};
 use std::net::{Net, SocketAddrV4};
 use std::rt::{Clock, Files};

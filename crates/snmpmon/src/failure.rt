@@ -3,8 +3,7 @@
 use mon_app::{AppFault, SocketReason};
 use mon_faults::Fault;
 use mon_mib::DeviceFault;
-use mon_rehearsal::RehearsalFault;
-use mon_rehearsal::TrialFault;
+use mon_rehearsal::{RehearsalFault, TrialFault};
 use mon_smi::NamesFault;
 use mon_station::StationFault;
 use std::alloc::{AllocError, AllocFailed, Global};

@@ -2,11 +2,17 @@
 
 use crate::failure::Failure;
 use mon_faults::{Fault, explain};
-use mon_settings::{SettingsKind, SettingsFault};
+use mon_settings::{SettingsFault, SettingsKind};
 use std::alloc::{AllocError, Global};
 
 /// Why the settings in a file, an agent's or a station's, were refused.
-pub fn settings_failure(alloc: Global, of: SettingsKind, path: &str, text: &str, fault: SettingsFault) -> Failure {
+pub fn settings_failure(
+    alloc: Global,
+    of: SettingsKind,
+    path: &str,
+    text: &str,
+    fault: SettingsFault,
+) -> Failure {
     Failure::said(Fault::Settings(fault), line(alloc, of, path, text, fault))
 }
 

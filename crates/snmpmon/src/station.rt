@@ -235,7 +235,13 @@ fn settings_of<R: Files + AllocGlobal>(
     let text = read_text(rt, path)?;
     let files = match module_files(alloc, &text) {
         Ok(files) => files,
-        Err(fault) => return Err(settings_failure(alloc, SettingsKind::Station, path, &text, fault)),
+        Err(fault) => return Err(settings_failure(
+            alloc,
+            SettingsKind::Station,
+            path,
+            &text,
+            fault,
+        )),
     };
     let mut names = Names::new(alloc)?;
     for file in files.as_slice() {
@@ -473,10 +479,7 @@ fn write_report_file<R: Files<File = File> + AllocGlobal, S: Receiver + Drop, O:
 ) -> Result<(), Failure> {
     let figures = make_figures(rt.alloc(), live)?;
     let board = live.station.board();
-    live
-        .reports
-        .printing
-        .write(rt, path, board, Some(&figures))
+    live.reports.printing.write(rt, path, board, Some(&figures))
 }
 
 /// What a station says of itself.
@@ -501,7 +504,11 @@ fn in_file<T: Drop>(alloc: Global, path: &str, given: io::Result<T>) -> Result<T
 }
 
 /// What a call of the station's socket gave.
-fn or_socket_failure<T: Drop>(alloc: Global, listen: Addr, given: io::Result<T>) -> Result<T, Failure> {
+fn or_socket_failure<T: Drop>(
+    alloc: Global,
+    listen: Addr,
+    given: io::Result<T>,
+) -> Result<T, Failure> {
     match given {
         Ok(value) => Ok(value),
         Err(error) => Err(Failure::socket(alloc, shown(listen), error)),

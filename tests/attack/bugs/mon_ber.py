@@ -13,8 +13,8 @@ BUGS = {
     ),
     "copies_half": (
         "src/octets.rt",
-        "Vec::from_slice(alloc, bytes)?",
-        "Vec::from_slice(alloc, &bytes[..bytes.len() / 2])?",
+        "Vec::from_slice(alloc, octets)?",
+        "Vec::from_slice(alloc, &octets[..octets.len() / 2])?",
     ),
     "counter64_of_32_bits": (
         "src/reading.rt",
@@ -38,8 +38,8 @@ BUGS = {
     ),
     "integer_from_counter": (
         "src/reading.rt",
-        "element_at(INTEGER, bytes)?",
-        "element_at(0x41, bytes)?",
+        "element_at(INTEGER, octets)?",
+        "element_at(0x41, octets)?",
     ),
     "integer_of_4_octets": (
         "src/writing.rt",
@@ -53,8 +53,8 @@ BUGS = {
     ),
     "into_empty_vec": (
         "src/octets.rt",
-        "let Octets { bytes } = self;",
-        "let Octets { mut bytes } = self; bytes.clear();",
+        "let Octets { octets } = self;",
+        "let Octets { mut octets } = self; octets.clear();",
     ),
     "ip_address_without_last": (
         "src/writing.rt",
@@ -83,8 +83,8 @@ BUGS = {
     ),
     "name_from_octet_string": (
         "src/reading.rt",
-        "element_at(OBJECT_IDENTIFIER, bytes)?",
-        "element_at(0x04, bytes)?",
+        "element_at(OBJECT_IDENTIFIER, octets)?",
+        "element_at(0x04, octets)?",
     ),
     "name_of_one_octet_a_part": (
         "src/writing.rt",
@@ -118,8 +118,8 @@ BUGS = {
     ),
     "octets_emptied": (
         "src/octets.rt",
-        "        Octets { bytes }",
-        "        Octets { bytes: { let mut kept = bytes; kept.clear(); kept } }",
+        "        Octets { octets }",
+        "        Octets { octets: { let mut kept = octets; kept.clear(); kept } }",
     ),
     "octets_written_as_opaque": (
         "src/writing.rt",
@@ -133,8 +133,8 @@ BUGS = {
     ),
     "shows_no_octets": (
         "src/octets.rt",
-        "self.bytes.as_slice()",
-        "&self.bytes.as_slice()[..0]",
+        "self.octets.as_slice()",
+        "&self.octets.as_slice()[..0]",
     ),
     "size_without_header": (
         "src/writing.rt",
@@ -169,7 +169,7 @@ BUGS = {
     "value_takes_nothing": (
         "src/reading.rt",
         "    Ok((value, rest))",
-        "    Ok((value, bytes))",
+        "    Ok((value, octets))",
     ),
     "wide_integer_bad_length": (
         "src/number.rt",
@@ -238,12 +238,12 @@ BUGS = {
     ),
     "spare_first_octet_of_name": (
         "src/name.rt",
-        "if bytes.first() == Some(&0x80) {",
-        "if bytes.first() == Some(&0x81) {",
+        "if octets.first() == Some(&0x80) {",
+        "if octets.first() == Some(&0x81) {",
     ),
     "counts_what_is_left": (
         "src/reading.rt",
-        "Ok((value, bytes.len() - rest.len()))",
+        "Ok((value, octets.len() - rest.len()))",
         "Ok((value, rest.len()))",
     ),
     "size_of_contents_alone": (

@@ -48,8 +48,8 @@ BUGS = {
     ),
     "reads_a_later_place": (
         "src/reading.rt",
-        "    message_at(alloc, bytes)",
-        "    message_at(alloc, &bytes[bytes.len() / 2..])",
+        "    message_at(alloc, octets)",
+        "    message_at(alloc, &octets[octets.len() / 2..])",
     ),
     "reads_no_community": (
         "src/reading.rt",
@@ -93,8 +93,8 @@ BUGS = {
     ),
     "looks_for_a_set_tag": (
         "src/reading.rt",
-        "    let (contents, after) = element_at(SEQUENCE, bytes)?;\n    let (name, rest)",
-        "    let (contents, after) = element_at(0x31, bytes)?;\n    let (name, rest)",
+        "    let (contents, after) = element_at(SEQUENCE, octets)?;\n    let (name, rest)",
+        "    let (contents, after) = element_at(0x31, octets)?;\n    let (name, rest)",
     ),
     "reads_get_next_as_get": (
         "src/message.rt",
@@ -223,13 +223,13 @@ BUGS = {
     ),
     "frames_no_message": (
         "src/frame.rt",
-        "    frame_at(bytes).ok()",
-        "    frame_at(bytes).ok().filter(|_| false)",
+        "    frame_at(octets).ok()",
+        "    frame_at(octets).ok().filter(|_| false)",
     ),
     "frames_octets_that_have_no_frame": (
         "src/frame.rt",
-        "    frame_at(bytes).ok()",
-        "    frame_at(bytes).ok().or(Some(Frame {\n        community: bytes,\n        kind: PduKind::Get,\n        request_id: 0,\n        error_status: 0,\n        error_index: 0,\n        list: b\"\\x05\",\n    }))",
+        "    frame_at(octets).ok()",
+        "    frame_at(octets).ok().or(Some(Frame {\n        community: octets,\n        kind: PduKind::Get,\n        request_id: 0,\n        error_status: 0,\n        error_index: 0,\n        list: b\"\\x05\",\n    }))",
     ),
     "frames_octets_after_the_pdu": (
         "src/frame.rt",
@@ -264,7 +264,7 @@ BUGS = {
     "frames_from_the_tag_again": (
         "src/frame.rt",
         "        Some(kind) => Ok((kind, rest)),",
-        "        Some(kind) => Ok((kind, bytes)),",
+        "        Some(kind) => Ok((kind, octets)),",
     ),
     "a_named_value_by_the_beginning_of_its_name": (
         "src/frame.rt",
@@ -273,8 +273,8 @@ BUGS = {
     ),
     "a_named_value_in_another_element": (
         "src/frame.rt",
-        "    let (contents, after) = element_at(SEQUENCE, bytes).ok()?;",
-        "    let (contents, after) = element_at(OCTET_STRING, bytes).ok()?;",
+        "    let (contents, after) = element_at(SEQUENCE, octets).ok()?;",
+        "    let (contents, after) = element_at(OCTET_STRING, octets).ok()?;",
     ),
     "nothing_follows_a_named_value": (
         "src/frame.rt",
