@@ -85,8 +85,8 @@ fn oldest(items: &[Sample], size: usize, epoch: usize, boots: u32, at: usize) ->
     requires whole { size ≤ epoch }
     requires few { length items.now ≤ size }
     requires place { at ≤ length items.now }
-    ensures none { IfNone result (HasRoom boots_of size newest_each boots items.now) }
-    ensures some { IfSome result (IsLeaving boots_of size newest_each boots items.now at) }
+    ensures none { IfNone result (HasRoom boots_of size epoch boots items.now) }
+    ensures some { IfSome result (IsLeaving boots_of size epoch boots items.now at) }
 {
     if items.len() >= size { Some(0) } else { None }
 }
