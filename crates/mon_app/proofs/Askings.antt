@@ -3,8 +3,8 @@ use Rattle.std.proofs.Common.{◌≡◌, ◌≢◌, ℕ, true, false, ◌+◌, �
 use Rattle.std.specs.Prelude.{◌⊎◌, All, IfNone, IfOk, IfSome, IsErrAnd, Option, Some, None, Result, Ok, Err}
 use Rattle.std.proofs.lemmas.List.Elements.{All-append, All-cons, All-nil}
 use Rattle.std.specs.declared.alloc.AllocError.{AllocError}
-use Rattle.mon_edge.specs.Told.{GoesOnBy, extended}
-use Rattle.mon_edge.proofs.Promised.{extended_by_none, extended_on}
+use Rattle.mon_udp.specs.Told.{GoesOnBy, extended}
+use Rattle.mon_udp.proofs.Promised.{extended_by_none, extended_on}
 use Rattle.mon_pdu.specs.declared.fault.PduFault.{PduFault}
 use Rattle.mon_pdu.specs.declared.fault.PduFault.TheVariants as pdu
 use Rattle.mon_pdu.specs.declared.message.Message.{Message}

@@ -2,9 +2,9 @@
 use Rattle.std.proofs.Common.{◌≡◌, ℕ, suc, ◌+◌, ◌<◌, arith, List, [], ◌∷◌, ◌++◌, take, refl, sym, ap, ◌∙◌, subst, inl, inr, length-append, append_assoc, add-one}
 use Rattle.std.specs.Prelude.{◌⊎◌, Option, Result, Ok, Err}
 use Rattle.std.proofs.lemmas.List.Elements.{All-append, All-cons, All-nil}
-use Rattle.mon_edge.specs.Counts.{failed_after, next_count}
-use Rattle.mon_edge.specs.Told.{extended}
-use Rattle.mon_edge.proofs.Promised.{extended_by_none, extended_on}
+use Rattle.mon_udp.specs.Counts.{failed_after, next_count}
+use Rattle.mon_udp.specs.Told.{extended}
+use Rattle.mon_udp.proofs.Promised.{extended_by_none, extended_on}
 use Rattle.mon_vacm.specs.Tables.{Lists}
 use Rattle.mon_mib.specs.declared.settings.Settings.{Settings}
 use Rattle.mon_app.specs.declared.fault.SocketFault.{SocketFault}

@@ -3,8 +3,8 @@ use Rattle.std.proofs.Common.{◌≡◌, ℕ, ℤ, pos, ◌+◌, ◌<◌, Bool, 
 use Rattle.std.specs.Prelude.{◌&&◌, ◌||◌, ◌==◌, not, if◌then◌else◌, Some, Result, Ok, Err, IsOk}
 use Rattle.std.proofs.lemmas.Bool.Decides.{nat_tests}
 use Rattle.std.proofs.lemmas.List.{append-nil}
-use Rattle.mon_edge.specs.Told.{GoesOnBy}
-use Rattle.mon_edge.proofs.Promised.{extended_by_none, extended_on}
+use Rattle.mon_udp.specs.Told.{GoesOnBy}
+use Rattle.mon_udp.proofs.Promised.{extended_by_none, extended_on}
 use Rattle.mon_pdu.specs.declared.message.Binding.{Binding}
 use Rattle.mon_pdu.specs.declared.message.Body.{Body}
 use Rattle.mon_pdu.specs.declared.message.Body.TheVariants as bodies

@@ -1,7 +1,7 @@
 -- What happens at a port that an agent listens at.
 use Rattle.std.specs.Prelude.{◌≡◌, ℕ, List, [], ◌∷◌, take, Option, Result, Ok, Err}
-use Rattle.mon_edge.specs.Counts.{next_count}
-use Rattle.mon_edge.specs.Told.{extended}
+use Rattle.mon_udp.specs.Counts.{next_count}
+use Rattle.mon_udp.specs.Told.{extended}
 use Rattle.mon_app.specs.declared.fault.SocketFault.{SocketFault}
 use Rattle.mon_app.specs.declared.port.Received.{Received as AnyReceived}
 use Rattle.mon_app.specs.declared.reason.SocketReason.{SocketReason}

@@ -1,6 +1,6 @@
 -- What happens at a wire to an agent.
 use Rattle.std.specs.Prelude.{ℕ, ◌≤◌, List, [], ◌∷◌, take, Result, Ok, Err}
-use Rattle.mon_edge.specs.Counts.{next_count}
+use Rattle.mon_udp.specs.Counts.{next_count}
 use Rattle.mon_app.specs.declared.fault.AppFault.{AppFault}
 use Rattle.mon_app.specs.declared.fault.AppFault.TheVariants.{SocketFault}
 use Rattle.mon_app.specs.declared.wire.Heard.{Heard as AnyHeard}

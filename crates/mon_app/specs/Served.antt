@@ -1,6 +1,6 @@
 -- What serving makes of an agent, and what happens at its port meanwhile (RFC 3416 section 4.2).
 use Rattle.std.specs.Prelude.{◌≡◌, ◌⊎◌, ℕ, zero, suc, ◌<◌, List, [], ◌∷◌, ◌++◌, length, take, All, Result, Ok, Err}
-use Rattle.mon_edge.specs.Counts.{next_count}
+use Rattle.mon_udp.specs.Counts.{next_count}
 use Rattle.mon_vacm.specs.Tables.{Lists}
 use Rattle.mon_mib.specs.declared.change.Change.{Change}
 use Rattle.mon_mib.specs.declared.counters.Counters.{Counters}

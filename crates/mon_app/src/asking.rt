@@ -1,16 +1,16 @@
 //! Asking an agent over a wire.
 
 ghost use Rattle.std.specs.Prelude.{◌≡◌, ◌≢◌, true, false, IfOk, IfSome, IfNone, length};
-ghost use Rattle.mon_edge.specs.Told.{GoesOnBy};
+ghost use Rattle.mon_udp.specs.Told.{GoesOnBy};
 ghost use Rattle.mon_app.specs.Asking.{HoldsReply, HoldsNone, IsAsked, IsWait};
 ghost use Rattle.mon_app.specs.AtWire.{socket_failures};
 ghost use Rattle.mon_app.specs.Question.{asked_in, is_reply};
 
 use crate::fault::AppFault;
-use crate::input::zeros;
 use crate::question::{Question, is_reply, request};
 use crate::wire::{Heard, Wire};
 use mon_pdu::{Message, PduFault, laws, read_message, write_message};
+use mon_udp::datagram_buffer;
 use std::alloc::{AllocError, Global};
 
 /// How often a request is sent.
@@ -19,16 +19,6 @@ const SENDS: u8 = 3;
 /// How much is received after each sending: of what is no reply 64 are passed over, and the next
 /// one ends the wait.
 const HEARINGS: u8 = 65;
-
-/// The greatest datagram that UDP carries over IPv4, in octets.
-const GREATEST_DATAGRAM: usize = 65_507;
-
-/// Allocates a buffer for the greatest datagram that UDP carries over IPv4, 65507 octets.
-pub(crate) fn room(alloc: Global) -> Result<Vec<u8>, AllocError>
-    ensures { IfOk result (λ room. length room.items ≡ 65507) }
-{
-    zeros(alloc, GREATEST_DATAGRAM)
-}
 
 /// Asks: sends the request at most three times, and returns the first reply that is received. After
 /// each sending it waits as long as the wire does, and passes over at most 64 datagrams that are no
@@ -46,7 +36,7 @@ pub fn send_request<W: Wire>(
     ensures failures { W.failures wire.new ≡ socket_failures result (W.failures wire.old) }
 {
     let octets = write_message(alloc, &request(alloc, question)?)?;
-    let mut room = room(alloc)?;
+    let mut room = datagram_buffer(alloc)?;
     for _ in 0..SENDS {
         wire.send(octets.as_slice())?;
         if let Some(reply) = take_reply(alloc, wire, question, room.as_mut_slice())? {

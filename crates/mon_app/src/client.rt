@@ -1,7 +1,7 @@
 //! The client commands: a question, its reply, and the text that is printed.
 
 ghost use Rattle.std.specs.Prelude.{◌≡◌, string_bytes};
-ghost use Rattle.mon_edge.specs.Told.{GoesOnBy};
+ghost use Rattle.mon_udp.specs.Told.{GoesOnBy};
 ghost use Rattle.mon_pdu.specs.declared.message.Body.TheVariants as bodies;
 ghost use Rattle.mon_app.specs.AtWire.{socket_failures};
 ghost use Rattle.mon_app.specs.Printed.{IsQuestionAnswered, IsPrinted, bindings_in};

@@ -4,7 +4,7 @@ ghost use Rattle.std.specs.Prelude.{◌≡◌, IfErr, OnOk};
 ghost use Rattle.std.specs.Io.{ReadsAtMost};
 ghost use Rattle.std.specs.Io.KnownBytes.{ReadConsumes};
 ghost use Rattle.std.specs.IoError.{error_kind};
-ghost use Rattle.mon_edge.specs.Counts.{next_count};
+ghost use Rattle.mon_udp.specs.Counts.{next_count};
 ghost use Rattle.mon_app.specs.Input.{ends_after, failures_by};
 
 use std::io;

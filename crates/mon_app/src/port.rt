@@ -15,8 +15,8 @@ pub struct Received {
 /// A port that an agent listens at.
 pub trait Port {
     ghost use Rattle.std.specs.Prelude.{◌≡◌, ◌≤◌, ℕ, List, Option, length, IfOk};
-    ghost use Rattle.mon_edge.specs.Counts.{failed_after};
-    ghost use Rattle.mon_edge.specs.Told.{extended};
+    ghost use Rattle.mon_udp.specs.Counts.{failed_after};
+    ghost use Rattle.mon_udp.specs.Told.{extended};
     ghost use Rattle.mon_app.specs.AtPort.{AtPort, receiving, replying};
 
     // What happened at it, in order, if the port states that.

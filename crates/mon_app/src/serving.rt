@@ -5,12 +5,12 @@ ghost use Rattle.mon_agent.specs.State.{policy_of, settings_of};
 ghost use Rattle.mon_app.specs.AtPort.{Happens};
 ghost use Rattle.mon_app.specs.Served.{AnswersIt, IsAwaited, IsServed, IsServing, Takes, stands};
 
-use crate::asking::room;
 use crate::fault::{AppFault, SocketFault};
 use crate::port::{Port, Received};
 use crate::untaken::Untaken;
 use mon_agent::{Agent, Reply};
 use mon_mib::Device;
+use mon_udp::datagram_buffer;
 use std::alloc::Global;
 
 /// How many failed waits in a row are passed over; the next one that fails ends the serving.
@@ -39,7 +39,7 @@ pub fn serve<P: Port, D: Device + Drop, U: Untaken>(
     ensures policy { policy_of agent.new ≡ policy_of agent.old }
     ensures settings { settings_of agent.new ≡ settings_of agent.old }
 {
-    let mut room = room(alloc)?;
+    let mut room = datagram_buffer(alloc)?;
     for _ in 0..count {
         serve_one(alloc, port, agent, room.as_mut_slice(), untaken)?;
     }

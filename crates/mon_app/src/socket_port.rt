@@ -1,34 +1,31 @@
 //! A port over UDP and IPv4.
 
-ghost use Rattle.std.specs.Prelude.{◌≡◌, ◌≤◌, ◌<◌, ◌/◌, IfErr, IfOk, length};
+ghost use Rattle.std.specs.Prelude.{◌≡◌, ◌≤◌, ◌/◌, IfErr, IfOk, length};
 ghost use Rattle.std.specs.Duration.{as_nanos};
 
 use crate::fault::{AppFault, SocketFault};
 use crate::port::{Port, Received};
 use crate::reason::SocketReason;
 use crate::socket::{socket_failure, socket_fault};
-use mon_edge::failed_after;
 use mon_mib::Moment;
-use std::io;
-use std::net::{Net, SocketAddr, SocketAddrV4, UdpSocket};
+use mon_udp::{Addr, Socket, failed_after};
+use std::net::{Net, SocketAddr};
 use std::rt::Clock;
 use std::time::{Duration, Instant};
 
-/// How often a wait that a signal ended begins again.
-const TRIES: u8 = 255;
-
-/// The agent's life is over, which is no failure of the system's.
-const OVER: SocketFault = SocketFault {
+/// No failure that the system named: the agent's life is over, or a datagram is not of IPv4.
+const OTHER: SocketFault = SocketFault {
     reason: SocketReason::Other,
 };
 
-/// A port over a socket. The agent's life begins where it is opened.
+/// A port over a socket. The agent's life begins when it is opened.
 #[derive(Drop)]
 pub struct SocketPort<'a, R: Clock> {
     rt: &'a R,
-    socket: UdpSocket,
+    socket: Socket,
     began: Instant,
-    from: SocketAddr,
+    /// Where the last datagram came from.
+    from: Addr,
     failures: u64,
 }
 
@@ -36,23 +33,25 @@ impl<'a, R: Clock + Net> SocketPort<'a, R> {
     /// Listens at this address; port 0 takes a free one.
     ///
     /// # Errors
-    /// `SocketFault` where the address is not to be had, `OutOfMemory`.
-    pub fn open(rt: &'a R, listen: SocketAddrV4) -> Result<Self, AppFault> {
-        let socket = UdpSocket::bind(rt, SocketAddr::V4(listen)).map_err(socket_fault)?;
-        let from = socket.local_addr().map_err(socket_fault)?;
+    /// `SocketFault` if the address is not available, `OutOfMemory`.
+    pub fn open(rt: &'a R, listen: Addr) -> Result<Self, AppFault> {
+        let socket = Socket::open(rt, listen).map_err(socket_fault)?;
         let began = Instant::now(rt).map_err(socket_fault)?;
         Ok(SocketPort {
             rt,
             socket,
             began,
-            from,
+            from: listen,
             failures: 0,
         })
     }
 
-    /// Where it listens.
+    /// Returns the address that it listens at.
+    ///
+    /// # Errors
+    /// `SocketFault` if the system does not say it, `OutOfMemory`.
     pub fn address(&self) -> Result<SocketAddr, AppFault> {
-        self.socket.local_addr().map_err(socket_fault)
+        self.socket.address().map_err(socket_fault)
     }
 }
 
@@ -64,28 +63,15 @@ impl<R: Clock> SocketPort<'_, R> {
     }
 
     /// Waits for a datagram, and keeps where it came from.
-    fn hear(&mut self, room: &mut [u8]) -> Result<Received, SocketFault>
+    fn receive_next(&mut self, room: &mut [u8]) -> Result<Received, SocketFault>
         ensures failures { self.new.failures ≡ self.old.failures }
         ensures room { length room.new ≡ length room.old }
         ensures within { IfOk result (λ received. received.len ≤ length room.new) }
     {
-        for _ in 0..TRIES {
-            match self.socket.recv_from(room) {
-                Ok((len, from)) => {
-                    self.from = from;
-                    let moment = self.moment()?;
-                    return Ok(Received {
-                        len: len.min(room.len()),
-                        moment,
-                    });
-                }
-                Err(error) if error.kind() == io::ErrorKind::Interrupted => {}
-                Err(error) => return Err(socket_failure(error)),
-            }
-        }
-        Err(SocketFault {
-            reason: SocketReason::Other,
-        })
+        let (len, from) = self.socket.receive(room).map_err(socket_failure)?;
+        self.from = Addr::of(from).ok_or(OTHER)?;
+        let moment = self.moment()?;
+        Ok(Received { len, moment })
     }
 }
 
@@ -96,8 +82,8 @@ fn moment_after(passed: Duration) -> Result<Moment, SocketFault>
     ensures over { IfErr result (λ _. 214_748_364_800 ≤ as_nanos passed / 10_000_000) }
 {
     match u64::try_from(passed.as_millis() / 10) {
-        Ok(hundredths) => Moment::new(hundredths).ok_or(OVER),
-        Err(_) => Err(OVER),
+        Ok(hundredths) => Moment::new(hundredths).ok_or(OTHER),
+        Err(_) => Err(OTHER),
     }
 }
 
@@ -110,16 +96,13 @@ impl<R: Clock> Port for SocketPort<'_, R> {
     ghost failures = { λ p. p.failures };
 
     fn receive(&mut self, room: &mut [u8]) -> Result<Received, SocketFault> {
-        let received = self.hear(room);
+        let received = self.receive_next(room);
         self.failures = failed_after(self.failures, &received);
         received
     }
 
     fn reply(&mut self, octets: &[u8]) -> Result<(), SocketFault> {
-        let sent = match self.socket.send_to(octets, self.from) {
-            Ok(_) => Ok(()),
-            Err(error) => Err(socket_failure(error)),
-        };
+        let sent = self.socket.send(octets, self.from).map_err(socket_failure);
         self.failures = failed_after(self.failures, &sent);
         sent
     }

@@ -3,7 +3,7 @@
 /// What is told that memory ran out for a datagram.
 pub trait Untaken {
     ghost use Rattle.std.specs.Prelude.{◌≡◌, ℕ};
-    ghost use Rattle.mon_edge.specs.Counts.{next_count};
+    ghost use Rattle.mon_udp.specs.Counts.{next_count};
 
     // How often it was told, at most 2^64 - 1.
     ghost times: { Self → ℕ };

@@ -1,7 +1,7 @@
 //! Walking through the variables under a name.
 
 ghost use Rattle.std.specs.Prelude.{◌≡◌, ◌<◌, ◌↔◌, IsTrue, string_bytes};
-ghost use Rattle.mon_edge.specs.Told.{GoesOnBy};
+ghost use Rattle.mon_udp.specs.Told.{GoesOnBy};
 ghost use Rattle.mon_app.specs.AtWire.{socket_failures};
 ghost use Rattle.mon_app.specs.Walk.{IsNextAsked, IsWalkStep, IsTurn, IsWalk, question_after};
 

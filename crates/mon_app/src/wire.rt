@@ -16,8 +16,8 @@ pub enum Heard {
 /// A wire to one agent. Each sending begins a wait, and what comes is received in the rest of it.
 pub trait Wire {
     ghost use Rattle.std.specs.Prelude.{◌≡◌, ◌≤◌, ℕ, List, Option, length, IfOk};
-    ghost use Rattle.mon_edge.specs.Counts.{failed_after};
-    ghost use Rattle.mon_edge.specs.Told.{extended};
+    ghost use Rattle.mon_udp.specs.Counts.{failed_after};
+    ghost use Rattle.mon_udp.specs.Told.{extended};
     ghost use Rattle.mon_app.specs.AtWire.{AtWire, FitsRoom, hearing, sending};
 
     // What happened at it, in order, if the wire states that.

@@ -1,4 +1,3 @@
-pub mod Addrs
 pub mod Asks
 pub mod Changes
 pub mod InPlace

@@ -4,7 +4,7 @@ use Rattle.std.specs.FinMap as map
 use Rattle.std.specs.Str.{bytes_eq}
 use Rattle.mon_pdu.specs.declared.message.Message.{Message}
 use Rattle.mon_pdu.specs.declared.message.Pdu.{Pdu}
-use Rattle.mon_poller.specs.declared.addr.Addr.{Addr}
+use Rattle.mon_udp.specs.declared.addr.Addr.{Addr}
 use Rattle.mon_poller.specs.declared.fault.ResponseFault.{ResponseFault}
 use Rattle.mon_poller.specs.declared.fault.ResponseFault.TheVariants.{BadMessage, Stray, WrongSource, WrongCommunity}
 use Rattle.mon_poller.specs.declared.target.Target.{Target}
@@ -12,7 +12,8 @@ use Rattle.mon_oid.specs.Steps.{◌>>=◌}
 use Rattle.mon_poller.specs.Gives.{or_refuse, need}
 use Rattle.mon_poller.specs.Polls.{Poll, Open, poll_of}
 use Rattle.mon_poller.specs.Target.{target_at}
-use Rattle.mon_poller.specs.Verdict.{awaited, response_pdu, same_addr}
+use Rattle.mon_poller.specs.Verdict.{awaited, response_pdu}
+use Rattle.mon_udp.specs.Addr.{same_addr}
 
 module _ (targets : List Target) (polls : Open) (from : Addr) (m : Message) (r : Pdu) (is : response_pdu m.body ≡ Some r) (id : ℕ) (named : r.request_id ≡ pos id) where
   -- the tests of the poll's target

@@ -5,7 +5,7 @@ use Rattle.std.specs.Prelude.{nat_lt}
 use Rattle.std.proofs.lemmas.Bool.Decides.{nat_tests}
 use Rattle.mon_pdu.specs.declared.message.Message.{Message}
 use Rattle.mon_pdu.specs.declared.message.Pdu.{Pdu}
-use Rattle.mon_poller.specs.declared.addr.Addr.{Addr}
+use Rattle.mon_udp.specs.declared.addr.Addr.{Addr}
 use Rattle.mon_poller.specs.declared.fault.ResponseFault.{ResponseFault}
 use Rattle.mon_poller.specs.declared.fault.ResponseFault.TheVariants.{OutOfMemory, BadMessage, Stray, WrongSource, WrongCommunity, AgentError, WrongNames, BadStamp, OtherEngine}
 use Rattle.mon_poller.specs.declared.target.Target.{Target}

@@ -14,7 +14,8 @@ use Rattle.mon_pdu.specs.Grammar.{BeginsWithMessage}
 use Rattle.mon_pdu.specs.Kinds.{octet_of}
 use Rattle.mon_sample.specs.Key.{key}
 use Rattle.mon_sample.specs.Kind.{kind_tag}
-use Rattle.mon_poller.specs.declared.addr.Addr.{Addr}
+use Rattle.mon_udp.specs.declared.addr.Addr.{Addr}
+use Rattle.mon_udp.specs.Addr.{same_addr}
 use Rattle.mon_poller.specs.declared.fault.PollFault.{PollFault}
 use Rattle.mon_poller.specs.declared.fault.PollFault.TheVariants as faults
 use Rattle.mon_poller.specs.declared.fault.ResponseFault.{ResponseFault}
@@ -49,10 +50,6 @@ ReadsAs octets None = (m : Message) → ¬ (BeginsWithMessage octets m)
 abbrev pub response_pdu : Body → Option AnyPdu
 response_pdu (Bulk b) = None
 response_pdu (Pdu p) = if octet_of p.kind == octet_of kinds.Response then Some p else None
-
--- whether two addresses are one
-abbrev pub same_addr : Addr → Addr → Bool
-same_addr a b = bytes_eq a.octets b.octets && (a.port == b.port)
 
 -- a Response with error-status 0 (noError)
 abbrev pub no_error : ℤ → ℤ → Result (Unit {0}) ResponseFault

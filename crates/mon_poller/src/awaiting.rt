@@ -9,7 +9,6 @@ ghost use Rattle.mon_poller.specs.Verdict.{ReadsAs, awaited, ends, response_pdu}
 ghost use Rattle.mon_pdu.specs.declared.message.Message.{Message as AnyMessage};
 ghost use Rattle.mon_poller.specs.declared.fault.ResponseFault.TheVariants.{BadMessage};
 
-use crate::addr::Addr;
 use crate::fault::ResponseFault;
 use crate::finding::find;
 use crate::offers::response_pdu;
@@ -17,6 +16,7 @@ use crate::poller::OpenPoll;
 use crate::target::Target;
 use mon_board::Pairs;
 use mon_pdu::{Message, Pdu, read_message};
+use mon_udp::Addr;
 use slab::Slab;
 use std::alloc::Global;
 

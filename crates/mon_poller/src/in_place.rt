@@ -16,7 +16,6 @@ ghost use Rattle.mon_poller.specs.Poller.{AreSlots, open_of, poll_in};
 ghost use Rattle.mon_poller.specs.Target.{SpellNames, object_names, poll_names, target_at};
 ghost use Rattle.mon_poller.specs.Verdict.{awaited, have_names, response_pdu, sampled_at, target_offers};
 
-use crate::addr::Addr;
 use crate::asked::Asked;
 use crate::finding::find;
 use crate::lent::Stamp;
@@ -27,6 +26,7 @@ use crate::target::{Object, Target};
 use mon_ber::{Octets, Value};
 use mon_board::Pairs;
 use mon_pdu::{Frame, PduKind, named_value, read_frame};
+use mon_udp::Addr;
 use slab::Slab;
 use std::alloc::Global;
 

@@ -1,9 +1,8 @@
 //! Laws of the definitions. Each is a function that does nothing.
 
-ghost use Rattle.std.specs.Prelude.{◌≡◌, ◌↔◌, ◌<◌, ℕ, List, All, Option, Some, Ok};
+ghost use Rattle.std.specs.Prelude.{◌≡◌, ◌<◌, ℕ, List, All, Option, Ok};
 ghost use Rattle.mon_pdu.specs.declared.message.Message.{Message};
-ghost use Rattle.mon_poller.specs.declared.addr.Addr.{Addr};
-ghost use Rattle.mon_poller.specs.Addr.{addr_of, IsAddrText};
+ghost use Rattle.mon_udp.specs.declared.addr.Addr.{Addr};
 ghost use Rattle.mon_poller.specs.declared.poller.Offered.{Offered};
 ghost use Rattle.mon_poller.specs.declared.target.Target.{Target};
 ghost use Rattle.mon_poller.specs.Polls.{Open};
@@ -13,11 +12,6 @@ ghost use Rattle.mon_poller.specs.Verdict.{ReadsAs, response_verdict};
 pub fn offered()
     ensures { (n : ℕ) (targets : List Target) (polls : Open) (from : Addr) (read : Option Message) (offered : Offered)
         → All (λ t. All (λ o. o.instance < n) t.objects) targets → response_verdict targets polls from read ≡ Ok offered → All (λ pair. pair.0 < n) offered.pairs }
-{}
-
-/// A text is read as an address exactly where it writes that address.
-pub fn addresses()
-    ensures { (text : List ℕ) (a : Addr) → (addr_of text ≡ Some a) ↔ IsAddrText text a }
 {}
 
 /// A datagram reads in one way.

@@ -4,7 +4,6 @@
 //! of a sampled kind; the open polls are a map from request-ids, and each call says what becomes of it.
 #![tactic(auto)]
 
-mod addr;
 mod asked;
 mod asking;
 mod awaiting;
@@ -19,7 +18,6 @@ mod poller;
 pub mod stamp;
 mod target;
 
-pub use addr::Addr;
 pub use fault::{PollFault, ResponseFault};
 pub use poller::{Offered, Poller, Request, TimedOut};
 pub use target::{Object, Objects, Target, are_targets};

@@ -8,7 +8,6 @@ ghost use Rattle.mon_poller.specs.Polls.{no_polls, with_poll, timed};
 ghost use Rattle.mon_poller.specs.Target.{AreTargets, poll_octets, target_at};
 ghost use Rattle.mon_poller.specs.Verdict.{to_offered};
 
-use crate::addr::Addr;
 use crate::asked::Asked;
 use crate::awaiting::{ends_poll, find_awaited, read};
 use crate::fault::{PollFault, ResponseFault};
@@ -20,6 +19,7 @@ use crate::target::Target;
 use mon_ber::Octets;
 use mon_board::Pairs;
 use mon_pdu::Message;
+use mon_udp::Addr;
 use slab::Slab;
 use std::alloc::{AllocError, Global};
 use std::marker::Model;

@@ -3,9 +3,9 @@
 ghost use Rattle.std.specs.Prelude.{◌≡◌, ◌↔◌, ◌≤◌, All, IfOk, IsTrue, length};
 ghost use Rattle.mon_poller.specs.Target.{AreTargets, IsTarget};
 
-use crate::addr::Addr;
 use mon_ber::Octets;
 use mon_oid::Oid;
+use mon_udp::Addr;
 use std::alloc::{AllocError, Global};
 use std::marker::Model;
 

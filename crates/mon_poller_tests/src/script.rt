@@ -3,7 +3,8 @@
 //! A line is `new`, `start TARGET`, `timeout ID`, `oldest`, or `from ADDRESS HEX`; one that is empty or begins with # is passed over.
 
 use crate::targets::poller;
-use mon_poller::{Addr, Offered, Poller, ResponseFault, TimedOut};
+use mon_poller::{Offered, Poller, ResponseFault, TimedOut};
+use mon_udp::Addr;
 use std::alloc::Global;
 use std::fmt::Write;
 use std::io::{BufRead, BufReader};

@@ -2,7 +2,8 @@
 
 use mon_ber::Octets;
 use mon_oid::Oid;
-use mon_poller::{Addr, Object, Objects, Poller, Target, are_targets};
+use mon_poller::{Object, Objects, Poller, Target, are_targets};
+use mon_udp::Addr;
 use std::alloc::Global;
 
 /// ifHCInOctets and ifCounterDiscontinuityTime (RFC 2863), which take the number of an interface.

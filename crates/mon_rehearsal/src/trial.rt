@@ -15,7 +15,7 @@ use mon_agent::{Agent, AgentFault, Reply};
 use mon_board::{Board, Watch};
 use mon_disk::{Disk, MemoryDisk};
 use mon_mib::{Device, Moment, SimDevice};
-use mon_poller::Addr;
+use mon_udp::Addr;
 use mon_report::write_report;
 use mon_settings::{SettingsFault, StationSettings, read_agent, read_station};
 use mon_smi::Names;

@@ -3,7 +3,7 @@ use Rattle.std.proofs.Common.{ℕ, ◌≡◌, ◌≤◌, ◌<◌, ◌+◌, ◌�
 use Rattle.std.specs.Prelude.{zero, suc, cond, nat_lt, option_map}
 use Rattle.std.proofs.lemmas.List.{append-nil}
 use Rattle.mon_disk.specs.declared.disk.Disk.{Ghosts}
-use Rattle.mon_poller.specs.declared.addr.Addr.{Addr}
+use Rattle.mon_udp.specs.declared.addr.Addr.{Addr}
 use Rattle.mon_rounds.specs.declared.receiver.Arrival.{Arrival}
 use Rattle.mon_rounds.specs.declared.receiver.Arrival.TheVariants.{Datagram, Quiet}
 use Rattle.mon_rounds.specs.declared.round.Phase.{Phase}

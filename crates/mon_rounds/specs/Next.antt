@@ -1,8 +1,8 @@
 -- What a round gives next, and what becomes of it.
 use Rattle.std.specs.Prelude.{ℕ, zero, suc, ◌≡◌, ◌<◌, ◌+◌, ◌-◌, ◌⊎◌, Bool, true, false, ◌&&◌, ◌||◌, nat_lt, cond, List, [], ◌∷◌, ◌++◌, Option, Some, None, Result, Ok, Err, length, option_map}
 use Rattle.std.specs.List.{list_any}
-use Rattle.mon_poller.specs.declared.addr.Addr.{Addr}
-use Rattle.mon_settings.specs.Station.{is_address}
+use Rattle.mon_udp.specs.declared.addr.Addr.{Addr}
+use Rattle.mon_udp.specs.Addr.{same_addr}
 use Rattle.mon_rounds.specs.declared.receiver.Arrival.{Arrival}
 use Rattle.mon_rounds.specs.declared.receiver.Arrival.TheVariants.{Datagram, Quiet}
 use Rattle.mon_rounds.specs.declared.receiver.Wait.{Wait}
@@ -32,7 +32,7 @@ pub record RoundState : Type 0 where
 
 -- whether an address is one of these
 abbrev pub stands_in : List Addr → Addr → Bool
-stands_in addresses from = list_any (λ a. is_address a from) addresses
+stands_in addresses from = list_any (λ a. same_addr a from) addresses
 
 -- ---- receptions
 -- whether datagrams are received in a phase

@@ -1,6 +1,6 @@
 -- How rounds begin, and what every round has.
 use Rattle.std.specs.Prelude.{ℕ, ◌≡◌, ◌≤◌, ◌+◌, List, [], ◌∷◌, length}
-use Rattle.mon_poller.specs.declared.addr.Addr.{Addr}
+use Rattle.mon_udp.specs.declared.addr.Addr.{Addr}
 use Rattle.mon_rounds.specs.declared.receiver.Wait.TheVariants.{Anew}
 use Rattle.mon_rounds.specs.declared.round.Phase.{Phase}
 use Rattle.mon_rounds.specs.declared.round.Phase.TheVariants.{Polling, Hearing, Sharing, Listening, Resting, Rested}

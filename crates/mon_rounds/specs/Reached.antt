@@ -1,7 +1,7 @@
 -- Where peers are reached.
 use Rattle.std.specs.Prelude.{ℕ, List, Option, Some, None, slice_get, ◌==◌}
 use Rattle.std.specs.List.{position}
-use Rattle.mon_poller.specs.declared.addr.Addr.{Addr}
+use Rattle.mon_udp.specs.declared.addr.Addr.{Addr}
 
 -- the address at a place, where there is one
 abbrev pub address_at : List Addr → Option ℕ → Option Addr

@@ -1,7 +1,7 @@
 -- A whole round of a station, and the whole time between two.
 use Rattle.std.specs.Prelude.{ℕ, ◌≡◌, List, Option, None, Result, Ok, All, length}
 use Rattle.mon_disk.specs.declared.disk.Disk.{Ghosts}
-use Rattle.mon_edge.specs.Told.{GoesOnBy}
+use Rattle.mon_udp.specs.Told.{GoesOnBy}
 use Rattle.mon_rounds.specs.declared.round.Phase.TheVariants.{Over, Rested}
 use Rattle.mon_rounds.specs.Given.{AreGiven}
 use Rattle.mon_rounds.specs.Next.{GivesNext, IsEnded, RoundState, TakesTurn, turns_left}

@@ -4,10 +4,10 @@ ghost use Rattle.std.specs.Prelude.{◌≡◌, ◌≤◌, ◌==◌, IfOk, length
 ghost use Rattle.std.specs.List.{position};
 ghost use Rattle.mon_rounds.specs.Reached.{peer_address};
 ghost use Rattle.mon_rounds.specs.Next.{stands_in};
-ghost use Rattle.mon_settings.specs.Station.{is_address};
 
-use mon_poller::{Addr, Target};
+use mon_poller::Target;
 use mon_settings::StationSettings;
+use mon_udp::Addr;
 use std::alloc::{AllocError, Global};
 
 /// Where a station's targets and peers are reached. Two targets, or two peers, may have one address.
@@ -106,21 +106,9 @@ fn place_of(numbers: &[u32], station: u32) -> Option<usize>
     numbers.iter().position(|number| *number == station)
 }
 
-/// Returns `true` if two addresses are equal.
-fn is_address(a: Addr, b: Addr) -> bool
-    ensures { result ≡ is_address a b }
-{
-    a.octets == b.octets && a.port == b.port
-}
-
 /// Returns `true` if an address is one of these.
 fn stands_in(addresses: &[Addr], from: Addr) -> bool
     ensures { result ≡ stands_in addresses.now from }
 {
-    for address in addresses {
-        if is_address(*address, from) {
-            return true;
-        }
-    }
-    false
+    addresses.iter().any(|address| *address == from)
 }

@@ -1,5 +1,5 @@
 //! A station's rounds over sockets. It follows no standard. To run a station: `Addresses::of` its
-//! settings, a `SocketReceiver` and a `SocketOutbox` on one `Socket`, and `Rounds` over the
+//! settings, a `SocketReceiver` and a `SocketOutbox` on one `Socket` of mon_udp, and `Rounds` over the
 //! receiver. `run_round` runs one round on a `Station`, `rest` receives between two rounds, and
 //! `RoundReport::of` says what is reported of it.
 //! Contract: a round polls each target, receives, offers each peer what it is owed, receives again
@@ -23,5 +23,5 @@ pub use receiver::{Arrival, Receiver, ReceiverFault, Wait};
 pub use reporting::{Notice, RoundReport};
 pub use round::{Phase, Round, RoundEvent};
 pub use running::{rest, run_round};
-pub use socket::{Socket, SocketOutbox, SocketReceiver};
+pub use socket::{SocketOutbox, SocketReceiver};
 pub use source::Rounds;

@@ -1,7 +1,7 @@
 //! What a station receives datagrams by.
 
 use mon_ber::Octets;
-use mon_poller::Addr;
+use mon_udp::Addr;
 use thiserror::Error;
 
 /// Which wait a reception is part of.
@@ -30,8 +30,8 @@ pub struct ReceiverFault;
 /// What a station receives datagrams by.
 pub trait Receiver {
     ghost use Rattle.std.specs.Prelude.{◌≡◌, ℕ, List, Option};
-    ghost use Rattle.mon_edge.specs.Counts.{failed_after};
-    ghost use Rattle.mon_edge.specs.Told.{extended};
+    ghost use Rattle.mon_udp.specs.Counts.{failed_after};
+    ghost use Rattle.mon_udp.specs.Told.{extended};
     ghost use Rattle.mon_rounds.specs.Reception.{Reception, reception};
 
     // All receptions in order, if it states them.

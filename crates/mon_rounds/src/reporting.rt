@@ -5,8 +5,8 @@ ghost use Rattle.mon_rounds.specs.Noted.{gave_up, is_stranger, notice_of, notice
 ghost use Rattle.mon_rounds.specs.Order.{datagrams_in};
 
 use crate::round::{Round, RoundEvent};
-use mon_poller::Addr;
 use mon_station::{Answer, Run, StationFault};
+use mon_udp::Addr;
 use std::alloc::{AllocError, Global};
 
 /// What is reported of an event to an operator.

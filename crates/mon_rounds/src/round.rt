@@ -9,8 +9,8 @@ ghost use Rattle.mon_rounds.specs.Order.{AreSoFar, datagrams_in};
 use crate::addresses::Addresses;
 use crate::receiver::Wait;
 use mon_ber::Octets;
-use mon_poller::Addr;
 use mon_station::OwnedEvent;
+use mon_udp::Addr;
 use std::alloc::{AllocError, Global};
 use std::marker::Model;
 

@@ -1,8 +1,8 @@
 //! A station's events, from its rounds and a receiver.
 
 ghost use Rattle.std.specs.Prelude.{◌≡◌, ◌≤◌, IfOk, Ok, None, Some, length};
-ghost use Rattle.mon_edge.specs.Counts.{failed_after};
-ghost use Rattle.mon_edge.specs.Told.{GoesOnBy};
+ghost use Rattle.mon_udp.specs.Counts.{failed_after};
+ghost use Rattle.mon_udp.specs.Told.{GoesOnBy};
 ghost use Rattle.mon_rounds.specs.Order.{AreSoFar};
 ghost use Rattle.mon_rounds.specs.Whole.{GivesOn, RoundsView, view_of};
 ghost use Rattle.mon_rounds.specs.Orderly.{begun, begun_rest, unbegun};

@@ -2,7 +2,7 @@
 use Rattle.std.specs.Prelude.{◌≡◌, ◌⊎◌, ℕ, List, [], ◌∷◌, Any, Option, Some, None, option_map, pos}
 use Rattle.mon_mib.specs.declared.sys_texts.SysTexts.{SysTexts}
 use Rattle.mon_mib.specs.declared.settings.Settings.{Settings}
-use Rattle.mon_poller.specs.declared.addr.Addr.{Addr}
+use Rattle.mon_udp.specs.declared.addr.Addr.{Addr}
 use Rattle.toml.specs.Data.{Data, Items, no_items, item, Members, get_member, as_table, as_bool}
 use Rattle.mon_mib.specs.Held.{at_start}
 use Rattle.mon_mib.specs.Held.{AreIndexes}

@@ -11,8 +11,8 @@ use Rattle.mon_vacm.specs.declared.model.SecurityModel.{SecurityModel}
 use Rattle.mon_vacm.specs.declared.model.SecurityModel.TheVariants as model
 use Rattle.mon_oid.specs.declared.fault.OidFault.{OidFault}
 use Rattle.mon_oid.specs.declared.fault.OidFault.TheVariants as oid_fault
-use Rattle.mon_poller.specs.declared.addr.Addr.{Addr}
-use Rattle.mon_poller.specs.Addr.{addr_of}
+use Rattle.mon_udp.specs.declared.addr.Addr.{Addr}
+use Rattle.mon_udp.specs.Addr.{addr_of}
 use Rattle.mon_settings.specs.declared.key.Key.{Key}
 use Rattle.mon_settings.specs.declared.fault.SettingsFault.{SettingsFault}
 use Rattle.mon_settings.specs.declared.fault.SettingsFault.TheVariants as fault

@@ -6,7 +6,8 @@ use Rattle.std.specs.Str.{bytes_eq}
 use Rattle.mon_alarms.specs.Rule.{Rule}
 use Rattle.mon_board.specs.declared.instance.Watched.{Watched}
 use Rattle.mon_oid.specs.Steps.{◌>>=◌}
-use Rattle.mon_poller.specs.declared.addr.Addr.{Addr}
+use Rattle.mon_udp.specs.declared.addr.Addr.{Addr}
+use Rattle.mon_udp.specs.Addr.{same_addr}
 use Rattle.toml.specs.Data.{Members}
 use Rattle.mon_settings.specs.StationAccepted.{Scalars, Station, core_from}
 use Rattle.mon_settings.specs.declared.key.Key.TheVariants as key
@@ -48,13 +49,9 @@ abbrev pub are_peer_numbers : ℕ → List ℕ → Bool
 are_peer_numbers own numbers =
     nat_le (length numbers) 15 && (list_all (λ n. not (n == own)) numbers && all_pairs (λ a b. not (a == b)) numbers)
 
--- two addresses are one
-abbrev pub is_address : Addr → Addr → Bool
-is_address a b = bytes_eq a.octets b.octets && a.port == b.port
-
 -- no target is asked at a peer's address
 abbrev pub are_apart : List TargetRow → List PeerRow → Bool
-are_apart targets peers = list_all (λ p. not (list_any (λ t. is_address t.address p.address) targets)) peers
+are_apart targets peers = list_all (λ p. not (list_any (λ t. same_addr t.address p.address) targets)) peers
 
 -- the peers: at most 15 other stations, none twice, and none at the address of a target
 abbrev pub checked_peers : ℕ → List TargetRow → List PeerRow → Result (List PeerRow) SettingsFault

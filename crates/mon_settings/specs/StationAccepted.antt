@@ -2,7 +2,7 @@
 use Rattle.std.specs.Prelude.{◌≡◌, ℕ, List, [], map, Option, Some, None, min, string_bytes, ◌↔◌}
 use Rattle.mon_board.specs.declared.instance.Watched.{Watched}
 use Rattle.mon_alarms.specs.Rule.{Rule}
-use Rattle.mon_poller.specs.declared.addr.Addr.{Addr}
+use Rattle.mon_udp.specs.declared.addr.Addr.{Addr}
 use Rattle.mon_oid.specs.Oid.{IsOid}
 use Rattle.mon_smi.specs.Names.{MeansNumbers}
 use Rattle.mon_smi.specs.declared.definition.Definition.{Definition}

@@ -16,7 +16,7 @@ use crate::leaf::Reader;
 use crate::tables::{read_interfaces, read_policy};
 use crate::text::tree;
 use mon_mib::{Interface, Settings, SysTexts};
-use mon_poller::Addr;
+use mon_udp::Addr;
 use mon_vacm::Policy;
 use std::alloc::Global;
 

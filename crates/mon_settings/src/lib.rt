@@ -29,7 +29,7 @@ pub use grammar::{SettingsKind, table_keys, top_keys};
 pub use key::Key;
 pub use keys::first_unknown;
 pub use modules::module_files;
-pub use mon_poller::Addr;
+pub use mon_udp::Addr;
 pub use peers::are_peers;
 pub use place::{Place, Step};
 pub use station::{StationSettings, read_station};

@@ -2,16 +2,17 @@
 
 ghost use Rattle.std.specs.Prelude.{◌≡◌, ◌≢◌, ◌↔◌, All, AllPairs, Any, IfOk, IsTrue, map};
 ghost use Rattle.mon_settings.specs.Keys.{Reads};
-ghost use Rattle.mon_settings.specs.Station.{are_apart, checked_peers, is_address, peers_at};
+ghost use Rattle.mon_settings.specs.Station.{are_apart, checked_peers, peers_at};
 ghost use Rattle.mon_settings.specs.StationCore.{ArePeersOf};
 ghost use Rattle.std.specs.List.{list_any};
+ghost use Rattle.mon_udp.specs.Addr.{same_addr};
 ghost use Rattle.toml.specs.View.{table_view};
 
 use crate::fault::{Read, SettingsFault};
 use crate::key::Key;
 use crate::leaf::Reader;
 use crate::station_tables::{PeerRow, TargetRow};
-use mon_poller::Addr;
+use mon_udp::Addr;
 use std::alloc::{AllocError, Global};
 
 /// The most peers of a station.
@@ -47,20 +48,11 @@ fn differ(numbers: &[u32]) -> bool
     true
 }
 
-/// Returns `true` if two addresses are equal.
-fn is_address(a: Addr, b: Addr) -> bool
-    ensures { result ≡ is_address a b }
-{
-    a.octets == b.octets && a.port == b.port
-}
-
 /// Returns `true` if some target is asked at this address.
 fn has_address(targets: &[TargetRow], address: Addr) -> bool
-    ensures { result ≡ list_any (λ t. is_address t.address address) targets.now }
+    ensures { result ≡ list_any (λ t. same_addr t.address address) targets.now }
 {
-    targets
-        .iter()
-        .any(|target| is_address(target.address, address))
+    targets.iter().any(|target| target.address == address)
 }
 
 /// Returns `true` if no target is asked at a peer's address.

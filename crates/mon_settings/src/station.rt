@@ -24,8 +24,9 @@ use crate::text::tree;
 use mon_alarms::Rule;
 use mon_ber::Octets;
 use mon_board::{Watch, Watched};
-use mon_poller::{Addr, Object, Objects, Target};
+use mon_poller::{Object, Objects, Target};
 use mon_smi::Names;
+use mon_udp::Addr;
 use std::alloc::{AllocError, Global};
 
 /// The settings of a station.

@@ -10,8 +10,8 @@ use crate::list::Row;
 use crate::sizes::Sizes;
 use mon_ber::Octets;
 use mon_oid::Oid;
-use mon_poller::Addr;
 use mon_smi::Names;
+use mon_udp::Addr;
 use std::marker::Model;
 
 /// What is around the lists of a station: the names of objects, and the sizes of windows.

@@ -4,7 +4,7 @@ use Rattle.std.specs.Result.{IsErrAnd}
 use Rattle.mon_board.specs.Board.{Board, KeepsMarks, window_of}
 use Rattle.mon_board.specs.Windows.{joined}
 use Rattle.mon_pdu.specs.declared.message.Message.{Message}
-use Rattle.mon_poller.specs.declared.addr.Addr.{Addr}
+use Rattle.mon_udp.specs.declared.addr.Addr.{Addr}
 use Rattle.mon_poller.specs.declared.fault.PollFault.{PollFault}
 use Rattle.mon_poller.specs.declared.fault.ResponseFault.{ResponseFault}
 use Rattle.mon_poller.specs.declared.poller.Offered.{Offered}

@@ -7,8 +7,8 @@ use Rattle.mon_disk.specs.declared.fault.KeeperFault.TheVariants as keeper
 use Rattle.mon_disk.specs.Disk.{Leaves, LeavesSince}
 use Rattle.mon_disk.specs.Keeper.{FindsAs, IsAs}
 use Rattle.mon_disk.proofs.Promised.{as_body_of, as_then, at_rest, chained, itself, weaker}
-use Rattle.mon_edge.specs.Counts.{failed_after, next_count}
-use Rattle.mon_edge.specs.Told.{extended}
+use Rattle.mon_udp.specs.Counts.{failed_after, next_count}
+use Rattle.mon_udp.specs.Told.{extended}
 use Rattle.mon_poller.specs.Polls.{Open}
 use Rattle.mon_station.specs.declared.event.Event.{Event}
 use Rattle.mon_station.specs.declared.event.Event.TheVariants as lent

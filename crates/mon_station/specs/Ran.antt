@@ -7,8 +7,8 @@ use Rattle.mon_disk.specs.declared.fault.KeeperFault.TheVariants as keeper
 use Rattle.mon_disk.specs.Disk.{Leaves, LeavesSince}
 use Rattle.mon_disk.specs.Fault as keeping
 use Rattle.mon_disk.specs.Keeper.{FindsAs}
-use Rattle.mon_edge.specs.Counts.{next_count}
-use Rattle.mon_edge.specs.Told.{extended}
+use Rattle.mon_udp.specs.Counts.{next_count}
+use Rattle.mon_udp.specs.Told.{extended}
 use Rattle.mon_poller.specs.Polls.{Open}
 use Rattle.mon_station.specs.declared.event.Outgoing.{Outgoing}
 use Rattle.mon_station.specs.declared.event.OwnedEvent.{OwnedEvent}

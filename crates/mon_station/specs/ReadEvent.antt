@@ -7,7 +7,7 @@ use Rattle.mon_exchange.specs.Claim.{SpellsClaim}
 use Rattle.mon_exchange.specs.Peers.{IsWatchedAs}
 use Rattle.mon_exchange.specs.Reading.{claim_at}
 use Rattle.mon_pdu.specs.declared.message.Message.{Message}
-use Rattle.mon_poller.specs.declared.addr.Addr.{Addr}
+use Rattle.mon_udp.specs.declared.addr.Addr.{Addr}
 use Rattle.mon_poller.specs.Verdict as responses
 use Rattle.mon_station.specs.declared.event.Event.{Event}
 use Rattle.mon_station.specs.declared.event.Event.TheVariants as lent

@@ -5,7 +5,7 @@ ghost use Rattle.std.specs.Prelude.{◌≡◌};
 use mon_ber::Octets;
 use mon_board::Pairs;
 use mon_exchange::Noted;
-use mon_poller::Addr;
+use mon_udp::Addr;
 
 /// What a station is handed. Datagrams are lent.
 #[derive(Clone, Copy, Debug, PartialEq, Eq)]

@@ -1,8 +1,8 @@
 //! Running a station: events from a source, datagrams to an outbox.
 
 ghost use Rattle.std.specs.Prelude.{◌≡◌, ◌≤◌, ◌<◌, ◌+◌, ◌∷◌, [], ℕ, IfErr, IsOk, None, OnErr, OnOk, Option, Some, length, vec_capacity};
-ghost use Rattle.mon_edge.specs.Counts.{failed_after as counted_after};
-ghost use Rattle.mon_edge.specs.Told.{extended};
+ghost use Rattle.mon_udp.specs.Counts.{failed_after as counted_after};
+ghost use Rattle.mon_udp.specs.Told.{extended};
 ghost use Rattle.mon_station.specs.Ran as ran;
 ghost use Rattle.mon_station.specs.Ran.{HasFailed, IsEmpty, IsOldest, Ran, failures_after, faults_in};
 ghost use Rattle.mon_station.specs.Turned.{Called, Turned};
@@ -12,7 +12,7 @@ use crate::event::{Outgoing, OwnedEvent, Told};
 use crate::fault::StationFault;
 use crate::station::Station;
 use mon_disk::Disk;
-use mon_edge::failed_after;
+use mon_udp::failed_after;
 use std::alloc::{AllocError, Global};
 use thiserror::Error;
 
@@ -29,7 +29,7 @@ pub struct OutboxFault;
 /// Where a station's events come from.
 pub trait Source {
     ghost use Rattle.std.specs.Prelude.{◌≡◌, Option, Result, ℕ};
-    ghost use Rattle.mon_edge.specs.Counts.{failed_after};
+    ghost use Rattle.mon_udp.specs.Counts.{failed_after};
     ghost use Rattle.mon_station.specs.declared.event.OwnedEvent.{OwnedEvent as AnyEvent};
     ghost use Rattle.mon_station.specs.declared.running.SourceFault.{SourceFault as AnySourceFault};
 
@@ -55,8 +55,8 @@ pub trait Source {
 /// Where a station's datagrams go.
 pub trait Outbox {
     ghost use Rattle.std.specs.Prelude.{◌≡◌, ◌∷◌, [], List, Option, ℕ};
-    ghost use Rattle.mon_edge.specs.Counts.{failed_after};
-    ghost use Rattle.mon_edge.specs.Told.{extended};
+    ghost use Rattle.mon_udp.specs.Counts.{failed_after};
+    ghost use Rattle.mon_udp.specs.Told.{extended};
     ghost use Rattle.mon_station.specs.declared.event.Outgoing.{Outgoing as AnyOutgoing};
 
     // The datagrams that it was given, if it states them.

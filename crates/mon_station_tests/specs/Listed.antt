@@ -1,7 +1,7 @@
 -- A source that returns a list of events, and a run over it.
 use Rattle.std.specs.Prelude.{ℕ, ◌≡◌, ◌<◌, ◌-◌, List, [], ◌++◌, Option, None, Result, Ok, Err}
 use Rattle.std.specs.Option.{option_to_list}
-use Rattle.mon_edge.specs.Told.{extended}
+use Rattle.mon_udp.specs.Told.{extended}
 use Rattle.mon_station.specs.declared.event.Outgoing.{Outgoing}
 use Rattle.mon_station.specs.declared.event.OwnedEvent.{OwnedEvent}
 use Rattle.mon_station.specs.declared.running.Run.{Run}

@@ -6,7 +6,7 @@ ghost use Rattle.mon_station_tests.specs.Listed.{RanOver};
 use crate::events::events_of;
 use crate::printing::{fault, sent};
 use mon_disk::{FuseDisk, MemoryDisk};
-use mon_edge::failed_after;
+use mon_udp::failed_after;
 use mon_station::{
     Answer, Outbox, OutboxFault, Outgoing, OwnedEvent, Run, Source, SourceFault, Station,
 };

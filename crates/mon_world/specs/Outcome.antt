@@ -2,7 +2,7 @@
 use Rattle.std.specs.Prelude.{ℕ, zero, suc, ◌≡◌, ◌+◌, ◌-◌, Bool, true, false, nat_lt, ◌&&◌, if◌then◌else◌, List, [], ◌∷◌, Option, Some, None, Result, Ok, Err, All, IfErr, IfOk, OnErr, OnOk, length}
 use Rattle.mon_disk.specs.declared.fault.KeeperFault.TheVariants as keeper
 use Rattle.mon_exchange.specs.Claim.{claim_octets}
-use Rattle.mon_poller.specs.declared.addr.Addr.{Addr}
+use Rattle.mon_udp.specs.declared.addr.Addr.{Addr}
 use Rattle.mon_poller.specs.declared.target.Target.{Target}
 use Rattle.mon_poller.specs.Target.{target_at}
 use Rattle.mon_station.specs.declared.event.OwnedEvent.{OwnedEvent}

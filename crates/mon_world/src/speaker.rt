@@ -3,7 +3,8 @@
 ghost use Rattle.std.specs.Prelude.{◌≡◌, ◌≤◌, ◌↔◌, All, Any, IsTrue, length};
 ghost use Rattle.mon_world.specs.Outcome.{IsSpeaker};
 
-use mon_poller::{Addr, Target};
+use mon_poller::Target;
+use mon_udp::Addr;
 
 /// How many addresses are tried for a strange one: there are at most 64 targets.
 const STRANGERS: u16 = 65;

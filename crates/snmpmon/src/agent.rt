@@ -12,8 +12,9 @@ use mon_faults::Fault;
 use mon_mib::{Device, FuseDevice, Moment, SimDevice};
 use mon_settings::{AgentSettings, SettingsKind, read_agent};
 use mon_smi::{Labels, Names};
+use mon_udp::Addr;
 use std::alloc::{AllocError, Global};
-use std::net::{Ipv4Addr, Net, SocketAddrV4};
+use std::net::Net;
 use std::rt::{Clock, Files};
 
 /// The greatest time of a device's life, in hundredths of a second.
@@ -25,21 +26,20 @@ pub fn agent<R: Clock + Files + Net + Eprint + AllocGlobal>(
     words: AgentArgs<'_>,
 ) -> Result<(), Failure> {
     let told = told_of(rt, words.settings, words.boots)?;
-    let listen = SocketAddrV4::new(Ipv4Addr::from(told.listen.octets), told.listen.port);
     let device = SimDevice::new(told.interfaces, told.texts)?;
     let agent = Agent::new(told.policy, told.settings, device);
-    open_port(rt, listen, agent, words.count)
+    open_port(rt, told.listen, agent, words.count)
 }
 
 /// Listens at an address, says so, and serves this many datagrams.
 fn open_port<R: Clock + Net + Eprint + AllocGlobal>(
     rt: &R,
-    listen: SocketAddrV4,
+    listen: Addr,
     agent: Agent<SimDevice>,
     count: u32,
 ) -> Result<(), Failure> {
     let mut agent = agent;
-    let mut port = opened(rt, listen)?;
+    let mut port = listen_at(rt, listen)?;
     let at = port.address()?;
     let _ = eprintln!(rt; "snmpmon: agent at {at}");
     let mut telling = Telling { rt, times: 0 };
@@ -63,19 +63,19 @@ impl<R: Eprint> Untaken for Telling<'_, R> {
     }
 }
 
-/// The port at an address.
-fn opened<R: Clock + Net + AllocGlobal>(
+/// Opens the port at an address.
+fn listen_at<R: Clock + Net + AllocGlobal>(
     rt: &R,
-    listen: SocketAddrV4,
+    listen: Addr,
 ) -> Result<SocketPort<'_, R>, Failure> {
     match SocketPort::open(rt, listen) {
         Ok(port) => Ok(port),
-        Err(fault) => Err(unheard(rt.alloc(), listen, fault)),
+        Err(fault) => Err(port_failure(rt.alloc(), listen, fault)),
     }
 }
 
-/// Why an agent does not listen at its address.
-fn unheard(alloc: Global, listen: SocketAddrV4, fault: AppFault) -> Failure {
+/// Returns why an agent does not listen at its address.
+fn port_failure(alloc: Global, listen: Addr, fault: AppFault) -> Failure {
     match fault {
         AppFault::SocketFault { reason } => { Failure::without_socket(alloc, listen, reason) }
         _ => Failure::from(fault),

@@ -13,8 +13,9 @@ use mon_cli::{BulkArgs, Request, SetArgs};
 use mon_faults::Fault;
 use mon_oid::Oid;
 use mon_smi::{InNumbers, NameTexts, Names};
+use mon_udp::Addr;
 use std::alloc::{AllocError, Global};
-use std::net::{Net, SocketAddrV4};
+use std::net::Net;
 use std::rt::{Clock, Files};
 
 /// The maximum length of a community, in octets.
@@ -94,7 +95,7 @@ struct Query<'a> {
 #[derive(Clone, Copy)]
 struct AgentAt<'a> {
     word: &'a str,
-    address: SocketAddrV4,
+    address: Addr,
 }
 
 /// Reads whom the arguments ask, and about which variables. Their faults are found from left to
@@ -118,9 +119,9 @@ fn query_of<'a, R: Files + AllocGlobal>(
 
 /// The agent's address that a word gives. It is never looked up.
 fn agent_at<'a>(alloc: Global, word: &'a str) -> Result<AgentAt<'a>, Failure> {
-    match word.parse() {
-        Ok(address) => Ok(AgentAt { word, address }),
-        Err(_) => Err(Failure::text(alloc, word, "an address, a.b.c.d:port,")),
+    match Addr::parse(word) {
+        Some(address) => Ok(AgentAt { word, address }),
+        None => Err(Failure::text(alloc, word, "an address, a.b.c.d:port,")),
     }
 }
 
@@ -210,7 +211,7 @@ fn print_shown<'a, R: Clock + Net + Print + AllocGlobal, S: NameTexts>(
 /// What an agent answers to a question.
 fn answer_query<R: Clock + Net + AllocGlobal, S: NameTexts>(
     rt: &R,
-    agent: SocketAddrV4,
+    agent: Addr,
     question: &Question<'_>,
     names: &S,
 ) -> Result<String, AppFault> {

@@ -7,23 +7,23 @@ use crate::files::{print, read_first, read_input, read_text};
 use crate::naming::add_module;
 use crate::printing::Printing;
 use crate::settings::settings_failure;
-use crate::telling::{shown, tell_notices};
+use crate::telling::tell_notices;
 use mon_app::AppFault;
 use mon_board::Board;
 use mon_cli::{Named, Printed, RehearseArgs, ReportArgs, ReportFormat, StationArgs, Timing};
 use mon_disk::{Disk, DiskError, FileDisk, SLOT_SIZE};
 use mon_faults::Fault;
 use mon_formats::Figures;
-use mon_poller::Addr;
 use mon_rehearsal::{rehearse, run_trial};
 use mon_report::write_report;
 use mon_rounds::{
-    Addresses, Course, Receiver, RoundReport, Rounds, Socket, SocketOutbox, SocketReceiver,
-    debts_of, is_due, left_of, rest, run_round,
+    Addresses, Course, Receiver, RoundReport, Rounds, SocketOutbox, SocketReceiver, debts_of,
+    is_due, left_of, rest, run_round,
 };
 use mon_settings::{SettingsKind, StationSettings, module_files, read_station};
 use mon_smi::Names;
 use mon_station::{Outbox, Run, Station, StationFault, board_in};
+use mon_udp::{Addr, Socket};
 use std::alloc::{AllocError, Global};
 use std::fs::File;
 use std::io::{BufWriter, Write};
@@ -278,7 +278,7 @@ fn opened<R: Files<File = File> + Net + Eprint + AllocGlobal>(
             if fs::exists(rt, settings.file.as_str()).unwrap_or(true) {
                 saved_in(rt, settings)?;
             }
-            return Err(Failure::socket(alloc, shown(settings.listen), error));
+            return Err(Failure::socket(alloc, settings.listen, error));
         }
     };
     let mut disk = in_file(
@@ -511,7 +511,7 @@ fn or_socket_failure<T: Drop>(
 ) -> Result<T, Failure> {
     match given {
         Ok(value) => Ok(value),
-        Err(error) => Err(Failure::socket(alloc, shown(listen), error)),
+        Err(error) => Err(Failure::socket(alloc, listen, error)),
     }
 }
 

@@ -1,8 +1,7 @@
 //! What a running station says on standard error.
 
-use mon_poller::Addr;
 use mon_rounds::{Addresses, Notice, RoundReport};
-use std::net::{Ipv4Addr, SocketAddrV4};
+use mon_udp::Addr;
 
 /// Prints the notices of a round, a line each.
 pub fn tell_notices(rt: &impl Eprint, round: u32, addresses: &Addresses, report: &RoundReport) {
@@ -29,12 +28,10 @@ fn tell_notice(rt: &impl Eprint, round: u32, addresses: &Addresses, notice: Noti
             eprintln!(rt; "snmpmon: round {round}: target {number} at {at} was not polled: {fault}")
         }
         Notice::BadResponse(from, fault) => {
-            let at = shown(from);
-            eprintln!(rt; "snmpmon: round {round}: from target {at}: {fault}")
+            eprintln!(rt; "snmpmon: round {round}: from target {from}: {fault}")
         }
         Notice::BadClaim(from, fault) => {
-            let at = shown(from);
-            eprintln!(rt; "snmpmon: round {round}: from peer {at}: {fault}")
+            eprintln!(rt; "snmpmon: round {round}: from peer {from}: {fault}")
         }
         Notice::NotShared(peer, fault) => {
             eprintln!(rt; "snmpmon: round {round}: station {peer} was offered nothing: {fault}")
@@ -46,15 +43,10 @@ fn tell_notice(rt: &impl Eprint, round: u32, addresses: &Addresses, notice: Noti
     };
 }
 
-/// An address, which is printed as `a.b.c.d:port`.
-pub fn shown(address: Addr) -> SocketAddrV4 {
-    SocketAddrV4::new(Ipv4Addr::from(address.octets), address.port)
-}
-
-/// The address of a target, which is printed as `a.b.c.d:port`.
-fn shown_target(addresses: &Addresses, target: u16) -> SocketAddrV4 {
-    match addresses.target(target) {
-        Some(address) => shown(address),
-        None => SocketAddrV4::new(Ipv4Addr::new(0, 0, 0, 0), 0),
-    }
+/// The address of a target.
+fn shown_target(addresses: &Addresses, target: u16) -> Addr {
+    addresses.target(target).unwrap_or(Addr {
+        octets: [0; 4],
+        port: 0,
+    })
 }

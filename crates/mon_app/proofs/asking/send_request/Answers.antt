@@ -1,6 +1,6 @@
 use Rattle.std.proofs.Common.{◌≡◌, ◌∙◌, ap, arith, sym, subst}
 use Rattle.std.specs.Prelude.{Result, Ok, Err, Option, Some}
-use Rattle.mon_edge.specs.Told.{GoesOnBy}
+use Rattle.mon_udp.specs.Told.{GoesOnBy}
 use Rattle.mon_pdu.specs.declared.message.Message.{Message}
 use Rattle.mon_pdu.specs.Writing.{written_message}
 use Rattle.mon_app.specs.AppFault.{of_message}

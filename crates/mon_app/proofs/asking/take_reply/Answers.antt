@@ -1,6 +1,6 @@
 use Rattle.std.proofs.Common.{◌∙◌, arith, sym, subst, take}
 use Rattle.std.specs.Prelude.{Result, Option}
-use Rattle.mon_edge.specs.Told.{GoesOnBy}
+use Rattle.mon_udp.specs.Told.{GoesOnBy}
 use Rattle.mon_pdu.specs.declared.message.Message.{Message}
 use Rattle.mon_app.specs.declared.fault.AppFault.{AppFault}
 use Rattle.mon_app.specs.declared.fault.AppFault.TheVariants.{OutOfMemory}

@@ -1,6 +1,6 @@
 use Rattle.std.proofs.Common.{◌≡◌, pos, arith, subst, sym, w32, to_z, ◌∙◌}
 use Rattle.std.proofs.lemmas.Int.{to_z_pos}
-use Rattle.mon_edge.specs.Told.{GoesOnBy}
+use Rattle.mon_udp.specs.Told.{GoesOnBy}
 use Rattle.std.specs.Prelude.{Ok}
 use Rattle.mon_app.specs.Printed.{IsQuestionAnswered}
 use Rattle.mon_app.specs.Question.{Asked}

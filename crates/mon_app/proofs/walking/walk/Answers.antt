@@ -1,6 +1,6 @@
 use Rattle.std.proofs.Common.{ℕ, List, subst, sym, ◌∙◌}
 use Rattle.std.specs.Prelude.{Option, Result, Ok, Err, string_bytes}
-use Rattle.mon_edge.specs.Told.{GoesOnBy}
+use Rattle.mon_udp.specs.Told.{GoesOnBy}
 use Rattle.mon_app.specs.declared.fault.AppFault.{AppFault}
 use Rattle.mon_app.specs.declared.fault.AppFault.TheVariants.{OutOfMemory}
 use Rattle.mon_app.specs.Walk.{IsTurn, IsWalk, question_after}

@@ -6,7 +6,8 @@ use Rattle.std.proofs.lemmas.List.{get_or_default}
 use Rattle.mon_poller.specs.declared.target.Target.{Target}
 use Rattle.mon_poller.specs.Poller.{open_of, poll_in}
 use Rattle.mon_poller.specs.Target.{no_target, target_at}
-use Rattle.mon_poller.specs.Verdict.{response_pdu, same_addr}
+use Rattle.mon_poller.specs.Verdict.{response_pdu}
+use Rattle.mon_udp.specs.Addr.{same_addr}
 use Rattle.mon_poller.proofs.Slots.{in_none, in_slot}
 use Rattle.mon_poller.proofs.Steps.{was_true, was_false}
 use Rattle.mon_poller.proofs.Responds.{no_poll, other_source, other_community, poll_found}

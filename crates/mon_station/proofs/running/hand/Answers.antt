@@ -1,6 +1,6 @@
 use Rattle.std.proofs.Common.{◌++◌, ◌∷◌, [], ◌∙◌, List, Option, take, ap, sym}
 use Rattle.std.proofs.lemmas.List.{take_more}
-use Rattle.mon_edge.specs.Told.{extended}
+use Rattle.mon_udp.specs.Told.{extended}
 use Rattle.mon_station.specs.declared.event.Outgoing.{Outgoing}
 use Rattle.mon_station.proofs.Runs.{extended_twice, failed_more}
 use Rattle.mon_station.proofs.running.hand.Goals as goal

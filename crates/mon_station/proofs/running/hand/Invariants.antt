@@ -1,5 +1,5 @@
 use Rattle.std.proofs.Common.{◌≡◌, ℕ, take}
-use Rattle.mon_edge.specs.Told.{extended}
+use Rattle.mon_udp.specs.Told.{extended}
 use Rattle.mon_station.specs.Ran.{HasFailed}
 use Rattle.mon_station.proofs.running.hand.Given as goal
 

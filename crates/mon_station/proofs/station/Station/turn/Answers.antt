@@ -1,7 +1,7 @@
 use Rattle.std.proofs.Common.{Err, List, ap, sym, subst, ◌∙◌}
 use Rattle.mon_disk.specs.Kept.{device_of}
 use Rattle.mon_disk.proofs.Promised.{at_end}
-use Rattle.mon_edge.specs.Told.{extended}
+use Rattle.mon_udp.specs.Told.{extended}
 use Rattle.mon_station.specs.declared.event.Outgoing.{Outgoing}
 use Rattle.mon_station.specs.declared.event.OwnedEvent.{OwnedEvent}
 use Rattle.mon_station.specs.ReadEvent.{ReadEvent, ReadsAs}

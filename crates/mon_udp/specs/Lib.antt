@@ -1,2 +1,3 @@
+pub mod Addr
 pub mod Counts
 pub mod Told

@@ -3,7 +3,7 @@
 use Rattle.std.proofs.Common.{◌≡◌, List, [], ◌++◌, refl, ap, ◌∙◌, append_assoc}
 use Rattle.std.specs.Prelude.{Option, Some, None}
 use Rattle.std.proofs.lemmas.List.{append-nil}
-use Rattle.mon_edge.specs.Told.{extended}
+use Rattle.mon_udp.specs.Told.{extended}
 
 -- nothing more leaves it as it is
 pub extended_by_none : {A : Type 0} → (told : Option (List A)) → extended told [] ≡ told
