@@ -1,8 +1,9 @@
 -- A line says what reading it from left to right gives.
 use Rattle.std.proofs.Common.{◌≡◌, ◌≢◌, ◌⊎◌, inl, inr, ℕ, ℤ, pos, negsuc, zero, suc, ◌<◌, ◌≤◌, true, false, List, [], ◌∷◌, length, get_or, refl, sym, ap, ◌∙◌, subst, arith, Result, Ok, Err}
-use Rattle.std.specs.Prelude.{nat_le, ◌==◌, ◌&&◌, if◌then◌else◌}
+use Rattle.std.specs.Prelude.{nat_le, ◌==◌, ◌&&◌, if◌then◌else◌, Option, Some, None}
+use Rattle.std.specs.Option.{option_and_then, option_map}
 use Rattle.std.specs.Str.{bytes_eq}
-use Rattle.std.proofs.lemmas.Bool.{leb-true}
+use Rattle.std.proofs.lemmas.Bool.{and_parts, leb-true}
 use Rattle.std.proofs.lemmas.Bool.Decides.{nat_tests}
 use Rattle.std.proofs.lemmas.Slice.Eq.{bytes_eq-Decides}
 use Rattle.hex.specs.declared.error.FromHexError.{FromHexError}
@@ -26,9 +27,9 @@ use Rattle.mon_app.specs.declared.refusal.Refusal.TheVariants.{OutOfMemory, BadH
 use Rattle.mon_oid.specs.Steps.{◌>>=◌}
 use Rattle.mon_app.specs.Gives.{or_refuse}
 use Rattle.mon_app.specs.Line.{HoldsMessage, IsResponse, IsStamped, IsNoMessage, Says}
-use Rattle.mon_poller.specs.Stamp.{Stamp, engine_id_name, engine_boots_name, engine_time_name}
+use Rattle.mon_poller.specs.Stamp.{Stamp, engine_id_name, engine_boots_name, engine_time_name, octets_in, stamp_number, stamp_of_values}
 use Rattle.mon_app.specs.Offer.{Offer}
-use Rattle.mon_app.specs.Reading.{engine_in, number_in, engine_of, number_at, stamp_of, response_of, is_zero, body_reading, message_in, message_reading, hex_reading, offers_of}
+use Rattle.mon_app.specs.Reading.{are_stamp_names, with_engine_id, stamp_of, response_of, is_zero, body_reading, message_in, message_reading, hex_reading, offers_of}
 
 -- ---- octets that hex digits spell
 octets_all : (xs : List ℕ) → IsBytes xs → (k d : ℕ) → k < length xs → get_or xs k d < 256
@@ -52,179 +53,127 @@ bind_err (Ok x) f e h = inr (x, refl, h)
 bind_err (Err d) f e h = inl (let same : d ≡ e = cc in ap Err same)
 
 -- ---- the stamp
-engine_in_takes : (v : Value) (engine : List ℕ) → engine_in v ≡ Ok engine → (v ≡ Octets engine) × (5 ≤ length engine) × (length engine ≤ 32)
-engine_in_takes (Octets o) engine h =
-    elim (nat_le 5 (length o)) as (λ t. nat_le 5 (length o) ≡ t → (let r : Result (List ℕ) Refusal = (if t && nat_le (length o) 32 then Ok o else Err BadStamp) in r ≡ Ok engine)
-    → (Octets o ≡ Octets engine) × (5 ≤ length engine) × (length engine ≤ 32)) [
-      | true ↦ λ low g.
-          elim (nat_le (length o) 32) as (λ t. nat_le (length o) 32 ≡ t → (let r : Result (List ℕ) Refusal = (if t then Ok o else Err BadStamp) in r ≡ Ok engine)
-          → (Octets o ≡ Octets engine) × (5 ≤ length engine) × (length engine ≤ 32)) [
-            | true ↦ λ high k.
-                let same : o ≡ engine = cc in
-                (ap Octets same, subst (λ e. 5 ≤ length e) same (leb-true _ _ low), subst (λ e. length e ≤ 32) same (leb-true _ _ high))
-            | false ↦ λ high k. cc
-          ] refl g
-      | false ↦ λ low g. cc
+octets_takes : (v : Value) (octets : List ℕ) → octets_in v ≡ Some octets → v ≡ Octets octets
+octets_takes (Octets o) octets h = let same : o ≡ octets = cc in ap Octets same
+octets_takes (Integer z) octets h = cc
+octets_takes Null octets h = cc
+octets_takes (Name o) octets h = cc
+octets_takes (IpAddress a) octets h = cc
+octets_takes (Counter32 n) octets h = cc
+octets_takes (Gauge32 n) octets h = cc
+octets_takes (TimeTicks n) octets h = cc
+octets_takes (Opaque o) octets h = cc
+octets_takes (Counter64 n) octets h = cc
+octets_takes NoSuchObject octets h = cc
+octets_takes NoSuchInstance octets h = cc
+octets_takes EndOfMibView octets h = cc
+
+number_takes : (v : Value) (number : ℕ) → stamp_number v ≡ Some number → v ≡ Integer (pos number)
+number_takes (Integer (pos m)) number h = let same : m ≡ number = cc in ap (λ k. Integer (pos k)) same
+number_takes (Integer (negsuc m)) number h = cc
+number_takes (Octets o) number h = cc
+number_takes Null number h = cc
+number_takes (Name o) number h = cc
+number_takes (IpAddress a) number h = cc
+number_takes (Counter32 n) number h = cc
+number_takes (Gauge32 n) number h = cc
+number_takes (TimeTicks n) number h = cc
+number_takes (Opaque o) number h = cc
+number_takes (Counter64 n) number h = cc
+number_takes NoSuchObject number h = cc
+number_takes NoSuchInstance number h = cc
+number_takes EndOfMibView number h = cc
+
+then_takes : {A B : Type 0} (f : A → Option B) (o : Option A) (y : B) → option_and_then f o ≡ Some y → (x : A) × (o ≡ Some x) × (f x ≡ Some y)
+then_takes f (Some x) y h = (x, refl, h)
+then_takes f None y h = cc
+
+map_takes : {A B : Type 0} (f : A → B) (o : Option A) (y : B) → option_map f o ≡ Some y → (x : A) × (o ≡ Some x) × (f x ≡ y)
+map_takes f (Some x) y h = (x, refl, (let same : f x ≡ y = cc in same))
+map_takes f None y h = cc
+
+values_take : (e b t : Value) (s : Stamp) → stamp_of_values e b t ≡ Some s → (e ≡ Octets s.engine) × (b ≡ Integer (pos s.boots)) × (t ≡ Integer (pos s.time))
+values_take e b t s h =
+    let engine = then_takes _ (octets_in e) s h in
+    let boots = then_takes _ (stamp_number b) s engine.2 in
+    let time = map_takes _ (stamp_number t) s boots.2 in (
+      octets_takes e engine.0 engine.1 ∙ ap (λ (q : Stamp). Octets q.engine) time.2,
+      number_takes b boots.0 boots.1 ∙ ap (λ (q : Stamp). Integer (pos q.boots)) time.2,
+      number_takes t time.0 time.1 ∙ ap (λ (q : Stamp). Integer (pos q.time)) time.2,
+    )
+
+values_again : (s : Stamp) (e b t : Value) → e ≡ Octets s.engine → b ≡ Integer (pos s.boots) → t ≡ Integer (pos s.time) → stamp_of_values e b t ≡ Some s
+values_again s e b t engine boots time = rw (engine, boots, time) refl
+
+id_takes : (o : Option Stamp) (s : Stamp) → with_engine_id o ≡ Ok s → (o ≡ Some s) × (5 ≤ length s.engine) × (length s.engine ≤ 32)
+id_takes None s h = cc
+id_takes (Some q) s h =
+    elim (nat_le 5 (length q.engine) && nat_le (length q.engine) 32) as (λ t. nat_le 5 (length q.engine) && nat_le (length q.engine) 32 ≡ t → (let r : Result Stamp Refusal = (if t then Ok q else Err BadStamp) in r ≡ Ok s)
+    → (Some q ≡ Some s) × (5 ≤ length s.engine) × (length s.engine ≤ 32)) [
+      | true ↦ λ both g.
+          let parts = and_parts (nat_le 5 (length q.engine)) (nat_le (length q.engine) 32) both in
+          let same : q ≡ s = cc in
+          (ap Some same, subst (λ (p : Stamp). 5 ≤ length p.engine) same (leb-true _ _ parts.0), subst (λ (p : Stamp). length p.engine ≤ 32) same (leb-true _ _ parts.1))
+      | false ↦ λ other g. cc
     ] refl h
-engine_in_takes (Integer z) engine h = cc
-engine_in_takes Null engine h = cc
-engine_in_takes (Name o) engine h = cc
-engine_in_takes (IpAddress a) engine h = cc
-engine_in_takes (Counter32 n) engine h = cc
-engine_in_takes (Gauge32 n) engine h = cc
-engine_in_takes (TimeTicks n) engine h = cc
-engine_in_takes (Opaque o) engine h = cc
-engine_in_takes (Counter64 n) engine h = cc
-engine_in_takes NoSuchObject engine h = cc
-engine_in_takes NoSuchInstance engine h = cc
-engine_in_takes EndOfMibView engine h = cc
 
-engine_in_again : (engine : List ℕ) → 5 ≤ length engine → length engine ≤ 32 → engine_in (Octets engine) ≡ Ok engine
-engine_in_again engine low high =
-    let a : nat_le 5 (length engine) ≡ true = grind (arith, nat_tests) in
-    let b : nat_le (length engine) 32 ≡ true = grind (arith, nat_tests) in
-    λ j. if a j && b j then Ok engine else Err BadStamp
+id_again : (s : Stamp) → 5 ≤ length s.engine → length s.engine ≤ 32 → with_engine_id (Some s) ≡ Ok s
+id_again s low high =
+    let a : nat_le 5 (length s.engine) ≡ true = grind (arith, nat_tests) in
+    let b : nat_le (length s.engine) 32 ≡ true = grind (arith, nat_tests) in
+    λ j. if a j && b j then Ok s else Err BadStamp
 
-engine_in_fails : (v : Value) (e : Refusal) → engine_in v ≡ Err e → e ≡ BadStamp
-engine_in_fails (Octets o) e h =
-    elim (nat_le 5 (length o) && nat_le (length o) 32) as (λ t. (let r : Result (List ℕ) Refusal = (if t then Ok o else Err BadStamp) in r ≡ Err e) → e ≡ BadStamp) [
+id_fails : (o : Option Stamp) (e : Refusal) → with_engine_id o ≡ Err e → e ≡ BadStamp
+id_fails None e h = cc
+id_fails (Some q) e h =
+    elim (nat_le 5 (length q.engine) && nat_le (length q.engine) 32) as (λ t. (let r : Result Stamp Refusal = (if t then Ok q else Err BadStamp) in r ≡ Err e) → e ≡ BadStamp) [
       | true ↦ λ g. cc
       | false ↦ λ g. cc
     ] h
-engine_in_fails (Integer z) e h = cc
-engine_in_fails Null e h = cc
-engine_in_fails (Name o) e h = cc
-engine_in_fails (IpAddress a) e h = cc
-engine_in_fails (Counter32 n) e h = cc
-engine_in_fails (Gauge32 n) e h = cc
-engine_in_fails (TimeTicks n) e h = cc
-engine_in_fails (Opaque o) e h = cc
-engine_in_fails (Counter64 n) e h = cc
-engine_in_fails NoSuchObject e h = cc
-engine_in_fails NoSuchInstance e h = cc
-engine_in_fails EndOfMibView e h = cc
-
-number_in_takes : (v : Value) (n : ℕ) → number_in v ≡ Ok n → v ≡ Integer (pos n)
-number_in_takes (Integer (pos m)) n h = let same : m ≡ n = cc in ap (λ k. Integer (pos k)) same
-number_in_takes (Integer (negsuc m)) n h = cc
-number_in_takes (Octets o) n h = cc
-number_in_takes Null n h = cc
-number_in_takes (Name o) n h = cc
-number_in_takes (IpAddress a) n h = cc
-number_in_takes (Counter32 m) n h = cc
-number_in_takes (Gauge32 m) n h = cc
-number_in_takes (TimeTicks m) n h = cc
-number_in_takes (Opaque o) n h = cc
-number_in_takes (Counter64 m) n h = cc
-number_in_takes NoSuchObject n h = cc
-number_in_takes NoSuchInstance n h = cc
-number_in_takes EndOfMibView n h = cc
-
-number_in_fails : (v : Value) (e : Refusal) → number_in v ≡ Err e → e ≡ BadStamp
-number_in_fails (Integer (pos m)) e h = cc
-number_in_fails (Integer (negsuc m)) e h = cc
-number_in_fails (Octets o) e h = cc
-number_in_fails Null e h = cc
-number_in_fails (Name o) e h = cc
-number_in_fails (IpAddress a) e h = cc
-number_in_fails (Counter32 m) e h = cc
-number_in_fails (Gauge32 m) e h = cc
-number_in_fails (TimeTicks m) e h = cc
-number_in_fails (Opaque o) e h = cc
-number_in_fails (Counter64 m) e h = cc
-number_in_fails NoSuchObject e h = cc
-number_in_fails NoSuchInstance e h = cc
-number_in_fails EndOfMibView e h = cc
-
--- ---- a binding of one name
-module _ {A : Type 0} (read : Value → Result A Refusal) (name : List ℕ) (b : Binding) where
-  abbrev named_read : Result A Refusal
-  named_read = if bytes_eq b.name name then read b.value else Err BadStamp
-
-  named_takes : (x : A) → named_read ≡ Ok x → (b.name ≡ name) × (read b.value ≡ Ok x)
-  named_takes x h =
-      elim (bytes_eq b.name name) as (λ t. bytes_eq b.name name ≡ t → (if t then read b.value else Err BadStamp) ≡ Ok x → (b.name ≡ name) × (read b.value ≡ Ok x)) [
-        | true ↦ λ same g. ((bytes_eq-Decides b.name name).0 same, g)
-        | false ↦ λ other g. cc
-      ] refl h
-
-  named_again : (x : A) → b.name ≡ name → read b.value ≡ Ok x → named_read ≡ Ok x
-  named_again x same g =
-      let e : bytes_eq b.name name ≡ true = (bytes_eq-Decides b.name name).1 same in
-      ap (λ t. if t then read b.value else Err BadStamp) e ∙ g
-
-  named_fails : ((d : Refusal) → read b.value ≡ Err d → d ≡ BadStamp) → (e : Refusal) → named_read ≡ Err e → e ≡ BadStamp
-  named_fails inner e h =
-      elim (bytes_eq b.name name) as (λ t. (if t then read b.value else Err BadStamp) ≡ Err e → e ≡ BadStamp) [
-        | true ↦ λ g. inner e g
-        | false ↦ λ g. cc
-      ] h
-
-engine_takes : (b : Binding) (engine : List ℕ) → engine_of b ≡ Ok engine → (b.name ≡ engine_id_name) × (engine_in b.value ≡ Ok engine)
-unfolding engine_of
-engine_takes b engine h = named_takes engine_in engine_id_name b engine h
-
-engine_again : (b : Binding) (engine : List ℕ) → b.name ≡ engine_id_name → engine_in b.value ≡ Ok engine → engine_of b ≡ Ok engine
-unfolding engine_of
-engine_again b engine same h = named_again engine_in engine_id_name b engine same h
-
-engine_fails : (b : Binding) (e : Refusal) → engine_of b ≡ Err e → e ≡ BadStamp
-unfolding engine_of
-engine_fails b e h = named_fails engine_in engine_id_name b (engine_in_fails b.value) e h
-
-number_takes : (name : List ℕ) (b : Binding) (n : ℕ) → number_at name b ≡ Ok n → (b.name ≡ name) × (b.value ≡ Integer (pos n))
-unfolding number_at
-number_takes name b n h = let t = named_takes number_in name b n h in (t.0, number_in_takes b.value n t.1)
-
-number_again : (name : List ℕ) (b : Binding) (n : ℕ) → b.name ≡ name → b.value ≡ Integer (pos n) → number_at name b ≡ Ok n
-unfolding number_at
-number_again name b n same is = named_again number_in name b n same (ap number_in is)
-
-number_fails : (name : List ℕ) (b : Binding) (e : Refusal) → number_at name b ≡ Err e → e ≡ BadStamp
-unfolding number_at
-number_fails name b e h = named_fails number_in name b (number_in_fails b.value) e h
 
 stamp_takes : (first second third : Binding) (stamp : Stamp) (others : List Binding) → stamp_of first second third ≡ Ok stamp → IsStamped (first ∷ second ∷ third ∷ others) stamp others
 unfolding stamp_of
 stamp_takes first second third stamp others h =
-    let engine = bind_ok (engine_of first) _ stamp h in
-    let boots = bind_ok (number_at engine_boots_name second) _ stamp engine.2 in
-    let time = bind_ok (number_at engine_time_name third) _ stamp boots.2 in
-    let is : record { engine = engine.0; boots = boots.0; time = time.0 } ≡ stamp = (let made : Stamp = record { engine = engine.0; boots = boots.0; time = time.0 } in ok_is made stamp time.2) in
-    let e = engine_takes first engine.0 engine.1 in
-    let v = engine_in_takes first.value engine.0 e.1 in
-    let b = number_takes engine_boots_name second boots.0 boots.1 in
-    let t = number_takes engine_time_name third time.0 time.1 in
-    record {
-      first = first;
-      second = second;
-      third = third;
-      whole = refl;
-      engine_named = e.0;
-      engine_is = v.0 ∙ ap (λ (s : Stamp). Octets s.engine) is;
-      engine_long = subst (λ (s : Stamp). 5 ≤ length s.engine) is v.1;
-      engine_short = subst (λ (s : Stamp). length s.engine ≤ 32) is v.2;
-      boots_named = b.0;
-      boots_is = b.1 ∙ ap (λ (s : Stamp). Integer (pos s.boots)) is;
-      time_named = t.0;
-      time_is = t.1 ∙ ap (λ (s : Stamp). Integer (pos s.time)) is;
-    }
+    elim (are_stamp_names first second third) as (λ t. are_stamp_names first second third ≡ t
+    → (if t then with_engine_id (stamp_of_values first.value second.value third.value) else Err BadStamp) ≡ Ok stamp → IsStamped (first ∷ second ∷ third ∷ others) stamp others) [
+      | true ↦ λ named g.
+          let outer = and_parts (bytes_eq first.name engine_id_name) (bytes_eq second.name engine_boots_name && bytes_eq third.name engine_time_name) named in
+          let inner = and_parts (bytes_eq second.name engine_boots_name) (bytes_eq third.name engine_time_name) outer.1 in
+          let id = id_takes (stamp_of_values first.value second.value third.value) stamp g in
+          let values = values_take first.value second.value third.value stamp id.0 in
+          record {
+            first = first;
+            second = second;
+            third = third;
+            whole = refl;
+            engine_named = (bytes_eq-Decides first.name engine_id_name).0 outer.0;
+            engine_is = values.0;
+            engine_long = id.1;
+            engine_short = id.2;
+            boots_named = (bytes_eq-Decides second.name engine_boots_name).0 inner.0;
+            boots_is = values.1;
+            time_named = (bytes_eq-Decides third.name engine_time_name).0 inner.1;
+            time_is = values.2;
+          }
+      | false ↦ λ other g. cc
+    ] refl h
+
+stamp_again : (first second third : Binding) (s : Stamp) → first.name ≡ engine_id_name → second.name ≡ engine_boots_name → third.name ≡ engine_time_name
+    → stamp_of_values first.value second.value third.value ≡ Some s → 5 ≤ length s.engine → length s.engine ≤ 32 → stamp_of first second third ≡ Ok s
+unfolding stamp_of
+stamp_again first second third s a b c values low high =
+    let x : bytes_eq first.name engine_id_name ≡ true = (bytes_eq-Decides first.name engine_id_name).1 a in
+    let y : bytes_eq second.name engine_boots_name ≡ true = (bytes_eq-Decides second.name engine_boots_name).1 b in
+    let z : bytes_eq third.name engine_time_name ≡ true = (bytes_eq-Decides third.name engine_time_name).1 c in
+    (λ j. if x j && (y j && z j) then with_engine_id (values j) else Err BadStamp) ∙ id_again s low high
 
 stamp_fails : (first second third : Binding) (e : Refusal) → stamp_of first second third ≡ Err e → e ≡ BadStamp
 unfolding stamp_of
 stamp_fails first second third e h =
-    elim (bind_err (engine_of first) _ e h) [
-      | inl bad ↦ engine_fails first e bad
-      | inr engine ↦
-          elim (bind_err (number_at engine_boots_name second) _ e engine.2) [
-            | inl bad ↦ number_fails engine_boots_name second e bad
-            | inr boots ↦
-                elim (bind_err (number_at engine_time_name third) _ e boots.2) [
-                  | inl bad ↦ number_fails engine_time_name third e bad
-                  | inr time ↦ cc time.2
-                ]
-          ]
-    ]
+    elim (are_stamp_names first second third) as (λ t. (if t then with_engine_id (stamp_of_values first.value second.value third.value) else Err BadStamp) ≡ Err e → e ≡ BadStamp) [
+      | true ↦ λ g. id_fails (stamp_of_values first.value second.value third.value) e g
+      | false ↦ λ g. cc
+    ] h
 
 response_takes : (bindings : List Binding) (stamp : Stamp) (others : List Binding) → response_of bindings ≡ Ok (stamp, others) → IsStamped bindings stamp others
 unfolding response_of
@@ -242,12 +191,11 @@ response_takes (a ∷ b ∷ c ∷ rest) stamp others h =
     subst (λ st. IsStamped (a ∷ b ∷ c ∷ rest) st others) s (subst (λ os. IsStamped (a ∷ b ∷ c ∷ rest) made.0 os) o is)
 
 response_again : (bindings : List Binding) (stamp : Stamp) (others : List Binding) → IsStamped bindings stamp others → response_of bindings ≡ Ok (stamp, others)
-unfolding response_of stamp_of
+unfolding response_of
 response_again bindings stamp others is =
-    let engine : engine_of is.first ≡ Ok stamp.engine = engine_again is.first stamp.engine is.engine_named (ap engine_in is.engine_is ∙ engine_in_again stamp.engine is.engine_long is.engine_short) in
-    let boots : number_at engine_boots_name is.second ≡ Ok stamp.boots = number_again engine_boots_name is.second stamp.boots is.boots_named is.boots_is in
-    let time : number_at engine_time_name is.third ≡ Ok stamp.time = number_again engine_time_name is.third stamp.time is.time_named is.time_is in
-    ap response_of is.whole ∙ (rw (engine, boots, time) refl)
+    let values = values_again stamp is.first.value is.second.value is.third.value is.engine_is is.boots_is is.time_is in
+    let made = stamp_again is.first is.second is.third stamp is.engine_named is.boots_named is.time_named values is.engine_long is.engine_short in
+    ap response_of is.whole ∙ (rw made refl)
 
 response_fails : (bindings : List Binding) (e : Refusal) → response_of bindings ≡ Err e → e ≡ BadStamp
 unfolding response_of

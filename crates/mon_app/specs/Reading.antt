@@ -16,57 +16,33 @@ use Rattle.mon_sample.specs.declared.kind.Kind.{Kind}
 use Rattle.mon_sample.specs.Kind.{kind_tag}
 use Rattle.mon_sample.specs.Key.{key}
 use Rattle.mon_app.specs.Instance.{named}
-use Rattle.mon_poller.specs.Stamp.{Stamp, engine_id_name, engine_boots_name, engine_time_name, octets_in, stamp_number, sampled}
+use Rattle.mon_poller.specs.Stamp.{Stamp, engine_id_name, engine_boots_name, engine_time_name, stamp_of_values}
+use Rattle.mon_poller.specs.Verdict.{sampled_at}
 use Rattle.mon_app.specs.Offer.{Offer}
 use Rattle.mon_app.specs.declared.refusal.Refusal.{Refusal}
 use Rattle.mon_app.specs.declared.refusal.Refusal.TheVariants.{BadHex, BadMessage, NotAResponse, AgentError, BadStamp}
 use Rattle.mon_oid.specs.Steps.{◌>>=◌}
 use Rattle.mon_app.specs.Gives.{or_refuse}
 
--- what a value of the stamp is, else the refusal of the stamp
-abbrev pub or_bad_stamp : {A : Type 0} → Option A → Result A Refusal
-or_bad_stamp (Some x) = Ok x
-or_bad_stamp None = Err BadStamp
+-- three bindings have the names of a stamp
+abbrev pub are_stamp_names : Binding → Binding → Binding → Bool
+are_stamp_names first second third =
+    bytes_eq first.name engine_id_name && (bytes_eq second.name engine_boots_name && bytes_eq third.name engine_time_name)
 
--- an engine id has 5 to 32 octets
-abbrev pub engine_id_of : Option (List ℕ) → Result (List ℕ) Refusal
-engine_id_of (Some o) = if nat_le 5 (length o) && nat_le (length o) 32 then Ok o else Err BadStamp
-engine_id_of None = Err BadStamp
-
--- the engine id that a value is: an octet string
-abbrev pub engine_in : Value → Result (List ℕ) Refusal
-engine_in v = engine_id_of (octets_in v)
-
--- the boots or the time that a value is: an integer that is not negative
-abbrev pub number_in : Value → Result ℕ Refusal
-number_in v = or_bad_stamp (stamp_number v)
-
--- the engine that a binding names
-unfoldable pub engine_of : Binding → Result (List ℕ) Refusal
-engine_of b = if bytes_eq b.name engine_id_name then engine_in b.value else Err BadStamp
-
--- the number that a binding has for the object of this name
-unfoldable pub number_at : List ℕ → Binding → Result ℕ Refusal
-number_at name b = if bytes_eq b.name name then number_in b.value else Err BadStamp
+-- a stamp with an engine id, which has 5 to 32 octets
+abbrev pub with_engine_id : Option Stamp → Result Stamp Refusal
+with_engine_id (Some s) = if nat_le 5 (length s.engine) && nat_le (length s.engine) 32 then Ok s else Err BadStamp
+with_engine_id None = Err BadStamp
 
 -- whose response it is, and when it was made
 unfoldable pub stamp_of : Binding → Binding → Binding → Result Stamp Refusal
-stamp_of first second third = do
-  engine ← engine_of first
-  boots ← number_at engine_boots_name second
-  time ← number_at engine_time_name third
-  Ok (record { engine = engine; boots = boots; time = time })
+stamp_of first second third =
+    if are_stamp_names first second third then with_engine_id (stamp_of_values first.value second.value third.value) else Err BadStamp
 
--- a sample with discontinuity 0 of the object that the binding names
-abbrev pub offer_of : Stamp → List ℕ → Kind × ℕ → Offer
-offer_of stamp name value = record {
-  instance = named stamp.engine name;
-  sample = key stamp.boots stamp.time 0 (kind_tag value.0) value.1;
-}
-
--- the sample that a binding brings, if its value is of a sampled kind
+-- the sample, with discontinuity 0, that a binding brings of the object that it names, if its value
+-- is of a sampled kind
 abbrev pub offer_in : Stamp → Binding → Option Offer
-offer_in stamp b = option_map (offer_of stamp b.name) (sampled b.value)
+offer_in stamp b = option_map (λ s. record { instance = named stamp.engine b.name; sample = s }) (sampled_at stamp b.value (Some 0))
 
 -- the samples of all bindings after the stamp
 unfoldable pub offers_of : Stamp → List Binding → List Offer

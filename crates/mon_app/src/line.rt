@@ -1,70 +1,60 @@
 //! What a line of the input offers.
 
-ghost use Rattle.std.specs.Prelude.{◌<◌, ◌^◌, IfOk};
+ghost use Rattle.std.specs.Prelude.{◌≡◌, ◌≤◌, ◌↔◌, IsTrue, length};
 ghost use Rattle.mon_app.specs.Gives.{Gives};
-ghost use Rattle.mon_app.specs.Reading.{engine_of, number_at, stamp_of, response_of, body_reading};
+ghost use Rattle.mon_app.specs.Reading.{are_stamp_names, stamp_of, response_of, body_reading};
 ghost use Rattle.mon_app.specs.Response.{response_in};
+ghost use Rattle.mon_poller.specs.Lent.{lent_stamp};
 
 use crate::refusal::Refusal;
 use crate::response::Response;
-use mon_ber::Octets;
 use mon_pdu::{Binding, Body, PduKind};
-use mon_poller::stamp::{ENGINE_BOOTS, ENGINE_ID, ENGINE_TIME, octets_in, stamp_number};
+use mon_poller::Stamp;
+use mon_poller::stamp::{ENGINE_BOOTS, ENGINE_ID, ENGINE_TIME};
 
-#[tactic(auto, unfolding(crate::specs::Reading::engine_of))]
-fn engine_of(binding: &Binding) -> Result<&Octets, Refusal>
-    ensures { Gives (λ o. o.now) result (engine_of binding.now) }
+/// Returns `true` if three bindings have the names of a stamp.
+fn are_stamp_names(first: &Binding, second: &Binding, third: &Binding) -> bool
+    ensures { result ≡ are_stamp_names first.now second.now third.now }
 {
-    if binding.name.parts() != ENGINE_ID.as_slice() {
-        return Err(Refusal::BadStamp);
-    }
-    match octets_in(&binding.value) {
-        Some(engine) => {
-            let len = engine.as_slice().len();
-            if len < 5 || len > 32 {
-                return Err(Refusal::BadStamp);
-            }
-            Ok(engine)
-        }
-        None => Err(Refusal::BadStamp),
-    }
+    first.name.parts() == ENGINE_ID.as_slice()
+        && second.name.parts() == ENGINE_BOOTS.as_slice()
+        && third.name.parts() == ENGINE_TIME.as_slice()
 }
 
-/// The number that the binding has for the object of this name.
-#[tactic(auto, unfolding(crate::specs::Reading::number_at))]
-fn number_at(name: &[u32], binding: &Binding) -> Result<u32, Refusal>
-    ensures gives { Gives (λ n. n) result (number_at name.now binding.now) }
-    ensures small { IfOk result (λ n. n < 2 ^ 31) }
+/// Reads the stamp of three bindings, whose engine id has 5 to 32 octets.
+#[tactic(auto, unfolding(crate::specs::Reading::stamp_of))]
+fn stamp_of<'a>(first: &'a Binding, second: &Binding, third: &Binding) -> Result<Stamp<'a>, Refusal>
+    ensures { Gives (λ s. lent_stamp s) result (stamp_of first.now second.now third.now) }
 {
-    if binding.name.parts() != name {
+    if !are_stamp_names(first, second, third) {
         return Err(Refusal::BadStamp);
     }
-    match stamp_number(&binding.value) {
-        Some(number) => Ok(number),
-        None => Err(Refusal::BadStamp),
+    let Some(stamp) = Stamp::of(&first.value, &second.value, &third.value) else {
+        return Err(Refusal::BadStamp);
+    };
+    let len = stamp.engine.as_slice().len();
+    if len < 5 || len > 32 {
+        return Err(Refusal::BadStamp);
     }
+    Ok(stamp)
 }
 
-/// The response whose variable bindings these are: the first three are its stamp.
-#[tactic(auto, unfolding(crate::specs::Reading::response_of, crate::specs::Reading::stamp_of))]
+/// Reads the response whose variable bindings these are: the first three are its stamp.
+#[tactic(auto, unfolding(crate::specs::Reading::response_of))]
 fn response_of(bindings: &[Binding]) -> Result<Response<'_>, Refusal>
     ensures { Gives (λ r. response_in r) result (response_of bindings.now) }
 {
     let [first, second, third, others @ ..] = bindings else {
         return Err(Refusal::BadStamp);
     };
-    let engine = engine_of(first)?;
-    let boots = number_at(&ENGINE_BOOTS, second)?;
-    let time = number_at(&ENGINE_TIME, third)?;
+    let stamp = stamp_of(first, second, third)?;
     Ok(Response {
-        engine,
-        boots,
-        time,
+        stamp,
         bindings: others,
     })
 }
 
-/// The response that a message's body is.
+/// Reads the response that a message's body is.
 #[tactic(auto, unfolding(crate::specs::Reading::body_reading))]
 pub(crate) fn read_body(body: &Body) -> Result<Response<'_>, Refusal>
     ensures { Gives (λ r. response_in r) result (body_reading body.now) }

@@ -79,7 +79,7 @@ impl Table {
             };
             if is_new(
                 self.rows(),
-                response.engine,
+                response.stamp.engine,
                 fresh.as_slice(),
                 &binding.name,
             ) {
@@ -100,7 +100,7 @@ impl Table {
     {
         for binding in response.bindings {
             if let Some(sample) = response.sample(binding) {
-                self.take_sample(alloc, response.engine, &binding.name, sample)?;
+                self.take_sample(alloc, response.stamp.engine, &binding.name, sample)?;
             }
         }
         Ok(())

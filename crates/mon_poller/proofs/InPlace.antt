@@ -12,9 +12,9 @@ use Rattle.mon_pdu.specs.Grammar.{IsBinding}
 use Rattle.mon_poller.specs.declared.target.Object.{Object}
 use Rattle.mon_poller.specs.InPlace.{OffersSo, framed_pdu, given}
 use Rattle.mon_poller.specs.declared.target.Target.{Target}
-use Rattle.mon_poller.specs.Stamp.{Stamp, engine_boots_name, engine_id_name, engine_time_name, discontinuity_in, octets_in, stamp_number}
+use Rattle.mon_poller.specs.Stamp.{Stamp, engine_boots_name, engine_id_name, engine_time_name, discontinuity_in, stamp_of_values}
 use Rattle.mon_poller.specs.Target.{object_names, poll_names}
-use Rattle.mon_poller.specs.Verdict.{have_names, object_offers, poll_answer, sample_of, sampled_at, stamp_and_others, stamp_of_values, target_offers}
+use Rattle.mon_poller.specs.Verdict.{have_names, object_offers, poll_answer, sample_of, sampled_at, stamp_and_others, target_offers}
 
 -- what follows the first n, as a pattern of a slice has it
 abbrev pub behind : {A : Type 0} → ℕ → List A → List A
@@ -99,10 +99,10 @@ pub stamped_named : (t : Target) (engine boots time : Value) (others : List Bind
 stamped_named t engine boots time others named = rw (same_name engine_id_name, same_name engine_boots_name, same_name engine_time_name) named
 
 -- what they offer of a target whose stamp it is
-pub stamped_offers : (t : Target) (s : Stamp) (engine boots time : Value) (others : List Binding) → octets_in engine ≡ Some s.engine → stamp_number boots ≡ Some s.boots → stamp_number time ≡ Some s.time
+pub stamped_offers : (t : Target) (s : Stamp) (engine boots time : Value) (others : List Binding) → stamp_of_values engine boots time ≡ Some s
     → bytes_eq s.engine t.engine ≡ true → target_offers t (stamped engine boots time others) ≡ Ok (object_offers s t.objects others)
-unfolding target_offers stamp_and_others stamp_of_values
-stamped_offers t s engine boots time others e b n same = rw (e, b, n, same) refl
+unfolding target_offers stamp_and_others
+stamped_offers t s engine boots time others is same = rw (is, same) refl
 
 -- what a Response without an error offers
 pub framed_answer : (t : Target) (f : Frame) (bindings : List Binding) (pairs : List (ℕ × ℕ)) → f.error_status ≡ pos 0 → have_names (poll_names t) bindings ≡ true → target_offers t bindings ≡ Ok pairs

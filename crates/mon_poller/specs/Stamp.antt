@@ -1,5 +1,6 @@
 -- When a response was made and whose it is (RFC 3411 section 5), and which values are samples.
 use Rattle.std.specs.Prelude.{ℕ, pos, List, [], ◌∷◌, Option, Some, None}
+use Rattle.std.specs.Option.{option_map, option_and_then}
 use Rattle.std.specs.Int.{w64, cast_unsigned}
 use Rattle.mon_ber.specs.declared.value.Value.{Value}
 use Rattle.mon_ber.specs.declared.value.Value.TheVariants.{Integer, Octets, Counter32, Gauge32, TimeTicks, Counter64}
@@ -33,6 +34,11 @@ octets_in _ = None
 abbrev pub stamp_number : Value → Option ℕ
 stamp_number (Integer (pos n)) = Some n
 stamp_number _ = None
+
+-- the stamp that three values are
+abbrev pub stamp_of_values : Value → Value → Value → Option Stamp
+stamp_of_values engine boots time =
+    option_and_then (λ e. option_and_then (λ b. option_map (λ t. record { engine = e; boots = b; time = t }) (stamp_number time)) (stamp_number boots)) (octets_in engine)
 
 -- a value of a sampled kind: the kind, and the value modulo 2 ^ 64
 abbrev pub sampled : Value → Option (Kind × ℕ)

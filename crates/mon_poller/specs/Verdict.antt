@@ -29,7 +29,7 @@ use Rattle.mon_poller.specs.Fault.{response_number}
 use Rattle.mon_oid.specs.Steps.{◌>>=◌}
 use Rattle.mon_poller.specs.Gives.{or_refuse, need}
 use Rattle.mon_poller.specs.Polls.{Poll, Open, Polls, poll_of, closed_by}
-use Rattle.mon_poller.specs.Stamp.{Stamp, octets_in, stamp_number, sampled, discontinuity_in}
+use Rattle.mon_poller.specs.Stamp.{Stamp, stamp_of_values, sampled, discontinuity_in}
 use Rattle.mon_poller.specs.Target.{poll_names, poll_octets, target_at}
 
 -- the request-id under which a poll starts, or the first reason why it does not
@@ -68,18 +68,10 @@ abbrev pub have_after : List (List ℕ) → Option (List Binding) → Bool
 have_after names None = false
 have_after names (Some bindings) = have_names names bindings
 
--- the stamp of these values
-unfoldable pub stamp_of_values : Value → Value → Value → Result Stamp ResponseFault
-stamp_of_values first second third = do
-  engine ← or_refuse BadStamp (octets_in first)
-  boots ← or_refuse BadStamp (stamp_number second)
-  time ← or_refuse BadStamp (stamp_number third)
-  Ok (record { engine = engine; boots = boots; time = time })
-
 -- the stamp at the front of the bindings, and the others
 unfoldable pub stamp_and_others : List Binding → Result (Stamp × List Binding) ResponseFault
 stamp_and_others (first ∷ second ∷ third ∷ others) = do
-  stamp ← stamp_of_values first.value second.value third.value
+  stamp ← or_refuse BadStamp (stamp_of_values first.value second.value third.value)
   Ok (stamp, others)
 stamp_and_others _ = Err BadStamp
 

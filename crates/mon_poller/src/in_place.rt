@@ -19,9 +19,8 @@ ghost use Rattle.mon_poller.specs.Verdict.{awaited, have_names, response_pdu, sa
 use crate::asked::Asked;
 use crate::finding::find;
 use crate::lent::Stamp;
-use crate::offers::sample_at;
 use crate::poller::OpenPoll;
-use crate::stamp::{discontinuity_in, octets_in, stamp_number};
+use crate::stamp::discontinuity_in;
 use crate::target::{Object, Target};
 use mon_ber::{Octets, Value};
 use mon_board::Pairs;
@@ -93,11 +92,7 @@ fn offers(alloc: Global, target: &Target, names: &[Octets], list: &[u8]) -> Opti
     let (engine, list) = named_value(alloc, engine_name.as_slice(), list)?;
     let (boots, list) = named_value(alloc, boots_name.as_slice(), list)?;
     let (time, list) = named_value(alloc, time_name.as_slice(), list)?;
-    let stamp = Stamp {
-        engine: octets_in(&engine)?,
-        boots: stamp_number(&boots)?,
-        time: stamp_number(&time)?,
-    };
+    let stamp = Stamp::of(&engine, &boots, &time)?;
     if stamp.engine.as_slice() != target.engine.as_slice() {
         return None;
     }
@@ -161,7 +156,7 @@ fn put_pair(
 ) -> Option<()>
     ensures { OnSome result (pairs.new ≡ pairs.old ++ given instance (sampled_at (lent_stamp stamp.now) value.now discontinuity)) }
 {
-    match sample_at(stamp, value, discontinuity) {
+    match stamp.sample(value, discontinuity) {
         Some(sample) => pairs.push(instance, sample).ok(),
         None => Some(()),
     }

@@ -19,5 +19,6 @@ pub mod stamp;
 mod target;
 
 pub use fault::{PollFault, ResponseFault};
+pub use lent::Stamp;
 pub use poller::{Offered, Poller, Request, TimedOut};
 pub use target::{Object, Objects, Target, are_targets};

@@ -6,15 +6,12 @@ ghost use Rattle.std.specs.Option.{option_copied};
 ghost use Rattle.mon_poller.specs.Gives.{Gives};
 ghost use Rattle.mon_poller.specs.Lent.{lent_stamp};
 ghost use Rattle.mon_poller.specs.Target.{poll_names, object_names};
-ghost use Rattle.mon_poller.specs.Verdict.{response_pdu, have_names, have_after, stamp_and_others, discontinuity_value, bindings_for, sample_of, sampled_at, object_offers, target_offers, poll_answer};
+ghost use Rattle.mon_poller.specs.Verdict.{response_pdu, have_names, have_after, stamp_and_others, discontinuity_value, bindings_for, sample_of, object_offers, target_offers, poll_answer};
 
 use crate::fault::ResponseFault;
 use crate::lent::Stamp;
-use crate::stamp::{
-    ENGINE_BOOTS, ENGINE_ID, ENGINE_TIME, discontinuity_in, octets_in, read_sampled, stamp_number,
-};
+use crate::stamp::{ENGINE_BOOTS, ENGINE_ID, ENGINE_TIME, discontinuity_in};
 use crate::target::{Object, Target};
-use mon_ber::Value;
 use mon_board::Pairs;
 use mon_oid::Oid;
 use mon_pdu::{Binding, Body, Pdu, PduKind};
@@ -121,27 +118,16 @@ fn name_objects(objects: &[Object], bindings: &[Binding]) -> bool
 }
 
 /// The stamp at the front of the bindings, and the other bindings.
-#[tactic(auto, unfolding(crate::specs::Verdict::stamp_and_others, crate::specs::Verdict::stamp_of_values))]
+#[tactic(auto, unfolding(crate::specs::Verdict::stamp_and_others))]
 fn stamp_and_others(bindings: &[Binding]) -> Result<(Stamp<'_>, &[Binding]), ResponseFault>
     ensures { Gives (λ r. (lent_stamp r.0, r.1.now)) result (stamp_and_others bindings.now) }
 {
     let [first, second, third, others @ ..] = bindings else {
         return Err(ResponseFault::BadStamp);
     };
-    let Some(engine) = octets_in(&first.value) else {
-        return Err(ResponseFault::BadStamp);
-    };
-    let Some(boots) = stamp_number(&second.value) else {
-        return Err(ResponseFault::BadStamp);
-    };
-    let Some(time) = stamp_number(&third.value) else {
-        return Err(ResponseFault::BadStamp);
-    };
-    let stamp = Stamp {
-        engine,
-        boots,
-        time,
-    };
+    let stamp = Stamp::of(&first.value, &second.value, &third.value).ok_or(
+        ResponseFault::BadStamp,
+    )?;
     Ok((stamp, others))
 }
 
@@ -174,24 +160,10 @@ fn sample_of(stamp: &Stamp<'_>, object: &Object, bindings: &[Binding]) -> Option
     let [first, ..] = bindings else {
         return None;
     };
-    sample_at(
-        stamp,
+    stamp.sample(
         &first.value,
         discontinuity_value(&object.discontinuity, bindings),
     )
-}
-
-/// The sample of a value and a discontinuity: the value is of a sampled kind, and the discontinuity is there.
-pub(crate) fn sample_at(
-    stamp: &Stamp<'_>,
-    value: &Value,
-    discontinuity: Option<u32>,
-) -> Option<Sample>
-    ensures { result ≡ sampled_at (lent_stamp stamp.now) value.now discontinuity }
-{
-    let (kind, value) = read_sampled(value)?;
-    let discontinuity = discontinuity?;
-    Some(Sample::new(stamp.boots, stamp.time, discontinuity, kind, value))
 }
 
 /// The value of an object's discontinuity, in the second of its bindings; 0 where it has none.

@@ -14,9 +14,9 @@ pub loop-binding-init : goal.loop-binding-init
 loop-binding-init c = λ taken is.
     let response = c.args.response.now in
     let rows = c.args.self.now.rows.items in
-    subst (λ fresh. Counted taken (offers_of (stamp_in response) []) response.engine.now rows fresh) (sym c.new-fresh.ensures.items)
-    (subst (λ offers. Counted taken offers response.engine.now rows []) (sym (no_offers (stamp_in response) response.bindings.now))
-    (none_counted c.args.self.now.size taken response.engine.now rows is))
+    subst (λ fresh. Counted taken (offers_of (stamp_in response) []) response.stamp.engine.now rows fresh) (sym c.new-fresh.ensures.items)
+    (subst (λ offers. Counted taken offers response.stamp.engine.now rows []) (sym (no_offers (stamp_in response) response.bindings.now))
+    (none_counted c.args.self.now.size taken response.stamp.engine.now rows is))
 
 pub loop-binding-preserved-in_default : goal.loop-binding-preserved-in_default
 loop-binding-preserved-in_default c = λ taken is.
@@ -24,7 +24,7 @@ loop-binding-preserved-in_default c = λ taken is.
     let stamp = stamp_in response in
     let binding = c.binding-item.result in
     let none : offer_in stamp binding ≡ None = sym c.sample.ensures ∙ ap (option_map (λ s. offered_by response binding.name s)) c.in_default.is in
-    subst (λ offers. Counted taken offers response.engine.now c.args.self.now.rows.items c.loop-binding.fresh.items)
+    subst (λ offers. Counted taken offers response.stamp.engine.now c.args.self.now.rows.items c.loop-binding.fresh.items)
     (sym (offers_same stamp response.bindings.now c.loop-binding.binding-index binding c.loop-binding-test.true c.binding-item.is none))
     (c.loop-binding.invariant taken is)
 

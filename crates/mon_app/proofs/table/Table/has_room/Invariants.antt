@@ -10,4 +10,4 @@ use Rattle.mon_app.proofs.table.Table.has_room.Given as goal
 abbrev pub invariant-loop-binding : goal.invariant-loop-binding
 invariant-loop-binding l =
     (taken : List Offer) → l.self.rows.items ≡ rows_of l.self.size taken
-    → Counted taken (offers_of (stamp_in l.response) (take l.binding-index l.response.bindings.now)) l.response.engine.now l.self.rows.items l.fresh.items
+    → Counted taken (offers_of (stamp_in l.response) (take l.binding-index l.response.bindings.now)) l.response.stamp.engine.now l.self.rows.items l.fresh.items
