@@ -14,9 +14,10 @@ returns-clause-found c =
     let disk = device_of c.args.station.now.keeper in
     let one = device_of c.in-Ok.keeper in
     let three = device_of c.save_calls.new.self in
+    let made = c.in_default.ensures.save.on_disk tt in
     let saved = are_saved s c.board.result.now c.incarnation.result c.in_ok-image.image.items c.board.ensures c.incarnation.ensures c.in_ok-image.ensures.written c.in_ok-image.ensures.spells in
     let body : drop 16 c.as_mut_slice.result.now ≡ saved_octets s = ap (λ (l : List ℕ). drop 16 l) c.as_mut_slice.ensures.value ∙ c.in_ok-octets.ensures.image ∙ c.as_slice.ensures.value ∙ saved.0 in
     stop_finds s (drop 16 c.as_mut_slice.result.now) body saved.1 _ (memory_octets disk) (memory_octets one)
     (subst (FindsBody _) (c.in_ok-copy.ensures.octets ∙ ap memory_octets c.disk.ensures) (c.in-Ok.ensures.found tt)) (c.in-Ok.ensures.kept tt (memory_octets one) (seen_is_left one))
-    c.args.calls c.args.keep (memory_octets three) (memory_synced three) (memory_octets c.in_ok-left.left) (c.in_default.ensures.whole tt) (c.in_default.ensures.seen tt) (c.in_default.ensures.synced tt)
+    c.args.calls c.args.keep (memory_octets three) (memory_synced three) (memory_octets c.in_ok-left.left) made.whole made.seen made.synced
     (λ keep. c.in_ok-left.ensures.kept keep ∙ ap memory_octets c.into_disk.ensures) (λ lose. c.in_ok-left.ensures.lost lose ∙ ap memory_synced c.into_disk.ensures)

@@ -1,25 +1,18 @@
-use Rattle.std.proofs.Common.{rules, arith, ◌≡◌, ◌<◌, ◌≤◌, ◌+◌, ◌-◌, ◌^◌, ◌++◌, false, Some, List, ℕ, drop, length, sym, ◌∙◌, ap, subst}
-use Rattle.mon_disk.specs.File.{save_of, found, Finds, FindsEither}
-use Rattle.mon_disk.specs.Keeper.{FindsBody, spelled, found_generation, generation_of, next_saved, shown_from}
+use Rattle.std.proofs.Common.{rules, arith, ◌≡◌, ◌<◌, ◌≤◌, ◌+◌, ◌^◌, ◌++◌, false, Some, List, ℕ, drop, length, sym, ◌∙◌, ap, subst}
+use Rattle.mon_disk.specs.File.{save_of, found, Finds}
+use Rattle.mon_disk.specs.Keeper.{FindsBody, spelled, next_saved, shown_from}
+use Rattle.mon_disk.specs.Save.{IsSaveOf}
 use Rattle.mon_disk.specs.declared.file.TheConstants.{SLOT_SIZE}
-use Rattle.mon_disk.proofs.Moments.{began, weaker}
-use Rattle.mon_disk.proofs.Saves.{generation_found, by_now}
-use Rattle.mon_disk.proofs.Spelled.{spelled_size, save_spelled, save_alone, as_next, as_saved, in_whole, as_either, nothing_else, before_save}
 use Rattle.mon_disk.proofs.Gates.{on_err}
+use Rattle.mon_disk.proofs.Refused.{refused_before}
+use Rattle.mon_disk.proofs.Saves.{generation_found, by_now}
+use Rattle.mon_disk.proofs.Spelled.{spelled_size, save_spelled, save_alone, as_next, as_saved, in_whole, run_either}
 use Rattle.mon_disk.proofs.keeper.Keeper.save_calls.Goals as goal
 
-pub returns-in_err-generation-clause-no_more_found : goal.returns-in_err-generation-clause-no_more_found
-returns-in_err-generation-clause-no_more_found g c = λ h is.
-    let k = c.args.self.now in
-    let full : (k.spoiled ≡ false) × (generation_of k.newest ≡ 2 ^ 64 - 1) = c.next_generation.ensures.no_more.1 (search rules) in
-    let kept = k.kept full.0 h in
-    generation_found SLOT_SIZE k.newest (g.D.Disk.seen k.device) kept.whole kept.newest_is ∙ full.1
-
-pub returns-in_err-generation-clause-any_moment : goal.returns-in_err-generation-clause-any_moment
-returns-in_err-generation-clause-any_moment g c = λ h.
-    let d = c.args.self.now.device in
-    began g.D.Disk.moment g.D.Disk.left_since g.D.Disk.may_leave d _ (λ f left. g.met.D.Disk.only_now d f h left)
-    (nothing_else (g.D.Disk.may_leave d) (drop 16 c.args.octets.now))
+pub returns-in_err-generation-clause-save : goal.returns-in_err-generation-clause-save
+returns-in_err-generation-clause-save g c =
+    refused_before c.args.calls (drop 16 c.args.octets.now) c.args.self.now (λ f h left. g.met.D.Disk.only_now c.args.self.now.device f h left) c.from_residual.result (search rules)
+    (search rules)
 
 pub put-requires-clause-room : goal.put-requires-clause-room
 put-requires-clause-room g c =
@@ -60,90 +53,63 @@ put-requires-clause-fits g c =
     let size : (save_of c.write_head.new.octets).size ≡ length body = ap (λ (l : List ℕ). (save_of l).size) octets ∙ ap (λ s. s.size) (save_alone next body fits short) in
     omega (arith, size, small)
 
-pub returns-in_err-put-clause-any_moment : goal.returns-in_err-put-clause-any_moment
-returns-in_err-put-clause-any_moment g c = λ h.
+pub returns-in_err-put-clause-save : goal.returns-in_err-put-clause-save
+returns-in_err-put-clause-save g c =
     let body = drop 16 c.args.octets.now in
     let next = c.in_ok-generation.generation in
     let fits : next < 2 ^ 64 = search rules in
     let short : length body < 2 ^ 64 = search rules in
     let octets : c.write_head.new.octets ≡ spelled next body = search rules in
+    let s = save_of c.write_head.new.octets in
+    let said : s.body ≡ body = ap (λ (l : List ℕ). (save_of l).body) octets ∙ ap (λ s. s.body) (save_alone next body fits short) in
     let k = c.args.self.now in
     let fresh : k.spoiled ≡ false = search rules in
-    let kept = k.kept fresh h in
     let file = g.D.Disk.seen k.device in
-    let said : (save_of c.write_head.new.octets).body ≡ body = ap (λ (l : List ℕ). (save_of l).body) octets ∙ ap (λ s. s.body) (save_alone next body fits short) in
-    weaker g.D.Disk.moment g.D.Disk.left_since k.device c.put.new.self.device (FindsEither SLOT_SIZE (found SLOT_SIZE file) (Some (save_of c.write_head.new.octets))) _
-    (as_either (found SLOT_SIZE file) body (save_of c.write_head.new.octets) file (g.D.Disk.may_leave k.device) (g.met.D.Disk.seen_now k.device h) (before_save k.newest file (g.D.Disk.may_leave k.device) kept) said)
-    (c.put.ensures.any_moment h)
+    let run = λ (h : g.D.Disk.is_honest k.device). run_either g.D.Disk.moment g.D.Disk.left_since g.D.Disk.may_leave k.device c.put.new.self.device k.newest file body s (g.met.D.Disk.seen_now k.device h) (k.kept fresh h) said (c.put.ensures.any_moment h) in
+    let disk : (h : g.D.Disk.is_honest k.device) → IsSaveOf {T = Unit {0}} g.D.Disk c.args.calls body k.device c.put.new.self.device c.from_residual-in_err-put.result = λ h.
+    let ran = run h in
+    let event = on_err c.from_residual-in_err-put.result _ ran in
+    record { seen = search rules; synced = search rules; whole = search rules; saved = search rules; any_moment = ran; happens = search rules; happens_err = event; no_more_found = search rules } in
+    search (rules, disk)
 
-pub returns-clause-any_moment : goal.returns-clause-any_moment
-returns-clause-any_moment g c = λ h.
+pub returns-clause-save : goal.returns-clause-save
+returns-clause-save g c =
     let body = drop 16 c.args.octets.now in
     let next = c.in_ok-generation.generation in
     let fits : next < 2 ^ 64 = search rules in
     let short : length body < 2 ^ 64 = search rules in
     let octets : c.write_head.new.octets ≡ spelled next body = search rules in
+    let s = save_of c.write_head.new.octets in
+    let said : s.body ≡ body = ap (λ (l : List ℕ). (save_of l).body) octets ∙ ap (λ s. s.body) (save_alone next body fits short) in
     let k = c.args.self.now in
     let fresh : k.spoiled ≡ false = search rules in
-    let kept = k.kept fresh h in
     let file = g.D.Disk.seen k.device in
-    let said : (save_of c.write_head.new.octets).body ≡ body = ap (λ (l : List ℕ). (save_of l).body) octets ∙ ap (λ s. s.body) (save_alone next body fits short) in
-    weaker g.D.Disk.moment g.D.Disk.left_since k.device c.put.new.self.device (FindsEither SLOT_SIZE (found SLOT_SIZE file) (Some (save_of c.write_head.new.octets))) _
-    (as_either (found SLOT_SIZE file) body (save_of c.write_head.new.octets) file (g.D.Disk.may_leave k.device) (g.met.D.Disk.seen_now k.device h) (before_save k.newest file (g.D.Disk.may_leave k.device) kept) said)
-    (c.put.ensures.any_moment h)
-
-pub returns-clause-seen : goal.returns-clause-seen
-returns-clause-seen g c = λ h.
-    let body = drop 16 c.args.octets.now in
-    let next = c.in_ok-generation.generation in
-    let fits : next < 2 ^ 64 = search rules in
-    let short : length body < 2 ^ 64 = search rules in
-    let octets : c.write_head.new.octets ≡ spelled next body = search rules in
-    let k = c.args.self.now in
-    let fresh : k.spoiled ≡ false = search rules in
-    let kept = k.kept fresh h in
-    let file = g.D.Disk.seen k.device in
-    let generation : next ≡ found_generation (found SLOT_SIZE file) + 1 = omega (arith, c.in_ok-generation.ensures.next, generation_found SLOT_SIZE k.newest file kept.whole kept.newest_is) in
-    let said : Some (save_of c.write_head.new.octets) ≡ next_saved (found SLOT_SIZE file) body = as_next (found SLOT_SIZE file) body c.write_head.new.octets next fits short octets generation in
-    (c.in_ok-put.ensures.seen h).finds.finds ∙ ap (shown_from 5 c.args.calls (found SLOT_SIZE file)) said
-
-pub returns-clause-synced : goal.returns-clause-synced
-returns-clause-synced g c = λ h.
-    let body = drop 16 c.args.octets.now in
-    let next = c.in_ok-generation.generation in
-    let fits : next < 2 ^ 64 = search rules in
-    let short : length body < 2 ^ 64 = search rules in
-    let octets : c.write_head.new.octets ≡ spelled next body = search rules in
-    let k = c.args.self.now in
-    let fresh : k.spoiled ≡ false = search rules in
-    let kept = k.kept fresh h in
-    let file = g.D.Disk.seen k.device in
-    let generation : next ≡ found_generation (found SLOT_SIZE file) + 1 = omega (arith, c.in_ok-generation.ensures.next, generation_found SLOT_SIZE k.newest file kept.whole kept.newest_is) in
-    let said : Some (save_of c.write_head.new.octets) ≡ next_saved (found SLOT_SIZE file) body = as_next (found SLOT_SIZE file) body c.write_head.new.octets next fits short octets generation in
-    (c.in_ok-put.ensures.synced h).finds.finds ∙ ap (shown_from 6 c.args.calls (found SLOT_SIZE file)) said
-
-pub returns-clause-whole : goal.returns-clause-whole
-returns-clause-whole g c = λ h. (in_whole _ _ (c.in_ok-put.ensures.seen h), in_whole _ _ (c.in_ok-put.ensures.synced h))
-
-pub returns-clause-saved : goal.returns-clause-saved
-returns-clause-saved g c = λ h all f left.
-    let body = drop 16 c.args.octets.now in
-    let next = c.in_ok-generation.generation in
-    let fits : next < 2 ^ 64 = search rules in
-    let short : length body < 2 ^ 64 = search rules in
-    let octets : c.write_head.new.octets ≡ spelled next body = search rules in
-    let k = c.args.self.now in
-    let fresh : k.spoiled ≡ false = search rules in
-    let kept = k.kept fresh h in
-    let file = g.D.Disk.seen k.device in
-    let generation : next ≡ found_generation (found SLOT_SIZE file) + 1 = omega (arith, c.in_ok-generation.ensures.next, generation_found SLOT_SIZE k.newest file kept.whole kept.newest_is) in
-    let said : Some (save_of c.write_head.new.octets) ≡ next_saved (found SLOT_SIZE file) body = as_next (found SLOT_SIZE file) body c.write_head.new.octets next fits short octets generation in
     let now = g.D.Disk.seen c.put.new.self.device in
-    let finds : Finds SLOT_SIZE (next_saved (found SLOT_SIZE file) body) now = subst (λ o. Finds SLOT_SIZE o now) (by_now 5 c.args.calls (found SLOT_SIZE file) (Some (save_of c.write_head.new.octets)) (omega (arith, all)) ∙ said) (c.in_ok-put.ensures.seen h).finds in
-    subst (FindsBody (Some body)) (sym (c.in_ok-put.ensures.durable h all f left)) (as_saved (found SLOT_SIZE file) body now finds)
-
-pub returns-in_err-put-clause-happens_err : goal.returns-in_err-put-clause-happens_err
-returns-in_err-put-clause-happens_err g c = λ h. on_err c.from_residual-in_err-put.result _ (returns-in_err-put-clause-any_moment g c h)
-
-pub returns-clause-happens : goal.returns-clause-happens
-returns-clause-happens g c = returns-clause-saved g c
+    let found_save = λ (h : g.D.Disk.is_honest k.device).
+    let kept = k.kept fresh h in
+    as_next (found SLOT_SIZE file) body c.write_head.new.octets next fits short octets (omega (arith, c.in_ok-generation.ensures.next, generation_found SLOT_SIZE k.newest file kept.whole kept.newest_is)) in
+    let saved = λ (h : g.D.Disk.is_honest k.device) (all : 6 ≤ c.args.calls) (f : List ℕ) (left : g.D.Disk.may_leave c.put.new.self.device f).
+    let finds : Finds SLOT_SIZE (next_saved (found SLOT_SIZE file) body) now = subst (λ o. Finds SLOT_SIZE o now) (by_now 5 c.args.calls (found SLOT_SIZE file) (Some s) (omega (arith, all)) ∙ found_save h) (c.in_ok-put.ensures.seen h).finds in
+    subst (FindsBody (Some body)) (sym (c.in_ok-put.ensures.durable h all f left)) (as_saved (found SLOT_SIZE file) body now finds) in
+    record {
+      refused = search rules;
+      on_disk = λ h. record {
+        seen = (c.in_ok-put.ensures.seen h).finds.finds ∙ ap (shown_from 5 c.args.calls (found SLOT_SIZE file)) (found_save h);
+        synced = (c.in_ok-put.ensures.synced h).finds.finds ∙ ap (shown_from 6 c.args.calls (found SLOT_SIZE file)) (found_save h);
+        whole = (in_whole _ _ (c.in_ok-put.ensures.seen h), in_whole _ _ (c.in_ok-put.ensures.synced h));
+        saved = saved h;
+        any_moment = run_either g.D.Disk.moment g.D.Disk.left_since g.D.Disk.may_leave k.device c.put.new.self.device k.newest file body s (g.met.D.Disk.seen_now k.device h) (k.kept fresh h) said (c.put.ensures.any_moment h);
+        happens = saved h;
+        happens_err = tt;
+        no_more_found = search rules;
+      };
+      none = search rules;
+      fresh = search rules;
+      spoiled = search rules;
+      same = search rules;
+      generation = search rules;
+      fits = search rules;
+      honest = search rules;
+      count = search rules;
+      told = search rules;
+    }

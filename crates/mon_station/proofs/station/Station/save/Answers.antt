@@ -1,4 +1,4 @@
-use Rattle.std.proofs.Common.{ap, drop}
+use Rattle.std.proofs.Common.{ap, arith, drop}
 use Rattle.mon_disk.specs.Kept.{device_of}
 use Rattle.mon_disk.proofs.Promised.{weaker}
 use Rattle.mon_station.specs.State.{state_of}
@@ -17,7 +17,7 @@ returns-in-Ok-clause-answered g c =
 pub returns-in-Ok-clause-saved : goal.returns-in-Ok-clause-saved
 returns-in-Ok-clause-saved g c = λ honest file left.
     let image = c.in_ok-image.ensures in
-    finds_state (state_of c.args.self.now.life) _ _ file (ap (λ l. drop 16 l) c.as_mut_slice.ensures.value) image.written image.spells (c.in-Ok.ensures.saved honest file left)
+    finds_state (state_of c.args.self.now.life) _ _ file (ap (λ l. drop 16 l) c.as_mut_slice.ensures.value) image.written image.spells ((c.in-Ok.ensures.save.on_disk honest).saved (omega arith) file left)
 
 pub returns-in_err-image-clause-any_moment : goal.returns-in_err-image-clause-any_moment
 returns-in_err-image-clause-any_moment g c = λ honest.
@@ -30,14 +30,14 @@ returns-in-Ok-clause-any_moment g c = λ honest.
     let D = g.D.Disk in
     let d = device_of c.args.self.now.keeper in
     let image = c.in_ok-image.ensures in
-    weaker D.moment D.left_since D.may_leave d _ _ _ (finds_either (D.may_leave d) (state_of c.args.self.now.life) _ _ (ap (λ l. drop 16 l) c.as_mut_slice.ensures.value) image.written image.spells) (c.in-Ok.ensures.any_moment honest)
+    weaker D.moment D.left_since D.may_leave d _ _ _ (finds_either (D.may_leave d) (state_of c.args.self.now.life) _ _ (ap (λ l. drop 16 l) c.as_mut_slice.ensures.value) image.written image.spells) (c.in-Ok.ensures.save.on_disk honest).any_moment
 
 pub returns-in-Err-clause-any_moment : goal.returns-in-Err-clause-any_moment
 returns-in-Err-clause-any_moment g c = λ honest.
     let D = g.D.Disk in
     let d = device_of c.args.self.now.keeper in
     let image = c.in_ok-image.ensures in
-    weaker D.moment D.left_since D.may_leave d _ _ _ (finds_either (D.may_leave d) (state_of c.args.self.now.life) _ _ (ap (λ l. drop 16 l) c.as_mut_slice.ensures.value) image.written image.spells) (c.in-Err.ensures.any_moment honest)
+    weaker D.moment D.left_since D.may_leave d _ _ _ (finds_either (D.may_leave d) (state_of c.args.self.now.life) _ _ (ap (λ l. drop 16 l) c.as_mut_slice.ensures.value) image.written image.spells) (c.in-Err.ensures.save.on_disk honest).any_moment
 
 pub returns-in-Err-clause-answered : goal.returns-in-Err-clause-answered
 returns-in-Err-clause-answered g c = save_refused (state_of c.args.self.now.life) c.settled.ensures.settled c.in-Err.fault c.from.result c.from.ensures
