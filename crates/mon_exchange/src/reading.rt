@@ -1,9 +1,8 @@
-//! Reading claims from left to right. Each reader returns what it read and what follows it, or the
-//! first fault.
+//! Reading claims from left to right. Each reader returns what it read, or the first fault.
 
 ghost use Rattle.std.specs.Prelude.{◌≡◌, ◌≢◌, ◌≤◌, ◌<◌, IfOk, IfErr, Ok, length};
 ghost use Rattle.mon_oid.specs.Oid.{IsOid};
-ghost use Rattle.mon_fields.specs.Reading.{Gives as Fields};
+ghost use Rattle.mon_fields.specs.Reading.{AreOctets, Gives as Fields};
 ghost use Rattle.mon_exchange.specs.declared.claim.Claim.{Claim};
 ghost use Rattle.mon_exchange.specs.Claim.{SpellsClaim};
 ghost use Rattle.mon_exchange.specs.Fault.{number_of};
@@ -12,104 +11,102 @@ ghost use Rattle.mon_exchange.specs.Reading.{Fails, Gives, octet_is, claim_kind_
 use crate::claim::{Claim, ClaimKind};
 use crate::fault::ExchangeFault;
 use mon_ber::Octets;
-use mon_fields::{LayoutFault, SampleList, field_at, octet_at, samples_at, u32_at};
+use mon_fields::{LayoutFault, Reader, SampleList};
 use mon_oid::Oid;
 use smallvec::SmallVec;
 use std::alloc::Global;
 
-/// What follows this octet, else the fault.
+/// Reads this octet, else the fault.
 #[tactic(auto, unfolding(crate::specs::Reading::octet_is))]
-fn octet_is(wanted: u8, fault: ExchangeFault, octets: &[u8]) -> Result<&[u8], ExchangeFault>
-    ensures { Gives (λ x. x.now) result (octet_is wanted fault octets.now) }
+fn octet_is(wanted: u8, fault: ExchangeFault, reader: &mut Reader<'_>) -> Result<(), ExchangeFault>
+    ensures { Gives (λ _. reader.new) result (octet_is wanted fault reader.old) }
 {
-    let (octet, rest) = octet_at(octets)?;
-    if octet != wanted {
+    if reader.octet()? != wanted {
         return Err(fault);
     }
-    Ok(rest)
+    Ok(())
 }
 
-/// The mark MX and the version, and what follows them.
+/// Reads the letters MX and the version.
 #[tactic(auto, unfolding(crate::specs::Reading::version_at))]
-fn version_at(octets: &[u8]) -> Result<&[u8], ExchangeFault>
-    ensures { Gives (λ x. x.now) result (version_at octets.now) }
+fn version_at(reader: &mut Reader<'_>) -> Result<(), ExchangeFault>
+    ensures { Gives (λ _. reader.new) result (version_at reader.old) }
 {
-    let rest = octet_is(b'M', ExchangeFault::NotAClaim, octets)?;
-    let rest = octet_is(b'X', ExchangeFault::NotAClaim, rest)?;
-    octet_is(1, ExchangeFault::BadVersion, rest)
+    octet_is(b'M', ExchangeFault::NotAClaim, reader)?;
+    octet_is(b'X', ExchangeFault::NotAClaim, reader)?;
+    octet_is(1, ExchangeFault::BadVersion, reader)
 }
 
-/// A kind of claim, and what follows it.
+/// Reads a kind of claim.
 #[tactic(auto, unfolding(crate::specs::Reading::claim_kind_at))]
-fn claim_kind_at(octets: &[u8]) -> Result<(ClaimKind, &[u8]), ExchangeFault>
-    ensures { Gives (λ x. (x.0, x.1.now)) result (claim_kind_at octets.now) }
+fn claim_kind_at(reader: &mut Reader<'_>) -> Result<ClaimKind, ExchangeFault>
+    ensures { Gives (λ kind. (kind, reader.new)) result (claim_kind_at reader.old) }
 {
-    let (octet, rest) = octet_at(octets)?;
+    let octet = reader.octet()?;
     if octet == 1 {
-        return Ok((ClaimKind::Offer, rest));
+        return Ok(ClaimKind::Offer);
     }
     if octet == 2 {
-        return Ok((ClaimKind::Confirm, rest));
+        return Ok(ClaimKind::Confirm);
     }
     Err(ExchangeFault::NotAClaim)
 }
 
-/// A number that is not 0, and what follows it.
+/// Reads a number that is not 0.
 #[tactic(auto, unfolding(crate::specs::Reading::positive_at))]
-fn positive_at(octets: &[u8]) -> Result<(u32, &[u8]), ExchangeFault>
-    ensures { Gives (λ x. (x.0, x.1.now)) result (positive_at octets.now) }
+fn positive_at(reader: &mut Reader<'_>) -> Result<u32, ExchangeFault>
+    ensures { Gives (λ number. (number, reader.new)) result (positive_at reader.old) }
 {
-    let (number, rest) = u32_at(octets)?;
+    let number = reader.number()?;
     if number == 0 {
         return Err(ExchangeFault::NotAClaim);
     }
-    Ok((number, rest))
+    Ok(number)
 }
 
-/// An octet from `least` to `most`, else the fault, and what follows it.
+/// Reads an octet from `least` to `most`, else the fault.
 #[tactic(auto, unfolding(crate::specs::Reading::within_at))]
 fn within_at(
     least: u8,
     most: u8,
     fault: ExchangeFault,
-    octets: &[u8],
-) -> Result<(u8, &[u8]), ExchangeFault>
-    ensures gives { Gives (λ x. (x.0, x.1.now)) result (within_at least most fault octets.now) }
-    ensures within { IfOk result (λ x. (least ≤ x.0) × (x.0 ≤ most)) }
+    reader: &mut Reader<'_>,
+) -> Result<u8, ExchangeFault>
+    ensures octets { AreOctets reader.old }
+    ensures gives { Gives (λ octet. (octet, reader.new)) result (within_at least most fault reader.old) }
+    ensures within { IfOk result (λ octet. (least ≤ octet) × (octet ≤ most)) }
 {
-    let (octet, rest) = octet_at(octets)?;
+    let octet = reader.octet()?;
     if octet < least || octet > most {
         return Err(fault);
     }
-    Ok((octet, rest))
+    Ok(octet)
 }
 
-/// An engine id after its length, and what follows it.
+/// Reads an engine id after its length.
 #[tactic(auto, unfolding(crate::specs::Reading::engine_at))]
-fn engine_at(octets: &[u8]) -> Result<(&[u8], &[u8]), ExchangeFault>
-    ensures { Gives (λ x. (x.0.now, x.1.now)) result (engine_at octets.now) }
+fn engine_at<'a>(reader: &mut Reader<'a>) -> Result<&'a [u8], ExchangeFault>
+    ensures { Gives (λ engine. (engine.now, reader.new)) result (engine_at reader.old) }
 {
-    let (len, rest) = within_at(5, 32, ExchangeFault::BadName, octets)?;
-    Ok(field_at(usize::from(len), rest)?)
+    let len = within_at(5, 32, ExchangeFault::BadName, reader)?;
+    Ok(reader.take(usize::from(len))?)
 }
 
-/// `count` numbers of four octets each, and what follows them. Up to 16 take no heap memory.
+/// Reads `count` numbers of four octets each. Up to 16 allocate nothing.
 #[tactic(auto, unfolding(crate::specs::Reading::sub_identifiers_at))]
 fn sub_identifiers_at(
     alloc: Global,
     count: u8,
-    octets: &[u8],
-) -> Result<(SmallVec<u32, 16>, &[u8]), LayoutFault>
-    ensures { Fields (λ x. (x.0.items, x.1.now)) result (sub_identifiers_at count octets.now) }
+    reader: &mut Reader<'_>,
+) -> Result<SmallVec<u32, 16>, LayoutFault>
+    ensures { Fields (λ numbers. (numbers.items, reader.new)) result (sub_identifiers_at count reader.old) }
 {
     let mut numbers = SmallVec::new(alloc);
-    let mut rest = octets;
     while numbers.len() < usize::from(count) {
-        let (number, after) = u32_at(rest)?;
+        let number = reader.number()?;
         numbers.push(number)?;
-        rest = after;
     }
-    Ok((numbers, rest))
+    Ok(numbers)
 }
 
 /// Returns `true` if the first two numbers are out of the range of an identifier's (RFC 2578
@@ -122,53 +119,54 @@ fn is_unrooted(parts: &[u32]) -> bool
     parts[0] > 2 || parts[0] < 2 && parts[1] > 39
 }
 
-/// An identifier after the count of its numbers, and what follows it.
+/// Reads an identifier after the count of its numbers.
 #[tactic(auto, unfolding(crate::specs::Reading::oid_at))]
-fn oid_at(alloc: Global, octets: &[u8]) -> Result<(Oid, &[u8]), ExchangeFault>
-    ensures { Gives (λ x. (x.0, x.1.now)) result (oid_at octets.now) }
+fn oid_at(alloc: Global, reader: &mut Reader<'_>) -> Result<Oid, ExchangeFault>
+    ensures { Gives (λ oid. (oid, reader.new)) result (oid_at reader.old) }
 {
-    let (count, rest) = within_at(2, 128, ExchangeFault::BadName, octets)?;
-    let (parts, rest) = sub_identifiers_at(alloc, count, rest)?;
+    let count = within_at(2, 128, ExchangeFault::BadName, reader)?;
+    let parts = sub_identifiers_at(alloc, count, reader)?;
     if is_unrooted(parts.as_slice()) {
         return Err(ExchangeFault::BadName);
     }
-    Ok((Oid::from_valid(parts), rest))
+    Ok(Oid::from_valid(parts))
 }
 
-/// Samples after their count, and what follows them.
+/// Reads samples after their count.
 #[tactic(auto, unfolding(crate::specs::Reading::claimed_at))]
-fn claimed_at(alloc: Global, octets: &[u8]) -> Result<(SampleList, &[u8]), ExchangeFault>
-    ensures { Gives (λ x. (x.0, x.1.now)) result (claimed_at octets.now) }
+fn claimed_at(alloc: Global, reader: &mut Reader<'_>) -> Result<SampleList, ExchangeFault>
+    ensures { Gives (λ samples. (samples, reader.new)) result (claimed_at reader.old) }
 {
-    let (count, rest) = within_at(0, 40, ExchangeFault::NotAClaim, octets)?;
-    Ok(samples_at(alloc, count, rest)?)
+    let count = within_at(0, 40, ExchangeFault::NotAClaim, reader)?;
+    Ok(reader.samples(alloc, count)?)
 }
 
-/// Nothing is left of the octets.
+/// Requires that nothing is left of the octets.
 #[tactic(auto, unfolding(crate::specs::Reading::all_read))]
-fn require_end(rest: &[u8]) -> Result<(), ExchangeFault>
-    ensures { Gives (λ u. u) result (all_read rest.now (tt {0})) }
+fn require_end(reader: &Reader<'_>) -> Result<(), ExchangeFault>
+    ensures { Gives (λ u. u) result (all_read reader.now (tt {0})) }
 {
-    if !rest.is_empty() {
+    if !reader.is_empty() {
         return Err(ExchangeFault::NotAClaim);
     }
     Ok(())
 }
 
-/// The claim that all of the octets say.
+/// Reads the claim that all of the octets say.
 #[tactic(auto, unfolding(crate::specs::Reading::claim_at, crate::specs::Reading::all_read))]
 fn claim_at(alloc: Global, octets: &[u8]) -> Result<Claim, ExchangeFault>
     ensures { Gives (λ c. c) result (claim_at octets.now) }
 {
-    let rest = version_at(octets)?;
-    let (kind, rest) = claim_kind_at(rest)?;
-    let (station, rest) = positive_at(rest)?;
-    let (incarnation, rest) = positive_at(rest)?;
-    let (serial, rest) = u32_at(rest)?;
-    let (engine, rest) = engine_at(rest)?;
-    let (name, rest) = oid_at(alloc, rest)?;
-    let (samples, rest) = claimed_at(alloc, rest)?;
-    require_end(rest)?;
+    let mut reader = Reader::new(octets);
+    version_at(&mut reader)?;
+    let kind = claim_kind_at(&mut reader)?;
+    let station = positive_at(&mut reader)?;
+    let incarnation = positive_at(&mut reader)?;
+    let serial = reader.number()?;
+    let engine = engine_at(&mut reader)?;
+    let name = oid_at(alloc, &mut reader)?;
+    let samples = claimed_at(alloc, &mut reader)?;
+    require_end(&reader)?;
     let engine = Octets::from_slice(alloc, engine)?;
     Ok(Claim {
         kind,
@@ -181,11 +179,15 @@ fn claim_at(alloc: Global, octets: &[u8]) -> Result<Claim, ExchangeFault>
     })
 }
 
-/// The claim that the octets spell, all of them. Else the first fault from the left: `NotAClaim` where the mark, the kind, the
-/// station, the incarnation or the count of samples is wrong, or the octets end too early or too late; `BadVersion` where the
-/// version is not 1; `BadName` where the engine id does not have 5 to 32 octets, or the name is no object identifier; `BadSample`
-/// where a record is no sample's; `NotRising` where a sample does not exceed the one before it. A long name, the samples and
-/// the engine id take an allocation each.
+/// Reads the claim that the octets spell, all of them. A long name, the samples and the engine id
+/// take an allocation each.
+///
+/// # Errors
+/// The first fault from the left: `NotAClaim` if the letters, the kind, the station, the incarnation
+/// or the count of samples is wrong, or the octets end too early or too late; `BadVersion` if the
+/// version is not 1; `BadName` if the engine id does not have 5 to 32 octets, or the name is no
+/// object identifier; `BadSample` if a record is no sample's; `NotRising` if a sample does not exceed
+/// the one before it; `OutOfMemory`.
 pub fn read_claim(alloc: Global, octets: &[u8]) -> Result<Claim, ExchangeFault>
     // What is read is spelled.
     ensures found { IfOk result (λ c. SpellsClaim octets.now c) }

@@ -1,5 +1,5 @@
 -- Reading fields from left to right, with the first fault that is met.
-use Rattle.std.specs.Prelude.{◌≡◌, ℕ, zero, suc, Bool, true, List, [], ◌∷◌, ◌++◌, length, take, drop, Option, Some, None, Result, Ok, Err, nat_lt, if◌then◌else◌}
+use Rattle.std.specs.Prelude.{◌≡◌, ℕ, zero, suc, Bool, true, List, [], ◌∷◌, ◌++◌, length, take, drop, Option, Some, None, Result, Ok, Err, nat_lt, if◌then◌else◌, get_or, ◌<◌}
 use Rattle.std.specs.Int.{w32, from_be_bytes}
 use Rattle.mon_oid.specs.Steps.{◌>>=◌}
 use Rattle.mon_sample.specs.Record.{spelled}
@@ -27,6 +27,10 @@ octet_at (b ∷ bs) = Ok (b, bs)
 -- the first n octets, and what follows them
 unfoldable pub field_at : ℕ → List ℕ → Result (List ℕ × List ℕ) LayoutFault
 field_at n octets = if nat_lt (length octets) n then Err Truncated else Ok (take n octets, drop n octets)
+
+-- each is an octet; what is read past the end is 0
+abbrev pub AreOctets : List ℕ → Type 0
+AreOctets octets = (i : ℕ) → get_or octets i 0 < 256
 
 -- a number of four octets, and what follows it
 unfoldable pub u32_at : List ℕ → Result (ℕ × List ℕ) LayoutFault

@@ -12,7 +12,7 @@ mod writing;
 
 pub use fault::LayoutFault;
 pub use list::SampleList;
-pub use reading::{field_at, octet_at, samples_at, u32_at};
+pub use reading::Reader;
 pub use writing::{
     instance_size, put_instance, put_octet, put_octets, put_samples, put_u32, samples_size,
 };

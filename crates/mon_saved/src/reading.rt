@@ -1,11 +1,11 @@
-//! Reading images, from left to right. Each reader returns what it read and what follows it, or the
-//! first fault.
+//! Reading images, from left to right. Each reader returns what it read, or the first fault.
 
 ghost use Rattle.std.specs.Prelude.{◌≡◌, ◌≤◌, ◌<◌, ◌↔◌, ℕ, List, Ok, IfOk, IfErr, IsTrue, length};
 ghost use Rattle.std.specs.Int.{w16, to_be_bytes};
 ghost use Rattle.std.specs.List.Sorted.{IsStrictlySortedBy};
 ghost use Rattle.std.specs.Ordering.{nat_cmp};
 ghost use Rattle.mon_board.specs.Instance.{AreInstances, instances_of};
+ghost use Rattle.mon_fields.specs.Reading.{AreOctets};
 ghost use Rattle.mon_saved.specs.declared.image.Image.{Image};
 ghost use Rattle.mon_saved.specs.Image.{SpellsImage};
 ghost use Rattle.mon_saved.specs.Reading.{Fails, Gives, octet_within, magic_at, incarnation_at, window_at, expected_at, numbers_are, instance_is, sizes_at, fits_epoch, saved_at, entry_at, all_entries, header_at, image_at};
@@ -13,7 +13,7 @@ ghost use Rattle.mon_saved.specs.Reading.{Fails, Gives, octet_within, magic_at, 
 use crate::fault::ImageFault;
 use crate::image::{Entries, Entry, Image};
 use mon_board::{Instance, Watch, Watched};
-use mon_fields::{SampleList, field_at, octet_at, samples_at, u32_at};
+use mon_fields::{Reader, SampleList};
 use mon_sample::Sample;
 use std::alloc::Global;
 
@@ -24,114 +24,109 @@ struct Sizes {
     epoch: u8,
 }
 
-/// An octet from `least` to `most`, else the fault; and what follows it.
+/// Reads an octet from `least` to `most`, else the fault.
 #[tactic(auto, unfolding(crate::specs::Reading::octet_within))]
 fn octet_within(
     least: u8,
     most: u8,
     fault: ImageFault,
-    octets: &[u8],
-) -> Result<(u8, &[u8]), ImageFault>
-    ensures { Gives (λ x. (x.0, x.1.now)) result (octet_within least most fault octets.now) }
+    reader: &mut Reader<'_>,
+) -> Result<u8, ImageFault>
+    ensures octets { AreOctets reader.old }
+    ensures gives { Gives (λ octet. (octet, reader.new)) result (octet_within least most fault reader.old) }
 {
-    let (octet, rest) = octet_at(octets)?;
+    let octet = reader.octet()?;
     if octet < least || octet > most {
         return Err(fault);
     }
-    Ok((octet, rest))
+    Ok(octet)
 }
 
-/// The letters MI, and what follows them.
+/// Reads the letters MI.
 #[tactic(auto, unfolding(crate::specs::Reading::magic_at))]
-fn magic_at(octets: &[u8]) -> Result<&[u8], ImageFault>
-    ensures { Gives (λ x. x.now) result (magic_at octets.now) }
+fn magic_at(reader: &mut Reader<'_>) -> Result<(), ImageFault>
+    ensures { Gives (λ _. reader.new) result (magic_at reader.old) }
 {
-    let (_, rest) = octet_within(b'M', b'M', ImageFault::BadImage, octets)?;
-    let (_, rest) = octet_within(b'I', b'I', ImageFault::BadImage, rest)?;
-    Ok(rest)
+    octet_within(b'M', b'M', ImageFault::BadImage, reader)?;
+    octet_within(b'I', b'I', ImageFault::BadImage, reader)?;
+    Ok(())
 }
 
-/// An incarnation, which is not 0, and what follows it.
+/// Reads an incarnation, which is not 0.
 #[tactic(auto, unfolding(crate::specs::Reading::incarnation_at))]
-fn incarnation_at(octets: &[u8]) -> Result<(u32, &[u8]), ImageFault>
-    ensures { Gives (λ x. (x.0, x.1.now)) result (incarnation_at octets.now) }
+fn incarnation_at(reader: &mut Reader<'_>) -> Result<u32, ImageFault>
+    ensures { Gives (λ number. (number, reader.new)) result (incarnation_at reader.old) }
 {
-    let (number, rest) = u32_at(octets)?;
+    let number = reader.number()?;
     if number == 0 {
         return Err(ImageFault::BadImage);
     }
-    Ok((number, rest))
+    Ok(number)
 }
 
-/// The one window of version 1, 0 in version 2, and what follows it.
+/// Reads the one window of version 1; 0 in version 2.
 #[tactic(auto, unfolding(crate::specs::Reading::window_at))]
-fn window_at(version: u8, octets: &[u8]) -> Result<(u8, &[u8]), ImageFault>
-    ensures { Gives (λ x. (x.0, x.1.now)) result (window_at version octets.now) }
+fn window_at(version: u8, reader: &mut Reader<'_>) -> Result<u8, ImageFault>
+    ensures { Gives (λ window. (window, reader.new)) result (window_at version reader.old) }
 {
     if version == 1 {
-        return octet_within(1, 64, ImageFault::BadImage, octets);
+        return octet_within(1, 64, ImageFault::BadImage, reader);
     }
-    Ok((0, octets))
+    Ok(0)
 }
 
-/// These octets, and what follows them.
+/// Reads these octets.
 #[tactic(auto, unfolding(crate::specs::Reading::expected_at))]
-fn expected_at<'a>(wanted: &[u8], octets: &'a [u8]) -> Result<&'a [u8], ImageFault>
-    ensures { Gives (λ x. x.now) result (expected_at wanted.now octets.now) }
+fn expected_at(wanted: &[u8], reader: &mut Reader<'_>) -> Result<(), ImageFault>
+    ensures { Gives (λ _. reader.new) result (expected_at wanted.now reader.old) }
 {
-    let (field, rest) = field_at(wanted.len(), octets)?;
-    if field == wanted {
-        return Ok(rest);
+    if reader.take(wanted.len())? == wanted {
+        return Ok(());
     }
     Err(ImageFault::OtherWatch)
 }
 
-/// These numbers, four octets each, and what follows them.
-fn numbers_are<'a>(numbers: &[u32], octets: &'a [u8]) -> Result<&'a [u8], ImageFault>
-    ensures { Gives (λ x. x.now) result (numbers_are numbers.now octets.now) }
+/// Reads these numbers, four octets each.
+fn numbers_are(numbers: &[u32], reader: &mut Reader<'_>) -> Result<(), ImageFault>
+    ensures { Gives (λ _. reader.new) result (numbers_are numbers.now reader.old) }
 {
-    let mut rest = octets;
     for number in numbers {
-        let after = expected_at(&number.to_be_bytes(), rest)?;
-        rest = after;
+        expected_at(&number.to_be_bytes(), reader)?;
     }
-    Ok(rest)
+    Ok(())
 }
 
-/// This instance, and what follows it.
+/// Reads this instance.
 #[tactic(auto, unfolding(crate::specs::Reading::instance_is))]
-fn instance_is<'a>(instance: &Instance, octets: &'a [u8]) -> Result<&'a [u8], ImageFault>
+fn instance_is(instance: &Instance, reader: &mut Reader<'_>) -> Result<(), ImageFault>
     requires { length instance.now.engine < 256 }
-    ensures { Gives (λ x. x.now) result (instance_is instance.now octets.now) }
+    ensures { Gives (λ _. reader.new) result (instance_is instance.now reader.old) }
 {
     let engine = instance.engine.as_slice();
     let name = instance.name.parts();
-    let rest = expected_at(&[engine.len() as u8], octets)?;
-    let rest = expected_at(engine, rest)?;
-    let rest = expected_at(&[name.len() as u8], rest)?;
-    numbers_are(name, rest)
+    expected_at(&[engine.len() as u8], reader)?;
+    expected_at(engine, reader)?;
+    expected_at(&[name.len() as u8], reader)?;
+    numbers_are(name, reader)
 }
 
-/// The window and the epoch of an instance: the one window, or two octets where that is 0; and what follows.
+/// Reads the window and the epoch of an instance: the one window, or two octets if that is 0.
 #[tactic(auto, unfolding(crate::specs::Reading::sizes_at))]
-fn sizes_at(window: u8, octets: &[u8]) -> Result<(Sizes, &[u8]), ImageFault>
-    ensures { Gives (λ x. ((x.0.window, x.0.epoch), x.1.now)) result (sizes_at window octets.now) }
+fn sizes_at(window: u8, reader: &mut Reader<'_>) -> Result<Sizes, ImageFault>
+    ensures { Gives (λ x. ((x.window, x.epoch), reader.new)) result (sizes_at window reader.old) }
 {
     if window > 0 {
-        return Ok((
-            Sizes {
-                window,
-                epoch: window,
-            },
-            octets,
-        ));
+        return Ok(Sizes {
+            window,
+            epoch: window,
+        });
     }
-    let (window, rest) = octet_within(1, 64, ImageFault::BadImage, octets)?;
-    let (epoch, rest) = octet_within(1, window, ImageFault::BadImage, rest)?;
-    Ok((Sizes { window, epoch }, rest))
+    let window = octet_within(1, 64, ImageFault::BadImage, reader)?;
+    let epoch = octet_within(1, window, ImageFault::BadImage, reader)?;
+    Ok(Sizes { window, epoch })
 }
 
-/// Returns `true` if no boots number has more than `epoch` of rising samples: those of one boots number
+/// Returns `true` if no boots number has more than `epoch` of rising samples: those of one boots
 /// number are neighbours, so none of them is `epoch` places after another.
 fn fits_epoch(samples: &[Sample], epoch: usize) -> bool
     requires rising { IsStrictlySortedBy nat_cmp samples.now }
@@ -145,93 +140,94 @@ fn fits_epoch(samples: &[Sample], epoch: usize) -> bool
     true
 }
 
-/// Samples that fit the window and the epoch, and what follows them.
+/// Reads samples that fit the window and the epoch.
 #[tactic(auto, unfolding(crate::specs::Reading::saved_at))]
-fn saved_at(alloc: Global, sizes: Sizes, octets: &[u8]) -> Result<(SampleList, &[u8]), ImageFault>
-    ensures { Gives (λ x. (x.0, x.1.now)) result (saved_at (sizes.window, sizes.epoch) octets.now) }
+fn saved_at(alloc: Global, sizes: Sizes, reader: &mut Reader<'_>) -> Result<SampleList, ImageFault>
+    ensures { Gives (λ samples. (samples, reader.new)) result (saved_at (sizes.window, sizes.epoch) reader.old) }
 {
-    let (count, rest) = octet_within(0, sizes.window, ImageFault::BadImage, octets)?;
-    let (samples, rest) = samples_at(alloc, count, rest)?;
+    let count = octet_within(0, sizes.window, ImageFault::BadImage, reader)?;
+    let samples = reader.samples(alloc, count)?;
     if fits_epoch(samples.as_slice(), usize::from(sizes.epoch)) {
-        return Ok((samples, rest));
+        return Ok(samples);
     }
     Err(ImageFault::BadImage)
 }
 
-/// The entry of an instance, and what follows it.
+/// Reads the entry of an instance.
 #[tactic(auto, unfolding(crate::specs::Reading::entry_at))]
-fn entry_at<'a>(
+fn entry_at(
     alloc: Global,
     window: u8,
     instance: &Instance,
-    octets: &'a [u8],
-) -> Result<(Entry, &'a [u8]), ImageFault>
+    reader: &mut Reader<'_>,
+) -> Result<Entry, ImageFault>
     requires { length instance.now.engine < 256 }
-    ensures { Gives (λ x. (x.0, x.1.now)) result (entry_at window instance.now octets.now) }
+    ensures { Gives (λ entry. (entry, reader.new)) result (entry_at window instance.now reader.old) }
 {
-    let (sizes, rest) = sizes_at(window, octets)?;
-    let rest = instance_is(instance, rest)?;
-    let (samples, rest) = saved_at(alloc, sizes, rest)?;
-    let entry = Entry {
+    let sizes = sizes_at(window, reader)?;
+    instance_is(instance, reader)?;
+    let samples = saved_at(alloc, sizes, reader)?;
+    Ok(Entry {
         window: sizes.window,
         epoch: sizes.epoch,
         samples,
-    };
-    Ok((entry, rest))
+    })
 }
 
-/// The incarnation and the one window, 0 in version 2, of an image of `many` instances, and what follows them.
+/// Reads the incarnation and the one window, 0 in version 2, of an image of `many` instances.
 #[tactic(auto, unfolding(crate::specs::Reading::header_at))]
-fn header_at(many: u16, octets: &[u8]) -> Result<((u32, u8), &[u8]), ImageFault>
-    ensures { Gives (λ x. (x.0, x.1.now)) result (header_at many octets.now) }
+fn header_at(many: u16, reader: &mut Reader<'_>) -> Result<(u32, u8), ImageFault>
+    ensures { Gives (λ header. (header, reader.new)) result (header_at many reader.old) }
 {
-    let rest = magic_at(octets)?;
-    let (version, rest) = octet_within(1, 2, ImageFault::BadVersion, rest)?;
-    let (incarnation, rest) = incarnation_at(rest)?;
-    let (window, rest) = window_at(version, rest)?;
-    let rest = expected_at(&many.to_be_bytes(), rest)?;
-    Ok(((incarnation, window), rest))
+    magic_at(reader)?;
+    let version = octet_within(1, 2, ImageFault::BadVersion, reader)?;
+    let incarnation = incarnation_at(reader)?;
+    let window = window_at(version, reader)?;
+    expected_at(&many.to_be_bytes(), reader)?;
+    Ok((incarnation, window))
 }
 
-/// An entry for each instance, all of the octets.
+/// Reads an entry for each instance, all of the octets.
 fn entries_at(
     alloc: Global,
     window: u8,
     watched: &[Watched],
-    octets: &[u8],
+    reader: &mut Reader<'_>,
 ) -> Result<Vec<Entry>, ImageFault>
     requires { AreInstances watched.now }
-    ensures { Gives (λ v. v.items) result (all_entries window (instances_of watched.now) octets.now) }
+    ensures { Gives (λ v. v.items) result (all_entries window (instances_of watched.now) reader.old) }
 {
     let mut entries = Vec::with_capacity(alloc, watched.len())?;
-    let mut rest = octets;
     for one in watched {
-        let (entry, after) = entry_at(alloc, window, &one.instance, rest)?;
+        let entry = entry_at(alloc, window, &one.instance, reader)?;
         entries.push(entry)?;
-        rest = after;
     }
-    if !rest.is_empty() {
+    if !reader.is_empty() {
         return Err(ImageFault::BadImage);
     }
     Ok(entries)
 }
 
-/// The image of the watch's instances that all of the octets spell.
+/// Reads the image of the watch's instances that all of the octets spell.
 #[tactic(auto, unfolding(crate::specs::Reading::image_at))]
 fn image_at(alloc: Global, watch: &Watch, octets: &[u8]) -> Result<Image, ImageFault>
     ensures { Gives (λ image. image) result (image_at (instances_of watch.now.instances) octets.now) }
 {
     let watched = watch.instances();
-    let ((incarnation, window), rest) = header_at(watched.len() as u16, octets)?;
-    let entries = entries_at(alloc, window, watched, rest)?;
+    let mut reader = Reader::new(octets);
+    let (incarnation, window) = header_at(watched.len() as u16, &mut reader)?;
+    let entries = entries_at(alloc, window, watched, &mut reader)?;
     Ok(Image {
         incarnation,
         entries: Entries::new(entries),
     })
 }
 
-/// The image of the watch's instances that the octets, all of them, spell in version 1 or 2; else the first fault from the
-/// left. Each instance's samples take one allocation.
+/// Reads the image of the watch's instances that the octets, all of them, spell in version 1 or 2.
+/// Each instance's samples take one allocation.
+///
+/// # Errors
+/// The first fault from the left.
 pub fn read(alloc: Global, watch: &Watch, octets: &[u8]) -> Result<Image, ImageFault>
     // What is read is spelled so.
     ensures found { IfOk result (λ image. SpellsImage octets.now (instances_of watch.now.instances) image) }

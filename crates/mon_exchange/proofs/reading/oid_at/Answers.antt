@@ -6,11 +6,11 @@ use Rattle.mon_exchange.proofs.reading.oid_at.Goals as goal
 pub is_unrooted-requires : goal.is_unrooted-requires
 is_unrooted-requires c =
     let same : length c.as_slice.result.now ≡ length c.in_ok-parts.parts.items = search rules in
-    let t = numbers_read c.args.octets.now c.in_ok-count.count c.in_ok-count.rest.now c.in_ok-parts.parts.items c.in_ok-parts.rest.now (λ i. omega (arith, c.type_inv.octets i)) c.in_ok-count.ensures.gives c.in_ok-parts.ensures in
+    let t = numbers_read c.args.reader.now c.in_ok-count.count c.within_at.new.reader c.in_ok-parts.parts.items c.sub_identifiers_at.new.reader c.in_ok-count.ensures.octets c.in_ok-count.ensures.gives c.in_ok-parts.ensures in
     omega (arith, same, t.1)
 
 pub from_valid-requires : goal.from_valid-requires
 from_valid-requires c =
     let fine : is_unrooted c.in_ok-parts.parts.items ≡ false = search rules in
-    let t = numbers_read c.args.octets.now c.in_ok-count.count c.in_ok-count.rest.now c.in_ok-parts.parts.items c.in_ok-parts.rest.now (λ i. omega (arith, c.type_inv.octets i)) c.in_ok-count.ensures.gives c.in_ok-parts.ensures in
+    let t = numbers_read c.args.reader.now c.in_ok-count.count c.within_at.new.reader c.in_ok-parts.parts.items c.sub_identifiers_at.new.reader c.in_ok-count.ensures.octets c.in_ok-count.ensures.gives c.in_ok-parts.ensures in
     t.2 fine

@@ -9,28 +9,28 @@ use Rattle.mon_exchange.proofs.reading.sub_identifiers_at.Goals as goal
 
 pub returns-in_err-number : goal.returns-in_err-number
 returns-in_err-number c =
-    let held : c.len.result ≡ length c.loop-rest.numbers.items = search rules in
+    let held : c.len.result ≡ length c.loop-reader.numbers.items = search rules in
     let bound : c.from.result ≡ c.args.count = search rules in
-    let some : 0 < c.args.count - length c.loop-rest.numbers.items = omega (arith, held, bound, c.loop-rest-test.true) in
+    let some : 0 < c.args.count - length c.loop-reader.numbers.items = omega (arith, held, bound, c.loop-reader-test.true) in
     let p = err_from_is_err_and c.from_residual.result c.from_residual.ensures.1 in
-    rw (p.1, p.2) (fails c.loop-rest.numbers.items _ c.loop-rest.rest.now _ c.loop-rest.invariant.1 some c.in_err-number.field-0.0 c.in_err-number.ensures.gives)
+    rw (p.1, p.2) (fails c.loop-reader.numbers.items _ c.loop-reader.reader _ c.loop-reader.invariant.1 some c.in_err-number.field-0.0 c.in_err-number.ensures.gives)
 
-pub loop-rest-preserved : goal.loop-rest-preserved
-loop-rest-preserved c =
-    let held : c.len.result ≡ length c.loop-rest.numbers.items = search rules in
+pub loop-reader-preserved : goal.loop-reader-preserved
+loop-reader-preserved c =
+    let held : c.len.result ≡ length c.loop-reader.numbers.items = search rules in
     let bound : c.from.result ≡ c.args.count = search rules in
-    let some : 0 < c.args.count - length c.loop-rest.numbers.items = omega (arith, held, bound, c.loop-rest-test.true) in
-    let longer = length_push c.loop-rest.numbers.items c.in_ok-number.number in
-    let next : c.args.count - length c.loop-rest.numbers.items - 1 ≡ c.args.count - length (c.loop-rest.numbers.items ++ c.in_ok-number.number ∷ []) = omega (arith, longer, some) in
+    let some : 0 < c.args.count - length c.loop-reader.numbers.items = omega (arith, held, bound, c.loop-reader-test.true) in
+    let longer = length_push c.loop-reader.numbers.items c.in_ok-number.number in
+    let next : c.args.count - length c.loop-reader.numbers.items - 1 ≡ c.args.count - length (c.loop-reader.numbers.items ++ c.in_ok-number.number ∷ []) = omega (arith, longer, some) in
     rw c.in_ok-push.ensures.ok (
       omega (arith, longer, some),
-      ap (λ (n : ℕ). with_front (c.loop-rest.numbers.items ++ c.in_ok-number.number ∷ []) (one_by_one next_number None n c.in_ok-number.after.now)) (sym next)
-          ∙ one_more c.loop-rest.numbers.items _ c.loop-rest.rest.now _ c.loop-rest.invariant.1 some c.in_ok-number.number c.in_ok-number.after.now c.in_ok-number.ensures.gives,
+      ap (λ (n : ℕ). with_front (c.loop-reader.numbers.items ++ c.in_ok-number.number ∷ []) (one_by_one next_number None n c.number.new.self)) (sym next)
+          ∙ one_more c.loop-reader.numbers.items _ c.loop-reader.reader _ c.loop-reader.invariant.1 some c.in_ok-number.number c.number.new.self c.in_ok-number.ensures.gives,
     )
 
 pub returns : goal.returns
 returns c =
-    let held : c.len.result ≡ length c.loop-rest.numbers.items = search rules in
+    let held : c.len.result ≡ length c.loop-reader.numbers.items = search rules in
     let bound : c.from.result ≡ c.args.count = search rules in
-    let none : c.args.count - length c.loop-rest.numbers.items ≡ 0 = omega (arith, held, bound, c.loop-rest-test.false) in
-    is_done next_number c.loop-rest.numbers.items None _ c.loop-rest.rest.now _ c.loop-rest.invariant.1 none
+    let none : c.args.count - length c.loop-reader.numbers.items ≡ 0 = omega (arith, held, bound, c.loop-reader-test.false) in
+    is_done next_number c.loop-reader.numbers.items None _ c.loop-reader.reader _ c.loop-reader.invariant.1 none
