@@ -92,9 +92,9 @@ BUGS = {
         "        return true;",
     ),
     "a_time_below_boots": (
-        "src/offers.rt",
-        "    let Some(time) = stamp_number(&third.value) else {",
-        "    let Some(time) = stamp_number(&second.value) else {",
+        "src/stamp.rt",
+        "            time: stamp_number(time)?,",
+        "            time: stamp_number(boots)?,",
     ),
     "the_object_as_its_discontinuity": (
         "src/offers.rt",
@@ -190,11 +190,6 @@ BUGS = {
         "src/target.rt",
         "            discontinuity,\n",
         "            discontinuity: None,\n",
-    ),
-    "reads_another_port": (
-        "src/addr.rt",
-        "                port: address.port(),",
-        "                port: if address.port() == 161 { 162 } else { address.port() },",
     ),
     "tells_an_oldest_of_none": (
         "src/poller.rt",
