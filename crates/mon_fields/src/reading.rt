@@ -1,7 +1,7 @@
 //! Reading fields from left to right. Each call returns what it read, or the first fault from the
 //! left.
 
-ghost use Rattle.std.specs.Prelude.{◌≡◌, ◌≢◌, ◌≤◌, ◌<◌, ◌↔◌, IfOk, IsTrue, [], length};
+ghost use Rattle.std.specs.Prelude.{◌≡◌, ◌≢◌, ◌≤◌, ◌<◌, ◌↔◌, IfOk, IsTrue, length};
 ghost use Rattle.mon_fields.specs.Reading.{AreOctets, Gives, octet_at, field_at, u32_at, sample_of, rises, samples_at};
 
 use crate::fault::LayoutFault;
@@ -40,7 +40,7 @@ impl<'a> Reader<'a> {
 
     /// Returns `true` if nothing is left.
     pub fn is_empty(&self) -> bool
-        ensures { IsTrue result ↔ (self.now ≡ []) }
+        ensures { IsTrue result ↔ (length self.now ≡ 0) }
     {
         self.rest.is_empty()
     }

@@ -197,9 +197,9 @@ BUGS = {
         "        least_id(&self.polls).or(Some(self.started))",
     ),
     "swaps_boots_and_time": (
-        "src/offers.rt",
-        "    Some(Sample::new(stamp.boots, stamp.time, discontinuity, kind, value))",
-        "    Some(Sample::new(stamp.time, stamp.boots, discontinuity, kind, value))",
+        "src/stamp.rt",
+        "            self.boots,\n            self.time,\n",
+        "            self.time,\n            self.boots,\n",
     ),
     "takes_any_host": (
         "src/awaiting.rt",
@@ -263,8 +263,8 @@ BUGS = {
     ),
     "in_place_without_a_discontinuity": (
         "src/in_place.rt",
-        "&value, discontinuity_in(&discontinuity), pairs)?;",
-        "&value, Some(0), pairs)?;",
+        "        discontinuity_in(&discontinuity),\n",
+        "        Some(0),\n",
     ),
     "in_place_with_a_discontinuity_of_none": (
         "src/in_place.rt",
@@ -273,8 +273,8 @@ BUGS = {
     ),
     "in_place_the_time_as_the_boots": (
         "src/in_place.rt",
-        "        boots: stamp_number(&boots)?,",
-        "        boots: stamp_number(&time)?,",
+        "Stamp::of(&engine, &boots, &time)?;",
+        "Stamp::of(&engine, &time, &time)?;",
     ),
     "in_place_without_the_sample": (
         "src/in_place.rt",

@@ -198,40 +198,10 @@ BUGS = {
         "        RoundEvent::FromPeer(from) => Some(Notice::BadClaim(from, fault)),",
         "        RoundEvent::FromPeer(_) => None,",
     ),
-    "sends_to_the_port_after": (
-        "src/socket.rt",
-        "SocketAddrV4::new(Ipv4Addr::from(address.octets), address.port)",
-        "SocketAddrV4::new(Ipv4Addr::from(address.octets), address.port.wrapping_add(1))",
-    ),
-    "hears_all_from_one_port": (
-        "src/socket.rt",
-        "            port: from.port(),",
-        "            port: 16100,",
-    ),
-    "waits_seconds_for_milliseconds": (
-        "src/socket.rt",
-        "Wait::Anew(milliseconds) => Duration::from_millis(u64::from(milliseconds)),",
-        "Wait::Anew(milliseconds) => Duration::from_secs(u64::from(milliseconds)),",
-    ),
-    "begins_no_wait_anew": (
-        "src/socket.rt",
-        "Wait::Anew(milliseconds) => Duration::from_millis(u64::from(milliseconds)),",
-        "Wait::Anew(_) => before,",
-    ),
-    "waits_the_whole_time_again": (
-        "src/socket.rt",
-        "    length.saturating_sub(now.duration_since(began))",
-        "    let _ = (began, now);\n    length",
-    ),
-    "keeps_any_longer_timeout": (
-        "src/socket.rt",
-        "        Some(more) => more <= Duration::from_millis(SLACK),",
-        "        Some(_) => true,",
-    ),
     "cuts_datagrams": (
         "src/socket.rt",
-        "        let Some(datagram) = self.room.get(..len) else {",
-        "        let Some(datagram) = self.room.get(..len / 2) else {",
+        "self.buffer.get(..len)",
+        "self.buffer.get(..len / 2)",
     ),
     "sends_to_the_first_target_alone": (
         "src/socket.rt",

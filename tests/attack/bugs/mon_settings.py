@@ -218,8 +218,8 @@ BUGS = {
     ),
     "takes_the_address_of_a_target": (
         "src/peers.rt",
-        "        .any(|target| is_address(target.address, address))",
-        "        .all(|target| is_address(target.address, address))",
+        "targets.iter().any(|target| target.address == address)",
+        "targets.iter().all(|target| target.address == address)",
     ),
     "takes_a_peer_twice": (
         "src/peers.rt",

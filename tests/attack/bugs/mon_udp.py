@@ -13,8 +13,8 @@ BUGS = {
     ),
     "sends_to_the_first_port": (
         "src/addr.rt",
-        "Ipv4Addr::from(self.octets), self.port)",
-        "Ipv4Addr::from(self.octets), 161)",
+        "        SocketAddr::V4(SocketAddrV4::new(Ipv4Addr::from(self.octets), self.port))",
+        "        SocketAddr::V4(SocketAddrV4::new(Ipv4Addr::from(self.octets), 161))",
     ),
     "says_an_address_of_none": (
         "src/addr.rt",
@@ -40,5 +40,25 @@ BUGS = {
         "src/failures.rt",
         "        Err(_) => count.saturating_add(1),",
         "        Err(_) => count,",
+    ),
+    "sends_to_the_port_after": (
+        "src/addr.rt",
+        "SocketAddrV4::new(Ipv4Addr::from(self.octets), self.port)",
+        "SocketAddrV4::new(Ipv4Addr::from(self.octets), self.port.wrapping_add(1))",
+    ),
+    "waits_seconds_for_milliseconds": (
+        "src/waiting.rt",
+        "Duration::from_millis(u64::from(milliseconds))",
+        "Duration::from_secs(u64::from(milliseconds))",
+    ),
+    "begins_no_wait_anew": (
+        "src/waiting.rt",
+        "        self.length = Duration::from_millis(u64::from(milliseconds));\n",
+        "        let _ = milliseconds;\n",
+    ),
+    "keeps_any_longer_timeout": (
+        "src/waiting.rt",
+        "        Some(more) => more <= Duration::from_millis(SLACK),",
+        "        Some(_) => true,",
     ),
 }
