@@ -198,8 +198,8 @@ BUGS = {
     ),
     "swaps_boots_and_time": (
         "src/stamp.rt",
-        "            self.boots,\n            self.time,\n",
-        "            self.time,\n            self.boots,\n",
+        "Some(Sample::new(self.boots, self.time, discontinuity, kind, value))",
+        "Some(Sample::new(self.time, self.boots, discontinuity, kind, value))",
     ),
     "takes_any_host": (
         "src/awaiting.rt",
