@@ -10,10 +10,10 @@ use mon_app::{
     AppFault, Asking, Heard, Repeats, SocketFault, SocketReason, Wire, answer_text, request,
 };
 use mon_ber::{Octets, Value};
-use mon_udp::failed_after;
 use mon_oid::Oid;
 use mon_pdu::write_message;
 use mon_smi::InNumbers;
+use mon_udp::failed_after;
 use std::alloc::{AllocError, Global};
 use std::test::Fail;
 

@@ -15,11 +15,11 @@ use mon_agent::{Agent, AgentFault, Reply};
 use mon_board::{Board, Watch};
 use mon_disk::{Disk, MemoryDisk};
 use mon_mib::{Device, Moment, SimDevice};
-use mon_udp::Addr;
 use mon_report::write_report;
 use mon_settings::{SettingsFault, StationSettings, read_agent, read_station};
 use mon_smi::Names;
 use mon_station::{Event, Innermost, Station, StationFault, saved_board};
+use mon_udp::Addr;
 use std::alloc::{AllocError, Global};
 use thiserror::Error;
 

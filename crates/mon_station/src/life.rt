@@ -18,9 +18,9 @@ use mon_disk::HEAD_ROOM;
 use mon_exchange::{Claim, ClaimKind, ClaimRef, Peers, read_claim, write_claim};
 use mon_fields::put_octets;
 use mon_poller::{Poller, TimedOut};
-use mon_udp::Addr;
 use mon_sample::Sample;
 use mon_saved::{image_size, write_within};
+use mon_udp::Addr;
 use std::alloc::{AllocError, Global};
 
 /// One life of a station: all that it holds in memory.

@@ -6,10 +6,10 @@ ghost use Rattle.mon_station_tests.specs.Listed.{RanOver};
 use crate::events::events_of;
 use crate::printing::{fault, sent};
 use mon_disk::{FuseDisk, MemoryDisk};
-use mon_udp::failed_after;
 use mon_station::{
     Answer, Outbox, OutboxFault, Outgoing, OwnedEvent, Run, Source, SourceFault, Station,
 };
+use mon_udp::failed_after;
 use std::alloc::Global;
 use std::collections::VecDeque;
 use std::fmt::Write;
