@@ -1,5 +1,6 @@
-//! Tests of single calls: outside vectors, happy paths, and each fault once. Those of the agent and of what stands around it are in mon_agent_tests.
-//! They stand in one crate at the top, so that no crate below is proved a second time for its tests.
+//! Tests of single calls: outside vectors, happy paths, and each fault once. Those of the agent and
+//! of what is around it are in mon_agent_tests. They are in one crate at the top, so that no crate
+//! below is proved a second time for its tests.
 //! Contract: none; a test that fails ends the gate.
 #![tactic(auto)]
 

@@ -72,7 +72,7 @@ fn write_into(alloc: Global, message: &Message) -> Result<Vec<u8>, PduFault> {
     Ok(out)
 }
 
-/// The octets of the message after those of another, in room for both.
+/// The octets of the message after those of another, within the capacity for both.
 fn write_both(alloc: Global, one: &Message, other: &Message) -> Result<Vec<u8>, PduFault> {
     let mut out = mon_pdu::write_message(alloc, one)?;
     out.reserve(mon_pdu::message_size(other)?)?;

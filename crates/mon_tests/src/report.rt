@@ -130,7 +130,8 @@ fn reports(alloc: Global, board: &Board, line: &str, last: &str) -> Result<bool,
     Ok(rest.strip_prefix(line) == Some(last))
 }
 
-/// Sizes, thresholds, samples, and what stands in the report after the instance, in its line and after it.
+/// Sizes, thresholds, samples, and what the report has after the instance, in its line and after
+/// it.
 type Case<'a> = (
     (usize, usize),
     &'a [(i64, i64)],
@@ -205,7 +206,7 @@ fn reports_the_worked_rows(rt: HostRuntime) -> Result<(), Fail> {
     Ok(())
 }
 
-/// How much of the report of row 9 a writer with this room takes, and what is said of it.
+/// How much of the report of row 9 a writer of this capacity takes, and what is said of it.
 fn written_into(alloc: Global, board: &Board, room: usize) -> (Result<(), ReportFault>, Vec<u8>) {
     let mut writer = Narrow {
         room,

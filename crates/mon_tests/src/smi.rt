@@ -114,7 +114,7 @@ fn names_identifiers(rt: HostRuntime) -> Result<(), Fail> {
     Ok(())
 }
 
-/// A module of four names, of which two stand for each other.
+/// A module of four names, of which two mean each other.
 const EX_MIB: &str =
     "EX-MIB DEFINITIONS ::= BEGIN ex OBJECT IDENTIFIER ::= { enterprises 32473 1 } exCount OBJECT-TYPE SYNTAX Counter32 MAX-ACCESS read-only STATUS current DESCRIPTION \"n\" ::= { ex 2 } exLoop OBJECT IDENTIFIER ::= { exPool 1 } exPool OBJECT IDENTIFIER ::= { exLoop 1 } END";
 
@@ -134,7 +134,7 @@ fn fault_of(alloc: Global, text: &str) -> &'static str {
     }
 }
 
-/// What a name stands for with the module's names, as text.
+/// What a name means with the module's names, as text.
 fn meaning(alloc: Global, text: &str) -> Result<String, NamesFault> {
     let mut names = built_in(alloc)?;
     let Ok(module) = read(alloc, EX_MIB) else {
@@ -201,7 +201,7 @@ fn names_of_a_module(rt: HostRuntime) -> Result<(), Fail> {
     Ok(())
 }
 
-/// Adds a module, a second time where memory was wanting the first time.
+/// Adds a module, a second time if memory ran out the first time.
 fn add_again(names: &mut Names, alloc: Global, added: &Module) -> Result<(), NamesFault> {
     match add(names, alloc, added) {
         Err(NamesFault::OutOfMemory) => add(names, alloc, added),

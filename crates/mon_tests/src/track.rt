@@ -145,7 +145,7 @@ fn keeps_the_same_in_any_order(rt: HostRuntime) -> Result<(), Fail> {
     Ok(())
 }
 
-/// The totals of two samples that are 10 seconds apart, but for what stands in their way.
+/// The totals of two samples that are 10 seconds apart, except for what is in their way.
 #[test]
 fn counts_where_nothing_stands_between(rt: HostRuntime) -> Result<(), Fail> {
     let first = counter(3, 100, 0, 4294967290);
@@ -178,7 +178,7 @@ fn raises_and_clears(rt: HostRuntime) -> Result<(), Fail> {
     Ok(())
 }
 
-/// An INTEGER at this time, so much below 0.
+/// An INTEGER at this time, this much below 0.
 fn below_zero(time: u32, much: u64) -> Sample {
     let value = 0u64.wrapping_sub(much);
     if time < 1 << 31 && Kind::Integer.holds(value) {
