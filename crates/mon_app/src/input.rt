@@ -15,6 +15,13 @@ const CHUNK: usize = 65_536;
 /// How many reads an input may take.
 const READS: u32 = 1_048_576;
 
+/// Returns this many zeros.
+fn zeros(alloc: Global, len: usize) -> Result<Vec<u8>, AllocError>
+    ensures { IfOk result (λ v. length v.items ≡ len) }
+{
+    vec![in alloc; 0u8; len]
+}
+
 /// The octets of a reader to its end, in at most 1048576 reads of at most 65536 octets.
 ///
 /// # Errors
@@ -25,7 +32,7 @@ pub fn read_all<R: Read>(alloc: Global, reader: &mut Counted<R>) -> Result<Vec<u
     ensures whole { IfOk result (λ octets. IfSome (R.remaining reader.old.reader) (λ all. octets.items ≡ all)) }
     ensures fault { IfErr result (IsFaultOfInput reader.old.counts reader.new.counts) }
 {
-    let mut chunk = vec![in alloc; 0u8; CHUNK]?;
+    let mut chunk = zeros(alloc, CHUNK)?;
     let mut octets = Vec::new(alloc);
     for _ in 0..READS {
         match reader.read(chunk.as_mut_slice()) {

@@ -6,7 +6,7 @@ use mon_mib::Moment;
 /// A datagram that was received.
 #[derive(Clone, Copy, Debug, PartialEq, Eq)]
 pub struct Received {
-    /// How many octets it has, at the front of the buffer that was lent.
+    /// How many octets it has, at the front of the buffer.
     pub len: usize,
     /// When it came, in the life of the agent.
     pub moment: Moment,

@@ -1,11 +1,11 @@
-//! What is told if memory runs out for a datagram.
+//! Who learns that memory ran out for a datagram.
 
-/// What is told that memory ran out for a datagram.
+/// Learns that memory ran out for a datagram.
 pub trait Untaken {
     ghost use Rattle.std.specs.Prelude.{◌≡◌, ℕ};
     ghost use Rattle.mon_udp.specs.Counts.{next_count};
 
-    // How often it was told, at most 2^64 - 1.
+    // How often that was, at most 2^64 - 1.
     ghost times: { Self → ℕ };
 
     /// Takes note that memory ran out for the datagram that came last.

@@ -5,7 +5,7 @@ use crate::fault::SocketFault;
 /// What a wire received.
 #[derive(Clone, Copy, Debug, PartialEq, Eq)]
 pub enum Heard {
-    /// A datagram of the agent's, of this many octets at the front of the buffer that was lent.
+    /// A datagram of the agent's, of this many octets at the front of the buffer.
     Datagram(usize),
     /// Something else, as a datagram from another address; the wait goes on.
     Other,
