@@ -65,7 +65,7 @@ def sub_identifiers(contents):
 
 
 def shown(octets):
-    return f"Octets {{ bytes: {list(octets)} }}"
+    return f"Octets {{ octets: {list(octets)} }}"
 
 
 def value(reader):
