@@ -116,8 +116,10 @@ impl Board {
         ensures marks { KeepsMarks self.old self.new }
     {
         laws::taken_in_turn();
+        // Proof: the invariant of the watch.
         let _ = self.watch();
         for sample in samples {
+            // Proof: the same before each turn.
             let _ = self.watch();
             let _ = self.take(instance, *sample);
         }
@@ -132,8 +134,10 @@ impl Board {
         ensures marks { KeepsMarks self.old self.new }
     {
         laws::taken_in_turn();
+        // Proof: the invariant of the watch.
         let _ = self.watch();
         for (instance, sample) in pairs {
+            // Proof: the same before each turn.
             let _ = self.watch();
             let _ = self.take(*instance, *sample);
         }

@@ -32,18 +32,22 @@ fn look_at_value(value: &Value)
 {
     match value {
         Value::Integer(number) => {
+            // Proof: its range is that of its type.
             let _number = *number;
         }
         Value::Name(name) => {
+            // Proof: a name is an identifier.
             let _parts = name.parts();
         }
         Value::IpAddress(address) => {
             look_at_address(*address);
         }
         Value::Counter32(number) | Value::Gauge32(number) | Value::TimeTicks(number) => {
+            // Proof: its range is that of its type.
             let _number = *number;
         }
         Value::Counter64(number) => {
+            // Proof: its range is that of its type.
             let _number = *number;
         }
         _ => {}
@@ -56,6 +60,7 @@ fn binding_len(binding: &Binding) -> usize
     ensures len { result ≡ size_counted (length (binding_contents binding.now)) }
     ensures valid { IsValidBinding binding.now }
 {
+    // Proof: the binding's name and value are valid.
     let _parts = binding.name.parts();
     look_at_value(&binding.value);
     (name_size(&binding.name) + value_size(&binding.value)).min(LIMIT)

@@ -54,6 +54,7 @@ fn spelled_name(alloc: Global, name: &Oid) -> Result<Octets, AllocError>
     ensures spells { IfOk result (λ octets. Spells octets (Name name.now)) }
 {
     mon_ber::laws::written();
+    // Proof: a name is an identifier.
     let _parts = name.parts();
     let mut octets = Vec::with_capacity(alloc, name_size(name))?;
     put_object_identifier(&mut octets, name);
@@ -160,5 +161,6 @@ fn name_binding(name: Oid) -> Binding
 fn look_at_name(name: &Oid)
     ensures { length (written (Name name.now)) ≤ 651 }
 {
+    // Proof: the contract of `name_size`.
     let _size = name_size(name);
 }

@@ -50,6 +50,7 @@ impl<R: Receiver + Drop> Rounds<R> {
     pub(crate) fn orderly(&self)
         ensures { AreSoFar (length self.now.round.targets) self.now.round.peers self.now.round.phase self.now.round.events }
     {
+        // Proof: the invariant of the round.
         let _ = self.round.events();
     }
 

@@ -110,6 +110,7 @@ impl Sample {
         ensures number { result ≡ nat_cmp self.now other.now }
         ensures octets { result ≡ slice_cmp nat_cmp (octets_of self.now) (octets_of other.now) }
     {
+        // Proof: the ranges of both samples' fields.
         let _ = &self.boots;
         let _ = &other.boots;
         let own = stamp(self.boots, self.time);
@@ -129,6 +130,7 @@ impl Sample {
         ensures octets { result ≡ octets_of self.now }
         ensures sample { IsSample self.now }
     {
+        // Proof: the ranges of the fields.
         let _ = &self.boots;
         let tag = self.kind.tag();
         laid_out(self.boots, self.time, self.discontinuity, tag, self.value)

@@ -40,6 +40,7 @@ fn fill(board: &mut Board, entries: &[Entry])
     ensures unmarked { IsUnmarked board.old → IsUnmarked board.new }
 {
     laws::taken_in_turn();
+    // Proof: the invariant of the watch.
     let _ = board.watch().instances();
     for k in 0..entries.len() {
         board.take_all(k as u16, entries[k].samples.as_slice());

@@ -233,7 +233,7 @@ pub fn read_station(
     ensures accepted { IsReadAs station_view (Says (IsStation names.now) text.now) result }
     ensures refused { IfErr result (IsRefusal (station_of (resolution names.now)) text.now) }
 {
-    names.settled();
+    names.invariants();
     crate::laws::resolving();
     match tree(alloc, text) {
         Ok(table) => read_tree(

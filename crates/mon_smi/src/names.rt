@@ -66,9 +66,10 @@ impl Names {
     }
 
     /// No name is defined twice. It does nothing: the clause holds of all names, and is here for whoever needs it.
-    pub fn settled(&self)
+    pub fn invariants(&self)
         ensures { AreDistinct self.now }
     {
+        // Proof: the invariant of the definitions.
         let _ = self.defs.as_slice();
     }
 

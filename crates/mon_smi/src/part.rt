@@ -9,7 +9,7 @@ pub(crate) enum Part {
     Text,
     /// How the object may be accessed.
     Access,
-    /// Returns `true` if the definition is current.
+    /// The state of the definition, as `current` or `obsolete`.
     Status,
     /// A word, whatever it says.
     Word,

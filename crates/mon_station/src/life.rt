@@ -60,6 +60,7 @@ impl Life {
     {
         mon_window::laws::bound();
         mon_window::laws::rising_list();
+        // Proof: the invariants of the board and of the poller.
         let _ = self.board.watch().instances();
         let _ = self.poller.targets();
     }
@@ -86,6 +87,7 @@ impl Life {
         ensures answered { IsAnswered (state_of self.old) (state_of self.new) (read.StartPoll target) result }
         ensures refused { OnErr result (state_of self.new ≡ state_of self.old) }
     {
+        // Proof: the invariants of the state.
         self.settled();
         let room = room_for_one(alloc)?;
         match self.poller.start(alloc, target) {
@@ -106,6 +108,7 @@ impl Life {
         ensures spared { ¬ (IsSentAgain (timeout_verdict self.old.poller.targets self.old.poller.polls id)) → IsOk result }
         ensures refused { OnErr result (state_of self.new ≡ state_of self.old) }
     {
+        // Proof: the invariants of the state.
         self.settled();
         let room = self.room_to_send_again(alloc, id)?;
         let timed_out = self.poller.time_out(alloc, id)?;
@@ -165,6 +168,7 @@ impl Life {
         ensures memory { result ≡ Err StationFault.OutOfMemory → state_of self.new ≡ state_of self.old }
     {
         mon_poller::laws::offered();
+        // Proof: the invariants of the state.
         self.settled();
         match self.poller.response(alloc, from, octets) {
             Ok(offered) => {
@@ -182,6 +186,7 @@ impl Life {
         ensures read_err { IfErr result (λ f. (f ≡ StationFault.OutOfMemory → ⊥) → (r : Result Said AnyExchangeFault) × SaysAs self.old.board.watch octets.now r) }
         ensures refused { OnErr result (state_of self.new ≡ state_of self.old) }
     {
+        // Proof: the invariants of the state.
         self.settled();
         match read_claim(alloc, octets) {
             Ok(claim) => self.take_claim(alloc, &claim),
@@ -197,6 +202,7 @@ impl Life {
         ensures numbered { (n : Option ℕ) × IsNumbered self.old.board.watch claim.now n }
         ensures refused { OnErr result (state_of self.new ≡ state_of self.old) }
     {
+        // Proof: the invariants of the state.
         self.settled();
         let taken = self.pairs(alloc, claim)?;
         let sends = self.confirm(alloc, claim)?;

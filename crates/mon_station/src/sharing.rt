@@ -29,6 +29,7 @@ impl Life {
         ensures few { IfOk result (λ told. length told.sends.items ≤ 512) }
         ensures refused { OnErr result (state_of self.new ≡ state_of self.old) }
     {
+        // Proof: the invariants of the state.
         self.settled();
         match self.peers.slot(peer) {
             Some(slot) => self.share_in(alloc, peer, slot),
@@ -44,6 +45,7 @@ impl Life {
         ensures few { IfOk result (λ told. length told.sends.items ≤ 512) }
         ensures refused { OnErr result (state_of self.new ≡ state_of self.old) }
     {
+        // Proof: the invariants of the state.
         self.settled();
         let portions = portions(alloc, &self.board, slot)?;
         let (sends, serial) = self.offers(alloc, peer, portions.as_slice())?;
@@ -113,6 +115,7 @@ impl Life {
         requires { slot < 15 }
         ensures { result ≡ owed_below (owed_to (state_of self.now) slot) (length self.now.board.watch.instances) }
     {
+        // Proof: the invariants of the state.
         self.settled();
         let mut count = 0;
         for place in 0..self.board.watch().instances().len() {
@@ -129,6 +132,7 @@ impl Life {
         ensures few { result ≤ 64 }
     {
         mon_window::laws::rising_list();
+        // Proof: the invariants of the state.
         self.settled();
         let mut count = 0;
         let mut after = None;

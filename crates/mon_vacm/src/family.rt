@@ -14,7 +14,7 @@ pub struct Family {
     pub subtree: Oid,
     /// Bit i, counted from the highest of the first octet, is 0 where sub-identifier i may differ; after the end all are 1.
     pub mask: Octets,
-    /// Returns `true` if the names are in the view, where this family decides.
+    /// `true` if the names are in the view, where this family decides.
     pub included: bool,
 }
 

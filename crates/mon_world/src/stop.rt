@@ -71,5 +71,6 @@ pub(crate) fn unsaved(station: &Station<MemoryDisk>)
     ensures { IsHandled Save (Some (StationFault.Keeper KeeperFault.DiskFault)) (state_in station.now) (state_in station.now) }
 {
     mon_board::laws::taken_in_turn();
+    // Proof: the invariant of the watch.
     let _ = station.board().watch();
 }

@@ -90,6 +90,7 @@ impl World {
         ensures states { (moves : List Move) → Shows self.now.core self.now.stations.items self.now.sent.items moves → AreUnforged moves → StatesOweTruly moves }
     {
         laws::debts();
+        // Proof: the invariant of the watch.
         let _ = self.core.watch();
     }
 

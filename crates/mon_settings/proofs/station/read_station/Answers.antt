@@ -12,7 +12,7 @@ pub returns-in-Ok-clause-accepted : goal.returns-in-Ok-clause-accepted
 returns-in-Ok-clause-accepted c =
     let defs = c.args.names.now in
     said station_view (station_of (resolution defs)) c.args.text.now (table_view c.in-Ok.table) c.in-Ok.ensures.tree (IsStation defs)
-    (station_of-is defs (resolution defs) (c.resolving.ensures defs c.settled.ensures)) c.read_tree.result c.read_tree.ensures
+    (station_of-is defs (resolution defs) (c.resolving.ensures defs c.invariants.ensures)) c.read_tree.result c.read_tree.ensures
 
 pub returns-in-Ok-clause-refused : goal.returns-in-Ok-clause-refused
 returns-in-Ok-clause-refused c =
