@@ -9,15 +9,15 @@ use Rattle.clap.specs.Words.{Row, Text, all_of, first_of, one_of}
 use Rattle.clap.specs.Walk.{texts}
 use Rattle.std.specs.Borrow.{Bor}
 use Rattle.mon_cli.specs.Choice.{word_of}
-use Rattle.mon_cli.specs.Format.{format_word}
+use Rattle.mon_formats.specs.FormatWord.{format_word}
 use Rattle.mon_cli.specs.Line.{Argument}
 use Rattle.mon_cli.specs.Table.{taken, value_of}
 use Rattle.mon_cli.specs.declared.lines.Value.{Value}
 use Rattle.mon_cli.specs.declared.lines.Value.TheVariants as value
 use Rattle.mon_cli.specs.declared.choice.Choice.{Choice}
 use Rattle.mon_cli.specs.declared.choice.Choice.TheVariants as commands
-use Rattle.mon_cli.specs.declared.format.ReportFormat.{ReportFormat}
-use Rattle.mon_cli.specs.declared.format.ReportFormat.TheVariants as report
+use Rattle.mon_formats.specs.declared.format.Format.{Format}
+use Rattle.mon_formats.specs.declared.format.Format.TheVariants as report
 use Rattle.mon_cli.specs.declared.meaning.Named.{Named}
 use Rattle.mon_cli.specs.declared.meaning.Printed.{Printed}
 use Rattle.mon_cli.specs.declared.meaning.Request.{Request}
@@ -69,11 +69,11 @@ abbrev pub IsNamed : List Row → Named → Type 0
 IsNamed rows n = (texts n.modules.now ≡ all_in (codes "module") rows) × (n.shown ≡ is_on (codes "names") rows)
 
 -- a format by its word, or text where the word is none of a format
-abbrev pub IsFormatOf : Text → ReportFormat → Type 0
-IsFormatOf t f = (t ≡ format_word f) ⊎ ((f ≡ report.Text) × ((g : ReportFormat) → t ≢ format_word g))
+abbrev pub IsFormatOf : Text → Format → Type 0
+IsFormatOf t f = (t ≡ format_word f) ⊎ ((f ≡ report.Text) × ((g : Format) → t ≢ format_word g))
 
 -- whether --columns was given, and the word after --format
-abbrev pub IsFormat : Bool → Text → ReportFormat → Type 0
+abbrev pub IsFormat : Bool → Text → Format → Type 0
 IsFormat true t f = f ≡ report.Columns
 IsFormat false t f = IsFormatOf t f
 

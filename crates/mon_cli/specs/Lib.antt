@@ -2,5 +2,4 @@ pub mod Choice
 pub mod Line
 pub mod Table
 pub mod Program
-pub mod Format
 pub mod Asked

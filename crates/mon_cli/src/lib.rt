@@ -2,7 +2,6 @@
 #![tactic(auto)]
 
 mod choice;
-mod format;
 mod lines;
 mod matches;
 mod meaning;
@@ -10,7 +9,6 @@ mod parser;
 mod texts;
 
 pub use choice::Choice;
-pub use format::ReportFormat;
 pub use matches::read_command;
 pub use meaning::{
     AgentArgs, AnswerArgs, Asked, BulkArgs, Named, Printed, RehearseArgs, ReplayArgs, ReportArgs,

@@ -10,12 +10,12 @@ ghost use Rattle.mon_cli.specs.declared.choice.Choice.TheVariants as commands;
 ghost use Rattle.mon_cli.specs.declared.meaning.Asked.TheVariants as asked;
 
 use crate::choice::Choice;
-use crate::format::ReportFormat;
 use crate::meaning::{
     AgentArgs, AnswerArgs, Asked, BulkArgs, Named, Printed, RehearseArgs, ReplayArgs, ReportArgs,
     Request, Scene, SetArgs, StationArgs, Timing,
 };
 use clap::ArgMatches;
+use mon_formats::Format;
 
 /// How many samples a window keeps if the arguments do not say.
 const USUAL_SIZE: u32 = 8;
@@ -90,13 +90,13 @@ fn named<'m, 'a>(matches: &'m ArgMatches<'a>) -> Named<'m, 'a>
 }
 
 /// Returns the format that the arguments give.
-fn format(matches: &ArgMatches<'_>) -> ReportFormat
+fn format(matches: &ArgMatches<'_>) -> Format
     ensures { IsFormat (is_on (codes "columns") (rows_of (found_of matches.now))) (text_in (codes "format") (rows_of (found_of matches.now))) result }
 {
     if is_on(matches, "columns") {
-        return ReportFormat::Columns;
+        return Format::Columns;
     }
-    ReportFormat::named(text(matches, "format")).unwrap_or(ReportFormat::Text)
+    Format::named(text(matches, "format")).unwrap_or(Format::Text)
 }
 
 /// Returns how a report is printed.

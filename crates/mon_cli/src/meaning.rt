@@ -1,6 +1,6 @@
 //! What the arguments ask for.
 
-use crate::format::ReportFormat;
+use mon_formats::Format;
 
 /// Modules whose names are known, and whether names are printed by them.
 #[derive(Clone, Copy)]
@@ -13,7 +13,7 @@ pub struct Named<'m, 'a> {
 /// How a report is printed.
 #[derive(Clone, Copy)]
 pub struct Printed<'m, 'a> {
-    pub format: ReportFormat,
+    pub format: Format,
     pub named: Named<'m, 'a>,
 }
 

@@ -1,6 +1,7 @@
 //! The formats of a report.
 
-ghost use Rattle.std.specs.Prelude.{◌≡◌, IfOk, option_map};
+ghost use Rattle.std.specs.Prelude.{◌≡◌, ◌≢◌, IfNone, IfOk, IfSome, option_map};
+ghost use Rattle.mon_formats.specs.FormatWord.{format_word};
 ghost use Rattle.mon_formats.specs.Formats.{formatted};
 ghost use Rattle.mon_formats.specs.Json.{ReadsAsReport};
 ghost use Rattle.mon_formats.specs.declared.format.Format.TheVariants.{Json};
@@ -25,6 +26,22 @@ pub enum Format {
     Prometheus,
     /// A table for people.
     Columns,
+}
+
+impl Format {
+    /// The format that this word names.
+    pub fn named(word: &str) -> Option<Self>
+        ensures found { IfSome result (λ format. word.now ≡ format_word format) }
+        ensures none { IfNone result ((format : Format) → word.now ≢ format_word format) }
+    {
+        match word {
+            "text" => Some(Format::Text),
+            "json" => Some(Format::Json),
+            "prometheus" => Some(Format::Prometheus),
+            "columns" => Some(Format::Columns),
+            _ => None,
+        }
+    }
 }
 
 /// Makes the report of instances in a format, with their names as `names` has them. Prometheus'

@@ -3,12 +3,14 @@
 //! of it.
 #![tactic(auto)]
 
+mod alarms;
 mod fault;
 pub mod laws;
 mod line;
 mod report;
 mod writing;
 
+pub use alarms::{alarm_line, alarm_states};
 pub use fault::ReportFault;
 pub use line::{write_end, write_rate};
 pub use report::{Entry, entries_of, write_entry, write_report, write_rest};

@@ -1,4 +1,3 @@
-mod Changing
 mod Onward
 mod Notices
 mod Wholly

@@ -1,4 +1,3 @@
-pub mod Alarms
 pub mod AtSocket
 pub mod Course
 pub mod Given

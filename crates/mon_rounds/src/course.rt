@@ -2,15 +2,16 @@
 
 ghost use Rattle.std.specs.Prelude.{◌≡◌, ◌↔◌, IfOk, IsTrue, OnErr, OnOk, map, string_bytes};
 ghost use Rattle.std.specs.Duration.{as_nanos};
-ghost use Rattle.mon_rounds.specs.Alarms.{change_line, changes_from, states_of};
+ghost use Rattle.mon_alarms.specs.Changes.{changes_from};
+ghost use Rattle.mon_report.specs.Alarms.{change_line, states_of};
 ghost use Rattle.mon_rounds.specs.Course.{IsDue, counted_on, debts_to, milliseconds_left};
 ghost use Rattle.mon_station.specs.State.{state_of};
 
-use crate::alarms::{AlarmChange, alarm_changes, alarm_line, alarm_states};
 use crate::reporting::RoundReport;
-use mon_alarms::AlarmState;
+use mon_alarms::{AlarmChange, AlarmState, find_changes};
 use mon_board::{Board, Watch};
 use mon_disk::Disk;
+use mon_report::{alarm_line, alarm_states};
 use mon_station::Station;
 use std::alloc::{AllocError, Global};
 use std::time::Duration;
@@ -77,7 +78,7 @@ impl Course {
         ensures given_up { self.new.given_up ≡ self.old.given_up }
     {
         let states = alarm_states(alloc, board)?;
-        let changes = alarm_changes(alloc, self.alarms.as_slice(), states.as_slice())?;
+        let changes = find_changes(alloc, self.alarms.as_slice(), states.as_slice())?;
         let lines = change_lines(alloc, board.watch(), changes.as_slice())?;
         self.alarms = states;
         Ok(lines)

@@ -8,7 +8,6 @@
 #![tactic(auto)]
 
 mod addresses;
-mod alarms;
 mod course;
 mod receiver;
 mod reporting;

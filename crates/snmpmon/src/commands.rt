@@ -3,17 +3,15 @@
 ghost use Rattle.std.specs.Prelude.{◌≤◌};
 ghost use Rattle.mon_cli.specs.Asked.{IsWithin};
 
-use crate::agent::{agent, answer};
-use crate::client::{bulk, get, next, set, walk};
-use crate::failure::Failure;
-use crate::files::{print, read_input, read_text};
 use crate::listing::list;
-use crate::printing::Printing;
-use crate::station::{rehearsal, report, self_test, station};
 use clap::error::ErrorKind;
+use mon_agent_commands::{agent, answer};
 use mon_app::Recorded;
 use mon_cli::{Asked, ReplayArgs, VERSION, read, read_command};
+use mon_client_commands::{bulk, get, next, set, walk};
+use mon_console::{Failure, Printing, print, read_input, read_text};
 use mon_smi::Names;
+use mon_station_commands::{rehearsal, report, self_test, station};
 use std::alloc::AllocError;
 use std::fs::File;
 use std::net::Net;

@@ -4,17 +4,8 @@
 //! it cannot read.
 #![tactic(auto)]
 
-mod agent;
-mod client;
 mod commands;
-mod failure;
-mod files;
 mod listing;
-mod naming;
-mod printing;
-mod settings;
-mod station;
-mod telling;
 
 use std::process::ExitCode;
 

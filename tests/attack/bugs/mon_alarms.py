@@ -1,6 +1,11 @@
 """Bugs of mon_alarms for planted_bugs: by a name the file, what stands there once, and the bug in its place."""
 
 BUGS = {
+    "misses_an_alarm_raised_anew": (
+        "src/change.rt",
+        "boots == other_boots && time == other_time",
+        "boots == other_boots && time <= other_time",
+    ),
     "numbers_the_fault_3": (
         "src/fault.rt",
         "FallingNotBelowRising = 2",

@@ -54,7 +54,6 @@ BODIES = {
     "a_next_is_a_get": ("src/choice.rt", '            "next" => Some(Choice::Next),', '            "next" => Some(Choice::Get),'),
     "walk_by_another_word": ("src/choice.rt", 'Choice::Walk => "walk"', 'Choice::Walk => "tree"'),
     "takes_any_word_for_a_replay": ("src/choice.rt", "            _ => None,", "            _ => Some(Choice::Replay),"),
-    "json_is_text": ("src/format.rt", '"json" => Some(ReportFormat::Json)', '"json" => Some(ReportFormat::Text)'),
     "get_has_the_words_of_walk": ("src/lines.rt", "        Choice::Get | Choice::Next => ASKING.as_slice(),\n        Choice::Bulk => BULK.as_slice(),\n        Choice::Walk => WALK.as_slice(),", "        Choice::Get | Choice::Walk => WALK.as_slice(),\n        Choice::Bulk => BULK.as_slice(),\n        Choice::Next => ASKING.as_slice(),"),
     "the_first_module_alone": ("src/matches.rt", "    matches.get_raw(id).unwrap_or_default()", "    let values = matches.get_raw(id).unwrap_or_default();\n    if values.len() > 1 { &values[..1] } else { values }"),
     "no_flag_is_on": ("src/matches.rt", 'text == "true"', 'text == "yes"'),

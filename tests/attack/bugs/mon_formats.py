@@ -1,6 +1,7 @@
 """Bugs for planted_bugs to plant in mon_formats: a file, what stands in it once, and what stands there then."""
 
 BUGS = {
+    "json_is_text": ("src/format.rt", '"json" => Some(Format::Json)', '"json" => Some(Format::Text)'),
     "columns_engine_of_the_first": ("src/columns.rt", "        before = Some(entry.engine());", "        if before.is_none() { before = Some(entry.engine()); }"),
     "columns_engines_of_one_length": ("src/columns.rt", "Some(before) if before == engine =>", "Some(before) if before.len() == engine.len() =>"),
     "columns_left_for_right": ("src/columns.rt", '"{spaces}{cell}  "', '"{cell}{spaces}  "'),

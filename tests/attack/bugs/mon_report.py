@@ -1,12 +1,17 @@
 """Bugs for planted_bugs to plant in mon_report: a file, what stands in it once, and what stands there then."""
 
 BUGS = {
+    "all_alarms_are_clear": (
+        "src/alarms.rt",
+        "        states.push(state(rule, board.items(rule.instance())))?;",
+        "        states.push(state(rule, &[]))?;",
+    ),
     "digits_swapped": ("src/line.rt", "DIGITS[usize::from(octet / 16)]", "DIGITS[usize::from(octet % 16)]"),
     "upper_case": ("src/line.rt", 'b"0123456789abcdef"', 'b"0123456789ABCDEF"'),
     "no_dots": ("src/line.rt", 'put(writer, ok, b".");\n    put_number(writer, ok, u64::from(part))', 'put(writer, ok, b"");\n    put_number(writer, ok, u64::from(part))'),
     "first_number_twice": ("src/line.rt", "put_others(writer, ok, others)", "put_others(writer, ok, name.parts())"),
     "time_before_boots": ("src/line.rt", "put_stamp(writer, ok, oldest.boots(), oldest.time())", "put_stamp(writer, ok, oldest.time(), oldest.boots())"),
-    "mark_for_the_number": ("src/line.rt", "put_signed(writer, ok, sample.number())", "put_signed(writer, ok, i128::from(sample.mark()))"),
+    "mark_for_the_number": ("src/line.rt", "put_signed(writer, ok, sample.number())", "put_signed(writer, ok, i128::from(sample.discontinuity()))"),
     "value_without_its_sign": ("src/line.rt", "put_signed(writer, ok, sample.number())", "put_number(writer, ok, sample.value())"),
     "two_digits": ("src/line.rt", "put(writer, ok, &[hundreds, tens, ones])", "put(writer, ok, &[hundreds, tens])"),
     "rate_of_no_time": ("src/line.rt", 'None => put(writer, ok, b"none")', 'None => put(writer, ok, b"0.000")'),

@@ -68,11 +68,6 @@ BUGS = {
         "        if let Notice::GaveUp(_) = notice {",
         "        if let Notice::GaveUp(_) | Notice::NotPolled(..) = notice {",
     ),
-    "all_alarms_are_clear": (
-        "src/alarms.rt",
-        "        states.push(state(rule, board.items(rule.instance())))?;",
-        "        states.push(state(rule, &[]))?;",
-    ),
     "ends_hearing_at_the_first_failure": (
         "src/round.rt",
         "        self.failures -= 1;",
@@ -102,11 +97,6 @@ BUGS = {
         "src/source.rt",
         "            Ok(Arrival::Quiet) => Ok(self.round.proceed(oldest)),",
         "            Ok(Arrival::Quiet) => Ok(None),",
-    ),
-    "misses_an_alarm_raised_anew": (
-        "src/alarms.rt",
-        "boots == other_boots && time == other_time",
-        "boots == other_boots && time <= other_time",
     ),
     "saves_nothing": (
         "src/round.rt",

@@ -1,5 +1,5 @@
 use Rattle.std.proofs.Common.{◌≡◌, map, take, string_bytes}
-use Rattle.mon_rounds.specs.Alarms.{change_line}
+use Rattle.mon_report.specs.Alarms.{change_line}
 use Rattle.mon_rounds.proofs.course.change_lines.Given as goal
 
 -- the lines of those so far

@@ -1,5 +1,7 @@
 //! Why settings were refused, and where.
 
+ghost use Rattle.std.specs.Prelude.{◌≡◌};
+
 use crate::failure::Failure;
 use mon_faults::{Fault, explain};
 use mon_settings::{SettingsFault, SettingsKind};
@@ -12,7 +14,9 @@ pub fn settings_failure(
     path: &str,
     text: &str,
     fault: SettingsFault,
-) -> Failure {
+) -> Failure
+    ensures { result.fault ≡ Fault.Settings fault }
+{
     Failure::said(Fault::Settings(fault), line(alloc, of, path, text, fault))
 }
 

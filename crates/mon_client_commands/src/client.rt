@@ -2,14 +2,12 @@
 
 ghost use Rattle.std.specs.Prelude.{◌↔◌, ◌≤◌, IsTrue, length};
 
-use crate::failure::Failure;
-use crate::files::print;
-use crate::naming::{asked_for, names_of};
 use mon_app::{
     AppFault, Asking, Question, Repeats, SocketWire, ValueKind, answer_text, status_name, value_of,
 };
 use mon_ber::Value;
 use mon_cli::{BulkArgs, Request, SetArgs};
+use mon_console::{Failure, asked_for, names_of, print};
 use mon_faults::Fault;
 use mon_oid::Oid;
 use mon_smi::{InNumbers, NameTexts, Names};

@@ -3,8 +3,8 @@ use Rattle.std.proofs.Common.{◌≡◌, ◌≤◌, ◌<◌, ◌+◌, ℕ, suc, 
 use Rattle.std.specs.Prelude.{zero, min}
 use Rattle.std.proofs.lemmas.List.{append-nil, take_more}
 use Rattle.mon_alarms.specs.declared.alarm.AlarmState.{AlarmState}
-use Rattle.mon_rounds.specs.declared.alarms.AlarmChange.{AlarmChange}
-use Rattle.mon_rounds.specs.Alarms.{change_at, changes_from}
+use Rattle.mon_alarms.specs.declared.change.AlarmChange.{AlarmChange}
+use Rattle.mon_alarms.specs.Changes.{change_at, changes_from}
 
 changes_push : (k : ℕ) (xs ys : List AlarmState) (x y : AlarmState) → length xs ≡ length ys
     → changes_from k (xs ++ x ∷ []) (ys ++ y ∷ []) ≡ changes_from k xs ys ++ change_at (k + length xs) x y

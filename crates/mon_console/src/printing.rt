@@ -1,13 +1,10 @@
 //! How reports are printed: in which format, and names by which modules.
 
-ghost use Rattle.std.specs.Prelude.{◌≡◌};
-ghost use Rattle.snmpmon.specs.Formats.{format_of};
-
 use crate::failure::Failure;
 use crate::files::replace_file;
 use crate::naming::add_module;
 use mon_board::Board;
-use mon_cli::{Printed, ReportFormat};
+use mon_cli::Printed;
 use mon_formats::{Figures, Format, format_report};
 use mon_report::{Entry, entries_of};
 use mon_smi::{InNumbers, Names};
@@ -38,7 +35,7 @@ impl Printing {
             }
         }
         Ok(Printing {
-            format: format_of(printed.format),
+            format: printed.format,
             names: printed.named.shown.then_some(names),
         })
     }
@@ -96,16 +93,4 @@ impl Printing {
 /// Returns `true` if one of the files is this one.
 fn is_among(files: &[String], path: &str) -> bool {
     files.iter().any(|file| file.as_str() == path)
-}
-
-/// Returns the format of reports that the arguments ask for.
-fn format_of(wanted: ReportFormat) -> Format
-    ensures { result ≡ format_of wanted }
-{
-    match wanted {
-        ReportFormat::Text => Format::Text,
-        ReportFormat::Json => Format::Json,
-        ReportFormat::Prometheus => Format::Prometheus,
-        ReportFormat::Columns => Format::Columns,
-    }
 }

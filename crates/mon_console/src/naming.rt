@@ -1,5 +1,7 @@
 //! Names by the modules that are given.
 
+ghost use Rattle.std.specs.Prelude.{◌≡◌};
+
 use crate::failure::Failure;
 use crate::files::read_text;
 use mon_faults::Fault;
@@ -35,7 +37,9 @@ pub fn add_module<R: Files + AllocGlobal>(
 }
 
 /// Why a file holds no module: where in it, and by which word.
-pub fn no_module(alloc: Global, path: &str, text: &str, fault: TextFault) -> Failure {
+pub fn no_module(alloc: Global, path: &str, text: &str, fault: TextFault) -> Failure
+    ensures { result.fault ≡ Fault.Text fault }
+{
     match fault {
         TextFault::Unexpected(span) | TextFault::Duplicate(span) => {
             let Position { line, column } = Position::of(text, span.start);

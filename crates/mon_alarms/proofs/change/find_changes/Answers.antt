@@ -1,7 +1,7 @@
 use Rattle.std.proofs.Common.{◌<◌, length, ◌∙◌, arith}
 use Rattle.std.specs.Prelude.{min}
-use Rattle.mon_rounds.proofs.Changing.{changes_all, changes_step}
-use Rattle.mon_rounds.proofs.alarms.alarm_changes.Goals as goal
+use Rattle.mon_alarms.proofs.Changing.{changes_all, changes_step}
+use Rattle.mon_alarms.proofs.change.find_changes.Goals as goal
 
 pub loop-rule-preserved : goal.loop-rule-preserved
 loop-rule-preserved c =

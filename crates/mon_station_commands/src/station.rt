@@ -2,18 +2,16 @@
 
 ghost use Rattle.std.specs.Prelude.{◌↔◌, ◌<◌, ◌≤◌, IsTrue};
 
-use crate::failure::Failure;
-use crate::files::{print, read_first, read_input, read_text};
-use crate::naming::add_module;
-use crate::printing::Printing;
-use crate::settings::settings_failure;
 use crate::telling::tell_notices;
 use mon_app::AppFault;
 use mon_board::Board;
-use mon_cli::{Named, Printed, RehearseArgs, ReportArgs, ReportFormat, StationArgs, Timing};
+use mon_cli::{Named, Printed, RehearseArgs, ReportArgs, StationArgs, Timing};
+use mon_console::{
+    Failure, Printing, add_module, print, read_first, read_input, read_text, settings_failure,
+};
 use mon_disk::{Disk, DiskError, FileDisk, SLOT_SIZE};
 use mon_faults::Fault;
-use mon_formats::Figures;
+use mon_formats::{Figures, Format};
 use mon_rehearsal::{rehearse, run_trial};
 use mon_report::write_report;
 use mon_rounds::{
@@ -61,7 +59,7 @@ struct Reports {
 
 /// How a report is printed if the arguments do not say.
 const PLAIN: Printed<'static, 'static> = Printed {
-    format: ReportFormat::Text,
+    format: Format::Text,
     named: Named {
         modules: &[],
         shown: false,

@@ -1,13 +1,10 @@
 //! The commands of an agent: `agent` and `answer`.
 
-use crate::failure::Failure;
-use crate::files::{print, read_input_text, read_text};
-use crate::naming::names_of;
-use crate::settings::settings_failure;
 use mon_agent::Agent;
 use mon_answers::{Scene, answer_lines};
 use mon_app::{AppFault, SocketPort, Untaken, serve};
 use mon_cli::{AgentArgs, AnswerArgs};
+use mon_console::{Failure, names_of, print, read_input_text, read_text, settings_failure};
 use mon_faults::Fault;
 use mon_mib::{Device, FuseDevice, Moment, SimDevice};
 use mon_settings::{AgentSettings, SettingsKind, read_agent};

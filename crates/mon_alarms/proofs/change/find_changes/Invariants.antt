@@ -1,6 +1,6 @@
 use Rattle.std.proofs.Common.{◌≡◌, take}
-use Rattle.mon_rounds.specs.Alarms.{changes_from}
-use Rattle.mon_rounds.proofs.alarms.alarm_changes.Given as goal
+use Rattle.mon_alarms.specs.Changes.{changes_from}
+use Rattle.mon_alarms.proofs.change.find_changes.Given as goal
 
 -- the changes so far
 abbrev pub invariant-loop-rule : goal.invariant-loop-rule

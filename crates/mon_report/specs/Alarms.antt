@@ -1,10 +1,9 @@
--- Alarms that change from one board to a later one.
-use Rattle.std.specs.Prelude.{ℕ, ◌+◌, Bool, true, false, ◌&&◌, ◌==◌, cond, List, [], ◌∷◌, ◌++◌, Option, Some, None, codes, map, slice_get}
+-- The states of a board's alarms, and the line of one that changed.
+use Rattle.std.specs.Prelude.{ℕ, List, [], ◌++◌, Option, Some, None, codes, map, slice_get}
 use Rattle.std.specs.Fmt.{signed_decimal}
 use Rattle.hex.specs.Hex.{encode_lower}
 use Rattle.mon_oid.specs.Oid.{dotted}
 use Rattle.mon_alarms.specs.declared.alarm.AlarmState.{AlarmState}
-use Rattle.mon_alarms.specs.declared.alarm.AlarmState.TheVariants.{Clear, Raised}
 use Rattle.mon_alarms.specs.Rule.{Rule}
 use Rattle.mon_alarms.specs.Observed.{state_by}
 use Rattle.mon_board.specs.declared.instance.Instance.{Instance}
@@ -12,29 +11,12 @@ use Rattle.mon_board.specs.declared.instance.Watched.{Watched}
 use Rattle.mon_board.specs.Board.{Board, window_of}
 use Rattle.mon_board.specs.Watch.{Watch}
 use Rattle.mon_report.specs.Report.{state_text}
-use Rattle.mon_rounds.specs.declared.alarms.AlarmChange.{AlarmChange}
+use Rattle.mon_alarms.specs.declared.change.AlarmChange.{AlarmChange}
 use Rattle.mon_window.specs.Top.{rising}
 
 -- the states of a board's alarms, in the order of the watch's rules
 abbrev pub states_of : Board → List AlarmState
 states_of b = map (λ r. state_by r (rising (window_of b r.instance))) b.watch.rules
-
--- whether two states are one
-abbrev pub is_same : AlarmState → AlarmState → Bool
-is_same Clear Clear = true
-is_same Clear (Raised boots time) = false
-is_same (Raised boots time) Clear = false
-is_same (Raised boots time) (Raised other_boots other_time) = (boots == other_boots) && (time == other_time)
-
--- an alarm that has another state than before, by its rule's number
-abbrev pub change_at : ℕ → AlarmState → AlarmState → List AlarmChange
-change_at rule old new = cond (is_same old new) [] (record { rule = rule; state = new } ∷ [])
-
--- the alarms that have another state than before, of which the first rule has this number
-abbrev pub changes_from : ℕ → List AlarmState → List AlarmState → List AlarmChange
-changes_from rule [] after = []
-changes_from rule (old ∷ before) [] = []
-changes_from rule (old ∷ before) (new ∷ after) = change_at rule old new ++ changes_from (rule + 1) before after
 
 -- an instance: its engine id in hex digits, and its name
 abbrev pub instance_text : Instance → List ℕ

@@ -1,5 +1,7 @@
 //! Why a command failed, and where.
 
+ghost use Rattle.std.specs.Prelude.{◌≡◌};
+
 use mon_app::{AppFault, SocketReason};
 use mon_faults::Fault;
 use mon_mib::DeviceFault;
@@ -20,12 +22,16 @@ pub struct Failure {
 
 impl Failure {
     /// A fault that says all itself.
-    pub fn plain(fault: Fault) -> Self {
+    pub fn plain(fault: Fault) -> Self
+        ensures { result.fault ≡ fault }
+    {
         Failure { fault, more: None }
     }
 
     /// A fault, and a line that says more of it.
-    pub fn said(fault: Fault, more: Result<String, AllocError>) -> Self {
+    pub fn said(fault: Fault, more: Result<String, AllocError>) -> Self
+        ensures { result.fault ≡ fault }
+    {
         Failure {
             fault,
             more: more.ok(),
@@ -33,12 +39,16 @@ impl Failure {
     }
 
     /// A fault that arose at this place: a file or an address.
-    pub fn at(alloc: Global, place: &str, fault: Fault) -> Self {
+    pub fn at(alloc: Global, place: &str, fault: Fault) -> Self
+        ensures { result.fault ≡ fault }
+    {
         Failure::said(fault, format!(in alloc; "{place}: {fault}"))
     }
 
     /// Makes the failure of an argument or a text that is not what must be in its place.
-    pub fn text(alloc: Global, place: &str, wanted: &str) -> Self {
+    pub fn text(alloc: Global, place: &str, wanted: &str) -> Self
+        ensures { result.fault ≡ Fault.App AppFault.BadText }
+    {
         let fault = Fault::App(AppFault::BadText);
         Failure::said(fault, format!(in alloc; "{place}: {wanted} is wanted"))
     }
@@ -62,7 +72,9 @@ impl Failure {
         alloc: Global,
         address: P,
         reason: SocketReason,
-    ) -> Self {
+    ) -> Self
+        ensures { result.fault ≡ Fault.App (AppFault.SocketFault reason) }
+    {
         let why = reason.text();
         Failure::said(
             Fault::App(AppFault::SocketFault { reason }),

@@ -1,24 +1,15 @@
-//! Alarms that change from one board to a later one.
+//! The states of a board's alarms, and the line of one that changed.
 
 ghost use Rattle.std.specs.Prelude.{◌≡◌, ◌++◌, IfOk, OnOk, string_bytes};
-ghost use Rattle.mon_rounds.specs.Alarms.{change_at, change_line, change_on, changes_from, instance_text, is_same, rule_line, states_of, thresholds_text};
+ghost use Rattle.mon_report.specs.Alarms.{change_line, change_on, instance_text, rule_line, states_of, thresholds_text};
 ghost use Rattle.mon_report.specs.Report.{state_text};
 
-use mon_alarms::{AlarmState, Rule, state};
+use mon_alarms::{AlarmChange, AlarmState, Rule, state};
 use mon_board::{Board, Instance, Watch};
 use std::alloc::{AllocError, Global};
 
-/// The state that an alarm changed to.
-#[derive(Clone, Copy, Debug, PartialEq, Eq)]
-pub(crate) struct AlarmChange {
-    /// The number of its rule in the watch.
-    pub rule: usize,
-    /// The state that it has now.
-    pub state: AlarmState,
-}
-
 /// The states of a board's alarms, in the order of the watch's rules.
-pub(crate) fn alarm_states(alloc: Global, board: &Board) -> Result<Vec<AlarmState>, AllocError>
+pub fn alarm_states(alloc: Global, board: &Board) -> Result<Vec<AlarmState>, AllocError>
     ensures { IfOk result (λ v. v.items ≡ states_of board.now) }
 {
     let rules = board.watch().rules();
@@ -29,63 +20,9 @@ pub(crate) fn alarm_states(alloc: Global, board: &Board) -> Result<Vec<AlarmStat
     Ok(states)
 }
 
-/// What changed from the states before to those after, by the numbers of the rules.
-pub(crate) fn alarm_changes(
-    alloc: Global,
-    before: &[AlarmState],
-    after: &[AlarmState],
-) -> Result<Vec<AlarmChange>, AllocError>
-    ensures { IfOk result (λ v. v.items ≡ changes_from 0 before.now after.now) }
-{
-    let mut changes = Vec::new(alloc);
-    for rule in 0..before.len().min(after.len()) {
-        let old = before[rule];
-        let new = after[rule];
-        put_change(&mut changes, rule, old, new)?;
-    }
-    Ok(changes)
-}
-
-/// Adds the change of a rule, where its state is another one.
-fn put_change(
-    changes: &mut Vec<AlarmChange>,
-    rule: usize,
-    old: AlarmState,
-    new: AlarmState,
-) -> Result<(), AllocError>
-    ensures { OnOk result (changes.new.items ≡ changes.old.items ++ change_at rule old new) }
-{
-    if is_same(old, new) {
-        return Ok(());
-    }
-    changes.push(AlarmChange { rule, state: new })?;
-    Ok(())
-}
-
-/// Returns `true` if two states are equal.
-fn is_same(a: AlarmState, b: AlarmState) -> bool
-    ensures { result ≡ is_same a b }
-{
-    match (a, b) {
-        (AlarmState::Clear, AlarmState::Clear) => true,
-        (
-            AlarmState::Raised { boots, time },
-            AlarmState::Raised {
-                boots: other_boots,
-                time: other_time,
-            },
-        ) => boots == other_boots && time == other_time,
-        _ => false,
-    }
-}
-
 /// The line of a change, without its end: the engine id in hex digits, the name, the thresholds in thousandths and the state, as a report has
 /// them. It is empty where the watch has no such rule.
-pub(crate) fn alarm_line(
-    alloc: Global,
-    watch: &Watch,
-    change: &AlarmChange,
-) -> Result<String, AllocError>
+pub fn alarm_line(alloc: Global, watch: &Watch, change: &AlarmChange) -> Result<String, AllocError>
     ensures { IfOk result (λ text. string_bytes text ≡ change_line watch.now change.now) }
 {
     match watch.rules().get(change.rule) {

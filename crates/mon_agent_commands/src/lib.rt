@@ -1,0 +1,6 @@
+//! The commands of an agent: serving one, and what one answers to datagrams of a text.
+#![tactic(auto)]
+
+mod agent;
+
+pub use agent::{agent, answer};

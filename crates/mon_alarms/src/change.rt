@@ -1,0 +1,66 @@
+//! Alarms that change their states.
+
+ghost use Rattle.std.specs.Prelude.{◌≡◌, ◌++◌, IfOk, OnOk};
+ghost use Rattle.mon_alarms.specs.Changes.{change_at, changes_from, is_same};
+
+use crate::alarm::AlarmState;
+use std::alloc::{AllocError, Global};
+
+/// The state that an alarm changed to.
+#[derive(Clone, Copy, Debug, PartialEq, Eq)]
+pub struct AlarmChange {
+    /// The number of its rule in the watch.
+    pub rule: usize,
+    /// The state that it has now.
+    pub state: AlarmState,
+}
+
+/// Returns what changed from the states before to those after, by the numbers of the rules.
+pub fn find_changes(
+    alloc: Global,
+    before: &[AlarmState],
+    after: &[AlarmState],
+) -> Result<Vec<AlarmChange>, AllocError>
+    ensures { IfOk result (λ v. v.items ≡ changes_from 0 before.now after.now) }
+{
+    let mut changes = Vec::new(alloc);
+    for rule in 0..before.len().min(after.len()) {
+        let old = before[rule];
+        let new = after[rule];
+        put_change(&mut changes, rule, old, new)?;
+    }
+    Ok(changes)
+}
+
+/// Adds the change of a rule, where its state is another one.
+fn put_change(
+    changes: &mut Vec<AlarmChange>,
+    rule: usize,
+    old: AlarmState,
+    new: AlarmState,
+) -> Result<(), AllocError>
+    ensures { OnOk result (changes.new.items ≡ changes.old.items ++ change_at rule old new) }
+{
+    if is_same(old, new) {
+        return Ok(());
+    }
+    changes.push(AlarmChange { rule, state: new })?;
+    Ok(())
+}
+
+/// Returns `true` if two states are equal.
+fn is_same(a: AlarmState, b: AlarmState) -> bool
+    ensures { result ≡ is_same a b }
+{
+    match (a, b) {
+        (AlarmState::Clear, AlarmState::Clear) => true,
+        (
+            AlarmState::Raised { boots, time },
+            AlarmState::Raised {
+                boots: other_boots,
+                time: other_time,
+            },
+        ) => boots == other_boots && time == other_time,
+        _ => false,
+    }
+}

@@ -1,0 +1,16 @@
+//! What the program's commands share: why one failed and where, what they read and print, names by the modules that are given,
+//! and how reports are printed.
+//! Contract: a failure has the fault that it was made of.
+#![tactic(auto)]
+
+mod failure;
+mod files;
+mod naming;
+mod printing;
+mod settings;
+
+pub use failure::Failure;
+pub use files::{print, read_first, read_input, read_input_text, read_text};
+pub use naming::{add_module, asked_for, names_of, no_module};
+pub use printing::Printing;
+pub use settings::settings_failure;
