@@ -1,10 +1,12 @@
--- What crates above may cite: what a watch keeps of an instance's samples. No other file here is for them.
+-- What crates above may cite: the order of instances, and what a watch keeps of an instance's samples. No other file here is for them.
 use Rattle.std.proofs.Common.{◌≡◌, ℕ, [], ◌∷◌}
 use Rattle.std.specs.FinSet.{empty, insert, union, from_list}
 use Rattle.mon_window.specs.Window.{Samples, In}
 use Rattle.mon_window.proofs.Promised as windows
 use Rattle.mon_board.specs.Watch.{Watch, size_of, epoch_of}
 use Rattle.mon_board.specs.Windows.{kept_by}
+-- the order of instances is total, and instances that tie are one
+pub use Rattle.mon_board.proofs.Order.{instance_cmp_total, instance_cmp-IsAntisymmetric}
 
 module _ (watch : Watch) (i : ℕ) where
   pub kept_within : (a : Samples) (s : ℕ) → In s (kept_by watch i a) → In s a

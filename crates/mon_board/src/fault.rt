@@ -1,4 +1,4 @@
-ghost use Rattle.std.specs.Prelude.{◌≡◌, codes};
+ghost use Rattle.std.specs.Prelude.{◌≡◌};
 ghost use Rattle.mon_board.specs.WatchFault.{number_of, name_of};
 
 use thiserror::Error;
@@ -42,19 +42,3 @@ impl WatchFault {
 #[derive(Clone, Copy, Debug, PartialEq, Eq, Error)]
 #[error("the watch has no instance of this number")]
 pub struct UnknownInstance;
-
-impl UnknownInstance {
-    /// The number of the fault, after those of `WatchFault`.
-    pub fn number(self) -> u8
-        ensures { result ≡ 5 }
-    {
-        5
-    }
-
-    /// The name of the fault, as a report prints it.
-    pub fn name(self) -> &'static str
-        ensures { result.now ≡ codes "UnknownInstance" }
-    {
-        "UnknownInstance"
-    }
-}

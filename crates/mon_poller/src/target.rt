@@ -117,7 +117,7 @@ pub struct Target {
 impl Target {
     /// Returns `true` if the target is within its limits: a community of 1 to 512 octets, an engine
     /// id of 5 to 32, 1 to 8 tries, and 1 to 16 objects.
-    pub fn is_within_limits(&self) -> bool
+    fn is_within_limits(&self) -> bool
         ensures { IsTrue result ↔ IsTarget self.now }
     {
         let community = self.community.as_slice().len();

@@ -97,7 +97,7 @@ fn same_text(text: &str, other: &str) -> bool
 
 impl<'a> Lexeme<'a> {
     /// Returns `true` if it is this word.
-    pub fn is_word(&self, text: &str) -> bool
+    pub(crate) fn is_word(&self, text: &str) -> bool
         ensures { result ≡ is_word text.now self.now }
     {
         match self.kind {
@@ -107,7 +107,7 @@ impl<'a> Lexeme<'a> {
     }
 
     /// Returns `true` if it is a token of this kind, which is neither a word nor a number.
-    pub fn is_mark(&self, kind: TokenKind) -> bool
+    pub(crate) fn is_mark(&self, kind: TokenKind) -> bool
         ensures { result ≡ is_mark kind self.now }
     {
         match self.kind {
@@ -117,7 +117,7 @@ impl<'a> Lexeme<'a> {
     }
 
     /// The text of a word.
-    pub fn word(&self) -> Option<&str>
+    pub(crate) fn word(&self) -> Option<&str>
         ensures { option_map (λ w. w.now) result ≡ word_of self.now }
     {
         match self.kind {
@@ -127,7 +127,7 @@ impl<'a> Lexeme<'a> {
     }
 
     /// The text of a number.
-    pub fn digits(&self) -> Option<&str>
+    pub(crate) fn digits(&self) -> Option<&str>
         ensures { option_map (λ d. d.now) result ≡ digits_of self.now }
     {
         match self.kind {
@@ -137,14 +137,14 @@ impl<'a> Lexeme<'a> {
     }
 
     /// Returns `true` if it is a word.
-    pub fn is_any_word(&self) -> bool
+    pub(crate) fn is_any_word(&self) -> bool
         ensures { result ≡ is_any_word self.now }
     {
         matches!(self.kind, TokenKind::Word)
     }
 
     /// Returns `true` if it is a word with a capital first letter.
-    pub fn is_capital(&self) -> bool
+    pub(crate) fn is_capital(&self) -> bool
         ensures { result ≡ is_capital self.now }
     {
         match self.kind {

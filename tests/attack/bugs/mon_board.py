@@ -51,6 +51,11 @@ BUGS = {
         "            .then(self.name.parts().cmp(&name.parts()))",
         "            .then(name.parts().cmp(&self.name.parts()))",
     ),
+    "engines_fall": (
+        "src/instance.rt",
+        "            .cmp(&engine)\n",
+        "            .cmp(&engine).reverse()\n",
+    ),
     "engines_of_33": (
         "src/instance.rt",
         "        5 <= len && len <= 32",
@@ -190,15 +195,5 @@ BUGS = {
         "src/board.rt",
         "            let _ = self.take(instance, *sample);",
         "            let _ = self.take(instance / 2, *sample);",
-    ),
-    "numbers_it_as_bad_rules": (
-        "src/fault.rt",
-        "        5\n    }",
-        "        WatchFault::BadRules as u8\n    }",
-    ),
-    "names_it_as_bad_instances": (
-        "src/fault.rt",
-        "        \"UnknownInstance\"",
-        "        \"BadInstances\"",
     ),
 }
