@@ -75,11 +75,19 @@ fn written(alloc: Global, board: &Board, incarnation: u32) -> Option<String> {
 
 /// The watch of instances `ENGINE/NAME/WINDOW/EPOCH`.
 fn watch_of(alloc: Global, words: &str) -> Option<Watch> {
+    Watch::new(instances_of(alloc, words)?, Vec::new(alloc)).ok()
+}
+
+/// The instances `ENGINE/NAME/WINDOW/EPOCH`, with commas between them; of a dash none.
+pub fn instances_of(alloc: Global, words: &str) -> Option<Vec<Watched>> {
     let mut instances = Vec::new(alloc);
+    if words == "-" {
+        return Some(instances);
+    }
     for word in words.split(',') {
         instances.push(watched_of(alloc, word)?).ok()?;
     }
-    Watch::new(instances, Vec::new(alloc)).ok()
+    Some(instances)
 }
 
 fn watched_of(alloc: Global, word: &str) -> Option<Watched> {

@@ -11,6 +11,25 @@
 //!     serial N          the serial after this one
 //!     image WATCH HEX   what this image is read as under the watch, and the image that is written of that; or the fault
 //!     report WATCH HEX  the report of what this image is read as under the watch
+//!     name TEXT         the identifier that this text spells; or the fault
+//!     numbers N N ..    the identifier of these numbers; or the fault
+//!     names TEXT TEXT   how two identifiers compare
+//!     sample HEX        the sample of this record; or the fault
+//!     samples HEX HEX   how two samples compare
+//!     window SIZE EPOCH HEX,..       what becomes of each sample in a window, and what it keeps
+//!     track SIZE EPOCH HEX,..        the same of a track, with its totals after each sample
+//!     join SIZE EPOCH HEX,.. HEX,..  what two tracks keep when they are joined
+//!     alarm RISING FALLING HEX,..    the state of an alarm over these samples; or the fault
+//!     watch WATCH RULES              whether instances and rules make a watch; or the fault
+//!     take WATCH N/HEX,..            what becomes of each sample on a board
+//!     narrow WATCH RULES HEX,..      the report of a board; each writer that is too narrow for it
+//!                                    fails with a beginning
+//!     marks WATCH STEP,..            what two boards owe when samples are taken, marked and joined
+//!     tokens TEXT       the tokens of a text; or the fault
+//!     module TEXT       how many names the module of this text defines; or the fault
+//!     means TEXT        the identifier that a text means by the names of a module; or the fault
+//!     called TEXT       the name of an identifier
+//!     text KIND TEXT    the octets of the value that a text means for a kind; or the fault
 //!
 //! usage: mon_codec_tests                                   as above
 //!        mon_codec_tests image-times N                     reads the image of the first line, WATCH HEX, and writes it, so often, for bench/image
@@ -19,8 +38,13 @@
 //! bench/track
 #![tactic(auto)]
 
+mod boards;
 mod claims;
 mod images;
+mod marks;
+mod modules;
+mod names;
+mod samples;
 mod station;
 mod track;
 mod values;
@@ -81,6 +105,24 @@ fn row(alloc: Global, station: &mut Station, line: &str) -> Option<String> {
         "serial" => station::serial(alloc, word),
         "image" => images::row(alloc, word),
         "report" => images::report(alloc, word),
+        "name" => names::row(alloc, word),
+        "numbers" => names::made(alloc, word),
+        "names" => names::compared(alloc, word),
+        "sample" => samples::row(alloc, word),
+        "samples" => samples::compared(alloc, word),
+        "window" => samples::window(alloc, word),
+        "track" => samples::track(alloc, word),
+        "join" => samples::joined(alloc, word),
+        "alarm" => samples::alarm(alloc, word),
+        "watch" => boards::watched(alloc, word),
+        "take" => boards::taken(alloc, word),
+        "narrow" => boards::reported(alloc, word),
+        "marks" => marks::row(alloc, word),
+        "tokens" => modules::cut(alloc, word),
+        "module" => modules::row(alloc, word),
+        "means" => modules::meant(alloc, word),
+        "text" => values::meant(alloc, word),
+        "called" => modules::called(alloc, word),
         _ => None,
     }
 }

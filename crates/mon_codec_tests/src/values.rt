@@ -1,5 +1,6 @@
 //! Values and messages of SNMP: what octets are read as, and what is written of that.
 
+use mon_app::{ValueKind, value_of};
 use mon_ber::{Value, read_value, size_of, write_value};
 use mon_pdu::{Body, Message, message_size, read_message, write_message};
 use std::alloc::Global;
@@ -22,6 +23,21 @@ fn value_told(alloc: Global, value: &Value, spelled: usize) -> Option<String> {
     format!(in alloc; "{value:?} {spelled} {size} {written}").ok()
 }
 
+/// The octets of the value that the text of a line `KIND TEXT` means; or the fault.
+pub fn meant(alloc: Global, line: &str) -> Option<String> {
+    let (kind, text) = line.split_once(' ')?;
+    let Some(kind) = ValueKind::named(kind) else {
+        return String::from_str(alloc, "no kind").ok();
+    };
+    match value_of(alloc, kind, text) {
+        Ok(value) => {
+            let written = write_value(alloc, &value).ok()?;
+            hex::encode(alloc, written.as_slice()).ok()
+        }
+        Err(fault) => refused(alloc, fault.number(), fault.name()),
+    }
+}
+
 /// The fields of the message that these octets begin with, its size and its octets as they are written; or the fault.
 pub fn message_row(alloc: Global, digits: &str) -> Option<String> {
     let octets = hex::decode(alloc, digits).ok()?;
@@ -31,7 +47,8 @@ pub fn message_row(alloc: Global, digits: &str) -> Option<String> {
     }
 }
 
-fn refused(alloc: Global, number: u8, name: &str) -> Option<String> {
+/// The number and the name of a fault.
+pub fn refused(alloc: Global, number: u8, name: &str) -> Option<String> {
     format!(in alloc; "{number} {name}").ok()
 }
 

@@ -1,26 +1,23 @@
-//! Tests of single calls: outside vectors, happy paths, and each fault once. Those of the agent and
-//! of what is around it are in mon_agent_tests. They are in one crate at the top, so that no crate
-//! below is proved a second time for its tests.
+//! Tests of what no row can show: a device that counts, a wire or a reader that fails, memory that is
+//! refused once. All others are rows. They are in one crate at the top, so that no crate below is
+//! proved a second time for its tests.
 //! Contract: none; a test that fails ends the gate.
 #![tactic(auto)]
 
 #[cfg(test)]
-mod app;
+mod agent;
 #[cfg(test)]
-mod ber;
+mod client;
 #[cfg(test)]
-mod board;
+mod counting;
+pub mod event;
 #[cfg(test)]
-mod oid;
+mod mib;
 #[cfg(test)]
-mod pdu;
+mod names;
 #[cfg(test)]
-mod report;
+mod reading;
 #[cfg(test)]
-mod sample;
+mod small_agent;
 #[cfg(test)]
-mod smi;
-#[cfg(test)]
-mod track;
-#[cfg(test)]
-mod window;
+mod walked;

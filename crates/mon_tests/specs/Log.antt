@@ -1,8 +1,8 @@
 -- What a wire in memory wrote down.
 use Rattle.std.specs.Prelude.{List, map, Option, Some}
 use Rattle.mon_app.specs.AtWire.{AtWire, Sent, Heard, Other, Quiet}
-use Rattle.mon_agent_tests.specs.declared.event.Event.{Event}
-use Rattle.mon_agent_tests.specs.declared.event.Event.TheVariants as events
+use Rattle.mon_tests.specs.declared.event.Event.{Event}
+use Rattle.mon_tests.specs.declared.event.Event.TheVariants as events
 
 -- an event at a wire
 abbrev pub at_wire : Event → AtWire

@@ -2,7 +2,7 @@
 
 ghost use Rattle.std.specs.Prelude.{◌≡◌, ◌≤◌, ◌++◌, ◌∷◌, [], IfOk, IfSome, OnErr, OnOk, length, map};
 ghost use Rattle.mon_app.specs.AtWire.{Heard as HeardAtWire, FitsRoom, Sent, hearing};
-ghost use Rattle.mon_agent_tests.specs.Log.{at_wire};
+ghost use Rattle.mon_tests.specs.Log.{at_wire};
 
 use crate::event::Event;
 use crate::small_agent::question;
@@ -147,7 +147,7 @@ impl Memory {
 
 impl Wire for Memory {
     ghost use Rattle.std.specs.Prelude.{Some, map};
-    ghost use Rattle.mon_agent_tests.specs.Log.{at_wire};
+    ghost use Rattle.mon_tests.specs.Log.{at_wire};
 
     ghost told = { λ w. Some (map at_wire w.log.items) };
 
