@@ -23,7 +23,7 @@ pub enum Choice {
 
 impl Choice {
     /// The command that this word names.
-    pub fn named(word: &str) -> Option<Self>
+    pub fn from_word(word: &str) -> Option<Self>
         ensures found { IfSome result (λ choice. word.now ≡ word_of choice) }
         ensures none { IfNone result ((choice : Choice) → word.now ≢ word_of choice) }
     {

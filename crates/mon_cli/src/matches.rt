@@ -79,8 +79,8 @@ fn small_number(matches: &ArgMatches<'_>, id: &str) -> Option<i32>
     matches.get_one::<i32>(id)
 }
 
-/// Returns the modules that the arguments give.
-fn named<'m, 'a>(matches: &'m ArgMatches<'a>) -> Named<'m, 'a>
+/// Reads the modules that the arguments give, and whether names are shown.
+fn read_named<'m, 'a>(matches: &'m ArgMatches<'a>) -> Named<'m, 'a>
     ensures { IsNamed (rows_of (found_of matches.now)) result }
 {
     Named {
@@ -96,7 +96,7 @@ fn format(matches: &ArgMatches<'_>) -> Format
     if is_on(matches, "columns") {
         return Format::Columns;
     }
-    Format::named(text(matches, "format")).unwrap_or(Format::Text)
+    Format::from_word(text(matches, "format")).unwrap_or(Format::Text)
 }
 
 /// Returns how a report is printed.
@@ -105,7 +105,7 @@ fn read_printed<'m, 'a>(matches: &'m ArgMatches<'a>) -> Printed<'m, 'a>
 {
     Printed {
         format: format(matches),
-        named: named(matches),
+        named: read_named(matches),
     }
 }
 
@@ -124,7 +124,7 @@ fn request<'m, 'a>(matches: &'m ArgMatches<'a>) -> Request<'m, 'a>
         address: text(matches, "ADDRESS"),
         community: text(matches, "COMMUNITY"),
         names: all(matches, "NAME"),
-        named: named(matches),
+        named: read_named(matches),
     }
 }
 
@@ -169,7 +169,7 @@ fn answer<'m, 'a>(matches: &'m ArgMatches<'a>) -> AnswerArgs<'m, 'a>
         settings: text(matches, "SETTINGS"),
         boots: small_number(matches, "boots"),
         scene: scene(matches),
-        named: named(matches),
+        named: read_named(matches),
     }
 }
 
@@ -247,7 +247,7 @@ pub fn read_command<'m, 'a>(matches: &'m ArgMatches<'a>) -> Asked<'m, 'a>
         return Asked::Version;
     }
     match matches.subcommand() {
-        Some((name, below)) => match Choice::named(name) {
+        Some((name, below)) => match Choice::from_word(name) {
             Some(choice) => asked_by(choice, below),
             // The command line knows no other commands.
             None => unreachable!(),

@@ -50,7 +50,7 @@ fn parser_of<'a>(lists: Lists<'a>, value: Value) -> ValueParser<'a>
     }
 }
 
-fn formed<'a>(arg: Arg<'a>, line: &Line) -> Arg<'a>
+fn set_form<'a>(arg: Arg<'a>, line: &Line) -> Arg<'a>
     ensures rule { rule_of result ≡ with_form line.now.form line.now.id.now (rule_of arg.entry) }
     ensures local { result.global ≡ arg.entry.global }
 {
@@ -62,8 +62,8 @@ fn formed<'a>(arg: Arg<'a>, line: &Line) -> Arg<'a>
     }
 }
 
-/// The argument with what it takes.
-fn taking<'a>(arg: Arg<'a>, lists: Lists<'a>, line: &Line) -> Arg<'a>
+/// Sets what the argument takes.
+fn set_takes<'a>(arg: Arg<'a>, lists: Lists<'a>, line: &Line) -> Arg<'a>
     ensures rule { rule_of result ≡ with_takes lists.entry line.now.takes (rule_of arg.entry) }
     ensures local { result.global ≡ arg.entry.global }
 {
@@ -93,7 +93,7 @@ fn argument<'a>(alloc: Global, lists: Lists<'a>, line: &Line) -> Arg<'a>
     let arg = Arg::new(alloc, line.id)
         .help(line.help)
         .required(line.needed);
-    taking(formed(arg, line), lists, line)
+    set_takes(set_form(arg, line), lists, line)
 }
 
 /// The command with the arguments of these lines.

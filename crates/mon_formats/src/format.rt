@@ -30,7 +30,7 @@ pub enum Format {
 
 impl Format {
     /// The format that this word names.
-    pub fn named(word: &str) -> Option<Self>
+    pub fn from_word(word: &str) -> Option<Self>
         ensures found { IfSome result (λ format. word.now ≡ format_word format) }
         ensures none { IfNone result ((format : Format) → word.now ≢ format_word format) }
     {

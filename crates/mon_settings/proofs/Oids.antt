@@ -20,7 +20,7 @@ use Rattle.mon_settings.specs.declared.fault.SettingsFault.TheVariants as fault
 use Rattle.mon_settings.specs.SettingsFault.{bad_value}
 use Rattle.mon_settings.specs.Keys.{or_bad}
 use Rattle.mon_oid.specs.Oid.{IsOid, AreNumbers, Spells, dotted}
-use Rattle.mon_settings.specs.Leaf.{is_rooted, is_oid, refused, numbers_in, checked_oid, oid_of}
+use Rattle.mon_settings.specs.Leaf.{is_rooted, is_oid, refuse, numbers_in, checked_oid, oid_of}
 
 abbrev pub is_dot : ℕ → Bool
 is_dot c = c == 46
@@ -159,7 +159,7 @@ module _ (key : Key) (text : List ℕ) where
   bad e other h = ap (or_bad key) (oid_none text (λ parts is spelled. other (h parts is spelled)))
 
   pub refused_is : (e : OidFault) → ((parts : List ℕ) → IsOid parts → Spells text parts → e ≡ oid_fault.OutOfMemory)
-      → (refused key e ≡ fault.OutOfMemory) ⊎ (or_bad key (oid_of text) ≡ Err (refused key e))
+      → (refuse key e ≡ fault.OutOfMemory) ⊎ (or_bad key (oid_of text) ≡ Err (refuse key e))
   refused_is oid_fault.OutOfMemory h = inl refl
   refused_is oid_fault.TooShort h = inr (bad oid_fault.TooShort (λ e. absurd cc) h)
   refused_is oid_fault.TooLong h = inr (bad oid_fault.TooLong (λ e. absurd cc) h)

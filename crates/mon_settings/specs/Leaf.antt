@@ -77,13 +77,13 @@ oid_of text = checked_oid text (numbers_in text)
 abbrev pub oid_in : Data → Option (List ℕ)
 oid_in d = option_and_then oid_of (as_str d)
 
--- what a refused identifier is to the settings
-abbrev pub refused : Key → OidFault → SettingsFault
-refused k oid_fault.OutOfMemory = fault.OutOfMemory
-refused k oid_fault.TooShort = bad_value k
-refused k oid_fault.TooLong = bad_value k
-refused k oid_fault.BadFirst = bad_value k
-refused k oid_fault.BadText = bad_value k
+-- the fault of the settings for an identifier that is refused
+abbrev pub refuse : Key → OidFault → SettingsFault
+refuse k oid_fault.OutOfMemory = fault.OutOfMemory
+refuse k oid_fault.TooShort = bad_value k
+refuse k oid_fault.TooLong = bad_value k
+refuse k oid_fault.BadFirst = bad_value k
+refuse k oid_fault.BadText = bad_value k
 
 -- an address
 abbrev pub addr_in : Data → Option Addr

@@ -94,16 +94,16 @@ impl fmt::Display for SettingsFault {
             SettingsFault::OutOfMemory => f.write_str("out of memory"),
             SettingsFault::NotToml(_) => f.write_str("the text is not TOML"),
             SettingsFault::Missing(place) => {
-                let wanted = place.wanted();
+                let wanted = place.describe();
                 write!(f, "{place} is missing: {wanted}")
             }
             SettingsFault::BadValue(place) => {
-                let wanted = place.wanted();
+                let wanted = place.describe();
                 write!(f, "{place}: {wanted}")
             }
             SettingsFault::UnknownKey(place) => write!(f, "{place}: a key is unknown"),
             SettingsFault::UnknownObject(place) => {
-                let wanted = place.wanted();
+                let wanted = place.describe();
                 write!(f, "{place}: no object has this name; {wanted}")
             }
         }

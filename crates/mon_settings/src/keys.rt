@@ -11,8 +11,8 @@ ghost use Rattle.mon_settings.specs.Keys.{first_unknown, is_one_of};
 use crate::key::Key;
 use toml::{Table, Value};
 
-/// The value at a key, if there is one.
-pub(crate) fn find(table: &Table, key: Key) -> Option<&Value>
+/// Returns the value at a key, if there is one.
+pub fn find(table: &Table, key: Key) -> Option<&Value>
     ensures { option_map (λ v. view v.now) result ≡ get_member (key_name key) (table_view table.now) }
 {
     table.get(key.name())

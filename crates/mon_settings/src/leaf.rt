@@ -5,7 +5,7 @@ ghost use Rattle.toml.specs.Data.{as_bool, as_integer, get_member};
 ghost use Rattle.toml.specs.View.{view, table_view};
 ghost use Rattle.mon_settings.specs.Key.{key_name};
 ghost use Rattle.mon_settings.specs.Keys.{needed_at, default_at, only, optional_at, or_bad, Reads};
-ghost use Rattle.mon_settings.specs.Leaf.{number_in, int_in, text_in, hex_of, hex_in, oid_of, oid_in, refused, addr_in, model_of, model_in};
+ghost use Rattle.mon_settings.specs.Leaf.{number_in, int_in, text_in, hex_of, hex_in, oid_of, oid_in, refuse, addr_in, model_of, model_in};
 ghost use Rattle.mon_settings.specs.Resolving.{resolution, or_unknown, unresolved, name_at, name_or_none};
 ghost use Rattle.mon_settings.specs.SettingsFault.{missing_key};
 
@@ -260,12 +260,12 @@ fn parse_oid(alloc: Global, text: &str, key: Key) -> Read<Oid>
 {
     match Oid::parse(alloc, text) {
         Ok(oid) => Ok(oid),
-        Err(fault) => Err(refused(fault, key)),
+        Err(fault) => Err(refuse(fault, key)),
     }
 }
 
-fn refused(fault: OidFault, key: Key) -> SettingsFault
-    ensures { result ≡ refused key fault }
+fn refuse(fault: OidFault, key: Key) -> SettingsFault
+    ensures { result ≡ refuse key fault }
 {
     match fault {
         OidFault::OutOfMemory => SettingsFault::OutOfMemory,

@@ -27,7 +27,7 @@ pub use agent::{AgentSettings, read_agent};
 pub use fault::SettingsFault;
 pub use grammar::{SettingsKind, table_keys, top_keys};
 pub use key::Key;
-pub use keys::first_unknown;
+pub use keys::{find, first_unknown};
 pub use modules::module_files;
 pub use mon_udp::Addr;
 pub use peers::are_peers;

@@ -5,7 +5,7 @@ use crate::place::{Place, Step};
 
 impl Place {
     /// Says what must be at this place, for a reader: `0 or 2 is wanted`.
-    pub fn wanted(self) -> &'static str {
+    pub fn describe(self) -> &'static str {
         match self {
             Place::At(Step::Value(key)) => at_top(key),
             Place::At(Step::Entry(Key::Alarm, _)) => {

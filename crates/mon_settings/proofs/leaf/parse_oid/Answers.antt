@@ -9,4 +9,4 @@ returns-in-Ok c =
     ap (or_bad c.args.key) (oid_complete c.args.text.now c.in-Ok.oid found.0 found.1)
 
 pub returns-in-Err : goal.returns-in-Err
-returns-in-Err c = rw c.refused.ensures (refused_is c.args.key c.args.text.now c.in-Err.fault c.in-Err.ensures.accepted)
+returns-in-Err c = rw c.refuse.ensures (refused_is c.args.key c.args.text.now c.in-Err.fault c.in-Err.ensures.accepted)
