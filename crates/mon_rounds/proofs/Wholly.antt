@@ -10,12 +10,14 @@ use Rattle.mon_rounds.specs.declared.round.Phase.{Phase}
 use Rattle.mon_rounds.specs.declared.round.Phase.TheVariants.{Polling, Hearing, Sharing, Listening, Over, Resting, Rested}
 use Rattle.mon_rounds.specs.declared.round.RoundEvent.{RoundEvent}
 use Rattle.mon_rounds.specs.declared.round.RoundEvent.TheVariants.{StartPoll, Timeout, FromAgent, FromPeer, Share, Save}
+use Rattle.mon_rounds.specs.declared.round.Span.{Span}
+use Rattle.mon_rounds.specs.declared.round.Span.TheVariants.{Round, Between}
 use Rattle.mon_rounds.specs.Given.{AreGiven, IsGiven, with_octets}
 use Rattle.mon_rounds.specs.Next.{GivesNext, HandsOn, IsEnded, LeadsTo, Misses, Proceeds, RoundState, TakesTurn, after_datagram, after_event, after_failure, after_polls, event_from, event_in_phase, next_event, phase_after, phase_ended, share_at, slot_after, turns_left}
 use Rattle.mon_rounds.specs.Order.{AreSoFar, IsRound}
 use Rattle.mon_rounds.specs.Orderly.{first_phase}
 use Rattle.mon_rounds.specs.Reception.{Reception}
-use Rattle.mon_rounds.specs.Whole.{GivesOn, HasRun, HasSame, IsWholeRest, IsWholeRound, RoundsView, view_of}
+use Rattle.mon_rounds.specs.Whole.{GivesOn, HasRun, HasSame, IsWhole, IsWholeRest, IsWholeRound, RoundsView, view_of}
 use Rattle.mon_station.specs.declared.event.OwnedEvent.{OwnedEvent}
 use Rattle.mon_station.specs.declared.running.Run.{Run}
 use Rattle.mon_station.specs.declared.running.SourceFault.{SourceFault}
@@ -202,6 +204,10 @@ rested phase (inl is) rest = absurd (let no : false ≡ true = sym (ap is_rest i
 rested phase (inr is) rest = is
 
 -- ---- whole runs
+begins_round : (targets : List Addr) → is_rest (first_phase Round targets) ≡ false
+begins_round [] = refl
+begins_round (t ∷ targets) = refl
+
 module _ {X : Type 0} {G : Ghosts X} (old new : RoundState) (begins : RoundState) (heard now : Option (List Reception)) (before after : Seen RoundsView G) (run : Run)
     (ran : Ran GivesOn before after 5000 run) (from : before.view ≡ view_of begins heard) (to : after.view ≡ view_of new now)
     (none : begins.events ≡ []) (few : turns_left begins ≤ 4704) (still : HasSame old begins) (order : AreSoFar (length new.targets) new.peers new.phase new.events) where
@@ -226,7 +232,7 @@ module _ {X : Type 0} {G : Ghosts X} (old new : RoundState) (begins : RoundState
   kept : HasSame old new
   kept = same_then old begins new still left.same
 
-  pub whole_round : is_rest begins.phase ≡ false → HasRun (IsWholeRound old new) before after run
+  whole_round : is_rest begins.phase ≡ false → HasRun (IsWholeRound old new) before after run
   whole_round round =
       let phase : new.phase ≡ Over = over new.phase ended (left.rest ∙ round) in
       let events : IsRound (length new.targets) new.peers new.events = subst (λ (p : Phase). AreSoFar (length new.targets) new.peers p new.events) phase order in
@@ -240,7 +246,7 @@ module _ {X : Type 0} {G : Ghosts X} (old new : RoundState) (begins : RoundState
         };
       }
 
-  pub whole_rest : is_rest begins.phase ≡ true → HasRun (IsWholeRest old new) before after run
+  whole_rest : is_rest begins.phase ≡ true → HasRun (IsWholeRest old new) before after run
   whole_rest resting =
       let phase : new.phase ≡ Rested = rested new.phase ended (left.rest ∙ resting) in
       record {
@@ -253,6 +259,6 @@ module _ {X : Type 0} {G : Ghosts X} (old new : RoundState) (begins : RoundState
         };
       }
 
-pub begins_round : (targets : List Addr) → is_rest (first_phase targets) ≡ false
-begins_round [] = refl
-begins_round (t ∷ targets) = refl
+  pub whole : (span : Span) → begins.phase ≡ first_phase span begins.targets → HasRun (IsWhole span old new) before after run
+  whole Round is = whole_round (ap is_rest is ∙ begins_round begins.targets)
+  whole (Between milliseconds) is = whole_rest (ap is_rest is)

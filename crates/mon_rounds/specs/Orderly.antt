@@ -4,6 +4,8 @@ use Rattle.mon_udp.specs.declared.addr.Addr.{Addr}
 use Rattle.mon_rounds.specs.declared.receiver.Wait.TheVariants.{Anew}
 use Rattle.mon_rounds.specs.declared.round.Phase.{Phase}
 use Rattle.mon_rounds.specs.declared.round.Phase.TheVariants.{Polling, Hearing, Sharing, Listening, Resting, Rested}
+use Rattle.mon_rounds.specs.declared.round.Span.{Span}
+use Rattle.mon_rounds.specs.declared.round.Span.TheVariants.{Round, Between}
 use Rattle.mon_rounds.specs.Next.{RoundState, events_left}
 use Rattle.mon_rounds.specs.Order.{AreSoFar, datagrams_in}
 
@@ -22,18 +24,20 @@ unbegun targets peers peer_addresses wait_ms = record {
   events = [];
 }
 
--- the phase in which a round over these targets begins
-abbrev pub first_phase : List Addr → Phase
-first_phase [] = Hearing
-first_phase (t ∷ targets) = Polling 0
+-- the phase in which a round over these targets begins, or the time between two
+abbrev pub first_phase : Span → List Addr → Phase
+first_phase Round [] = Hearing
+first_phase Round (t ∷ targets) = Polling 0
+first_phase (Between milliseconds) targets = Resting
 
--- a round that begins: of 4096 datagrams, 512 timeouts and 16 failures at most
-abbrev pub begun : RoundState → RoundState
-begun r = record r { phase = first_phase r.targets; wait = Anew r.wait_ms; datagrams = 4096; timeouts = 512; failures = 16; events = [] }
+-- how long the first wait is: in a round as each of its waits, between two rounds the whole time
+abbrev pub first_wait : Span → ℕ → ℕ
+first_wait Round wait_ms = wait_ms
+first_wait (Between milliseconds) wait_ms = milliseconds
 
--- the time between two rounds as it begins, of this many milliseconds
-abbrev pub begun_rest : ℕ → RoundState → RoundState
-begun_rest milliseconds r = record r { phase = Resting; wait = Anew milliseconds; datagrams = 4096; timeouts = 512; failures = 16; events = [] }
+-- a round that begins, or the time between two: of 4096 datagrams, 512 timeouts and 16 failures at most
+abbrev pub begun : Span → RoundState → RoundState
+begun span r = record r { phase = first_phase span r.targets; wait = Anew (first_wait span r.wait_ms); datagrams = 4096; timeouts = 512; failures = 16; events = [] }
 
 -- what every round has, with capacity for this many events: its events are in the order of a round,
 -- it has at most 4096 datagrams and knows how many are left, and there is capacity for all events

@@ -3,10 +3,11 @@ use Rattle.std.specs.Prelude.{ℕ, ◌≡◌, List, Option, None, Result, Ok, Al
 use Rattle.mon_disk.specs.declared.disk.Disk.{Ghosts}
 use Rattle.mon_udp.specs.Told.{GoesOnBy}
 use Rattle.mon_rounds.specs.declared.round.Phase.TheVariants.{Over, Rested}
+use Rattle.mon_rounds.specs.declared.round.Span.{Span}
+use Rattle.mon_rounds.specs.declared.round.Span.TheVariants.{Round, Between}
 use Rattle.mon_rounds.specs.Given.{AreGiven}
 use Rattle.mon_rounds.specs.Next.{GivesNext, IsEnded, RoundState, TakesTurn, turns_left}
 use Rattle.mon_rounds.specs.Order.{IsDatagram, IsRound}
-use Rattle.mon_rounds.specs.Orderly.{begun, begun_rest}
 use Rattle.mon_rounds.specs.Reception.{Reception}
 use Rattle.mon_station.specs.declared.event.OwnedEvent.{OwnedEvent}
 use Rattle.mon_station.specs.declared.running.Run.{Run}
@@ -54,6 +55,11 @@ pub record IsWholeRest (old new : RoundState) (given : List OwnedEvent) : Type 0
   pub over : new.phase ≡ Rested
   pub each : All IsDatagram new.events
   pub are : AreGiven new.events given
+
+-- these events are those of a whole round, or of the whole time between two
+abbrev pub IsWhole : Span → RoundState → RoundState → List OwnedEvent → Type 0
+IsWhole Round = IsWholeRound
+IsWhole (Between milliseconds) = IsWholeRest
 
 -- a station was run, in at most 5000 calls for an event, and this holds of the events that it was given
 pub record HasRun {X : Type 0} {G : Ghosts X} (Are : List OwnedEvent → Type 0) (before after : Seen RoundsView G) (run : Run) : Type 0 where

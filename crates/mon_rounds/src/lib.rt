@@ -1,6 +1,6 @@
 //! A station's rounds over sockets. It follows no standard. To run a station: `Addresses::of` its
 //! settings, a `SocketReceiver` and a `SocketOutbox` on one `Socket` of mon_udp, and `Rounds` over the
-//! receiver. `run_round` runs one round on a `Station`, `rest` receives between two rounds, and
+//! receiver. `Rounds::run` runs a `Station` through a round or the time between two, and
 //! `RoundReport::of` says what is reported of it.
 //! Contract: a round polls each target, receives, offers each peer what it is owed, receives again
 //! and saves, in this order; what it gives a station is fixed by what its receiver got, and only a
@@ -20,7 +20,6 @@ pub use addresses::Addresses;
 pub use course::{Course, debts_of, is_due, left_of};
 pub use receiver::{Arrival, Receiver, ReceiverFault, Wait};
 pub use reporting::{Notice, RoundReport};
-pub use round::{Phase, Round, RoundEvent};
-pub use running::{rest, run_round};
+pub use round::{Phase, Round, RoundEvent, Span};
 pub use socket::{SocketOutbox, SocketReceiver};
 pub use source::Rounds;

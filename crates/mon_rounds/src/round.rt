@@ -2,7 +2,7 @@
 
 ghost use Rattle.std.specs.Prelude.{◌≡◌, ◌≤◌, ◌<◌, ◌+◌, [], None, Some, IfOk, IsSome, OnSome, length, option_map, slice_get};
 ghost use Rattle.mon_rounds.specs.Given.{with_octets};
-ghost use Rattle.mon_rounds.specs.Orderly.{IsSaving, IsSharing, begun, begun_rest, unbegun};
+ghost use Rattle.mon_rounds.specs.Orderly.{IsSaving, IsSharing, begun, unbegun};
 ghost use Rattle.mon_rounds.specs.Next.{after_datagram, after_event, after_failure, after_polls, event_from, is_hearing, next_event, next_wait, share_at, slot_after, stands_in, turns_left, wait_in};
 ghost use Rattle.mon_rounds.specs.Order.{AreSoFar, datagrams_in};
 
@@ -26,6 +26,15 @@ const MOST_FAILURES: u32 = 16;
 /// For how many events a round has capacity, more than it can have: 64 polls, 15 shares and a save,
 /// and what is received and times out.
 const ROOM: usize = 4700;
+
+/// What a station is run through.
+#[derive(Clone, Copy, Debug, PartialEq, Eq)]
+pub enum Span {
+    /// A round.
+    Round,
+    /// The time between two rounds, of this many milliseconds.
+    Between(u32),
+}
 
 /// The phase of a round.
 #[derive(Clone, Copy, Debug, PartialEq, Eq)]
@@ -127,34 +136,22 @@ impl Round {
         })
     }
 
-    /// Begins a round.
-    pub(crate) fn begin(&mut self)
-        ensures state { self.new ≡ begun self.old }
+    /// Begins a round, or the time between two.
+    pub(crate) fn begin(&mut self, span: Span)
+        ensures state { self.new ≡ begun span self.old }
         ensures turns { turns_left self.new ≤ 4704 }
     {
         self.events.clear();
         self.datagrams = MOST_DATAGRAMS;
         self.timeouts = MOST_TIMEOUTS;
         self.failures = MOST_FAILURES;
-        self.wait = Wait::Anew(self.wait_ms);
-        self.phase = if self.addresses.targets.is_empty() {
-            Phase::Hearing
-        } else {
-            Phase::Polling(0)
+        (self.phase, self.wait) = match span {
+            Span::Between(milliseconds) => (Phase::Resting, Wait::Anew(milliseconds)),
+            Span::Round if self.addresses.targets.is_empty() => {
+                (Phase::Hearing, Wait::Anew(self.wait_ms))
+            }
+            Span::Round => (Phase::Polling(0), Wait::Anew(self.wait_ms)),
         };
-    }
-
-    /// Begins to receive between two rounds, for this many milliseconds.
-    pub(crate) fn rest(&mut self, milliseconds: u32)
-        ensures state { self.new ≡ begun_rest milliseconds self.old }
-        ensures turns { turns_left self.new ≤ 4704 }
-    {
-        self.events.clear();
-        self.datagrams = MOST_DATAGRAMS;
-        self.timeouts = MOST_TIMEOUTS;
-        self.failures = MOST_FAILURES;
-        self.wait = Wait::Anew(milliseconds);
-        self.phase = Phase::Resting;
     }
 
     /// Returns the phase.

@@ -5,12 +5,12 @@ ghost use Rattle.mon_udp.specs.Counts.{failed_after};
 ghost use Rattle.mon_udp.specs.Told.{GoesOnBy};
 ghost use Rattle.mon_rounds.specs.Order.{AreSoFar};
 ghost use Rattle.mon_rounds.specs.Whole.{GivesOn, RoundsView, view_of};
-ghost use Rattle.mon_rounds.specs.Orderly.{begun, begun_rest, unbegun};
+ghost use Rattle.mon_rounds.specs.Orderly.{begun, unbegun};
 ghost use Rattle.mon_rounds.specs.Next.{GivesNext, IsEnded, TakesTurn, next_wait, turns_left};
 
 use crate::addresses::Addresses;
 use crate::receiver::{Arrival, Receiver, Wait};
-use crate::round::Round;
+use crate::round::{Round, Span};
 use mon_station::{OwnedEvent, Source, SourceFault};
 use std::alloc::{AllocError, Global};
 
@@ -47,7 +47,7 @@ impl<R: Receiver + Drop> Rounds<R> {
     }
 
     /// The events of the round are in its order. It does nothing.
-    pub(crate) fn orderly(&self)
+    pub(crate) fn invariants(&self)
         ensures { AreSoFar (length self.now.round.targets) self.now.round.peers self.now.round.phase self.now.round.events }
     {
         // Proof: the invariant of the round.
@@ -61,24 +61,14 @@ impl<R: Receiver + Drop> Rounds<R> {
         &self.receiver
     }
 
-    /// Begins a round.
-    pub fn begin(&mut self)
-        ensures round { self.new.round ≡ begun self.old.round }
+    /// Begins a round, or the time between two.
+    pub fn begin(&mut self, span: Span)
+        ensures round { self.new.round ≡ begun span self.old.round }
         ensures receiver { self.new.receiver ≡ self.old.receiver }
         // It is over after at most this many calls for an event.
         ensures turns { turns_left self.new.round ≤ 4704 }
     {
-        self.round.begin();
-    }
-
-    /// Begins to receive between two rounds, for this many milliseconds.
-    pub fn rest(&mut self, milliseconds: u32)
-        ensures round { self.new.round ≡ begun_rest milliseconds self.old.round }
-        ensures receiver { self.new.receiver ≡ self.old.receiver }
-        // It is over after at most this many calls for an event.
-        ensures turns { turns_left self.new.round ≤ 4704 }
-    {
-        self.round.rest(milliseconds);
+        self.round.begin(span);
     }
 
     /// Returns the next event, by what the receiver got.

@@ -15,8 +15,8 @@ use mon_formats::{Figures, Format};
 use mon_rehearsal::{rehearse, run_trial};
 use mon_report::write_report;
 use mon_rounds::{
-    Addresses, Course, Receiver, RoundReport, Rounds, SocketOutbox, SocketReceiver, debts_of,
-    is_due, left_of, rest, run_round,
+    Addresses, Course, Receiver, RoundReport, Rounds, SocketOutbox, SocketReceiver, Span, debts_of,
+    is_due, left_of,
 };
 use mon_settings::{SettingsKind, StationSettings, module_files, read_station};
 use mon_smi::Names;
@@ -132,7 +132,7 @@ fn run_rounds<
     let mut live = live;
     for number in 1..=timing.rounds {
         let began = now(rt)?;
-        run_one(rt, &mut live, number);
+        run_span(rt, &mut live, number, Span::Round);
         write_out(rt, &live);
         if number != timing.rounds {
             between(rt, &mut live, number, began, timing)?;
@@ -141,20 +141,28 @@ fn run_rounds<
     print_report(rt, &live)
 }
 
-/// Runs one round, and prints its notices.
-fn run_one<R: Eprint + AllocGlobal, S: Receiver + Drop, O: Outbox + Drop>(
+/// Runs a round or the time after it, and prints its notices. If memory runs out that is reported,
+/// and the station goes on.
+fn run_span<R: Eprint + AllocGlobal, S: Receiver + Drop, O: Outbox + Drop>(
     rt: &R,
     live: &mut Live<S, O>,
     number: u32,
+    span: Span,
 ) {
-    let ran = run_round(
+    let ran = live.transport.rounds.run(
         rt.alloc(),
         &mut live.station,
-        &mut live.transport.rounds,
         &mut live.transport.outbox,
+        span,
         &mut live.run,
     );
-    after(rt, live, number, ran);
+    let told = match ran {
+        Ok(()) => report_round(rt, live, number),
+        Err(fault) => Err(Failure::from(fault)),
+    };
+    if let Err(failure) = told {
+        failure.tell(rt);
+    }
 }
 
 /// Prints the report where it is due after this round, and hands the station what comes until the next one is to begin.
@@ -336,23 +344,6 @@ fn start_station<R: Eprint + AllocGlobal, S: Receiver + Drop, O: Outbox + Drop>(
     })
 }
 
-/// Prints the notices of a round, or of the time after it. If memory runs out that is reported, and
-/// the station goes on.
-fn after<R: Eprint + AllocGlobal, S: Receiver + Drop, O: Outbox + Drop>(
-    rt: &R,
-    live: &mut Live<S, O>,
-    number: u32,
-    ran: Result<(), StationFault>,
-) {
-    let told = match ran {
-        Ok(()) => report_round(rt, live, number),
-        Err(fault) => Err(Failure::from(fault)),
-    };
-    if let Err(failure) = told {
-        failure.tell(rt);
-    }
-}
-
 fn report_round<R: Eprint + AllocGlobal, S: Receiver + Drop, O: Outbox + Drop>(
     rt: &R,
     live: &mut Live<S, O>,
@@ -385,15 +376,7 @@ fn pause<R: Clock + Eprint + AllocGlobal, S: Receiver + Drop, O: Outbox + Drop>(
         if left == 0 {
             return Ok(());
         }
-        let ran = rest(
-            rt.alloc(),
-            &mut live.station,
-            &mut live.transport.rounds,
-            &mut live.transport.outbox,
-            left,
-            &mut live.run,
-        );
-        after(rt, live, number, ran);
+        run_span(rt, live, number, Span::Between(left));
     }
     Ok(())
 }

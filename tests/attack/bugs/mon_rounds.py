@@ -3,8 +3,8 @@
 BUGS = {
     "a_round_begins_with_the_second_target": (
         "src/round.rt",
-        "            Phase::Polling(0)",
-        "            Phase::Polling(1)",
+        "            Span::Round => (Phase::Polling(0),",
+        "            Span::Round => (Phase::Polling(1),",
     ),
     "a_wait_goes_on_after_a_timeout": (
         "src/round.rt",
@@ -45,8 +45,8 @@ BUGS = {
     ),
     "a_round_begins_with_the_last_ones_events": (
         "src/round.rt",
-        "        self.events.clear();\n        self.datagrams = MOST_DATAGRAMS;\n        self.timeouts = MOST_TIMEOUTS;\n        self.failures = MOST_FAILURES;\n        self.wait = Wait::Anew(self.wait_ms);",
-        "        self.datagrams = MOST_DATAGRAMS;\n        self.timeouts = MOST_TIMEOUTS;\n        self.failures = MOST_FAILURES;\n        self.wait = Wait::Anew(self.wait_ms);",
+        "        self.events.clear();\n",
+        "",
     ),
     "a_failure_ends_the_source": (
         "src/source.rt",
@@ -105,8 +105,8 @@ BUGS = {
     ),
     "shares_before_it_polls": (
         "src/round.rt",
-        "            Phase::Polling(0)",
-        "            Phase::Sharing(0)",
+        "            Span::Round => (Phase::Polling(0),",
+        "            Span::Round => (Phase::Sharing(0),",
     ),
     "takes_a_peers_datagram_for_an_agents": (
         "src/round.rt",
@@ -125,18 +125,18 @@ BUGS = {
     ),
     "round_only_rests": (
         "src/running.rt",
-        "    rounds.begin();\n    station.run",
-        "    rounds.begin();\n    rounds.rest(0);\n    station.run",
+        "        self.begin(span);\n",
+        "        self.begin(Span::Between(0));\n",
     ),
     "rest_runs_a_round": (
         "src/running.rt",
-        "    rounds.rest(milliseconds);\n",
-        "    rounds.rest(milliseconds);\n    rounds.begin();\n",
+        "        self.begin(span);\n",
+        "        self.begin(Span::Round);\n",
     ),
     "rests_half_the_time": (
-        "src/running.rt",
-        "    rounds.rest(milliseconds);\n",
-        "    rounds.rest(milliseconds / 2);\n",
+        "src/round.rt",
+        "(Phase::Resting, Wait::Anew(milliseconds)),",
+        "(Phase::Resting, Wait::Anew(milliseconds / 2)),",
     ),
     "asks_for_few_events": (
         "src/running.rt",

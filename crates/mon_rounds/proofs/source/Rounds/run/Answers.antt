@@ -2,22 +2,23 @@ use Rattle.std.proofs.Common.{◌≡◌, ◌≤◌, List, Option, refl, subst}
 use Rattle.mon_rounds.specs.Next.{RoundState, turns_left}
 use Rattle.mon_rounds.specs.Orderly.{begun}
 use Rattle.mon_rounds.specs.Whole.{GivesOn, RoundsView, view_of}
-use Rattle.mon_rounds.proofs.Wholly.{begins_round, whole_round}
+use Rattle.mon_rounds.proofs.Wholly.{whole}
 use Rattle.mon_station.specs.Ran.{Ran}
 use Rattle.mon_station.specs.Seen.{seen}
-use Rattle.mon_rounds.proofs.running.run_round.Goals as goal
+use Rattle.mon_rounds.proofs.source.Rounds.run.Goals as goal
 
 pub returns-clause-ran : goal.returns-clause-ran
 returns-clause-ran g c =
-    let old = c.args.rounds.now.round in
+    let old = c.args.self.now.round in
     let new = c.run.new.source.round in
-    let heard = g.R.Receiver.heard c.args.rounds.now.receiver in
+    let begins = begun c.args.span old in
+    let heard = g.R.Receiver.heard c.args.self.now.receiver in
     let now = g.R.Receiver.heard c.run.new.source.receiver in
     let handed = g.O.Outbox.handed c.args.outbox.now in
     let after = seen c.run.new.self (view_of new now) (g.O.Outbox.handed c.run.new.outbox) in
-    let is : view_of c.begin.new.self.round (g.R.Receiver.heard c.begin.new.self.receiver) ≡ view_of (begun c.args.rounds.now.round) heard =
+    let is : view_of c.begin.new.self.round (g.R.Receiver.heard c.begin.new.self.receiver) ≡ view_of begins heard =
     λ i. view_of (c.begin.ensures.round i) (g.R.Receiver.heard (c.begin.ensures.receiver i)) in
     let ran = subst (λ (v : RoundsView). Ran GivesOn (seen c.args.station.now v handed) after 5000 c.run.new.run) is c.in_ok-run.ensures.ran in
-    whole_round old new (begun c.args.rounds.now.round) heard now (seen c.args.station.now (view_of (begun c.args.rounds.now.round) heard) handed) after c.run.new.run ran refl refl refl
+    whole old new begins heard now (seen c.args.station.now (view_of begins heard) handed) after c.run.new.run ran refl refl refl
     (subst (λ (r : RoundState). turns_left r ≤ 4704) c.begin.ensures.round c.begin.ensures.turns)
-    (record { targets = refl; peers = refl; peer_addresses = refl; wait_ms = refl }) c.orderly.ensures (begins_round c.args.rounds.now.round.targets)
+    (record { targets = refl; peers = refl; peer_addresses = refl; wait_ms = refl }) c.invariants.ensures c.args.span refl
