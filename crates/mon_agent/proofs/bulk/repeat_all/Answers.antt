@@ -1,8 +1,8 @@
 use Rattle.std.proofs.Common.{◌≡◌, ◌≤◌, ◌+◌, ◌-◌, ◌++◌, suc, true, false, rules, arith, length, append_assoc, append-nil, ap, sym, subst, ◌∙◌, inl, inr}
 use Rattle.mon_agent.specs.Bulk.{is_last}
 use Rattle.mon_agent.specs.Growing.{FitsWith, IsCut, IsPut, last, more_rounds}
-use Rattle.mon_agent.proofs.Rounds.{cut_same, cut_longer, cut_is, none_follows, no_rounds, goes_on, answers, length-answers, all_last, one_less, unrolled}
-use Rattle.mon_agent.proofs.agent.Agent.repeat_all.Goals as goal
+use Rattle.mon_agent.proofs.Rounds.{cut_same, cut_longer, cut_is, none_follows, no_rounds, goes_on, answers, length-answers, all_last, one_less, unrolled, moved}
+use Rattle.mon_agent.proofs.bulk.repeat_all.Goals as goal
 
 pub returns-then-is_last-clause-put : goal.returns-then-is_last-clause-put
 returns-then-is_last-clause-put g c = λ next steps.
@@ -22,7 +22,7 @@ returns-then-not-branch-clause-put g c = λ next steps.
     let left : c.args.rounds - at.counter ≡ suc m = one_less c.args.rounds at.counter (search rules) in
     let is : c.in_ok-repeat.field-0 ≡ false = search rules in
     let put : IsCut (FitsWith at.reply) (at.reply.bindings ++ answers next round) c.repeat.new.reply.bindings =
-    subst (λ all. IsPut (FitsWith at.reply) (at.reply.bindings ++ answers next round) all c.repeat.new.reply.bindings) is (c.in_ok-repeat.ensures.put next steps) in
+    subst (λ all. IsPut (FitsWith at.reply) (at.reply.bindings ++ answers next round) all c.repeat.new.reply.bindings) is (c.in_ok-repeat.ensures.put next (moved g.D.Device.held next at.invariant.stays steps)) in
     let whole : (at.reply.bindings ++ answers next round) ++ more_rounds next m (answers next round)
     ≡ c.args.reply.now.bindings ++ more_rounds next c.args.rounds (last width c.args.reply.now.bindings) =
     unrolled next at.reply.bindings round (c.args.rounds - at.counter) m left other ∙ sym (at.invariant.put next steps) in
@@ -43,16 +43,16 @@ loop-preserved g c =
       head = c.repeat.ensures.head ∙ at.invariant.head;
       limit = c.repeat.ensures.limit ∙ at.invariant.limit;
       wide = wide;
+      stays = c.repeat.ensures.stays ∙ at.invariant.stays;
       put = λ next steps.
           let is : c.in_ok-repeat.field-0 ≡ true = search rules in
           let put : c.repeat.new.reply.bindings ≡ at.reply.bindings ++ answers next round =
-          subst (λ all. IsPut (FitsWith at.reply) (at.reply.bindings ++ answers next round) all c.repeat.new.reply.bindings) is (c.in_ok-repeat.ensures.put next steps) in
+          subst (λ all. IsPut (FitsWith at.reply) (at.reply.bindings ++ answers next round) all c.repeat.new.reply.bindings) is (c.in_ok-repeat.ensures.put next (moved g.D.Device.held next at.invariant.stays steps)) in
           at.invariant.put next steps
           ∙ (sym (unrolled next at.reply.bindings round (c.args.rounds - at.counter) m left other)
           ∙ (append_assoc at.reply.bindings (answers next round) (more_rounds next m (answers next round))
           ∙ (goes_on next at.reply.bindings (answers next round) m width (length-answers next round ∙ all_last next width at.reply.bindings at.invariant.wide)
           ∙ ap (λ l. l ++ more_rounds next m (last width l)) (sym put))));
-      gaps = c.repeat.ensures.gaps;
     }
 
 pub returns-clause-put : goal.returns-clause-put

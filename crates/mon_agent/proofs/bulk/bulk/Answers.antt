@@ -1,8 +1,8 @@
 use Rattle.std.proofs.Common.{◌≡◌, ◌-◌, ◌++◌, min, rules, length, take, drop, sym, subst, ◌∙◌}
 use Rattle.mon_agent.specs.Growing.{FitsWith, IsPut, last, more_rounds}
 use Rattle.mon_agent.specs.Reply.{count_of}
-use Rattle.mon_agent.proofs.Rounds.{cut_same, ended_same, above_zero, answers, taken_first, dropped_first, cut_once, no_repetition, cut_round, further, on_ok}
-use Rattle.mon_agent.proofs.agent.Agent.bulk.Goals as goal
+use Rattle.mon_agent.proofs.Rounds.{cut_same, ended_same, above_zero, answers, taken_first, dropped_first, cut_once, no_repetition, cut_round, further, on_ok, moved}
+use Rattle.mon_agent.proofs.bulk.bulk.Goals as goal
 
 pub returns-then-not-branch-clause-put : goal.returns-then-not-branch-clause-put
 returns-then-not-branch-clause-put g c = λ next steps.
@@ -53,7 +53,7 @@ returns-then-not-branch-2-clause-put g c = λ next steps.
     c.if-not-branch.false (c.in_ok-extend.ensures.put next steps))
     (cut_same c.args.reply.now middle (middle.bindings ++ answers next c.split_at.result.1.now) c.extend-2.new.reply.bindings c.extend.ensures.head c.extend.ensures.limit
     (subst (λ all. IsPut (FitsWith middle) (middle.bindings ++ answers next c.split_at.result.1.now) all c.extend-2.new.reply.bindings)
-    c.if-not-branch-2.true (c.in_ok-extend-2.ensures.put next steps)))
+    c.if-not-branch-2.true (c.in_ok-extend-2.ensures.put next (moved g.D.Device.held next c.extend.ensures.stays steps))))
 
 pub returns-clause-put : goal.returns-clause-put
 returns-clause-put g c = λ next steps.
@@ -74,7 +74,7 @@ returns-clause-put g c = λ next steps.
     (subst (λ all. IsPut (FitsWith c.args.reply.now) (c.args.reply.now.bindings ++ answers next c.split_at.result.0.now) all middle.bindings)
     c.if-not-branch.false (c.in_ok-extend.ensures.put next steps))
     (subst (λ all. IsPut (FitsWith middle) (middle.bindings ++ answers next c.split_at.result.1.now) all round.bindings)
-    c.if-not-branch-2.false (c.in_ok-extend-2.ensures.put next steps))
+    c.if-not-branch-2.false (c.in_ok-extend-2.ensures.put next (moved g.D.Device.held next c.extend.ensures.stays steps)))
     (ended_same c.args.reply.now round (round.bindings ++ more_rounds next (c.count-rounds.result - 1) (last (length c.split_at.result.1.now) round.bindings))
     c.repeat_all.new.reply.bindings (c.extend-2.ensures.head ∙ c.extend.ensures.head) (c.extend-2.ensures.limit ∙ c.extend.ensures.limit) ended))
-    (c.repeat_all.ensures.put next steps)
+    (c.repeat_all.ensures.put next (moved g.D.Device.held next (c.extend-2.ensures.stays ∙ c.extend.ensures.stays) steps))
