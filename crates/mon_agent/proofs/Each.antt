@@ -1,8 +1,19 @@
 -- Answers that are put in place of what was asked, one after the other.
-use Rattle.std.proofs.Common.{◌≡◌, ℕ, ◌+◌, ◌<◌, List, [], ◌∷◌, ◌++◌, length, get_or, take, drop, set, sym, subst, ◌∙◌, arith}
+use Rattle.std.proofs.Common.{◌≡◌, ℕ, ◌+◌, ◌<◌, List, [], ◌∷◌, ◌++◌, length, get_or, take, drop, set, sym, subst, ap, ◌∙◌, ◌⊎◌, inl, inr, arith}
 use Rattle.std.proofs.lemmas.List.{take_more, take_more_set, drop_more, drop-set-lt, length-set}
+use Rattle.mon_ber.specs.declared.value.Value.{Value}
 use Rattle.mon_pdu.specs.declared.message.Binding.{Binding}
-use Rattle.mon_agent.specs.Step.{AreFor}
+use Rattle.mon_mib.specs.declared.got.Got.{Got}
+use Rattle.mon_mib.specs.declared.got.Got.TheVariants.{NoObject}
+use Rattle.mon_mib.specs.Known.{Known}
+use Rattle.mon_mib.specs.Next.{IsGot}
+use Rattle.mon_agent.specs.Step.{AreFor, IsSeen, got_value}
+
+-- a name that is hidden has no object
+pub seen : (k : Known) (sees : List ℕ → Type 0) (name : List ℕ) (got : Got) (value : Value) → value ≡ got_value got
+    → (¬ (sees name) × (got ≡ NoObject)) ⊎ (sees name × IsGot k name got) → IsSeen k sees name value
+seen k sees name got value is (inl hidden) = inl (hidden.0, is ∙ ap got_value hidden.1)
+seen k sees name got value is (inr shown) = inr (shown.0, (got, shown.1, is))
 
 module _ (R : List ℕ → Binding → Type 0) where
   behind : (asked answers : List Binding) (a b : Binding) → AreFor R asked answers → R a.name b → AreFor R (asked ++ a ∷ []) (answers ++ b ∷ [])

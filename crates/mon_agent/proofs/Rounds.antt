@@ -4,9 +4,16 @@ use Rattle.std.specs.Prelude.{Result, Ok, Err, OnOk}
 use Rattle.std.proofs.lemmas.List.{take_more, map-append, append_assoc, append-nil, length-append, length-map, length-drop, get_or-drop, take_all}
 use Rattle.std.proofs.Math.Seq.{split_at}
 use Rattle.mon_pdu.specs.declared.message.Binding.{Binding}
-use Rattle.mon_agent.specs.Bulk.{names_of, is_last, rounds, full_list}
+use Rattle.mon_mib.specs.Held.{Held}
+use Rattle.mon_mib.specs.Search.{Sought, IsSeenIn, known_in}
+use Rattle.mon_agent.specs.Bulk.{IsStepper, names_of, is_last, rounds, full_list}
 use Rattle.mon_agent.specs.Growing.{Grown, FitsWith, IsCut, IsEnded, last, more_rounds}
 use Rattle.mon_agent.specs.Reply.{count_of}
+
+-- a search that stays has the same answers
+pub moved : {D : Type 0} {s t : Sought D} (held : D → Held) (next : List ℕ → Binding) → t ≡ s → IsStepper (known_in held s) (IsSeenIn s) next
+    → IsStepper (known_in held t) (IsSeenIn t) next
+moved {D} {s} {t} held next same steps = subst (λ (u : Sought D). IsStepper (known_in held u) (IsSeenIn u) next) (sym same) steps
 
 -- an equal head and limit leave equal space
 pub fits_same : (g h : Grown) (bindings : List Binding) → h.head ≡ g.head → h.limit ≡ g.limit → FitsWith h bindings → FitsWith g bindings

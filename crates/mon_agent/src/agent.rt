@@ -1,36 +1,24 @@
 //! The agent.
 
-ghost use Rattle.std.specs.Prelude.{◌≡◌, ◌↔◌, ℕ, true, List, Err, IfOk, OnErr, IsTrue};
-ghost use Rattle.mon_pdu.specs.declared.message.Binding.{Binding as AnyBinding};
-ghost use Rattle.mon_pdu.specs.declared.message.Body.TheVariants as bodies;
-ghost use Rattle.mon_pdu.specs.declared.message.Message.{Message as AnyMessage};
+ghost use Rattle.std.specs.Prelude.{◌≡◌, ◌↔◌, ℕ, List, Err, IfOk, OnErr, IsTrue};
 ghost use Rattle.mon_vacm.specs.declared.denied.Denied.TheVariants.{NoCommunity};
 ghost use Rattle.mon_vacm.specs.Tables.{Lists as AnyLists};
-ghost use Rattle.mon_vacm.specs.Borrowed.{view_of};
-ghost use Rattle.mon_vacm.specs.View.{IsInView};
 ghost use Rattle.mon_mib.specs.Counters.{counted, no_counts};
 ghost use Rattle.mon_mib.specs.declared.counters.Counter.TheVariants.{InPackets};
-ghost use Rattle.mon_mib.specs.Gaps.{AreGaps};
 ghost use Rattle.mon_mib.specs.Known.{Known as AnyKnown, known_of};
 ghost use Rattle.mon_mib.specs.Map.{known_by, map_counters, map_device, map_settings, with_counters};
-ghost use Rattle.mon_agent.specs.Answer.{IsAnswer, IsReading, cause_of, is_answered, is_request, need_of, need_of_kind, raised_by};
-ghost use Rattle.mon_agent.specs.Bulk.{IsStepper};
+ghost use Rattle.mon_agent.specs.Answer.{IsAnswer, cause_of, is_request, need_of, raised_by};
 ghost use Rattle.mon_agent.specs.Ready.{IsReady, IsReadyFor, IsRoomy};
-ghost use Rattle.mon_agent.specs.Sent.{IsReadOut, IsSentFor};
-ghost use Rattle.mon_agent.specs.Step.{AreFor, IsGetAnswer, IsSeen, IsNextAnswer, got_value};
 
 use crate::fault::AgentFault;
-use crate::growing::{Growing, with_bindings};
-use crate::laws;
+use crate::reading::read;
 use crate::ready::Ready;
 use crate::reply::{Reply, Silence};
-use crate::sending::{make_response, make_return, send, send_too_big};
-use mon_ber::{Octets, Value};
-use mon_mib::{Counter, Counters, Device, Gaps, Got, Mib, Moment, Settings};
-use mon_oid::Oid;
-use mon_pdu::{Binding, Body, Bulk, Message, Pdu, PduFault, PduKind, read_message};
+use crate::sending::{make_return, send};
+use mon_mib::{Counter, Counters, Device, Mib, Moment, Search, Settings};
+use mon_pdu::{Body, Message, PduFault, PduKind, read_message};
 use mon_vacm::{Access, Denied, Need, Policy};
-use std::alloc::{AllocError, Global};
+use std::alloc::Global;
 
 /// authorizationError (RFC 3416 section 3).
 const AUTHORIZATION_ERROR: i32 = 16;
@@ -155,7 +143,8 @@ impl<D: Device + Drop> Agent<D> {
         if need == Need::Write {
             return self.prepare_set(alloc, access, message, moment);
         }
-        Ok(Ready::Answer(self.read(alloc, access, message, moment)?))
+        let mut search = Search::new(alloc, &self.mib, &self.policy, access, moment);
+        Ok(Ready::Answer(read(alloc, &mut search, message)?))
     }
 
     /// Does what it was about to do. It allocates nothing.
@@ -172,203 +161,6 @@ impl<D: Device + Drop> Agent<D> {
             Ready::Answer(reply) => reply,
             Ready::Assign(set) => Reply::Send(self.assign(set)),
         }
-    }
-
-    /// What is sent for a request to read that is granted in a view: its response, or tooBig, or nothing.
-    fn read(
-        &self,
-        alloc: Global,
-        access: Access<'_>,
-        message: Message,
-        moment: Moment,
-    ) -> Result<Reply, AllocError>
-        requires request { is_request message.body ≡ true }
-        requires read { need_of message.body ≡ Need.Read }
-        ensures { let known = known_by D.held self.now.mib moment in
-            IfOk result (IsReadOut known (IsInView self.now.policy.families (view_of access.entry)) message) }
-    {
-        let Message { community, body } = message;
-        match body {
-            Body::Bulk(bulk) => self.read_bulk(alloc, access, community, bulk, moment),
-            Body::Pdu(pdu) => self.read_pdu(alloc, access, community, pdu, moment),
-        }
-    }
-
-    /// What is sent for a Get or GetNext.
-    fn read_pdu(
-        &self,
-        alloc: Global,
-        access: Access<'_>,
-        community: Octets,
-        pdu: Pdu,
-        moment: Moment,
-    ) -> Result<Reply, AllocError>
-        requires answered { is_answered pdu.kind ≡ true }
-        requires read { need_of_kind pdu.kind ≡ Need.Read }
-        ensures { let known = known_by D.held self.now.mib moment in
-            let message : AnyMessage = record { community = community; body = bodies.Pdu pdu } in
-            IfOk result (IsReadOut known (IsInView self.now.policy.families (view_of access.entry)) message) }
-    {
-        let asked = pdu.bindings.into_vec();
-        let head = make_response(community, pdu.request_id, Vec::new(alloc));
-        if pdu.kind == PduKind::Get {
-            self.read_names(alloc, access, head, asked, moment)
-        } else {
-            self.read_next(alloc, access, head, asked.as_slice(), moment)
-        }
-    }
-
-    /// What is sent for a Get, whose response without variable bindings this is.
-    fn read_names(
-        &self,
-        alloc: Global,
-        access: Access<'_>,
-        head: Message,
-        asked: Vec<Binding>,
-        moment: Moment,
-    ) -> Result<Reply, AllocError>
-        ensures { let known = known_by D.held self.now.mib moment in
-            let R = IsGetAnswer known (IsInView self.now.policy.families (view_of access.entry)) in
-            IfOk result (IsSentFor (map_settings self.now.mib).limit R head asked.items) }
-    {
-        let answers = self.read_all(alloc, access, asked, moment)?;
-        send(
-            alloc,
-            with_bindings(head, answers),
-            self.mib.settings().limit,
-        )
-    }
-
-    /// What is sent for a GetNext, whose response without variable bindings this is. No name is answered after the response is
-    /// certain to be above the limit.
-    fn read_next(
-        &self,
-        alloc: Global,
-        access: Access<'_>,
-        head: Message,
-        asked: &[Binding],
-        moment: Moment,
-    ) -> Result<Reply, AllocError>
-        ensures { let known = known_by D.held self.now.mib moment in
-            let R = IsNextAnswer known (IsInView self.now.policy.families (view_of access.entry)) in
-            IfOk result (IsSentFor (map_settings self.now.mib).limit R head asked.now) }
-    {
-        mon_pdu::laws::grows();
-        laws::stepper();
-        let limit = self.mib.settings().limit;
-        let mut reply = Growing::new(alloc, head, limit);
-        let mut gaps = Gaps::new(alloc);
-        let all = self.extend(alloc, &mut reply, &mut gaps, access, asked, moment)?;
-        let reply = reply.into_message();
-        if all {
-            send(alloc, reply, limit)
-        } else {
-            send_too_big(alloc, reply, limit)
-        }
-    }
-
-    /// What is sent for a GetBulk.
-    fn read_bulk(
-        &self,
-        alloc: Global,
-        access: Access<'_>,
-        community: Octets,
-        bulk: Bulk,
-        moment: Moment,
-    ) -> Result<Reply, AllocError>
-        ensures { let known = known_by D.held self.now.mib moment in
-            let message : AnyMessage = record { community = community; body = bodies.Bulk bulk } in
-            IfOk result (IsReadOut known (IsInView self.now.policy.families (view_of access.entry)) message) }
-    {
-        let response = self.bulk_response(alloc, access, community, bulk, moment)?;
-        send(alloc, response, self.mib.settings().limit)
-    }
-
-    /// The response to a GetBulk.
-    fn bulk_response(
-        &self,
-        alloc: Global,
-        access: Access<'_>,
-        community: Octets,
-        bulk: Bulk,
-        moment: Moment,
-    ) -> Result<Message, AllocError>
-        ensures { let known = known_by D.held self.now.mib moment in
-            let message : AnyMessage = record { community = community; body = bodies.Bulk bulk } in
-            IfOk result (IsReading known (IsInView self.now.policy.families (view_of access.entry)) message) }
-    {
-        mon_pdu::laws::grows();
-        let head = make_response(community, bulk.request_id, Vec::new(alloc));
-        let mut reply = Growing::new(alloc, head, self.mib.settings().limit);
-        self.bulk(alloc, &mut reply, access, &bulk, moment)?;
-        Ok(reply.into_message())
-    }
-
-    /// The binding that answers a name in a GetNext.
-    pub(crate) fn step(
-        &self,
-        alloc: Global,
-        gaps: &mut Gaps,
-        access: Access<'_>,
-        name: &Oid,
-        moment: Moment,
-    ) -> Result<Binding, AllocError>
-        requires { AreGaps (D.held (map_device self.now.mib)) (IsInView self.now.policy.families (view_of access)) gaps.old }
-        ensures step { let known = known_by D.held self.now.mib moment in
-            IfOk result (IsNextAnswer known (IsInView self.now.policy.families (view_of access.entry)) name.now) }
-        // It is the one that every right choice of answers has.
-        ensures only { let known = known_by D.held self.now.mib moment in
-            (next : List ℕ → AnyBinding) → IsStepper known (IsInView self.now.policy.families (view_of access.entry)) next
-            → IfOk result (λ answer. answer ≡ next name.now) }
-        // What was found hidden stays known.
-        ensures gaps { AreGaps (D.held (map_device self.now.mib)) (IsInView self.now.policy.families (view_of access.entry)) gaps.new }
-    {
-        laws::one_step();
-        match self
-            .mib
-            .next_past(alloc, gaps, &self.policy, access, name, moment)?
-        {
-            Some(binding) => Ok(binding),
-            None => Ok(Binding {
-                name: name.try_clone(alloc)?,
-                value: Value::EndOfMibView,
-            }),
-        }
-    }
-
-    /// The value that answers a name in a Get.
-    fn value_at(
-        &self,
-        alloc: Global,
-        access: Access<'_>,
-        name: &Oid,
-        moment: Moment,
-    ) -> Result<Value, AllocError>
-        ensures { let known = known_by D.held self.now.mib moment in
-            IfOk result (IsSeen known (IsInView self.now.policy.families (view_of access.entry)) name.now) }
-    {
-        if !self.policy.sees(access, name) {
-            return Ok(Value::NoSuchObject);
-        }
-        Ok(got_value(self.mib.get(alloc, name, moment)?))
-    }
-
-    /// The variable bindings of a Get with their values.
-    fn read_all(
-        &self,
-        alloc: Global,
-        access: Access<'_>,
-        asked: Vec<Binding>,
-        moment: Moment,
-    ) -> Result<Vec<Binding>, AllocError>
-        ensures { let known = known_by D.held self.now.mib moment in
-            IfOk result (λ answers. AreFor (IsGetAnswer known (IsInView self.now.policy.families (view_of access.entry))) asked.items answers.items) }
-    {
-        let mut answers = asked;
-        for binding in answers.iter_mut() {
-            binding.value = self.value_at(alloc, access, &binding.name, moment)?;
-        }
-        Ok(answers)
     }
 }
 
@@ -421,15 +213,4 @@ fn is_unknown(access: &Result<Access<'_>, Denied>) -> bool
     ensures { IsTrue result ↔ (access.now ≡ Err NoCommunity) }
 {
     matches!(access, Err(Denied::NoCommunity))
-}
-
-/// Returns the value of what was found.
-fn got_value(got: Got) -> Value
-    ensures { result ≡ got_value got }
-{
-    match got {
-        Got::Found(value) => value,
-        Got::NoObject => Value::NoSuchObject,
-        Got::NoInstance => Value::NoSuchInstance,
-    }
 }

@@ -9,6 +9,7 @@ mod bulk;
 mod fault;
 mod growing;
 pub mod laws;
+mod reading;
 mod ready;
 mod reply;
 mod sending;

@@ -14,7 +14,7 @@ use Rattle.mon_mib.specs.Known.{Known}
 use Rattle.mon_mib.specs.Objects.{objects, prefix_of}
 use Rattle.mon_mib.specs.Order.{name_cmp}
 use Rattle.mon_mib.specs.Next.{IsNext, IsLeast}
-use Rattle.mon_mib.proofs.Search.{objects_apart, equal_then, goes_on_at, stops_at}
+use Rattle.mon_mib.proofs.Under.{objects_apart, equal_then, goes_on_at, stops_at}
 use Rattle.mon_mib.proofs.Starts.{apart}
 use Rattle.mon_mib.proofs.Unique.{itself}
 

@@ -1,20 +1,23 @@
 -- Passing over what a view hides of an object.
-use Rattle.std.proofs.Common.{◌≡◌, ◌≢◌, ℕ, ◌<◌, ◌≤◌, List, [], ◌∷◌, ◌++◌, refl, sym, ◌∙◌, ap, subst, arith}
-use Rattle.std.specs.Prelude.{Option, Some, None, IfSome, Contains}
+use Rattle.std.proofs.Common.{◌≡◌, ◌≢◌, ℕ, ◌<◌, ◌≤◌, List, [], ◌∷◌, ◌++◌, refl, sym, ◌∙◌, ap, subst, arith, inr}
+use Rattle.std.specs.Prelude.{Option, Some, None, Result, Ok, Err, IfOk, IfSome, Contains, ◌⊎◌}
 use Rattle.std.specs.declared.cmp.Ordering.TheVariants.{Less}
-use Rattle.std.proofs.lemmas.List.Elements.{All-contains, Contains-push}
+use Rattle.std.proofs.lemmas.List.Elements.{All-contains, All-push, Contains-push}
 use Rattle.mon_pdu.specs.declared.message.Binding.{Binding}
 use Rattle.mon_mib.specs.declared.gaps.Gap.{Gap}
+use Rattle.mon_mib.specs.declared.got.Got.{Got}
+use Rattle.mon_mib.specs.declared.got.Got.TheVariants.{NoObject}
 use Rattle.mon_mib.specs.declared.object.Object.{Object}
 use Rattle.mon_mib.specs.declared.start.Start.{Start}
 use Rattle.mon_mib.specs.declared.start.Start.TheVariants.{Above}
 use Rattle.mon_mib.specs.Gaps.{IsLeastInView, AreGaps, Covers}
 use Rattle.mon_mib.specs.Held.{Held, IsLeastOf}
 use Rattle.mon_mib.specs.Known.{Known, instances, variable}
-use Rattle.mon_mib.specs.Next.{IsVariable, IsLater, IsNext}
+use Rattle.mon_mib.specs.Next.{IsGot, IsVariable, IsLater, IsNext}
 use Rattle.mon_mib.specs.Objects.{prefix_of}
 use Rattle.mon_mib.specs.Order.{IsFrom, name_cmp, start_of}
-use Rattle.mon_mib.proofs.Search.{begins, one, rises, upward}
+use Rattle.mon_mib.specs.Search.{Sought, IsSeenIn, known_in}
+use Rattle.mon_mib.proofs.Under.{begins, one, rises, upward}
 
 module _ (held : Held) (sees : List ℕ → Type 0) (o : Object) where
   -- From a start on what is in view is from here on, and what is from here on is from that start on.
@@ -97,3 +100,22 @@ module _ (k : Known) (sees : List ℕ → Type 0) (x : List ℕ) (o : Object) wh
       let is : c ≡ variable k o v.instance = v.is ∙ ap (λ q. variable k q v.instance) same in
       let wanted : IsLater sees x (variable k o v.instance) = subst (IsLater sees x) is later in
       none v.instance there ((begins k sees x o).covers v.instance there wanted, wanted.in_view)
+
+-- what is so of a search is so of an equal one
+module _ {D : Type 0} (held : D → Held) (s t : Sought D) (same : s ≡ t) where
+  pub moved : (os : List Object) (x : List ℕ) (r : Option Binding) → IsNext os (known_in held s) (IsSeenIn s) x r
+      → IsNext os (known_in held t) (IsSeenIn t) x r
+  moved os x r is = subst (λ (u : Sought D). IsNext os (known_in held u) (IsSeenIn u) x r) same is
+
+  pub shown : {E : Type 0} (x : List ℕ) (r : Result Got E) → IsSeenIn s x → IfOk r (IsGot (known_in held s) x)
+      → IfOk r (λ got. (¬ (IsSeenIn t x) × (got ≡ NoObject)) ⊎ (IsSeenIn t x × IsGot (known_in held t) x got))
+  shown x (Ok got) seen is =
+      inr (subst (λ (u : Sought D). IsSeenIn u x) same seen, subst (λ (u : Sought D). IsGot (known_in held u) x got) same is)
+  shown x (Err e) seen is = tt
+
+  -- one more gap
+  pub added : (gaps more : List Gap) (g : Gap) → more ≡ gaps ++ g ∷ [] → AreGaps (held s.map.device) (IsSeenIn s) gaps
+      → IsLeastInView (held t.map.device) (IsSeenIn t) g.object g.start g.least → AreGaps (held s.map.device) (IsSeenIn s) more
+  added gaps more g is are least =
+      rw is (All-push (λ (h : Gap). IsLeastInView (held s.map.device) (IsSeenIn s) h.object h.start h.least) gaps g are
+      (subst (λ (u : Sought D). IsLeastInView (held u.map.device) (IsSeenIn u) g.object g.start g.least) (sym same) least))

@@ -9,12 +9,12 @@ pub mod Identifiers
 pub mod Judging
 pub mod Planning
 pub mod Rising
-pub mod Search
 pub mod Searching
 pub mod Simulated
 pub mod Starts
 pub mod Swapping
 pub mod Typed
+pub mod Under
 pub mod Undoing
 pub mod Unique
 pub mod Variables

@@ -21,7 +21,7 @@ use Rattle.mon_mib.specs.Known.{Known, instances}
 use Rattle.mon_mib.specs.Objects.{prefix_of}
 use Rattle.mon_mib.specs.Refusal.{IsAccepted}
 use Rattle.mon_mib.specs.Tried.{IsPlannedTo}
-use Rattle.mon_mib.proofs.Search.{one}
+use Rattle.mon_mib.proofs.Under.{one}
 
 -- ---- two names, two targets
 

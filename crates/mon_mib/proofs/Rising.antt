@@ -13,7 +13,7 @@ use Rattle.mon_mib.specs.Held.{AreIndexes}
 use Rattle.mon_mib.specs.Known.{Known, instances, variable, vars}
 use Rattle.mon_mib.specs.Objects.{prefix_of, objects}
 use Rattle.mon_mib.specs.Order.{is_before, name_cmp}
-use Rattle.mon_mib.proofs.Search.{equal_then, objects_apart}
+use Rattle.mon_mib.proofs.Under.{equal_then, objects_apart}
 use Rattle.mon_mib.proofs.Starts.{apart}
 use Rattle.mon_mib.proofs.Variables.{From, from_map, from_flat, at_head}
 use Rattle.mon_mib.proofs.Simulated.{in_tail}

@@ -11,7 +11,7 @@ use Rattle.std.proofs.lemmas.List.Kept.{AllPairs-from_increasing}
 use Rattle.mon_mib.specs.declared.interface.Interface.{Interface}
 use Rattle.mon_mib.specs.Held.{AreIndexes, IsAbove, IsLeastOf}
 use Rattle.mon_mib.specs.Sim.{indexes_of, interface_at, is_over}
-use Rattle.mon_mib.proofs.Search.{one}
+use Rattle.mon_mib.proofs.Under.{one}
 
 nothing : {X : Type 0} (x : X) → Contains [] x → ⊥
 nothing x (k, lt, is) = omega arith

@@ -14,7 +14,7 @@ use Rattle.mon_mib.specs.Objects.{prefix_of, objects}
 use Rattle.mon_mib.specs.Order.{name_cmp}
 use Rattle.mon_mib.specs.Known.{Known, instances, variable_value, variable}
 use Rattle.mon_mib.specs.Next.{IsVariable, IsNext, IsGot}
-use Rattle.mon_mib.proofs.Search.{objects_apart}
+use Rattle.mon_mib.proofs.Under.{objects_apart}
 use Rattle.mon_mib.proofs.Starts.{apart}
 
 -- ---- the order of names

@@ -15,6 +15,7 @@ pub mod Objects
 pub mod Order
 pub mod Plan
 pub mod Refusal
+pub mod Search
 pub mod SetStatus
 pub mod Sim
 pub mod Status

@@ -7,7 +7,6 @@ ghost use Rattle.mon_mib.specs.Known.{instances, variable_value, scalar_value, c
 ghost use Rattle.mon_mib.specs.Next.{IsGot, IsNext, IsServedName};
 ghost use Rattle.mon_mib.specs.Objects.{objects, prefix_of};
 ghost use Rattle.mon_mib.specs.Order.{IsFrom, name_cmp};
-ghost use Rattle.mon_mib.specs.Gaps.{AreGaps, IsLeastInView};
 ghost use Rattle.mon_vacm.specs.Borrowed.{view_of};
 ghost use Rattle.mon_vacm.specs.View.{IsInView};
 
@@ -15,13 +14,13 @@ use crate::column::Column;
 use crate::counters::{Counter, Counters};
 use crate::device::Device;
 use crate::facts::{Facts, IfText, SysText};
-use crate::gaps::{Gap, Gaps};
 use crate::got::Got;
 use crate::moment::Moment;
 use crate::object::{Object, all_objects};
 use crate::scalar::Scalar;
+use crate::search::Search;
 use crate::settings::Settings;
-use crate::start::{Start, find_start};
+use crate::start::Start;
 use mon_ber::{Octets, Value};
 use mon_oid::Oid;
 use mon_pdu::Binding;
@@ -123,119 +122,11 @@ impl<D: Device + Drop> Mib<D> {
         ensures { let known = known_by D.held self.now moment in
             IfOk result (IsNext objects known (IsInView policy.now.families (view_of access.entry)) name.now) }
     {
-        let mut gaps = Gaps::new(alloc);
-        self.next_past(alloc, &mut gaps, policy, access, name, moment)
-    }
-
-    /// Searches as `next` does, with the gaps that earlier searches in this view found, to which
-    /// its own are added. So of many searches each variable that the view hides is tried once.
-    pub fn next_past(
-        &self,
-        alloc: Global,
-        gaps: &mut Gaps,
-        policy: &Policy,
-        access: Access<'_>,
-        name: &Oid,
-        moment: Moment,
-    ) -> Result<Option<Binding>, AllocError>
-        requires { AreGaps (D.held (map_device self.now)) (IsInView policy.now.families (view_of access)) gaps.old }
-        ensures next { let known = known_by D.held self.now moment in
-            IfOk result (IsNext objects known (IsInView policy.now.families (view_of access.entry)) name.now) }
-        ensures gaps { AreGaps (D.held (map_device self.now)) (IsInView policy.now.families (view_of access.entry)) gaps.new }
-    {
-        let place = candidate_place(name.parts());
-        for object in &all_objects()[place..] {
-            let found = self.next_of(alloc, gaps, *object, policy, access, name, moment)?;
-            if let Some(binding) = found {
-                return Ok(Some(binding));
-            }
-        }
-        Ok(None)
-    }
-
-    /// The least variable of an object in view that exceeds a name.
-    fn next_of(
-        &self,
-        alloc: Global,
-        gaps: &mut Gaps,
-        object: Object,
-        policy: &Policy,
-        access: Access<'_>,
-        name: &Oid,
-        moment: Moment,
-    ) -> Result<Option<Binding>, AllocError>
-        requires { AreGaps (D.held (map_device self.now)) (IsInView policy.now.families (view_of access)) gaps.old }
-        ensures next { let known = known_by D.held self.now moment in
-            IfOk result (IsNext (object ∷ []) known (IsInView policy.now.families (view_of access.entry)) name.now) }
-        ensures gaps { AreGaps (D.held (map_device self.now)) (IsInView policy.now.families (view_of access.entry)) gaps.new }
-    {
-        let start = find_start(object.prefix(), name.parts());
-        let least = self.least_in_view(alloc, gaps, object, policy, access, start)?;
-        let Some(instance) = least else {
-            return Ok(None);
-        };
-        let own = object.name(alloc, instance)?;
-        let value = self.value(alloc, object, instance, moment)?.unwrap();
-        Ok(Some(Binding { name: own, value }))
-    }
-
-    /// The least instance of an object in view from a start on. Where the view hides some before it, that is one more gap.
-    fn least_in_view(
-        &self,
-        alloc: Global,
-        gaps: &mut Gaps,
-        object: Object,
-        policy: &Policy,
-        access: Access<'_>,
-        start: Start,
-    ) -> Result<Option<u32>, AllocError>
-        requires { AreGaps (D.held (map_device self.now)) (IsInView policy.now.families (view_of access)) gaps.old }
-        ensures least { IfOk result (IsLeastInView (D.held (map_device self.now)) (IsInView policy.now.families (view_of access.entry)) object start) }
-        ensures gaps { AreGaps (D.held (map_device self.now)) (IsInView policy.now.families (view_of access.entry)) gaps.new }
-    {
-        if let Some(gap) = gaps.find(object, start) {
-            return Ok(gap.least);
-        }
-        let least = self.search(alloc, gaps, object, policy, access, start)?;
-        if least != self.next_instance(object, start) {
-            gaps.add(Gap {
-                object,
-                start,
-                least,
-            })?;
-        }
-        Ok(least)
-    }
-
-    /// The least instance of an object in view from a start on, by trying one after the other up to a gap.
-    fn search(
-        &self,
-        alloc: Global,
-        gaps: &Gaps,
-        object: Object,
-        policy: &Policy,
-        access: Access<'_>,
-        start: Start,
-    ) -> Result<Option<u32>, AllocError>
-        requires { AreGaps (D.held (map_device self.now)) (IsInView policy.now.families (view_of access)) gaps.now }
-        ensures { IfOk result (IsLeastInView (D.held (map_device self.now)) (IsInView policy.now.families (view_of access.entry)) object start) }
-    {
-        let mut rest = start;
-        while let Some(instance) = self.next_instance(object, rest) {
-            let own = object.name(alloc, instance)?;
-            if policy.sees(access, &own) {
-                return Ok(Some(instance));
-            }
-            rest = Start::Above(instance);
-            if let Some(gap) = gaps.find(object, rest) {
-                return Ok(gap.least);
-            }
-        }
-        Ok(None)
+        Search::new(alloc, self, policy, access, moment).next(alloc, name)
     }
 
     /// The least instance of an object from a start on.
-    fn next_instance(&self, object: Object, start: Start) -> Option<u32>
+    pub(crate) fn next_instance(&self, object: Object, start: Start) -> Option<u32>
         ensures { IsLeastOf (instances (D.held (map_device self.now)) object) (IsFrom start) result }
     {
         match start {
@@ -261,7 +152,7 @@ impl<D: Device + Drop> Mib<D> {
     /// Returns the value of the variable of an object and an instance, or `None` if there is no
     /// such variable.
     #[tactic(auto, unfolding(crate::specs::Known::variable_value))]
-    fn value(
+    pub(crate) fn value(
         &self,
         alloc: Global,
         object: Object,
@@ -389,7 +280,7 @@ pub(crate) fn find_object(name: &[u32]) -> Option<(Object, &[u32])>
 
 /// The place of the one served object that a name can be under: all names under the objects before it come before the
 /// name, and the objects after it come after the name.
-fn candidate_place(name: &[u32]) -> usize
+pub(crate) fn candidate_place(name: &[u32]) -> usize
     ensures within { result < length objects }
     ensures earlier { AllWithin (λ o. (rest : List ℕ) → name_cmp (prefix_of o ++ rest) name.now ≡ Less) objects 0 result }
     ensures later { AllWithin (λ o. name_cmp name.now (prefix_of o) ≡ Less) objects (result + 1) (length objects) }

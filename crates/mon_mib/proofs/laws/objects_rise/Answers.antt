@@ -1,6 +1,6 @@
 use Rattle.mon_mib.specs.Objects.{objects, prefix_of}
 use Rattle.std.proofs.Common.{get_or}
-use Rattle.mon_mib.proofs.Search.{objects_apart}
+use Rattle.mon_mib.proofs.Under.{objects_apart}
 use Rattle.mon_mib.proofs.Starts.{apart}
 use Rattle.mon_mib.proofs.laws.objects_rise.Goals as goal
 

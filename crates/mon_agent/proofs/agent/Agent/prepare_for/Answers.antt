@@ -6,6 +6,8 @@ use Rattle.mon_vacm.specs.View.{IsInView}
 use Rattle.mon_mib.specs.Known.{known_of}
 use Rattle.mon_agent.specs.Answer.{IsGranted, IsKnown, is_request, need_of}
 use Rattle.mon_agent.specs.Assigned.{returned}
+use Rattle.mon_mib.specs.Search.{IsSeenIn, known_in}
+use Rattle.mon_agent.specs.Sent.{IsReadOut}
 use Rattle.mon_agent.specs.Reply.{IsOut, too_big}
 use Rattle.mon_agent.proofs.Sent.{out_answers, set_ready}
 use Rattle.mon_agent.proofs.agent.Agent.prepare_for.Goals as goal
@@ -48,7 +50,7 @@ returns-clause-ready g c =
     let known = known_of c.args.self.now.mib.settings c.args.self.now.mib.counters (D.held device) c.args.moment in
     let m = c.args.message in
     let view = c.in-Ok.access.view.now in
-    let sent = c.in_ok-read.ensures in
+    let sent = subst (λ s. IsReadOut (known_in D.held s) (IsSeenIn s) m c.in_ok-read.field-0) c.new-search.ensures c.in_ok-read.ensures in
     let reply = sent.0 in
     let read : need_of m.body ≡ Read = search rules in
     let access : access_of policy m.community (need_of m.body) ≡ Ok view = search rules in

@@ -1,0 +1,65 @@
+use Rattle.std.proofs.Common.{◌≡◌, ◌≤◌, ◌+◌, ◌-◌, ◌++◌, suc, true, false, rules, arith, length, append_assoc, append-nil, ap, sym, subst, ◌∙◌, inl, inr}
+use Rattle.mon_agent.specs.Bulk.{is_last}
+use Rattle.mon_agent.specs.Growing.{FitsWith, IsCut, IsPut, last, more_rounds}
+use Rattle.mon_agent.proofs.Rounds.{cut_same, cut_longer, cut_is, none_follows, no_rounds, goes_on, answers, length-answers, all_last, one_less, unrolled, moved}
+use Rattle.mon_agent.proofs.bulk.repeat_all.Goals as goal
+
+pub returns-then-is_last-clause-put : goal.returns-then-is_last-clause-put
+returns-then-is_last-clause-put g c = λ next steps.
+    let at = c.loop in
+    let end : is_last (last c.args.width at.reply.bindings) ≡ true = search rules in
+    inl (sym (at.invariant.put next steps
+    ∙ (ap (λ l. at.reply.bindings ++ l) (none_follows next (c.args.rounds - at.counter) (last c.args.width at.reply.bindings) end)
+    ∙ append-nil at.reply.bindings)))
+
+pub returns-then-not-branch-clause-put : goal.returns-then-not-branch-clause-put
+returns-then-not-branch-clause-put g c = λ next steps.
+    let at = c.loop in
+    let width = c.args.width in
+    let round = last width at.reply.bindings in
+    let other : is_last round ≡ false = search rules in
+    let m = c.args.rounds - (at.counter + 1) in
+    let left : c.args.rounds - at.counter ≡ suc m = one_less c.args.rounds at.counter (search rules) in
+    let is : c.in_ok-repeat.field-0 ≡ false = search rules in
+    let put : IsCut (FitsWith at.reply) (at.reply.bindings ++ answers next round) c.repeat.new.reply.bindings =
+    subst (λ all. IsPut (FitsWith at.reply) (at.reply.bindings ++ answers next round) all c.repeat.new.reply.bindings) is (c.in_ok-repeat.ensures.put next (moved g.D.Device.held next at.invariant.stays steps)) in
+    let whole : (at.reply.bindings ++ answers next round) ++ more_rounds next m (answers next round)
+    ≡ c.args.reply.now.bindings ++ more_rounds next c.args.rounds (last width c.args.reply.now.bindings) =
+    unrolled next at.reply.bindings round (c.args.rounds - at.counter) m left other ∙ sym (at.invariant.put next steps) in
+    inr (cut_same c.args.reply.now at.reply _ c.repeat.new.reply.bindings at.invariant.head at.invariant.limit
+    (cut_is (FitsWith at.reply) _ _ c.repeat.new.reply.bindings whole
+    (cut_longer (FitsWith at.reply) (at.reply.bindings ++ answers next round) (more_rounds next m (answers next round)) c.repeat.new.reply.bindings put)))
+
+pub loop-preserved : goal.loop-preserved
+loop-preserved g c =
+    let at = c.loop in
+    let width = c.args.width in
+    let round = last width at.reply.bindings in
+    let other : is_last round ≡ false = search rules in
+    let m = c.args.rounds - (at.counter + 1) in
+    let left : c.args.rounds - at.counter ≡ suc m = one_less c.args.rounds at.counter (search rules) in
+    let wide : width ≤ length c.repeat.new.reply.bindings = search rules in
+    record {
+      head = c.repeat.ensures.head ∙ at.invariant.head;
+      limit = c.repeat.ensures.limit ∙ at.invariant.limit;
+      wide = wide;
+      stays = c.repeat.ensures.stays ∙ at.invariant.stays;
+      put = λ next steps.
+          let is : c.in_ok-repeat.field-0 ≡ true = search rules in
+          let put : c.repeat.new.reply.bindings ≡ at.reply.bindings ++ answers next round =
+          subst (λ all. IsPut (FitsWith at.reply) (at.reply.bindings ++ answers next round) all c.repeat.new.reply.bindings) is (c.in_ok-repeat.ensures.put next (moved g.D.Device.held next at.invariant.stays steps)) in
+          at.invariant.put next steps
+          ∙ (sym (unrolled next at.reply.bindings round (c.args.rounds - at.counter) m left other)
+          ∙ (append_assoc at.reply.bindings (answers next round) (more_rounds next m (answers next round))
+          ∙ (goes_on next at.reply.bindings (answers next round) m width (length-answers next round ∙ all_last next width at.reply.bindings at.invariant.wide)
+          ∙ ap (λ l. l ++ more_rounds next m (last width l)) (sym put))));
+    }
+
+pub returns-clause-put : goal.returns-clause-put
+returns-clause-put g c = λ next steps.
+    let at = c.loop in
+    let ended : c.args.rounds ≤ at.counter = search rules in
+    let none : c.args.rounds - at.counter ≡ 0 = omega (arith, ended) in
+    inl (sym (at.invariant.put next steps
+    ∙ (ap (λ n. at.reply.bindings ++ more_rounds next n (last c.args.width at.reply.bindings)) none
+    ∙ (ap (λ l. at.reply.bindings ++ l) (no_rounds next (last c.args.width at.reply.bindings)) ∙ append-nil at.reply.bindings))))

@@ -1,0 +1,28 @@
+use Rattle.std.proofs.Common.{◌≡◌, [], rules, arith, ap, ◌∙◌, inl, inr}
+use Rattle.mon_pdu.specs.declared.message.Body.TheVariants as bodies
+use Rattle.mon_pdu.specs.declared.message.Message.{Message}
+use Rattle.mon_pdu.specs.Sizes.{with_bindings}
+use Rattle.mon_agent.specs.Bulk.{full_list}
+use Rattle.mon_agent.specs.Growing.{Grown, FitsWith}
+use Rattle.mon_agent.specs.Reply.{answered}
+use Rattle.mon_agent.proofs.Longest.{longest}
+use Rattle.mon_agent.proofs.Rounds.{ended_same, fits_same}
+use Rattle.mon_agent.proofs.reading.bulk_response.Goals as goal
+
+pub returns : goal.returns
+returns g c =
+    let m : Message = record { community = c.args.community; body = bodies.Bulk c.args.request } in
+    let start : Grown = record { head = answered m []; limit = c.args.search.now.map.settings.limit; bindings = [] } in
+    let reply = c.bulk.new.reply in
+    let head : c.new-reply.result.head ≡ answered m [] = search rules in
+    let limit : c.new-reply.result.limit ≡ c.args.search.now.map.settings.limit = search rules in
+    let head_now : reply.head ≡ answered m [] = c.in_ok-bulk.ensures.head ∙ head in
+    let limit_now : reply.limit ≡ c.args.search.now.map.settings.limit = c.in_ok-bulk.ensures.limit ∙ limit in (
+      reply.bindings,
+      (λ next steps. longest (FitsWith start)
+          (λ bindings more fits. omega (arith, c.grows.ensures (answered m []) bindings more, fits))
+          (full_list next c.args.request.non_repeaters c.args.request.max_repetitions c.args.request.bindings) reply.bindings
+          (elim c.into_message.ensures.within [ inl none ↦ inl none | inr fits ↦ inr (fits_same start reply reply.bindings head_now limit_now fits) ])
+          (ended_same start c.new-reply.result _ reply.bindings head limit (c.in_ok-bulk.ensures.put next steps))),
+      c.into_message.ensures.message ∙ ap (λ (h : Message). with_bindings h reply.bindings) head_now,
+    )

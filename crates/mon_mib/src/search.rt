@@ -1,0 +1,201 @@
+//! A search for variables by their names, in one view at one moment.
+
+ghost use Rattle.std.specs.Prelude.{◌≡◌, ◌↔◌, ◌++◌, ◌∷◌, [], ◌⊎◌, IfOk, IfSome, IsTrue};
+ghost use Rattle.mon_vacm.specs.Borrowed.{view_of};
+ghost use Rattle.mon_mib.specs.declared.got.Got.TheVariants.{NoObject};
+ghost use Rattle.mon_mib.specs.Gaps.{IsLeastInView};
+ghost use Rattle.mon_mib.specs.Held.{IsLeastOf};
+ghost use Rattle.mon_mib.specs.Known.{instances};
+ghost use Rattle.mon_mib.specs.Next.{IsGot, IsNext};
+ghost use Rattle.mon_mib.specs.Objects.{objects, prefix_of};
+ghost use Rattle.mon_mib.specs.Order.{IsFrom};
+ghost use Rattle.mon_mib.specs.Search.{Sought, IsSeenIn, known_in};
+
+use crate::device::Device;
+use crate::gaps::Gap;
+use crate::got::Got;
+use crate::mib::{Mib, candidate_place};
+use crate::moment::Moment;
+use crate::object::{Object, all_objects};
+use crate::settings::Settings;
+use crate::start::{Start, find_start};
+use mon_oid::Oid;
+use mon_pdu::Binding;
+use mon_vacm::{Access, Policy};
+use std::alloc::{AllocError, Global};
+use std::marker::Model;
+
+/// A search in a map at a moment, within a granted view. It keeps the gaps that it has found, so that of all variables that
+/// the view hides each is tried once.
+#[derive(Drop)]
+pub struct Search<'a, D: Device + Drop> {
+    mib: &'a Mib<D>,
+    policy: &'a Policy,
+    access: Access<'a>,
+    moment: Moment,
+    gaps: Vec<Gap>,
+}
+
+impl<'a, D: Device + Drop> Model for Search<'a, D> {
+    ghost use Rattle.mon_vacm.specs.Borrowed.{view_of};
+    ghost use Rattle.mon_vacm.specs.View.{IsInView};
+    ghost use Rattle.mon_mib.specs.Gaps.{AreGaps};
+    ghost use Rattle.mon_mib.specs.Search.{Sought};
+
+    ghost Value = { Sought D };
+
+    ghost view = { λ s. record { map = s.mib.now; families = s.policy.now.families; view = view_of s.access; moment = s.moment } };
+
+    ghost invariant = { λ s. AreGaps (D.held s.mib.now.device) (IsInView s.policy.now.families (view_of s.access)) s.gaps.items };
+}
+
+impl<'a, D: Device + Drop> Search<'a, D> {
+    /// A search that has found no gaps yet.
+    pub fn new(
+        alloc: Global,
+        mib: &'a Mib<D>,
+        policy: &'a Policy,
+        access: Access<'a>,
+        moment: Moment,
+    ) -> Self
+        ensures { let sought : Sought D = record { map = mib.now; families = policy.now.families; view = view_of access.entry; moment = moment } in
+            result ≡ sought }
+    {
+        Search {
+            mib,
+            policy,
+            access,
+            moment,
+            gaps: Vec::new(alloc),
+        }
+    }
+
+    /// Returns what is served as it was given at the start.
+    pub fn settings(&self) -> &Settings
+        ensures { result.now ≡ self.now.map.settings }
+    {
+        self.mib.settings()
+    }
+
+    /// Returns what is at a name, as `Mib::get` does; under a name that the view hides there is no object.
+    pub fn get(&self, alloc: Global, name: &Oid) -> Result<Got, AllocError>
+        ensures { let sees = IsSeenIn self.now in
+            IfOk result (λ got. (¬ (sees name.now) × (got ≡ NoObject)) ⊎ (sees name.now × IsGot (known_in D.held self.now) name.now got)) }
+    {
+        if !self.policy.sees(self.access, name) {
+            return Ok(Got::NoObject);
+        }
+        self.mib.get(alloc, name, self.moment)
+    }
+
+    /// Returns the least variable in view that exceeds a name, as `Mib::next` does.
+    pub fn next(&mut self, alloc: Global, name: &Oid) -> Result<Option<Binding>, AllocError>
+        ensures next { IfOk result (IsNext objects (known_in D.held self.old) (IsSeenIn self.old) name.now) }
+        ensures stays { self.new ≡ self.old }
+    {
+        let place = candidate_place(name.parts());
+        for object in &all_objects()[place..] {
+            let found = self.next_of(alloc, *object, name)?;
+            if let Some(binding) = found {
+                return Ok(Some(binding));
+            }
+        }
+        Ok(None)
+    }
+
+    /// The least variable of an object in view that exceeds a name.
+    fn next_of(
+        &mut self,
+        alloc: Global,
+        object: Object,
+        name: &Oid,
+    ) -> Result<Option<Binding>, AllocError>
+        ensures next { IfOk result (IsNext (object ∷ []) (known_in D.held self.old) (IsSeenIn self.old) name.now) }
+        ensures stays { self.new ≡ self.old }
+    {
+        let start = find_start(object.prefix(), name.parts());
+        let least = self.least_in_view(alloc, object, start)?;
+        let Some(instance) = least else {
+            return Ok(None);
+        };
+        let own = object.name(alloc, instance)?;
+        let value = self
+            .mib
+            .value(alloc, object, instance, self.moment)?
+            .unwrap();
+        Ok(Some(Binding { name: own, value }))
+    }
+
+    /// The least instance of an object in view from a start on. Where the view hides some before it, that is one more gap.
+    fn least_in_view(
+        &mut self,
+        alloc: Global,
+        object: Object,
+        start: Start,
+    ) -> Result<Option<u32>, AllocError>
+        ensures least { IfOk result (IsLeastInView (D.held self.old.map.device) (IsSeenIn self.old) object start) }
+        ensures stays { self.new ≡ self.old }
+    {
+        if let Some(gap) = self.find_gap(object, start) {
+            return Ok(gap.least);
+        }
+        let least = self.search(alloc, object, start)?;
+        if least != self.next_instance(object, start) {
+            self.gaps.push(Gap {
+                object,
+                start,
+                least,
+            })?;
+        }
+        Ok(least)
+    }
+
+    /// The least instance of an object in view from a start on, by trying one after the other up to a gap.
+    fn search(
+        &self,
+        alloc: Global,
+        object: Object,
+        start: Start,
+    ) -> Result<Option<u32>, AllocError>
+        ensures { IfOk result (IsLeastInView (D.held self.now.map.device) (IsSeenIn self.now) object start) }
+    {
+        let mut rest = start;
+        while let Some(instance) = self.next_instance(object, rest) {
+            if self.sees(alloc, object, instance)? {
+                return Ok(Some(instance));
+            }
+            rest = Start::Above(instance);
+            if let Some(gap) = self.find_gap(object, rest) {
+                return Ok(gap.least);
+            }
+        }
+        Ok(None)
+    }
+
+    /// The least instance of an object from a start on.
+    fn next_instance(&self, object: Object, start: Start) -> Option<u32>
+        ensures { IsLeastOf (instances (D.held self.now.map.device) object) (IsFrom start) result }
+    {
+        self.mib.next_instance(object, start)
+    }
+
+    /// Returns `true` if an object's variable of an instance is in view.
+    fn sees(&self, alloc: Global, object: Object, instance: u32) -> Result<bool, AllocError>
+        ensures { IfOk result (λ seen. IsTrue seen ↔ IsSeenIn self.now (prefix_of object ++ instance ∷ [])) }
+    {
+        let own = object.name(alloc, instance)?;
+        Ok(self.policy.sees(self.access, &own))
+    }
+
+    /// A gap in which an object's instances from a start on begin, if one is known.
+    fn find_gap(&self, object: Object, start: Start) -> Option<Gap>
+        ensures { IfSome result (λ gap. IsLeastInView (D.held self.now.map.device) (IsSeenIn self.now) object start gap.least) }
+    {
+        for gap in &self.gaps {
+            if gap.covers(object, start) {
+                return Some(*gap);
+            }
+        }
+        None
+    }
+}
