@@ -1,6 +1,6 @@
 //! The response to a GetBulk (RFC 3416 section 4.2.3).
 
-ghost use Rattle.std.specs.Prelude.{◌≡◌, ◌≤◌, ◌+◌, ◌++◌, [], ℕ, List, Ok, IfOk, OnOk, true, map, length, drop};
+ghost use Rattle.std.specs.Prelude.{◌≡◌, ◌≤◌, ◌+◌, ◌++◌, [], ℕ, List, Ok, IfOk, OnOk, true, map, length};
 ghost use Rattle.mon_pdu.specs.declared.message.Binding.{Binding as AnyBinding};
 ghost use Rattle.mon_mib.specs.Search.{IsSeenIn, known_in};
 ghost use Rattle.mon_agent.specs.Bulk.{IsStepper, names_of, full_list};

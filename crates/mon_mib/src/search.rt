@@ -151,12 +151,7 @@ impl<'a, D: Device + Drop> Search<'a, D> {
     }
 
     /// The least instance of an object in view from a start on, by trying one after the other up to a gap.
-    fn search(
-        &self,
-        alloc: Global,
-        object: Object,
-        start: Start,
-    ) -> Result<Option<u32>, AllocError>
+    fn search(&self, alloc: Global, object: Object, start: Start) -> Result<Option<u32>, AllocError>
         ensures { IfOk result (IsLeastInView (D.held self.now.map.device) (IsSeenIn self.now) object start) }
     {
         let mut rest = start;

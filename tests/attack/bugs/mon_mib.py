@@ -332,14 +332,14 @@ BUGS = {
         "        self.object == object && start.is_after(self.start)",
     ),
     "keeps_a_gap_without_its_end": (
-        "src/mib.rt",
-        "            gaps.add(Gap {\n                object,\n                start,\n                least,\n            })?;",
-        "            gaps.add(Gap {\n                object,\n                start,\n                least: None,\n            })?;",
+        "src/search.rt",
+        "            self.gaps.push(Gap {\n                object,\n                start,\n                least,\n            })?;",
+        "            self.gaps.push(Gap {\n                object,\n                start,\n                least: None,\n            })?;",
     ),
     "searches_on_from_the_gap_before": (
-        "src/mib.rt",
-        "            if let Some(gap) = gaps.find(object, rest) {",
-        "            if let Some(gap) = gaps.find(object, start) {",
+        "src/search.rt",
+        "            if let Some(gap) = self.find_gap(object, rest) {",
+        "            if let Some(gap) = self.find_gap(object, start) {",
     ),
     "an_instance_is_from_itself_on": (
         "src/start.rt",
@@ -397,13 +397,23 @@ BUGS = {
         "    if index > 0 { return; } let Err(_) = device.apply(change) else {",
     ),
     "next_leaves_a_column_at_a_hidden_row": (
-        "src/mib.rt",
+        "src/search.rt",
         "            rest = Start::Above(instance);",
         "            rest = Start::Nowhere;",
     ),
     "next_shows_a_hidden_name": (
-        "src/mib.rt",
-        "        let least = self.search(alloc, gaps, object, policy, access, start)?;",
-        "        let least = if object == Object::Scalar(Scalar::SysDescr) { self.next_instance(object, start) } else { self.search(alloc, gaps, object, policy, access, start)? };",
+        "src/search.rt",
+        "        let least = self.search(alloc, object, start)?;",
+        "        let least = if object == Object::Scalar(crate::scalar::Scalar::SysDescr) { self.mib.next_instance(object, start) } else { self.search(alloc, object, start)? };",
+    ),
+    "hides_a_name_as_no_instance": (
+        "src/search.rt",
+        "            return Ok(Got::NoObject);",
+        "            return Ok(Got::NoInstance);",
+    ),
+    "shows_a_hidden_name": (
+        "src/search.rt",
+        "        if !self.policy.sees(self.access, name) {",
+        "        if self.policy.sees(self.access, name) {",
     ),
 }

@@ -15,7 +15,10 @@ loop-binding-preserved g c =
     record {
       long = long_of R c.args.asked.items at.binding-items at.binding-index new at.invariant.long;
       done = one_more R c.args.asked.items at.binding-items at.binding-index old new lt at.invariant.long
-          at.invariant.rest at.invariant.done (record { named = refl; found = seen (known_in g.D.Device.held c.args.search.now) (IsSeenIn c.args.search.now) (slice_index_or at.binding-items at.binding-index old).name
-              c.in_ok-got.got c.got_value.result c.got_value.ensures c.in_ok-got.ensures });
+          at.invariant.rest at.invariant.done (record {
+            named = refl;
+            found = seen (known_in g.D.Device.held c.args.search.now) (IsSeenIn c.args.search.now) (slice_index_or at.binding-items at.binding-index old).name
+                c.in_ok-got.got c.got_value.result c.got_value.ensures c.in_ok-got.ensures;
+          });
       rest = rest_of R c.args.asked.items at.binding-items at.binding-index old new lt at.invariant.long at.invariant.rest;
     }

@@ -13,12 +13,12 @@ use Rattle.mon_agent.proofs.reading.read_next.Goals as goal
 
 pub returns-then-all : goal.returns-then-all
 returns-then-all g c =
-    let search = c.args.search.now in
-    let known = known_in g.D.Device.held search in
-    let sees = IsSeenIn search in
-    let found = c.stepper.ensures known search.families search.view in
+    let sought = c.args.search.now in
+    let known = known_in g.D.Device.held sought in
+    let sees = IsSeenIn sought in
+    let found = c.stepper.ensures known sought.families sought.view in
     let start = c.new-reply.result in
-    let limit_is : start.limit ≡ c.args.search.now.map.settings.limit = search rules in
+    let limit_is : start.limit ≡ sought.map.settings.limit = search rules in
     let passed = sym c.new-reply.ensures.limit ∙ limit_is in
     let reply = c.extend.new.reply in
     let all : List Binding = map found.0 (names_of c.args.asked.now) in
@@ -26,19 +26,19 @@ returns-then-all g c =
     subst (λ b. IsPut (FitsWith start) (start.bindings ++ all) b reply.bindings) c.if-all.true (c.in_ok-all.ensures.put found.0 found.1) in
     let bindings : reply.bindings ≡ all = put ∙ ap (λ l. l ++ all) c.new-reply.ensures.empty in
     let head : reply.head ≡ c.args.head = c.in_ok-all.ensures.head ∙ c.new-reply.ensures.head in
-    sent_for c.args.search.now.map.settings.limit (IsNextAnswer known sees) c.args.head found.0 c.args.asked.now found.1 c.into_message-reply.result c.send.result
+    sent_for sought.map.settings.limit (IsNextAnswer known sees) c.args.head found.0 c.args.asked.now found.1 c.into_message-reply.result c.send.result
     (c.into_message-reply.ensures.message ∙ (λ i. with_bindings (head i) (bindings i)))
     (subst (λ (z : ℤ). IfOk c.send.result (IsOut z c.into_message-reply.result c.into_message-reply.result)) passed c.send.ensures)
 
-pub returns : goal.returns
-returns g c =
-    let limit = c.args.search.now.map.settings.limit in
-    let search = c.args.search.now in
-    let known = known_in g.D.Device.held search in
-    let sees = IsSeenIn search in
-    let found = c.stepper.ensures known search.families search.view in
+pub returns-else-all : goal.returns-else-all
+returns-else-all g c =
+    let sought = c.args.search.now in
+    let limit = sought.map.settings.limit in
+    let known = known_in g.D.Device.held sought in
+    let sees = IsSeenIn sought in
+    let found = c.stepper.ensures known sought.families sought.view in
     let start = c.new-reply.result in
-    let limit_is : start.limit ≡ c.args.search.now.map.settings.limit = search rules in
+    let limit_is : start.limit ≡ sought.map.settings.limit = search rules in
     let passed = sym c.new-reply.ensures.limit ∙ limit_is in
     let reply = c.extend.new.reply in
     let all : List Binding = map found.0 (names_of c.args.asked.now) in
