@@ -12,7 +12,7 @@ use Rattle.mon_mib.specs.declared.column.Column.{Column}
 use Rattle.mon_mib.specs.declared.column.Column.TheVariants.{IfIndex, IfDescr, IfType, IfMtu, IfSpeed, IfPhysAddress, IfAdminStatus, IfOperStatus, IfLastChange, IfInOctets, IfInUcastPkts, IfInDiscards, IfInErrors, IfInUnknownProtos, IfOutOctets, IfOutUcastPkts, IfOutDiscards, IfOutErrors, IfName, IfHcInOctets, IfHcInUcastPkts, IfHcOutOctets, IfHcOutUcastPkts, IfHighSpeed, IfAlias, IfCounterDiscontinuityTime}
 use Rattle.mon_mib.specs.declared.object.Object.{Object}
 use Rattle.mon_mib.specs.declared.object.Object.TheVariants as served
-use Rattle.mon_mib.specs.Objects.{prefix_of, scalar_prefix, column_prefix}
+use Rattle.mon_mib.specs.Objects.{prefix_of, scalar_row, column_row}
 
 -- the tests of a list: how many numbers, the first two, and that each is of 32 bits
 abbrev few : List ℕ → Bool
@@ -51,8 +51,7 @@ sound ns ok =
       room = omega arith;
     }
 
-scalar : (s : Scalar) → passes (scalar_prefix s) ≡ true
-unfolding scalar_prefix
+scalar : (s : Scalar) → passes (scalar_row s).prefix ≡ true
 scalar SysDescr = refl
 scalar SysObjectId = refl
 scalar SysUpTime = refl
@@ -71,8 +70,7 @@ scalar SnmpEngineBoots = refl
 scalar SnmpEngineTime = refl
 scalar SnmpEngineMaxMessageSize = refl
 
-column : (c : Column) → passes (column_prefix c) ≡ true
-unfolding column_prefix
+column : (c : Column) → passes (column_row c).prefix ≡ true
 column IfIndex = refl
 column IfDescr = refl
 column IfType = refl
@@ -101,5 +99,6 @@ column IfAlias = refl
 column IfCounterDiscontinuityTime = refl
 
 pub has_room : (o : Object) → HasRoom (prefix_of o)
-has_room (served.Scalar s) = sound (scalar_prefix s) (scalar s)
-has_room (served.Column c) = sound (column_prefix c) (column c)
+unfolding prefix_of
+has_room (served.Scalar s) = sound (scalar_row s).prefix (scalar s)
+has_room (served.Column c) = sound (column_row c).prefix (column c)

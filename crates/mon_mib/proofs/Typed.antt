@@ -10,9 +10,9 @@ use Rattle.mon_mib.specs.declared.object.Object.{Object}
 use Rattle.mon_mib.specs.declared.object.Object.TheVariants as served
 use Rattle.mon_mib.specs.Held.{facts_at}
 use Rattle.mon_mib.specs.Known.{Known, scalar_value, column_value, variable_value}
-use Rattle.mon_mib.specs.Objects.{scalar_syntax, column_syntax, syntax_of}
+use Rattle.mon_mib.specs.Objects.{scalar_row, column_row, syntax_of}
 
-scalar : (k : Known) (s : Scalar) → tag_of (scalar_value k s) ≡ scalar_syntax s
+scalar : (k : Known) (s : Scalar) → tag_of (scalar_value k s) ≡ (scalar_row s).syntax
 scalar k SysDescr = refl
 scalar k SysObjectId = refl
 scalar k SysUpTime = refl
@@ -31,7 +31,7 @@ scalar k SnmpEngineBoots = refl
 scalar k SnmpEngineTime = refl
 scalar k SnmpEngineMaxMessageSize = refl
 
-column : (k : Known) (f : Facts) (i : ℕ) (c : Column) → tag_of (column_value k f i c) ≡ column_syntax c
+column : (k : Known) (f : Facts) (i : ℕ) (c : Column) → tag_of (column_value k f i c) ≡ (column_row c).syntax
 column k f i IfIndex = refl
 column k f i IfDescr = refl
 column k f i IfType = refl

@@ -18,7 +18,7 @@ use Rattle.mon_mib.specs.declared.start.Start.TheVariants.{First, Above, Nowhere
 use Rattle.mon_mib.proofs.Starts.{start_exact, apart}
 use Rattle.mon_pdu.specs.declared.message.Binding.{Binding}
 use Rattle.mon_mib.specs.declared.object.Object.{Object}
-use Rattle.mon_mib.specs.Objects.{prefix_of, scalar_prefix, column_prefix, objects, all_before}
+use Rattle.mon_mib.specs.Objects.{prefix_of, objects, all_before}
 use Rattle.mon_mib.specs.Known.{Known, instances, variable}
 use Rattle.mon_mib.specs.Next.{IsVariable, IsLater, IsLeast, IsNext}
 
@@ -52,7 +52,7 @@ same_value r v w is also = cc
 
 -- the objects are in the order of their names
 objects_rise : IsTrue (all_before objects)
-unfolding objects scalar_prefix column_prefix
+unfolding objects prefix_of
 objects_rise = refl
 
 -- each object comes before all later ones

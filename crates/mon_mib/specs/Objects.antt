@@ -13,131 +13,86 @@ use Rattle.mon_mib.specs.declared.column.Column.TheVariants.{IfIndex, IfDescr, I
 use Rattle.mon_mib.specs.declared.object.Object.{Object}
 use Rattle.mon_mib.specs.declared.object.Object.TheVariants as served
 
--- the names of the objects with one variable
-unfoldable pub scalar_prefix : Scalar → List ℕ
-scalar_prefix SysDescr = 1 ∷ 3 ∷ 6 ∷ 1 ∷ 2 ∷ 1 ∷ 1 ∷ 1 ∷ []
-scalar_prefix SysObjectId = 1 ∷ 3 ∷ 6 ∷ 1 ∷ 2 ∷ 1 ∷ 1 ∷ 2 ∷ []
-scalar_prefix SysUpTime = 1 ∷ 3 ∷ 6 ∷ 1 ∷ 2 ∷ 1 ∷ 1 ∷ 3 ∷ []
-scalar_prefix SysContact = 1 ∷ 3 ∷ 6 ∷ 1 ∷ 2 ∷ 1 ∷ 1 ∷ 4 ∷ []
-scalar_prefix SysName = 1 ∷ 3 ∷ 6 ∷ 1 ∷ 2 ∷ 1 ∷ 1 ∷ 5 ∷ []
-scalar_prefix SysLocation = 1 ∷ 3 ∷ 6 ∷ 1 ∷ 2 ∷ 1 ∷ 1 ∷ 6 ∷ []
-scalar_prefix SysServices = 1 ∷ 3 ∷ 6 ∷ 1 ∷ 2 ∷ 1 ∷ 1 ∷ 7 ∷ []
-scalar_prefix IfNumber = 1 ∷ 3 ∷ 6 ∷ 1 ∷ 2 ∷ 1 ∷ 2 ∷ 1 ∷ []
-scalar_prefix SnmpInPkts = 1 ∷ 3 ∷ 6 ∷ 1 ∷ 2 ∷ 1 ∷ 11 ∷ 1 ∷ []
-scalar_prefix SnmpInBadVersions = 1 ∷ 3 ∷ 6 ∷ 1 ∷ 2 ∷ 1 ∷ 11 ∷ 3 ∷ []
-scalar_prefix SnmpInBadCommunityNames = 1 ∷ 3 ∷ 6 ∷ 1 ∷ 2 ∷ 1 ∷ 11 ∷ 4 ∷ []
-scalar_prefix SnmpInAsnParseErrs = 1 ∷ 3 ∷ 6 ∷ 1 ∷ 2 ∷ 1 ∷ 11 ∷ 6 ∷ []
-scalar_prefix SnmpSilentDrops = 1 ∷ 3 ∷ 6 ∷ 1 ∷ 2 ∷ 1 ∷ 11 ∷ 31 ∷ []
-scalar_prefix SnmpEngineId = 1 ∷ 3 ∷ 6 ∷ 1 ∷ 6 ∷ 3 ∷ 10 ∷ 2 ∷ 1 ∷ 1 ∷ []
-scalar_prefix SnmpEngineBoots = 1 ∷ 3 ∷ 6 ∷ 1 ∷ 6 ∷ 3 ∷ 10 ∷ 2 ∷ 1 ∷ 2 ∷ []
-scalar_prefix SnmpEngineTime = 1 ∷ 3 ∷ 6 ∷ 1 ∷ 6 ∷ 3 ∷ 10 ∷ 2 ∷ 1 ∷ 3 ∷ []
-scalar_prefix SnmpEngineMaxMessageSize = 1 ∷ 3 ∷ 6 ∷ 1 ∷ 6 ∷ 3 ∷ 10 ∷ 2 ∷ 1 ∷ 4 ∷ []
+-- What the standards give of an object: what the names of its variables begin with, the tag of their values (SYNTAX), and what
+-- may be done with them (MAX-ACCESS) (RFC 2578 section 7).
+pub record Row : Type 0 where
+  pub prefix : List ℕ
+  pub syntax : Tag
+  pub access : MaxAccess
 
--- the names of the columns
-unfoldable pub column_prefix : Column → List ℕ
-column_prefix IfIndex = 1 ∷ 3 ∷ 6 ∷ 1 ∷ 2 ∷ 1 ∷ 2 ∷ 2 ∷ 1 ∷ 1 ∷ []
-column_prefix IfDescr = 1 ∷ 3 ∷ 6 ∷ 1 ∷ 2 ∷ 1 ∷ 2 ∷ 2 ∷ 1 ∷ 2 ∷ []
-column_prefix IfType = 1 ∷ 3 ∷ 6 ∷ 1 ∷ 2 ∷ 1 ∷ 2 ∷ 2 ∷ 1 ∷ 3 ∷ []
-column_prefix IfMtu = 1 ∷ 3 ∷ 6 ∷ 1 ∷ 2 ∷ 1 ∷ 2 ∷ 2 ∷ 1 ∷ 4 ∷ []
-column_prefix IfSpeed = 1 ∷ 3 ∷ 6 ∷ 1 ∷ 2 ∷ 1 ∷ 2 ∷ 2 ∷ 1 ∷ 5 ∷ []
-column_prefix IfPhysAddress = 1 ∷ 3 ∷ 6 ∷ 1 ∷ 2 ∷ 1 ∷ 2 ∷ 2 ∷ 1 ∷ 6 ∷ []
-column_prefix IfAdminStatus = 1 ∷ 3 ∷ 6 ∷ 1 ∷ 2 ∷ 1 ∷ 2 ∷ 2 ∷ 1 ∷ 7 ∷ []
-column_prefix IfOperStatus = 1 ∷ 3 ∷ 6 ∷ 1 ∷ 2 ∷ 1 ∷ 2 ∷ 2 ∷ 1 ∷ 8 ∷ []
-column_prefix IfLastChange = 1 ∷ 3 ∷ 6 ∷ 1 ∷ 2 ∷ 1 ∷ 2 ∷ 2 ∷ 1 ∷ 9 ∷ []
-column_prefix IfInOctets = 1 ∷ 3 ∷ 6 ∷ 1 ∷ 2 ∷ 1 ∷ 2 ∷ 2 ∷ 1 ∷ 10 ∷ []
-column_prefix IfInUcastPkts = 1 ∷ 3 ∷ 6 ∷ 1 ∷ 2 ∷ 1 ∷ 2 ∷ 2 ∷ 1 ∷ 11 ∷ []
-column_prefix IfInDiscards = 1 ∷ 3 ∷ 6 ∷ 1 ∷ 2 ∷ 1 ∷ 2 ∷ 2 ∷ 1 ∷ 13 ∷ []
-column_prefix IfInErrors = 1 ∷ 3 ∷ 6 ∷ 1 ∷ 2 ∷ 1 ∷ 2 ∷ 2 ∷ 1 ∷ 14 ∷ []
-column_prefix IfInUnknownProtos = 1 ∷ 3 ∷ 6 ∷ 1 ∷ 2 ∷ 1 ∷ 2 ∷ 2 ∷ 1 ∷ 15 ∷ []
-column_prefix IfOutOctets = 1 ∷ 3 ∷ 6 ∷ 1 ∷ 2 ∷ 1 ∷ 2 ∷ 2 ∷ 1 ∷ 16 ∷ []
-column_prefix IfOutUcastPkts = 1 ∷ 3 ∷ 6 ∷ 1 ∷ 2 ∷ 1 ∷ 2 ∷ 2 ∷ 1 ∷ 17 ∷ []
-column_prefix IfOutDiscards = 1 ∷ 3 ∷ 6 ∷ 1 ∷ 2 ∷ 1 ∷ 2 ∷ 2 ∷ 1 ∷ 19 ∷ []
-column_prefix IfOutErrors = 1 ∷ 3 ∷ 6 ∷ 1 ∷ 2 ∷ 1 ∷ 2 ∷ 2 ∷ 1 ∷ 20 ∷ []
-column_prefix IfName = 1 ∷ 3 ∷ 6 ∷ 1 ∷ 2 ∷ 1 ∷ 31 ∷ 1 ∷ 1 ∷ 1 ∷ 1 ∷ []
-column_prefix IfHcInOctets = 1 ∷ 3 ∷ 6 ∷ 1 ∷ 2 ∷ 1 ∷ 31 ∷ 1 ∷ 1 ∷ 1 ∷ 6 ∷ []
-column_prefix IfHcInUcastPkts = 1 ∷ 3 ∷ 6 ∷ 1 ∷ 2 ∷ 1 ∷ 31 ∷ 1 ∷ 1 ∷ 1 ∷ 7 ∷ []
-column_prefix IfHcOutOctets = 1 ∷ 3 ∷ 6 ∷ 1 ∷ 2 ∷ 1 ∷ 31 ∷ 1 ∷ 1 ∷ 1 ∷ 10 ∷ []
-column_prefix IfHcOutUcastPkts = 1 ∷ 3 ∷ 6 ∷ 1 ∷ 2 ∷ 1 ∷ 31 ∷ 1 ∷ 1 ∷ 1 ∷ 11 ∷ []
-column_prefix IfHighSpeed = 1 ∷ 3 ∷ 6 ∷ 1 ∷ 2 ∷ 1 ∷ 31 ∷ 1 ∷ 1 ∷ 1 ∷ 15 ∷ []
-column_prefix IfAlias = 1 ∷ 3 ∷ 6 ∷ 1 ∷ 2 ∷ 1 ∷ 31 ∷ 1 ∷ 1 ∷ 1 ∷ 18 ∷ []
-column_prefix IfCounterDiscontinuityTime = 1 ∷ 3 ∷ 6 ∷ 1 ∷ 2 ∷ 1 ∷ 31 ∷ 1 ∷ 1 ∷ 1 ∷ 19 ∷ []
+-- an object whose variables may be read
+abbrev pub read_only : Tag → List ℕ → Row
+read_only syntax prefix = record { prefix = prefix; syntax = syntax; access = ReadOnly }
+
+-- an object whose variables a Set may change too
+abbrev pub read_write : Tag → List ℕ → Row
+read_write syntax prefix = record { prefix = prefix; syntax = syntax; access = ReadWrite }
+
+-- the objects with one variable
+abbrev pub scalar_row : Scalar → Row
+scalar_row SysDescr = read_only tag.OctetString (1 ∷ 3 ∷ 6 ∷ 1 ∷ 2 ∷ 1 ∷ 1 ∷ 1 ∷ [])
+scalar_row SysObjectId = read_only tag.ObjectIdentifier (1 ∷ 3 ∷ 6 ∷ 1 ∷ 2 ∷ 1 ∷ 1 ∷ 2 ∷ [])
+scalar_row SysUpTime = read_only tag.TimeTicks (1 ∷ 3 ∷ 6 ∷ 1 ∷ 2 ∷ 1 ∷ 1 ∷ 3 ∷ [])
+scalar_row SysContact = read_write tag.OctetString (1 ∷ 3 ∷ 6 ∷ 1 ∷ 2 ∷ 1 ∷ 1 ∷ 4 ∷ [])
+scalar_row SysName = read_write tag.OctetString (1 ∷ 3 ∷ 6 ∷ 1 ∷ 2 ∷ 1 ∷ 1 ∷ 5 ∷ [])
+scalar_row SysLocation = read_write tag.OctetString (1 ∷ 3 ∷ 6 ∷ 1 ∷ 2 ∷ 1 ∷ 1 ∷ 6 ∷ [])
+scalar_row SysServices = read_only tag.Integer (1 ∷ 3 ∷ 6 ∷ 1 ∷ 2 ∷ 1 ∷ 1 ∷ 7 ∷ [])
+scalar_row IfNumber = read_only tag.Integer (1 ∷ 3 ∷ 6 ∷ 1 ∷ 2 ∷ 1 ∷ 2 ∷ 1 ∷ [])
+scalar_row SnmpInPkts = read_only tag.Counter32 (1 ∷ 3 ∷ 6 ∷ 1 ∷ 2 ∷ 1 ∷ 11 ∷ 1 ∷ [])
+scalar_row SnmpInBadVersions = read_only tag.Counter32 (1 ∷ 3 ∷ 6 ∷ 1 ∷ 2 ∷ 1 ∷ 11 ∷ 3 ∷ [])
+scalar_row SnmpInBadCommunityNames = read_only tag.Counter32 (1 ∷ 3 ∷ 6 ∷ 1 ∷ 2 ∷ 1 ∷ 11 ∷ 4 ∷ [])
+scalar_row SnmpInAsnParseErrs = read_only tag.Counter32 (1 ∷ 3 ∷ 6 ∷ 1 ∷ 2 ∷ 1 ∷ 11 ∷ 6 ∷ [])
+scalar_row SnmpSilentDrops = read_only tag.Counter32 (1 ∷ 3 ∷ 6 ∷ 1 ∷ 2 ∷ 1 ∷ 11 ∷ 31 ∷ [])
+scalar_row SnmpEngineId = read_only tag.OctetString (1 ∷ 3 ∷ 6 ∷ 1 ∷ 6 ∷ 3 ∷ 10 ∷ 2 ∷ 1 ∷ 1 ∷ [])
+scalar_row SnmpEngineBoots = read_only tag.Integer (1 ∷ 3 ∷ 6 ∷ 1 ∷ 6 ∷ 3 ∷ 10 ∷ 2 ∷ 1 ∷ 2 ∷ [])
+scalar_row SnmpEngineTime = read_only tag.Integer (1 ∷ 3 ∷ 6 ∷ 1 ∷ 6 ∷ 3 ∷ 10 ∷ 2 ∷ 1 ∷ 3 ∷ [])
+scalar_row SnmpEngineMaxMessageSize = read_only tag.Integer (1 ∷ 3 ∷ 6 ∷ 1 ∷ 6 ∷ 3 ∷ 10 ∷ 2 ∷ 1 ∷ 4 ∷ [])
+
+-- the columns
+abbrev pub column_row : Column → Row
+column_row IfIndex = read_only tag.Integer (1 ∷ 3 ∷ 6 ∷ 1 ∷ 2 ∷ 1 ∷ 2 ∷ 2 ∷ 1 ∷ 1 ∷ [])
+column_row IfDescr = read_only tag.OctetString (1 ∷ 3 ∷ 6 ∷ 1 ∷ 2 ∷ 1 ∷ 2 ∷ 2 ∷ 1 ∷ 2 ∷ [])
+column_row IfType = read_only tag.Integer (1 ∷ 3 ∷ 6 ∷ 1 ∷ 2 ∷ 1 ∷ 2 ∷ 2 ∷ 1 ∷ 3 ∷ [])
+column_row IfMtu = read_only tag.Integer (1 ∷ 3 ∷ 6 ∷ 1 ∷ 2 ∷ 1 ∷ 2 ∷ 2 ∷ 1 ∷ 4 ∷ [])
+column_row IfSpeed = read_only tag.Gauge32 (1 ∷ 3 ∷ 6 ∷ 1 ∷ 2 ∷ 1 ∷ 2 ∷ 2 ∷ 1 ∷ 5 ∷ [])
+column_row IfPhysAddress = read_only tag.OctetString (1 ∷ 3 ∷ 6 ∷ 1 ∷ 2 ∷ 1 ∷ 2 ∷ 2 ∷ 1 ∷ 6 ∷ [])
+column_row IfAdminStatus = read_write tag.Integer (1 ∷ 3 ∷ 6 ∷ 1 ∷ 2 ∷ 1 ∷ 2 ∷ 2 ∷ 1 ∷ 7 ∷ [])
+column_row IfOperStatus = read_only tag.Integer (1 ∷ 3 ∷ 6 ∷ 1 ∷ 2 ∷ 1 ∷ 2 ∷ 2 ∷ 1 ∷ 8 ∷ [])
+column_row IfLastChange = read_only tag.TimeTicks (1 ∷ 3 ∷ 6 ∷ 1 ∷ 2 ∷ 1 ∷ 2 ∷ 2 ∷ 1 ∷ 9 ∷ [])
+column_row IfInOctets = read_only tag.Counter32 (1 ∷ 3 ∷ 6 ∷ 1 ∷ 2 ∷ 1 ∷ 2 ∷ 2 ∷ 1 ∷ 10 ∷ [])
+column_row IfInUcastPkts = read_only tag.Counter32 (1 ∷ 3 ∷ 6 ∷ 1 ∷ 2 ∷ 1 ∷ 2 ∷ 2 ∷ 1 ∷ 11 ∷ [])
+column_row IfInDiscards = read_only tag.Counter32 (1 ∷ 3 ∷ 6 ∷ 1 ∷ 2 ∷ 1 ∷ 2 ∷ 2 ∷ 1 ∷ 13 ∷ [])
+column_row IfInErrors = read_only tag.Counter32 (1 ∷ 3 ∷ 6 ∷ 1 ∷ 2 ∷ 1 ∷ 2 ∷ 2 ∷ 1 ∷ 14 ∷ [])
+column_row IfInUnknownProtos = read_only tag.Counter32 (1 ∷ 3 ∷ 6 ∷ 1 ∷ 2 ∷ 1 ∷ 2 ∷ 2 ∷ 1 ∷ 15 ∷ [])
+column_row IfOutOctets = read_only tag.Counter32 (1 ∷ 3 ∷ 6 ∷ 1 ∷ 2 ∷ 1 ∷ 2 ∷ 2 ∷ 1 ∷ 16 ∷ [])
+column_row IfOutUcastPkts = read_only tag.Counter32 (1 ∷ 3 ∷ 6 ∷ 1 ∷ 2 ∷ 1 ∷ 2 ∷ 2 ∷ 1 ∷ 17 ∷ [])
+column_row IfOutDiscards = read_only tag.Counter32 (1 ∷ 3 ∷ 6 ∷ 1 ∷ 2 ∷ 1 ∷ 2 ∷ 2 ∷ 1 ∷ 19 ∷ [])
+column_row IfOutErrors = read_only tag.Counter32 (1 ∷ 3 ∷ 6 ∷ 1 ∷ 2 ∷ 1 ∷ 2 ∷ 2 ∷ 1 ∷ 20 ∷ [])
+column_row IfName = read_only tag.OctetString (1 ∷ 3 ∷ 6 ∷ 1 ∷ 2 ∷ 1 ∷ 31 ∷ 1 ∷ 1 ∷ 1 ∷ 1 ∷ [])
+column_row IfHcInOctets = read_only tag.Counter64 (1 ∷ 3 ∷ 6 ∷ 1 ∷ 2 ∷ 1 ∷ 31 ∷ 1 ∷ 1 ∷ 1 ∷ 6 ∷ [])
+column_row IfHcInUcastPkts = read_only tag.Counter64 (1 ∷ 3 ∷ 6 ∷ 1 ∷ 2 ∷ 1 ∷ 31 ∷ 1 ∷ 1 ∷ 1 ∷ 7 ∷ [])
+column_row IfHcOutOctets = read_only tag.Counter64 (1 ∷ 3 ∷ 6 ∷ 1 ∷ 2 ∷ 1 ∷ 31 ∷ 1 ∷ 1 ∷ 1 ∷ 10 ∷ [])
+column_row IfHcOutUcastPkts = read_only tag.Counter64 (1 ∷ 3 ∷ 6 ∷ 1 ∷ 2 ∷ 1 ∷ 31 ∷ 1 ∷ 1 ∷ 1 ∷ 11 ∷ [])
+column_row IfHighSpeed = read_only tag.Gauge32 (1 ∷ 3 ∷ 6 ∷ 1 ∷ 2 ∷ 1 ∷ 31 ∷ 1 ∷ 1 ∷ 1 ∷ 15 ∷ [])
+column_row IfAlias = read_write tag.OctetString (1 ∷ 3 ∷ 6 ∷ 1 ∷ 2 ∷ 1 ∷ 31 ∷ 1 ∷ 1 ∷ 1 ∷ 18 ∷ [])
+column_row IfCounterDiscontinuityTime = read_only tag.TimeTicks (1 ∷ 3 ∷ 6 ∷ 1 ∷ 2 ∷ 1 ∷ 31 ∷ 1 ∷ 1 ∷ 1 ∷ 19 ∷ [])
+
+-- what is given of an object
+abbrev pub row_of : Object → Row
+row_of (served.Scalar s) = scalar_row s
+row_of (served.Column c) = column_row c
 
 -- what each name of the object's variables begins with
-abbrev pub prefix_of : Object → List ℕ
-prefix_of (served.Scalar s) = scalar_prefix s
-prefix_of (served.Column c) = column_prefix c
+unfoldable pub prefix_of : Object → List ℕ
+prefix_of o = (row_of o).prefix
 
--- which of them a Set may change (MAX-ACCESS, RFC 2578 section 7.3)
-abbrev pub scalar_access : Scalar → MaxAccess
-scalar_access SysContact = ReadWrite
-scalar_access SysName = ReadWrite
-scalar_access SysLocation = ReadWrite
-scalar_access other = ReadOnly
-
--- what may be done with the variables of a column
-abbrev pub column_access : Column → MaxAccess
-column_access IfAdminStatus = ReadWrite
-column_access IfAlias = ReadWrite
-column_access other = ReadOnly
-
--- what may be done with the variables of an object
+-- what may be done with its variables
 abbrev pub max_access_of : Object → MaxAccess
-max_access_of (served.Scalar s) = scalar_access s
-max_access_of (served.Column c) = column_access c
+max_access_of o = (row_of o).access
 
--- the tag of their values (SYNTAX, RFC 2578 section 7.1)
-abbrev pub scalar_syntax : Scalar → Tag
-scalar_syntax SysDescr = tag.OctetString
-scalar_syntax SysObjectId = tag.ObjectIdentifier
-scalar_syntax SysUpTime = tag.TimeTicks
-scalar_syntax SysContact = tag.OctetString
-scalar_syntax SysName = tag.OctetString
-scalar_syntax SysLocation = tag.OctetString
-scalar_syntax SysServices = tag.Integer
-scalar_syntax IfNumber = tag.Integer
-scalar_syntax SnmpInPkts = tag.Counter32
-scalar_syntax SnmpInBadVersions = tag.Counter32
-scalar_syntax SnmpInBadCommunityNames = tag.Counter32
-scalar_syntax SnmpInAsnParseErrs = tag.Counter32
-scalar_syntax SnmpSilentDrops = tag.Counter32
-scalar_syntax SnmpEngineId = tag.OctetString
-scalar_syntax SnmpEngineBoots = tag.Integer
-scalar_syntax SnmpEngineTime = tag.Integer
-scalar_syntax SnmpEngineMaxMessageSize = tag.Integer
-
--- the tag of the values of a column
-abbrev pub column_syntax : Column → Tag
-column_syntax IfIndex = tag.Integer
-column_syntax IfDescr = tag.OctetString
-column_syntax IfType = tag.Integer
-column_syntax IfMtu = tag.Integer
-column_syntax IfSpeed = tag.Gauge32
-column_syntax IfPhysAddress = tag.OctetString
-column_syntax IfAdminStatus = tag.Integer
-column_syntax IfOperStatus = tag.Integer
-column_syntax IfLastChange = tag.TimeTicks
-column_syntax IfInOctets = tag.Counter32
-column_syntax IfInUcastPkts = tag.Counter32
-column_syntax IfInDiscards = tag.Counter32
-column_syntax IfInErrors = tag.Counter32
-column_syntax IfInUnknownProtos = tag.Counter32
-column_syntax IfOutOctets = tag.Counter32
-column_syntax IfOutUcastPkts = tag.Counter32
-column_syntax IfOutDiscards = tag.Counter32
-column_syntax IfOutErrors = tag.Counter32
-column_syntax IfName = tag.OctetString
-column_syntax IfHcInOctets = tag.Counter64
-column_syntax IfHcInUcastPkts = tag.Counter64
-column_syntax IfHcOutOctets = tag.Counter64
-column_syntax IfHcOutUcastPkts = tag.Counter64
-column_syntax IfHighSpeed = tag.Gauge32
-column_syntax IfAlias = tag.OctetString
-column_syntax IfCounterDiscontinuityTime = tag.TimeTicks
-
--- the tag of the values of an object
+-- the tag of their values
 abbrev pub syntax_of : Object → Tag
-syntax_of (served.Scalar s) = scalar_syntax s
-syntax_of (served.Column c) = column_syntax c
+syntax_of o = (row_of o).syntax
 
 -- all of them, in the order of their names
 unfoldable pub objects : List Object

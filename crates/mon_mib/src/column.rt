@@ -1,7 +1,7 @@
 ghost use Rattle.std.specs.Prelude.{◌≡◌};
-ghost use Rattle.mon_mib.specs.Objects.{column_prefix, column_access, column_syntax};
+ghost use Rattle.mon_mib.specs.Objects.{column_row};
 
-use crate::max_access::MaxAccess;
+use crate::row::{Row, read_only, read_write};
 use mon_ber::Tag;
 
 /// The served columns of ifTable and ifXTable (RFC 2863 section 6): a variable for each interface, whose instance is its ifIndex.
@@ -62,78 +62,54 @@ pub enum Column {
 }
 
 impl Column {
-    /// The object's own name, with which the names of its variables begin.
-    #[tactic(auto, unfolding(crate::specs::Objects::column_prefix))]
-    pub fn prefix(self) -> &'static [u32]
-        ensures { result.now ≡ column_prefix self }
+    /// What the standards give of it.
+    pub(crate) fn row(self) -> Row
+        ensures prefix { result.prefix.now ≡ (column_row self).prefix }
+        ensures syntax { result.syntax ≡ (column_row self).syntax }
+        ensures access { result.access ≡ (column_row self).access }
     {
         match self {
-            Column::IfIndex => &[1, 3, 6, 1, 2, 1, 2, 2, 1, 1],
-            Column::IfDescr => &[1, 3, 6, 1, 2, 1, 2, 2, 1, 2],
-            Column::IfType => &[1, 3, 6, 1, 2, 1, 2, 2, 1, 3],
-            Column::IfMtu => &[1, 3, 6, 1, 2, 1, 2, 2, 1, 4],
-            Column::IfSpeed => &[1, 3, 6, 1, 2, 1, 2, 2, 1, 5],
-            Column::IfPhysAddress => &[1, 3, 6, 1, 2, 1, 2, 2, 1, 6],
-            Column::IfAdminStatus => &[1, 3, 6, 1, 2, 1, 2, 2, 1, 7],
-            Column::IfOperStatus => &[1, 3, 6, 1, 2, 1, 2, 2, 1, 8],
-            Column::IfLastChange => &[1, 3, 6, 1, 2, 1, 2, 2, 1, 9],
-            Column::IfInOctets => &[1, 3, 6, 1, 2, 1, 2, 2, 1, 10],
-            Column::IfInUcastPkts => &[1, 3, 6, 1, 2, 1, 2, 2, 1, 11],
-            Column::IfInDiscards => &[1, 3, 6, 1, 2, 1, 2, 2, 1, 13],
-            Column::IfInErrors => &[1, 3, 6, 1, 2, 1, 2, 2, 1, 14],
-            Column::IfInUnknownProtos => &[1, 3, 6, 1, 2, 1, 2, 2, 1, 15],
-            Column::IfOutOctets => &[1, 3, 6, 1, 2, 1, 2, 2, 1, 16],
-            Column::IfOutUcastPkts => &[1, 3, 6, 1, 2, 1, 2, 2, 1, 17],
-            Column::IfOutDiscards => &[1, 3, 6, 1, 2, 1, 2, 2, 1, 19],
-            Column::IfOutErrors => &[1, 3, 6, 1, 2, 1, 2, 2, 1, 20],
-            Column::IfName => &[1, 3, 6, 1, 2, 1, 31, 1, 1, 1, 1],
-            Column::IfHcInOctets => &[1, 3, 6, 1, 2, 1, 31, 1, 1, 1, 6],
-            Column::IfHcInUcastPkts => &[1, 3, 6, 1, 2, 1, 31, 1, 1, 1, 7],
-            Column::IfHcOutOctets => &[1, 3, 6, 1, 2, 1, 31, 1, 1, 1, 10],
-            Column::IfHcOutUcastPkts => &[1, 3, 6, 1, 2, 1, 31, 1, 1, 1, 11],
-            Column::IfHighSpeed => &[1, 3, 6, 1, 2, 1, 31, 1, 1, 1, 15],
-            Column::IfAlias => &[1, 3, 6, 1, 2, 1, 31, 1, 1, 1, 18],
-            Column::IfCounterDiscontinuityTime => &[1, 3, 6, 1, 2, 1, 31, 1, 1, 1, 19],
-        }
-    }
-
-    /// Returns `true` if a Set may change its variables (MAX-ACCESS, RFC 2578 section 7.3).
-    pub fn access(self) -> MaxAccess
-        ensures { result ≡ column_access self }
-    {
-        match self {
-            Column::IfAdminStatus | Column::IfAlias => MaxAccess::ReadWrite,
-            _ => MaxAccess::ReadOnly,
-        }
-    }
-
-    /// The tag of its values (SYNTAX, RFC 2578 section 7.1).
-    pub fn syntax(self) -> Tag
-        ensures { result ≡ column_syntax self }
-    {
-        match self {
-            Column::IfIndex
-            | Column::IfType
-            | Column::IfMtu
-            | Column::IfAdminStatus
-            | Column::IfOperStatus => Tag::Integer,
-            Column::IfDescr | Column::IfPhysAddress | Column::IfName | Column::IfAlias =>
-                Tag::OctetString,
-            Column::IfSpeed | Column::IfHighSpeed => Tag::Gauge32,
-            Column::IfLastChange | Column::IfCounterDiscontinuityTime => Tag::TimeTicks,
-            Column::IfInOctets
-            | Column::IfInUcastPkts
-            | Column::IfInDiscards
-            | Column::IfInErrors
-            | Column::IfInUnknownProtos
-            | Column::IfOutOctets
-            | Column::IfOutUcastPkts
-            | Column::IfOutDiscards
-            | Column::IfOutErrors => Tag::Counter32,
-            Column::IfHcInOctets
-            | Column::IfHcInUcastPkts
-            | Column::IfHcOutOctets
-            | Column::IfHcOutUcastPkts => Tag::Counter64,
+            Column::IfIndex => read_only(Tag::Integer, &[1, 3, 6, 1, 2, 1, 2, 2, 1, 1]),
+            Column::IfDescr => read_only(Tag::OctetString, &[1, 3, 6, 1, 2, 1, 2, 2, 1, 2]),
+            Column::IfType => read_only(Tag::Integer, &[1, 3, 6, 1, 2, 1, 2, 2, 1, 3]),
+            Column::IfMtu => read_only(Tag::Integer, &[1, 3, 6, 1, 2, 1, 2, 2, 1, 4]),
+            Column::IfSpeed => read_only(Tag::Gauge32, &[1, 3, 6, 1, 2, 1, 2, 2, 1, 5]),
+            Column::IfPhysAddress => read_only(Tag::OctetString, &[1, 3, 6, 1, 2, 1, 2, 2, 1, 6]),
+            Column::IfAdminStatus => read_write(Tag::Integer, &[1, 3, 6, 1, 2, 1, 2, 2, 1, 7]),
+            Column::IfOperStatus => read_only(Tag::Integer, &[1, 3, 6, 1, 2, 1, 2, 2, 1, 8]),
+            Column::IfLastChange => read_only(Tag::TimeTicks, &[1, 3, 6, 1, 2, 1, 2, 2, 1, 9]),
+            Column::IfInOctets => read_only(Tag::Counter32, &[1, 3, 6, 1, 2, 1, 2, 2, 1, 10]),
+            Column::IfInUcastPkts => read_only(Tag::Counter32, &[1, 3, 6, 1, 2, 1, 2, 2, 1, 11]),
+            Column::IfInDiscards => read_only(Tag::Counter32, &[1, 3, 6, 1, 2, 1, 2, 2, 1, 13]),
+            Column::IfInErrors => read_only(Tag::Counter32, &[1, 3, 6, 1, 2, 1, 2, 2, 1, 14]),
+            Column::IfInUnknownProtos => read_only(
+                Tag::Counter32,
+                &[1, 3, 6, 1, 2, 1, 2, 2, 1, 15],
+            ),
+            Column::IfOutOctets => read_only(Tag::Counter32, &[1, 3, 6, 1, 2, 1, 2, 2, 1, 16]),
+            Column::IfOutUcastPkts => read_only(Tag::Counter32, &[1, 3, 6, 1, 2, 1, 2, 2, 1, 17]),
+            Column::IfOutDiscards => read_only(Tag::Counter32, &[1, 3, 6, 1, 2, 1, 2, 2, 1, 19]),
+            Column::IfOutErrors => read_only(Tag::Counter32, &[1, 3, 6, 1, 2, 1, 2, 2, 1, 20]),
+            Column::IfName => read_only(Tag::OctetString, &[1, 3, 6, 1, 2, 1, 31, 1, 1, 1, 1]),
+            Column::IfHcInOctets => read_only(Tag::Counter64, &[1, 3, 6, 1, 2, 1, 31, 1, 1, 1, 6]),
+            Column::IfHcInUcastPkts => read_only(
+                Tag::Counter64,
+                &[1, 3, 6, 1, 2, 1, 31, 1, 1, 1, 7],
+            ),
+            Column::IfHcOutOctets => read_only(
+                Tag::Counter64,
+                &[1, 3, 6, 1, 2, 1, 31, 1, 1, 1, 10],
+            ),
+            Column::IfHcOutUcastPkts => read_only(
+                Tag::Counter64,
+                &[1, 3, 6, 1, 2, 1, 31, 1, 1, 1, 11],
+            ),
+            Column::IfHighSpeed => read_only(Tag::Gauge32, &[1, 3, 6, 1, 2, 1, 31, 1, 1, 1, 15]),
+            Column::IfAlias => read_write(Tag::OctetString, &[1, 3, 6, 1, 2, 1, 31, 1, 1, 1, 18]),
+            Column::IfCounterDiscontinuityTime => read_only(
+                Tag::TimeTicks,
+                &[1, 3, 6, 1, 2, 1, 31, 1, 1, 1, 19],
+            ),
         }
     }
 }

@@ -23,6 +23,7 @@ mod mib;
 mod moment;
 mod object;
 mod oper_status;
+mod row;
 mod scalar;
 mod search;
 mod set_fault;

@@ -1,8 +1,8 @@
-ghost use Rattle.std.specs.Prelude.{Some, ◌≡◌, ◌^◌, ◌<◌, ◌+◌, ◌/◌, ◌%◌, min, length, IfOk, IfSome, IfNone, [], ◌∷◌, ◌++◌, Contains, ℕ, List};
+ghost use Rattle.std.specs.Prelude.{Some, ◌≡◌, ◌^◌, ◌<◌, ◌+◌, ◌/◌, ◌%◌, min, length, IfOk, IfSome, IfNone, ◌++◌, Contains, ℕ, List};
 ghost use Rattle.std.specs.List.{AllWithin};
 ghost use Rattle.std.specs.declared.cmp.Ordering.TheVariants.{Less};
 ghost use Rattle.mon_mib.specs.Counters.{counted, no_counts};
-ghost use Rattle.mon_mib.specs.Held.{AreIndexes, IsAbove, IsLeastOf, text_at};
+ghost use Rattle.mon_mib.specs.Held.{IsAbove, IsLeastOf, text_at};
 ghost use Rattle.mon_mib.specs.Known.{instances, variable_value, scalar_value, column_value};
 ghost use Rattle.mon_mib.specs.Next.{IsGot, IsNext, IsServedName};
 ghost use Rattle.mon_mib.specs.Objects.{objects, prefix_of};

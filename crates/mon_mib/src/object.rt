@@ -5,6 +5,7 @@ ghost use Rattle.mon_mib.specs.Tried.{writable_of};
 use crate::column::Column;
 use crate::facts::SysText;
 use crate::max_access::MaxAccess;
+use crate::row::Row;
 use crate::scalar::Scalar;
 use crate::writable::Writable;
 use mon_ber::Tag;
@@ -76,34 +77,38 @@ pub fn all_objects() -> &'static [Object]
 }
 
 impl Object {
+    /// What the standards give of it.
+    #[tactic(auto, unfolding(crate::specs::Objects::prefix_of))]
+    fn row(self) -> Row
+        ensures prefix { result.prefix.now ≡ prefix_of self }
+        ensures syntax { result.syntax ≡ syntax_of self }
+        ensures access { result.access ≡ max_access_of self }
+    {
+        match self {
+            Object::Scalar(scalar) => scalar.row(),
+            Object::Column(column) => column.row(),
+        }
+    }
+
     /// The object's own name, with which the names of its variables begin.
     pub fn prefix(self) -> &'static [u32]
         ensures { result.now ≡ prefix_of self }
     {
-        match self {
-            Object::Scalar(scalar) => scalar.prefix(),
-            Object::Column(column) => column.prefix(),
-        }
+        self.row().prefix
     }
 
     /// Returns `true` if a Set may change its variables (MAX-ACCESS, RFC 2578 section 7.3).
     pub fn access(self) -> MaxAccess
         ensures { result ≡ max_access_of self }
     {
-        match self {
-            Object::Scalar(scalar) => scalar.access(),
-            Object::Column(column) => column.access(),
-        }
+        self.row().access
     }
 
     /// The tag of its values (SYNTAX, RFC 2578 section 7.1).
     pub fn syntax(self) -> Tag
         ensures { result ≡ syntax_of self }
     {
-        match self {
-            Object::Scalar(scalar) => scalar.syntax(),
-            Object::Column(column) => column.syntax(),
-        }
+        self.row().syntax
     }
 
     /// Which of the objects that a Set may change it is, if it is one.

@@ -1,7 +1,7 @@
 ghost use Rattle.std.specs.Prelude.{◌≡◌};
-ghost use Rattle.mon_mib.specs.Objects.{scalar_prefix, scalar_access, scalar_syntax};
+ghost use Rattle.mon_mib.specs.Objects.{scalar_row};
 
-use crate::max_access::MaxAccess;
+use crate::row::{Row, read_only, read_write};
 use mon_ber::Tag;
 
 /// The served objects with one variable, whose instance is 0 (RFC 2578 section 7.7).
@@ -44,64 +44,36 @@ pub enum Scalar {
 }
 
 impl Scalar {
-    /// The object's own name, with which the names of its variables begin.
-    #[tactic(auto, unfolding(crate::specs::Objects::scalar_prefix))]
-    pub fn prefix(self) -> &'static [u32]
-        ensures { result.now ≡ scalar_prefix self }
+    /// What the standards give of it.
+    pub(crate) fn row(self) -> Row
+        ensures prefix { result.prefix.now ≡ (scalar_row self).prefix }
+        ensures syntax { result.syntax ≡ (scalar_row self).syntax }
+        ensures access { result.access ≡ (scalar_row self).access }
     {
         match self {
-            Scalar::SysDescr => &[1, 3, 6, 1, 2, 1, 1, 1],
-            Scalar::SysObjectId => &[1, 3, 6, 1, 2, 1, 1, 2],
-            Scalar::SysUpTime => &[1, 3, 6, 1, 2, 1, 1, 3],
-            Scalar::SysContact => &[1, 3, 6, 1, 2, 1, 1, 4],
-            Scalar::SysName => &[1, 3, 6, 1, 2, 1, 1, 5],
-            Scalar::SysLocation => &[1, 3, 6, 1, 2, 1, 1, 6],
-            Scalar::SysServices => &[1, 3, 6, 1, 2, 1, 1, 7],
-            Scalar::IfNumber => &[1, 3, 6, 1, 2, 1, 2, 1],
-            Scalar::SnmpInPkts => &[1, 3, 6, 1, 2, 1, 11, 1],
-            Scalar::SnmpInBadVersions => &[1, 3, 6, 1, 2, 1, 11, 3],
-            Scalar::SnmpInBadCommunityNames => &[1, 3, 6, 1, 2, 1, 11, 4],
-            Scalar::SnmpInAsnParseErrs => &[1, 3, 6, 1, 2, 1, 11, 6],
-            Scalar::SnmpSilentDrops => &[1, 3, 6, 1, 2, 1, 11, 31],
-            Scalar::SnmpEngineId => &[1, 3, 6, 1, 6, 3, 10, 2, 1, 1],
-            Scalar::SnmpEngineBoots => &[1, 3, 6, 1, 6, 3, 10, 2, 1, 2],
-            Scalar::SnmpEngineTime => &[1, 3, 6, 1, 6, 3, 10, 2, 1, 3],
-            Scalar::SnmpEngineMaxMessageSize => &[1, 3, 6, 1, 6, 3, 10, 2, 1, 4],
-        }
-    }
-
-    /// Returns `true` if a Set may change its variables (MAX-ACCESS, RFC 2578 section 7.3).
-    pub fn access(self) -> MaxAccess
-        ensures { result ≡ scalar_access self }
-    {
-        match self {
-            Scalar::SysContact | Scalar::SysName | Scalar::SysLocation => MaxAccess::ReadWrite,
-            _ => MaxAccess::ReadOnly,
-        }
-    }
-
-    /// The tag of its values (SYNTAX, RFC 2578 section 7.1).
-    pub fn syntax(self) -> Tag
-        ensures { result ≡ scalar_syntax self }
-    {
-        match self {
-            Scalar::SysDescr
-            | Scalar::SysContact
-            | Scalar::SysName
-            | Scalar::SysLocation
-            | Scalar::SnmpEngineId => Tag::OctetString,
-            Scalar::SysObjectId => Tag::ObjectIdentifier,
-            Scalar::SysUpTime => Tag::TimeTicks,
-            Scalar::SysServices
-            | Scalar::IfNumber
-            | Scalar::SnmpEngineBoots
-            | Scalar::SnmpEngineTime
-            | Scalar::SnmpEngineMaxMessageSize => Tag::Integer,
-            Scalar::SnmpInPkts
-            | Scalar::SnmpInBadVersions
-            | Scalar::SnmpInBadCommunityNames
-            | Scalar::SnmpInAsnParseErrs
-            | Scalar::SnmpSilentDrops => Tag::Counter32,
+            Scalar::SysDescr => read_only(Tag::OctetString, &[1, 3, 6, 1, 2, 1, 1, 1]),
+            Scalar::SysObjectId => read_only(Tag::ObjectIdentifier, &[1, 3, 6, 1, 2, 1, 1, 2]),
+            Scalar::SysUpTime => read_only(Tag::TimeTicks, &[1, 3, 6, 1, 2, 1, 1, 3]),
+            Scalar::SysContact => read_write(Tag::OctetString, &[1, 3, 6, 1, 2, 1, 1, 4]),
+            Scalar::SysName => read_write(Tag::OctetString, &[1, 3, 6, 1, 2, 1, 1, 5]),
+            Scalar::SysLocation => read_write(Tag::OctetString, &[1, 3, 6, 1, 2, 1, 1, 6]),
+            Scalar::SysServices => read_only(Tag::Integer, &[1, 3, 6, 1, 2, 1, 1, 7]),
+            Scalar::IfNumber => read_only(Tag::Integer, &[1, 3, 6, 1, 2, 1, 2, 1]),
+            Scalar::SnmpInPkts => read_only(Tag::Counter32, &[1, 3, 6, 1, 2, 1, 11, 1]),
+            Scalar::SnmpInBadVersions => read_only(Tag::Counter32, &[1, 3, 6, 1, 2, 1, 11, 3]),
+            Scalar::SnmpInBadCommunityNames => read_only(
+                Tag::Counter32,
+                &[1, 3, 6, 1, 2, 1, 11, 4],
+            ),
+            Scalar::SnmpInAsnParseErrs => read_only(Tag::Counter32, &[1, 3, 6, 1, 2, 1, 11, 6]),
+            Scalar::SnmpSilentDrops => read_only(Tag::Counter32, &[1, 3, 6, 1, 2, 1, 11, 31]),
+            Scalar::SnmpEngineId => read_only(Tag::OctetString, &[1, 3, 6, 1, 6, 3, 10, 2, 1, 1]),
+            Scalar::SnmpEngineBoots => read_only(Tag::Integer, &[1, 3, 6, 1, 6, 3, 10, 2, 1, 2]),
+            Scalar::SnmpEngineTime => read_only(Tag::Integer, &[1, 3, 6, 1, 6, 3, 10, 2, 1, 3]),
+            Scalar::SnmpEngineMaxMessageSize => read_only(
+                Tag::Integer,
+                &[1, 3, 6, 1, 6, 3, 10, 2, 1, 4],
+            ),
         }
     }
 }

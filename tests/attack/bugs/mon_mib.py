@@ -8,18 +8,18 @@ BUGS = {
     ),
     "alias_is_read_only": (
         "src/column.rt",
-        "            Column::IfAdminStatus | Column::IfAlias => MaxAccess::ReadWrite,",
-        "            Column::IfAdminStatus => MaxAccess::ReadWrite,",
+        "            Column::IfAlias => read_write(",
+        "            Column::IfAlias => read_only(",
     ),
     "all_columns_are_integers": (
         "src/object.rt",
-        "            Object::Column(column) => column.syntax(),",
-        "            Object::Column(_) => Tag::Integer,",
+        "            Object::Column(column) => column.row(),",
+        "            Object::Column(column) => Row { syntax: Tag::Integer, ..column.row() },",
     ),
     "all_columns_are_read_only": (
         "src/object.rt",
-        "            Object::Column(column) => column.access(),",
-        "            Object::Column(_) => MaxAccess::ReadOnly,",
+        "            Object::Column(column) => column.row(),",
+        "            Object::Column(column) => Row { access: MaxAccess::ReadOnly, ..column.row() },",
     ),
     "blown_fuse_is_not_told": (
         "src/fuse_device.rt",
@@ -28,13 +28,13 @@ BUGS = {
     ),
     "column_under_another_number": (
         "src/column.rt",
-        "            Column::IfInDiscards => &[1, 3, 6, 1, 2, 1, 2, 2, 1, 13],",
-        "            Column::IfInDiscards => &[1, 3, 6, 1, 2, 1, 2, 2, 1, 12],",
+        "            Column::IfInDiscards => read_only(Tag::Counter32, &[1, 3, 6, 1, 2, 1, 2, 2, 1, 13]),",
+        "            Column::IfInDiscards => read_only(Tag::Counter32, &[1, 3, 6, 1, 2, 1, 2, 2, 1, 12]),",
     ),
     "columns_have_no_name": (
         "src/object.rt",
-        "            Object::Column(column) => column.prefix(),",
-        "            Object::Column(_) => &[],",
+        "            Object::Column(column) => column.row(),",
+        "            Object::Column(column) => Row { prefix: &[], ..column.row() },",
     ),
     "commit_counts_a_packet": (
         "src/setting.rt",
@@ -193,13 +193,13 @@ BUGS = {
     ),
     "services_are_a_gauge": (
         "src/scalar.rt",
-        "            | Scalar::SnmpEngineMaxMessageSize => Tag::Integer,",
-        "            | Scalar::SnmpEngineMaxMessageSize => Tag::Gauge32,",
+        "            Scalar::SysServices => read_only(Tag::Integer,",
+        "            Scalar::SysServices => read_only(Tag::Gauge32,",
     ),
     "speeds_are_counters": (
         "src/column.rt",
-        "            Column::IfSpeed | Column::IfHighSpeed => Tag::Gauge32,",
-        "            Column::IfSpeed | Column::IfHighSpeed => Tag::Counter32,",
+        "            Column::IfSpeed => read_only(Tag::Gauge32,",
+        "            Column::IfSpeed => read_only(Tag::Counter32,",
     ),
     "starts_with_a_counted_packet": (
         "src/counters.rt",
@@ -213,13 +213,13 @@ BUGS = {
     ),
     "sys_name_is_read_only": (
         "src/scalar.rt",
-        "            Scalar::SysContact | Scalar::SysName | Scalar::SysLocation => MaxAccess::ReadWrite,",
-        "            Scalar::SysContact | Scalar::SysLocation => MaxAccess::ReadWrite,",
+        "            Scalar::SysName => read_write(",
+        "            Scalar::SysName => read_only(",
     ),
     "sys_name_under_another_number": (
         "src/scalar.rt",
-        "            Scalar::SysName => &[1, 3, 6, 1, 2, 1, 1, 5],",
-        "            Scalar::SysName => &[1, 3, 6, 1, 2, 1, 1, 6],",
+        "            Scalar::SysName => read_write(Tag::OctetString, &[1, 3, 6, 1, 2, 1, 1, 5]),",
+        "            Scalar::SysName => read_write(Tag::OctetString, &[1, 3, 6, 1, 2, 1, 1, 6]),",
     ),
     "sys_text_of_256_octets": (
         "src/setting.rt",
