@@ -63,7 +63,10 @@ fn tells_of_objects(rt: HostRuntime) -> Result<(), Fail> {
     assert_eq!(rt; alias.access(), MaxAccess::ReadWrite);
     assert_eq!(rt; alias.syntax(), Tag::OctetString);
     assert!(rt; alias.name(rt.alloc(), 7)? == oid(rt.alloc(), "1.3.6.1.2.1.31.1.1.1.18.7")?);
-    assert_eq!(rt; Object::Scalar(Scalar::SysServices).access(), MaxAccess::ReadOnly);
+    assert_eq!(rt;
+        Object::Scalar(Scalar::SysServices).access(),
+        MaxAccess::ReadOnly
+    );
     assert_eq!(rt;
         (
             AdminStatus::Testing.number(),
