@@ -15,15 +15,15 @@ use Rattle.std.proofs.lemmas.List.Folds.{list_any_at}
 use Rattle.mon_pdu.specs.declared.message.Binding.{Binding}
 use Rattle.mon_window.specs.Top.{rising}
 use Rattle.mon_window.proofs.Promised.{insert-known, contains-rising, from_list-rising, len-rising, len_within}
-use Rattle.mon_app.specs.declared.instance.Instance.{Instance}
+use Rattle.mon_board.specs.declared.instance.Instance.{Instance}
 use Rattle.mon_poller.specs.Stamp.{Stamp}
 use Rattle.mon_app.specs.Offer.{Offer}
 use Rattle.mon_app.specs.declared.table.Row.{Row}
 use Rattle.mon_app.specs.Find.{StandsAt, instances_of}
-use Rattle.mon_app.specs.Instance.{instance_cmp, named}
+use Rattle.mon_board.specs.Instance.{instance_cmp, named}
 use Rattle.mon_app.specs.Reading.{offer_in, offers_of}
 use Rattle.mon_app.specs.Windows.{instances, rows_of}
-use Rattle.mon_app.proofs.Order.{instance_cmp_total, instance_cmp-IsAntisymmetric}
+use Rattle.mon_board.proofs.Promised.{instance_cmp_total, instance_cmp-IsAntisymmetric}
 use Rattle.mon_app.proofs.Windows.{instances-push, listed, length-rows}
 
 pub not_true : (b : Bool) → not b ≡ true → b ≡ false

@@ -1,7 +1,6 @@
 pub mod Askings
 pub mod Counting
 pub mod Lines
-pub mod Order
 pub mod Outcomes
 pub mod Readings
 pub mod Search

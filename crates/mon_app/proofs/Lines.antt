@@ -21,7 +21,7 @@ use Rattle.mon_app.specs.Taken.{AreOffersTaken}
 use Rattle.mon_app.specs.Text.{refused_line}
 use Rattle.mon_app.specs.Windows.{instances, row, rows_of}
 use Rattle.mon_app.proofs.Counting.{rows_counted}
-use Rattle.mon_app.proofs.Order.{instance_cmp_total, instance_cmp-IsAntisymmetric}
+use Rattle.mon_board.proofs.Promised.{instance_cmp_total, instance_cmp-IsAntisymmetric}
 
 -- ---- the first line
 abbrev is_lf : ℕ → Bool

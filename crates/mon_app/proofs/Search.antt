@@ -5,10 +5,10 @@ use Rattle.std.specs.Ordering.{ordering_index}
 use Rattle.std.specs.List.Sorted.{IsStrictlySortedBy, IsBinarySearchResult, IsSearchInRange, IsNonDecreasingBy}
 use Rattle.std.proofs.lemmas.List.{get_or-map, length-map}
 use Rattle.mon_window.proofs.Promised.{search_places}
-use Rattle.mon_app.specs.declared.instance.Instance.{Instance}
-use Rattle.mon_app.specs.Instance.{instance_cmp}
+use Rattle.mon_board.specs.declared.instance.Instance.{Instance}
+use Rattle.mon_board.specs.Instance.{instance_cmp}
 use Rattle.mon_app.specs.Find.{StandsAt}
-use Rattle.mon_app.proofs.Order.{instance_cmp_total, instance_cmp-IsAntisymmetric}
+use Rattle.mon_board.proofs.Promised.{instance_cmp_total, instance_cmp-IsAntisymmetric}
 
 module _ {X K : Type 0} (f : X → K) (ord : K → Ordering) where
   rises_too : (xs : List X) → IsNonDecreasingBy (λ y. ordering_index (ord y)) (map f xs) → IsNonDecreasingBy (λ y. ordering_index (ord (f y))) xs

@@ -1,6 +1,6 @@
 -- Serving step by step, over plain logs, for the loops.
 use Rattle.std.proofs.Common.{◌≡◌, ℕ, suc, ◌+◌, ◌<◌, arith, List, [], ◌∷◌, ◌++◌, take, refl, sym, ap, ◌∙◌, subst, inl, inr, length-append, append_assoc, add-one}
-use Rattle.std.specs.Prelude.{◌⊎◌, Option, Result, Ok, Err}
+use Rattle.std.specs.Prelude.{Option, None, Result, Ok, Err}
 use Rattle.std.proofs.lemmas.List.Elements.{All-append, All-cons, All-nil}
 use Rattle.mon_udp.specs.Counts.{failed_after, next_count}
 use Rattle.mon_udp.specs.Told.{extended}
@@ -10,7 +10,7 @@ use Rattle.mon_mib.specs.declared.settings.Settings.{Settings}
 use Rattle.mon_app.specs.declared.fault.SocketFault.{SocketFault}
 use Rattle.mon_app.specs.declared.port.Received.{Received as AnyReceived}
 use Rattle.mon_app.specs.declared.reason.SocketReason.{SocketReason}
-use Rattle.mon_app.specs.AtPort.{AtPort, Received, Failed, Replied, Unsent, Happens, failures_in, receiving, replying}
+use Rattle.mon_app.specs.AtPort.{AtPort, Received, Failed, Replied, Unsent, Happens, IsReplied, failures_in, receiving}
 use Rattle.mon_app.specs.Served.{AreFailures, AreServed, IsAwaited, IsCutOff, IsEnd, IsFailure, IsNext, IsTurn}
 
 -- what a port states
@@ -48,11 +48,10 @@ wait_happens : (room : List ℕ) (result : Result AnyReceived SocketFault) (told
 wait_happens room (Ok received) told_0 told_1 count_0 count_1 wait = record { more = receiving room (Ok received); holds = refl; told = wait.0; failures = wait.1 }
 wait_happens room (Err fault) told_0 told_1 count_0 count_1 wait = record { more = receiving room (Err fault); holds = refl; told = wait.0; failures = wait.1 }
 
--- a sending, as its contract has it
-pub reply_happens : (octets : List ℕ) (result : Result Unit SocketFault) (told_0 told_1 : Log) (count_0 count_1 : ℕ) → told_1 ≡ extended told_0 (replying octets result)
-    → count_1 ≡ failed_after result count_0 → Happens (λ log. (log ≡ Replied octets ∷ []) ⊎ (log ≡ Unsent octets ∷ [])) told_0 told_1 count_0 count_1
-reply_happens octets (Ok done) told_0 told_1 count_0 count_1 told failures = record { more = Replied octets ∷ []; holds = inl refl; told = told; failures = failures }
-reply_happens octets (Err fault) told_0 told_1 count_0 count_1 told failures = record { more = Unsent octets ∷ []; holds = inr refl; told = told; failures = failures }
+-- a sending over a socket, which states nothing and counts a failure
+pub sent_over : {A F : Type 0} (octets : List ℕ) (result : Result A F) (count : ℕ) → Happens (IsReplied octets) None None count (failed_after result count)
+sent_over octets (Ok done) count = record { more = Replied octets ∷ []; holds = inl refl; told = refl; failures = refl }
+sent_over octets (Err fault) count = record { more = Unsent octets ∷ []; holds = inr refl; told = refl; failures = refl }
 
 -- no wait has failed
 pub none_failed : (told : Log) (count : ℕ) → Happens (AreFailures 0) told told count count

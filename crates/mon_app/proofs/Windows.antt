@@ -21,12 +21,12 @@ use Rattle.mon_sample.specs.Key.{boots_of}
 use Rattle.mon_window.specs.Keep.{keep}
 use Rattle.mon_window.specs.Top.{top, rising}
 use Rattle.mon_window.proofs.Promised.{insert-known, keep-top, top-all, top-insert, sorted-rising, contains-rising, from_list-rising, rising-insert}
-use Rattle.mon_app.specs.declared.instance.Instance.{Instance}
+use Rattle.mon_board.specs.declared.instance.Instance.{Instance}
 use Rattle.mon_app.specs.Offer.{Offer}
 use Rattle.mon_app.specs.declared.table.Row.{Row}
-use Rattle.mon_app.specs.Instance.{instance_cmp}
+use Rattle.mon_board.specs.Instance.{instance_cmp}
 use Rattle.mon_app.specs.Windows.{instances, samples_of, kept, row, rows_of, first_window}
-use Rattle.mon_app.proofs.Order.{instance_cmp_total, instance_cmp-IsAntisymmetric}
+use Rattle.mon_board.proofs.Promised.{instance_cmp_total, instance_cmp-IsAntisymmetric}
 
 abbrev of_offer : Offer → Instance
 of_offer x = x.instance

@@ -1,5 +1,5 @@
 -- What happens at a port that an agent listens at.
-use Rattle.std.specs.Prelude.{◌≡◌, ℕ, List, [], ◌∷◌, take, Option, Result, Ok, Err}
+use Rattle.std.specs.Prelude.{◌≡◌, ◌⊎◌, ℕ, List, [], ◌∷◌, take, Option, Result, Ok, Err}
 use Rattle.mon_udp.specs.Counts.{next_count}
 use Rattle.mon_udp.specs.Told.{extended}
 use Rattle.mon_app.specs.declared.fault.SocketFault.{SocketFault}
@@ -19,10 +19,9 @@ abbrev pub receiving : List ℕ → Result AnyReceived SocketFault → List AtPo
 receiving room (Ok received) = Received (take received.len room) received.moment ∷ []
 receiving room (Err fault) = Failed fault.reason ∷ []
 
--- what happens in a sending
-abbrev pub replying : {A F : Type 0} → List ℕ → Result A F → List AtPort
-replying octets (Ok done) = Replied octets ∷ []
-replying octets (Err fault) = Unsent octets ∷ []
+-- what happens in a sending: the octets were sent, or could not be sent
+abbrev pub IsReplied : List ℕ → List AtPort → Type 0
+IsReplied octets log = (log ≡ Replied octets ∷ []) ⊎ (log ≡ Unsent octets ∷ [])
 
 -- a count of failures after what happened
 abbrev pub failures_in : List AtPort → ℕ → ℕ

@@ -2,9 +2,9 @@
 use Rattle.std.specs.Prelude.{◌≡◌, ℕ, List, map, Result, Ok, Err}
 use Rattle.std.specs.List.{HoldsAt}
 use Rattle.mon_window.specs.Place.{IsPlace}
-use Rattle.mon_app.specs.declared.instance.Instance.{Instance}
+use Rattle.mon_board.specs.declared.instance.Instance.{Instance}
 use Rattle.mon_app.specs.declared.table.Row.{Row}
-use Rattle.mon_app.specs.Instance.{instance_cmp}
+use Rattle.mon_board.specs.Instance.{instance_cmp}
 
 -- the instances of the rows
 abbrev pub instances_of : List Row → List Instance

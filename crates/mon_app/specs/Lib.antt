@@ -6,7 +6,6 @@ pub mod AtWire
 pub mod Find
 pub mod Gives
 pub mod Input
-pub mod Instance
 pub mod Line
 pub mod Meaning
 pub mod Offer

@@ -15,7 +15,7 @@ use Rattle.mon_pdu.specs.Kinds.{octet_of}
 use Rattle.mon_sample.specs.declared.kind.Kind.{Kind}
 use Rattle.mon_sample.specs.Kind.{kind_tag}
 use Rattle.mon_sample.specs.Key.{key}
-use Rattle.mon_app.specs.Instance.{named}
+use Rattle.mon_board.specs.Instance.{named}
 use Rattle.mon_poller.specs.Stamp.{Stamp, engine_id_name, engine_boots_name, engine_time_name, stamp_of_values}
 use Rattle.mon_poller.specs.Verdict.{sampled_at}
 use Rattle.mon_app.specs.Offer.{Offer}

@@ -2,7 +2,7 @@
 use Rattle.std.specs.Prelude.{ℕ, List}
 use Rattle.mon_pdu.specs.declared.message.Binding.{Binding}
 use Rattle.mon_app.specs.declared.response.Response.{Response}
-use Rattle.mon_app.specs.Instance.{named}
+use Rattle.mon_board.specs.Instance.{named}
 use Rattle.mon_poller.specs.Lent.{lent_stamp}
 use Rattle.mon_poller.specs.Stamp.{Stamp}
 use Rattle.mon_app.specs.Offer.{Offer}

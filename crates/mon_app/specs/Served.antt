@@ -19,7 +19,7 @@ use Rattle.mon_app.specs.declared.fault.AppFault.TheVariants as faults
 use Rattle.mon_app.specs.declared.fault.SocketFault.{SocketFault}
 use Rattle.mon_app.specs.declared.port.Received.{Received as AnyReceived}
 use Rattle.mon_app.specs.declared.reason.SocketReason.{SocketReason}
-use Rattle.mon_app.specs.AtPort.{AtPort, Received, Failed, Replied, Unsent}
+use Rattle.mon_app.specs.AtPort.{AtPort, Received, Failed, Replied, Unsent, IsReplied}
 
 -- a wait that failed
 abbrev pub IsFailure : AtPort → Type 0
@@ -72,7 +72,7 @@ pub record AnswersIt {D : Type 0} (held : D → Held) (failed : D → ℕ) (refu
 
 -- what happens for a reply: it is sent, or could not be sent; nothing happens where the agent is silent
 abbrev pub IsSent : Reply → List AtPort → Type 0
-IsSent (Send octets) sent = (sent ≡ Replied octets.items ∷ []) ⊎ (sent ≡ Unsent octets.items ∷ [])
+IsSent (Send octets) sent = IsReplied octets.items sent
 IsSent (Silent cause) sent = sent ≡ []
 
 -- a datagram that was answered

@@ -10,7 +10,7 @@ use Rattle.mon_sample.specs.declared.kind.Kind.TheVariants.{Integer, Counter32, 
 use Rattle.mon_sample.specs.Kind.{kind_name}
 use Rattle.mon_sample.specs.Key.{boots_of, time_of, discontinuity_of, kind_of, sample_value}
 use Rattle.mon_window.specs.Top.{rising}
-use Rattle.mon_app.specs.declared.instance.Instance.{Instance}
+use Rattle.mon_board.specs.declared.instance.Instance.{Instance}
 use Rattle.mon_app.specs.declared.refusal.Refusal.{Refusal}
 use Rattle.mon_app.specs.declared.table.Row.{Row}
 use Rattle.mon_app.specs.Refusal.{number_of, name_of}

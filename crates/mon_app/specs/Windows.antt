@@ -4,10 +4,10 @@ use Rattle.std.specs.FinSet.{FinSet, from_list, empty, insert}
 use Rattle.std.specs.Ordering.{eq_by_cmp}
 use Rattle.mon_window.specs.Top.{top, rising}
 use Rattle.mon_window.specs.Window.{Samples, Window}
-use Rattle.mon_app.specs.declared.instance.Instance.{Instance}
+use Rattle.mon_board.specs.declared.instance.Instance.{Instance}
 use Rattle.mon_app.specs.Offer.{Offer}
 use Rattle.mon_app.specs.declared.table.Row.{Row}
-use Rattle.mon_app.specs.Instance.{instance_cmp}
+use Rattle.mon_board.specs.Instance.{instance_cmp}
 
 -- a set of instances
 abbrev pub Instances : Type 0

@@ -10,7 +10,6 @@ mod client;
 mod counted;
 mod fault;
 mod input;
-mod instance;
 pub mod laws;
 mod line;
 mod port;

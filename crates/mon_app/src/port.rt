@@ -17,7 +17,7 @@ pub trait Port {
     ghost use Rattle.std.specs.Prelude.{◌≡◌, ◌≤◌, ℕ, List, Option, length, IfOk};
     ghost use Rattle.mon_udp.specs.Counts.{failed_after};
     ghost use Rattle.mon_udp.specs.Told.{extended};
-    ghost use Rattle.mon_app.specs.AtPort.{AtPort, receiving, replying};
+    ghost use Rattle.mon_app.specs.AtPort.{AtPort, Happens, IsReplied, receiving};
 
     // What happened at it, in order, if the port states that.
     ghost told: { Self → Option (List AtPort) };
@@ -32,8 +32,7 @@ pub trait Port {
         ensures room { length room.new ≡ length room.old }
         ensures within { IfOk result (λ received. received.len ≤ length room.new) };
 
-    /// Sends a datagram to where the last one came from.
-    fn reply(&mut self, octets: &[u8]) -> Result<(), SocketFault>
-        ensures told { told self.new ≡ extended (told self.old) (replying octets.now result) }
-        ensures failures { failures self.new ≡ failed_after result (failures self.old) };
+    /// Sends a datagram to where the last one came from. One that cannot be sent is lost.
+    fn reply(&mut self, octets: &[u8])
+        ensures { Happens (IsReplied octets.now) (told self.old) (told self.new) (failures self.old) (failures self.new) };
 }

@@ -66,7 +66,7 @@ fn serve_one<P: Port, D: Device + Drop, U: Untaken>(
     let received = next_datagram(port, room)?;
     match agent.answer(alloc, &room[..received.len], received.moment) {
         Ok(Reply::Send(octets)) => {
-            let _ = port.reply(&octets);
+            port.reply(&octets);
             Ok(())
         }
         Ok(Reply::Silent(_)) => Ok(()),

@@ -101,9 +101,8 @@ impl<R: Clock> Port for SocketPort<'_, R> {
         received
     }
 
-    fn reply(&mut self, octets: &[u8]) -> Result<(), SocketFault> {
-        let sent = self.socket.send(octets, self.from).map_err(socket_failure);
+    fn reply(&mut self, octets: &[u8]) {
+        let sent = self.socket.send(octets, self.from);
         self.failures = failed_after(self.failures, &sent);
-        sent
     }
 }

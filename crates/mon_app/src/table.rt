@@ -9,15 +9,15 @@ ghost use Rattle.std.specs.FinSet.{len, contains};
 ghost use Rattle.std.specs.Prelude.{not, ◌||◌};
 ghost use Rattle.std.specs.List.Sorted.{IsStrictlySortedBy};
 ghost use Rattle.mon_app.specs.Offer.{Offer};
-ghost use Rattle.mon_app.specs.Instance.{instance_cmp, named};
+ghost use Rattle.mon_board.specs.Instance.{instance_cmp, named};
 ghost use Rattle.mon_app.specs.Reading.{offers_of};
 ghost use Rattle.mon_app.specs.Response.{stamp_in, offered_by};
 ghost use Rattle.mon_app.specs.Windows.{instances, rows_of, first_window};
 ghost use Rattle.mon_app.specs.Find.{StandsAt, instances_of};
 
-use crate::instance::Instance;
 use crate::response::Response;
 use mon_ber::Octets;
+use mon_board::Instance;
 use mon_oid::Oid;
 use mon_sample::Sample;
 use mon_window::Window;
@@ -161,7 +161,7 @@ fn find(rows: &[Row], engine: &Octets, name: &Oid) -> Result<usize, usize>
     ensures found { IsStrictlySortedBy instance_cmp (instances_of rows.now)
         → StandsAt (instances_of rows.now) (named engine.now name.now) result }
 {
-    rows.binary_search_by(|row| row.instance.compare(engine, name))
+    rows.binary_search_by(|row| row.instance.compare(engine.as_slice(), name))
 }
 
 /// Returns `true` if neither a row nor one of the fresh names at the engine is of this name.

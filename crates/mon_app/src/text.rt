@@ -4,9 +4,9 @@ ghost use Rattle.std.specs.Prelude.{◌≡◌, ◌++◌, ◌≤◌, decimal, len
 ghost use Rattle.std.specs.List.{flat_map};
 ghost use Rattle.mon_app.specs.Text.{value_text, sample_line, instance_line, row_text, refused_line, end_line, samples_in};
 
-use crate::instance::Instance;
 use crate::refusal::Refusal;
 use crate::table::Row;
+use mon_board::Instance;
 use mon_sample::{Kind, Sample};
 use std::alloc::{AllocError, Global};
 

@@ -37,7 +37,7 @@ pub enum ValueKind {
 
 impl ValueKind {
     /// Returns the kind that a word names, if it names one.
-    pub fn named(word: &str) -> Option<ValueKind>
+    pub fn from_word(word: &str) -> Option<ValueKind>
         ensures found { IfSome result (λ kind. word.now ≡ word_of kind) }
         ensures none { IfNone result ((kind : ValueKind) → word.now ≢ word_of kind) }
     {

@@ -149,7 +149,7 @@ fn ask_names(alloc: Global, words: &[&str], known: &Names) -> Result<Vec<Oid>, F
 
 /// Reads the value of a variable, by its kind.
 fn read_value(alloc: Global, kind: &str, word: &str) -> Result<Value, Failure> {
-    let Some(kind) = ValueKind::named(kind) else {
+    let Some(kind) = ValueKind::from_word(kind) else {
         return Err(Failure::text(alloc, kind, "a kind of value"));
     };
     match value_of(alloc, kind, word) {

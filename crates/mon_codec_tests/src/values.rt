@@ -26,7 +26,7 @@ fn value_told(alloc: Global, value: &Value, spelled: usize) -> Option<String> {
 /// The octets of the value that the text of a line `KIND TEXT` means; or the fault.
 pub fn meant(alloc: Global, line: &str) -> Option<String> {
     let (kind, text) = line.split_once(' ')?;
-    let Some(kind) = ValueKind::named(kind) else {
+    let Some(kind) = ValueKind::from_word(kind) else {
         return String::from_str(alloc, "no kind").ok();
     };
     match value_of(alloc, kind, text) {

@@ -1,11 +1,10 @@
-use Rattle.std.proofs.Common.{◌≡◌, [], ◌∷◌, List, ℕ, inl, refl, subst, sym}
-use Rattle.std.specs.Prelude.{◌⊎◌}
+use Rattle.std.proofs.Common.{List, ℕ, inl, refl, subst, sym}
 use Rattle.mon_agent.specs.declared.reply.Reply.{Reply}
 use Rattle.mon_agent.specs.declared.reply.Reply.TheVariants.{Send}
 use Rattle.mon_agent.specs.State.{policy_of, settings_of}
-use Rattle.mon_app.specs.AtPort.{Happens, Replied, Unsent}
+use Rattle.mon_app.specs.AtPort.{Happens, IsReplied}
 use Rattle.mon_app.specs.Served.{AnswersIt, IsSent, Takes, stands}
-use Rattle.mon_app.proofs.Servings.{reply_happens, turned}
+use Rattle.mon_app.proofs.Servings.{turned}
 use Rattle.mon_app.proofs.serving.serve_one.Goals as goal
 
 pub returns-in-Ok-Send-clause-served : goal.returns-in-Ok-Send-clause-served
@@ -17,8 +16,7 @@ returns-in-Ok-Send-clause-served g c =
     let count_1 = g.P.Port.failures c.next_datagram.new.port in
     let count_2 = g.P.Port.failures c.reply.new.self in
     let sent : Happens (IsSent (Send c.in-Ok-Send.octets)) told_1 told_2 count_1 count_2 =
-    subst (λ (o : List ℕ). Happens (λ log. (log ≡ Replied o ∷ []) ⊎ (log ≡ Unsent o ∷ [])) told_1 told_2 count_1 count_2) c.deref.ensures.value
-    (reply_happens c.deref.result.now c.reply.result told_1 told_2 count_1 count_2 c.reply.ensures.told c.reply.ensures.failures) in
+    subst (λ (o : List ℕ). Happens (IsReplied o) told_1 told_2 count_1 count_2) c.deref.ensures.value c.reply.ensures in
     let Answers = AnswersIt g.D.Device.held g.D.Device.failed g.D.Device.refuses (policy_of c.args.agent.now) (settings_of c.args.agent.now) in
     turned (Takes Answers (stands c.args.agent.now (g.U.Untaken.times c.args.untaken.now)) (stands c.answer.new.self (g.U.Untaken.times c.args.untaken.now)))
     (IsSent (Send c.in-Ok-Send.octets)) c.next_datagram.new.room c.in_ok-received.received told_0 told_1 told_2 count_0 count_1 count_2

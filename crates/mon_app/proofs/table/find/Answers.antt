@@ -1,6 +1,6 @@
 use Rattle.std.proofs.Common.{rules}
 use Rattle.std.proofs.lemmas.Fn.{always_returns_same}
-use Rattle.mon_app.specs.Instance.{instance_cmp, named}
+use Rattle.mon_board.specs.Instance.{instance_cmp, named}
 use Rattle.mon_app.proofs.Search.{finds}
 use Rattle.mon_app.proofs.table.find.Goals as goal
 

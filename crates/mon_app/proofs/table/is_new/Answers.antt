@@ -1,6 +1,6 @@
 use Rattle.std.proofs.Common.{◌≡◌, true, false, not, ◌||◌, ap, sym, ◌∙◌}
 use Rattle.std.specs.FinSet.{contains}
-use Rattle.mon_app.specs.Instance.{named}
+use Rattle.mon_board.specs.Instance.{named}
 use Rattle.mon_app.specs.Windows.{instances}
 use Rattle.mon_app.proofs.Counting.{is_one_of, held, not_true, not_false}
 use Rattle.mon_app.proofs.Windows.{sorted_rows}

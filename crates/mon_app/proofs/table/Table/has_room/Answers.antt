@@ -1,7 +1,7 @@
 use Rattle.std.proofs.Common.{◌≡◌, ◌+◌, ◌++◌, ◌∷◌, [], length, not, ◌||◌, take, refl, sym, ap, ◌∙◌, subst, arith, rules, Some, None}
 use Rattle.std.specs.FinSet.{contains}
 use Rattle.std.specs.Option.{option_map}
-use Rattle.mon_app.specs.Instance.{named}
+use Rattle.mon_board.specs.Instance.{named}
 use Rattle.mon_app.specs.Offer.{Offer}
 use Rattle.mon_app.specs.Reading.{offer_in, offers_of}
 use Rattle.mon_app.specs.Response.{stamp_in, offered_by}

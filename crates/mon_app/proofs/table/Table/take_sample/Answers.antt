@@ -1,7 +1,7 @@
 use Rattle.std.proofs.Common.{◌≡◌, ◌<◌, length, subst, ◌∙◌, ap, arith, Ok, Err}
 use Rattle.mon_window.specs.Window.{Samples}
 use Rattle.mon_app.specs.Find.{StandsAt, instances_of}
-use Rattle.mon_app.specs.Instance.{named}
+use Rattle.mon_board.specs.Instance.{named}
 use Rattle.mon_app.specs.Offer.{Offer}
 use Rattle.mon_app.proofs.Windows.{sorted_rows, took_known, took_new}
 use Rattle.mon_app.proofs.table.Table.take_sample.Goals as goal

@@ -1,0 +1,10 @@
+use Rattle.std.proofs.Common.{subst, sym}
+use Rattle.std.specs.Prelude.{ℕ, None}
+use Rattle.mon_app.specs.AtPort.{Happens, IsReplied}
+use Rattle.mon_app.proofs.Servings.{sent_over}
+use Rattle.mon_app.proofs.socket_port.SocketPortPort.reply.Goals as goal
+
+pub returns : goal.returns
+returns g c =
+    subst (λ (n : ℕ). Happens (IsReplied c.args.octets.now) None None c.args.self.now.failures n) (sym c.failed_after-self.ensures)
+    (sent_over c.args.octets.now c.send-sent.result c.args.self.now.failures)
