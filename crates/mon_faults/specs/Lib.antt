@@ -1,3 +1,3 @@
 pub mod Fault
-pub mod Position
+pub mod LineColumn
 pub mod Unknown

@@ -1,6 +1,6 @@
 //! A fault of a settings text, explained for who wrote it.
 
-use crate::position::{Position, position_at};
+use crate::line_column::{LineColumn, line_column_at};
 use crate::unknown::{known_keys, unknown_key};
 use mon_settings::{Key, Place, SettingsFault, SettingsKind};
 use std::alloc::{AllocError, Global};
@@ -30,8 +30,8 @@ fn unknown(
     }
 }
 
-fn not_toml(alloc: Global, position: Position) -> Result<String, AllocError> {
-    let Position { line, column } = position;
+fn not_toml(alloc: Global, place: LineColumn) -> Result<String, AllocError> {
+    let LineColumn { line, column } = place;
     format!(in alloc; "line {line}, column {column}: the text is not TOML from here on")
 }
 
@@ -49,7 +49,7 @@ pub fn explain(
     text: &str,
 ) -> Result<String, AllocError> {
     match fault {
-        SettingsFault::NotToml(from) => not_toml(alloc, position_at(text, from)),
+        SettingsFault::NotToml(from) => not_toml(alloc, line_column_at(text, from)),
         SettingsFault::UnknownKey(place) => unknown(alloc, text, kind, place),
         _ => format!(in alloc; "{fault}"),
     }

@@ -6,7 +6,7 @@
 
 mod explaining;
 mod fault;
-mod position;
+mod line_column;
 mod unknown;
 
 pub use explaining::explain;

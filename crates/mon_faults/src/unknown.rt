@@ -2,21 +2,12 @@
 
 ghost use Rattle.std.specs.Prelude.{◌≡◌, IfOk, option_and_then, option_map, string_bytes};
 ghost use Rattle.mon_faults.specs.Unknown.{entry, known_keys, step_keys, table_at, table_of, unknown_at, value_at};
-ghost use Rattle.mon_settings.specs.Key.{key_name};
-ghost use Rattle.toml.specs.Data.{get_member};
 ghost use Rattle.toml.specs.Parse.{parse_document};
 ghost use Rattle.toml.specs.View.{view, table_view};
 
-use mon_settings::{Key, Place, SettingsKind, Step, first_unknown, table_keys, top_keys};
+use mon_settings::{Key, Place, SettingsKind, Step, find, first_unknown, table_keys, top_keys};
 use std::alloc::{AllocError, Global};
 use toml::{Table, Value};
-
-/// Returns the value at a key, if there is one.
-fn find(table: &Table, key: Key) -> Option<&Value>
-    ensures { option_map (λ v. view v.now) result ≡ get_member (key_name key) (table_view table.now) }
-{
-    table.get(key.name())
-}
 
 /// Returns the entry of this number in a list, whose first one is 1.
 fn entry(value: &Value, number: usize) -> Option<&Value>

@@ -76,7 +76,7 @@ pub fn station<R: Clock + Files<File = File> + Net + Print + Eprint + AllocGloba
 ) -> Result<(), Failure> {
     let (settings, printing) = settings_of(rt, words.settings, words.printed)?;
     let out = out_of(rt.alloc(), words.out)?;
-    let (disk, socket) = opened(rt, &settings)?;
+    let (disk, socket) = open_file_and_socket(rt, &settings)?;
     let listen = settings.listen;
     let at = or_socket_failure(rt.alloc(), listen, socket.address())?;
     let transport = open_transport(rt, &settings, &socket)?;
@@ -270,10 +270,10 @@ fn out_of(alloc: Global, path: Option<&str>) -> Result<Option<String>, Failure> 
     }
 }
 
-/// The file and the socket of the settings. The socket is taken first, so that of two processes
+/// Opens the file and the socket of the settings. The socket is taken first, so that of two processes
 /// with the same settings the second neither makes the file nor writes it; yet the faults of an
 /// existing file are reported before the socket's.
-fn opened<R: Files<File = File> + Net + Eprint + AllocGlobal>(
+fn open_file_and_socket<R: Files<File = File> + Net + Eprint + AllocGlobal>(
     rt: &R,
     settings: &StationSettings,
 ) -> Result<(FileDisk, Socket), Failure> {

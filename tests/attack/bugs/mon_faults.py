@@ -37,27 +37,27 @@ BUGS = {
         "    value.get(number.checked_sub(2)?)",
     ),
     "counts_lines_from_0": (
-        "src/position.rt",
+        "src/line_column.rt",
         "        line: line_feeds(octets) + 1,",
         "        line: line_feeds(octets),",
     ),
     "answers_line_1": (
-        "src/position.rt",
+        "src/line_column.rt",
         "        line: line_feeds(octets) + 1,",
         "        line: 1,",
     ),
     "answers_column_1": (
-        "src/position.rt",
+        "src/line_column.rt",
         "        column: chars(last_line(octets)) + 1,",
         "        column: 1,",
     ),
     "counts_a_column_in_octets": (
-        "src/position.rt",
+        "src/line_column.rt",
         "        column: chars(last_line(octets)) + 1,",
         "        column: last_line(octets).len() + 1,",
     ),
     "answers_the_last_place_of_a_text": (
-        "src/position.rt",
+        "src/line_column.rt",
         "        &octets[..count]\n",
         "        octets\n",
     ),

@@ -1,6 +1,6 @@
 use Rattle.std.proofs.Common.{◌≡◌, drop}
-use Rattle.mon_faults.specs.Position.{line_from}
-use Rattle.mon_faults.proofs.position.last_line.Given as goal
+use Rattle.mon_faults.specs.LineColumn.{line_from}
+use Rattle.mon_faults.proofs.line_column.last_line.Given as goal
 
 -- what is left decides
 abbrev pub invariant-loop-index : goal.invariant-loop-index

@@ -1,11 +1,11 @@
 //! Lines and columns of a text, by its characters.
 
 ghost use Rattle.std.specs.Prelude.{◌≡◌, ◌==◌, count_by, take};
-ghost use Rattle.mon_faults.specs.Position.{begins_char, last_line, line_from, position_after};
+ghost use Rattle.mon_faults.specs.LineColumn.{begins_char, last_line, line_from, line_column_after};
 
 /// A place in a text.
 #[derive(Clone, Copy, Debug, PartialEq, Eq)]
-pub(crate) struct Position {
+pub(crate) struct LineColumn {
     /// The number of its line. The first one is 1.
     pub(crate) line: usize,
     /// The number of its character in the line. The first one is 1.
@@ -41,10 +41,10 @@ fn last_line(octets: &[u8]) -> &[u8]
 }
 
 /// The place after some octets.
-fn position_after(octets: &[u8]) -> Position
-    ensures { result ≡ position_after octets.now }
+fn line_column_after(octets: &[u8]) -> LineColumn
+    ensures { result ≡ line_column_after octets.now }
 {
-    Position {
+    LineColumn {
         line: line_feeds(octets) + 1,
         column: chars(last_line(octets)) + 1,
     }
@@ -64,8 +64,8 @@ fn front(octets: &[u8], count: usize) -> &[u8]
 
 /// The line and the column of the octet after the first `offset` ones of a text, and of its end where it has no more.
 /// A column counts characters.
-pub(crate) fn position_at(text: &str, offset: usize) -> Position
-    ensures { result ≡ position_after (take offset text.now) }
+pub(crate) fn line_column_at(text: &str, offset: usize) -> LineColumn
+    ensures { result ≡ line_column_after (take offset text.now) }
 {
-    position_after(front(text.as_bytes(), offset))
+    line_column_after(front(text.as_bytes(), offset))
 }
