@@ -2,9 +2,9 @@
 use Rattle.std.proofs.Common.{◌≡◌, ◌≤◌, ◌<◌, ◌+◌, ℕ, suc, List, [], ◌∷◌, ◌++◌, length, take, get_or, refl, sym, ap, ◌∙◌, arith, append_assoc, length-take}
 use Rattle.std.specs.Prelude.{zero, min}
 use Rattle.std.proofs.lemmas.List.{append-nil, take_more}
+use Rattle.mon_rounds.specs.Order.{RoundEvent}
 use Rattle.mon_udp.specs.declared.addr.Addr.{Addr}
 use Rattle.mon_rounds.specs.declared.reporting.Notice.{Notice}
-use Rattle.mon_rounds.specs.declared.round.RoundEvent.{RoundEvent}
 use Rattle.mon_rounds.specs.Noted.{notices_of, told_of}
 use Rattle.mon_station.specs.declared.running.Answer.{Answer}
 

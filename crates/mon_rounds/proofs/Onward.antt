@@ -8,11 +8,10 @@ use Rattle.std.proofs.lemmas.Option.{get_or_from_slice_get, same_Some, slice_get
 use Rattle.mon_rounds.specs.declared.receiver.Wait.{Wait}
 use Rattle.mon_rounds.specs.declared.round.Phase.{Phase}
 use Rattle.mon_rounds.specs.declared.round.Phase.TheVariants.{Polling, Hearing, Sharing, Listening, Over, Resting, Rested}
-use Rattle.mon_rounds.specs.declared.round.RoundEvent.{RoundEvent}
-use Rattle.mon_rounds.specs.declared.round.RoundEvent.TheVariants.{StartPoll, Timeout, Share, Save}
 use Rattle.mon_rounds.specs.Next.{RoundState, events_left, is_hearing, share_at, slot_after}
-use Rattle.mon_rounds.specs.Order.{AreSoFar, HasListened, HasPolled, HasShared, IsDatagram, IsHeard, datagrams_in, datagrams_of, polls_of, shares_with}
+use Rattle.mon_rounds.specs.Order.{RoundEvent, AreSoFar, HasListened, HasPolled, HasShared, IsDatagram, IsHeard, datagrams_in, datagrams_of, polls_of, shares_with}
 use Rattle.mon_rounds.specs.Orderly.{IsOrderly, IsSaving, IsSharing}
+use Rattle.mon_station.specs.ReadEvent.{StartPoll, Timeout, Share, Save}
 
 -- ---- counts
 pub datagrams_more : (events : List RoundEvent) (e : RoundEvent) → datagrams_in (events ++ e ∷ []) ≡ datagrams_in events + datagrams_of e

@@ -3,22 +3,20 @@ use Rattle.std.proofs.Common.{ℕ, ◌≡◌, ◌≤◌, ◌<◌, ◌+◌, ◌�
 use Rattle.std.specs.Prelude.{zero, suc, cond, nat_lt, option_map}
 use Rattle.std.proofs.lemmas.List.{append-nil}
 use Rattle.mon_disk.specs.declared.disk.Disk.{Ghosts}
+use Rattle.mon_station.specs.ReadEvent.{OwnedEvent, StartPoll, Timeout, FromAgent, FromPeer, Share, Save}
 use Rattle.mon_udp.specs.declared.addr.Addr.{Addr}
 use Rattle.mon_rounds.specs.declared.receiver.Arrival.{Arrival}
 use Rattle.mon_rounds.specs.declared.receiver.Arrival.TheVariants.{Datagram, Quiet}
 use Rattle.mon_rounds.specs.declared.round.Phase.{Phase}
 use Rattle.mon_rounds.specs.declared.round.Phase.TheVariants.{Polling, Hearing, Sharing, Listening, Over, Resting, Rested}
-use Rattle.mon_rounds.specs.declared.round.RoundEvent.{RoundEvent}
-use Rattle.mon_rounds.specs.declared.round.RoundEvent.TheVariants.{StartPoll, Timeout, FromAgent, FromPeer, Share, Save}
 use Rattle.mon_rounds.specs.declared.round.Span.{Span}
 use Rattle.mon_rounds.specs.declared.round.Span.TheVariants.{Round, Between}
 use Rattle.mon_rounds.specs.Given.{AreGiven, IsGiven, with_octets}
 use Rattle.mon_rounds.specs.Next.{GivesNext, HandsOn, IsEnded, LeadsTo, Misses, Proceeds, RoundState, TakesTurn, after_datagram, after_event, after_failure, after_polls, event_from, event_in_phase, next_event, phase_after, phase_ended, share_at, slot_after, turns_left}
-use Rattle.mon_rounds.specs.Order.{AreSoFar, IsRound}
+use Rattle.mon_rounds.specs.Order.{RoundEvent, AreSoFar, IsRound}
 use Rattle.mon_rounds.specs.Orderly.{first_phase}
 use Rattle.mon_rounds.specs.Reception.{Reception}
 use Rattle.mon_rounds.specs.Whole.{GivesOn, HasRun, HasSame, IsWhole, IsWholeRest, IsWholeRound, RoundsView, view_of}
-use Rattle.mon_station.specs.declared.event.OwnedEvent.{OwnedEvent}
 use Rattle.mon_station.specs.declared.running.Run.{Run}
 use Rattle.mon_station.specs.declared.running.SourceFault.{SourceFault}
 use Rattle.mon_station.specs.Ran.{AreAsked, AreCalls, Call, End, Event, Fault, Gave, Ran, Turn, events_of, go_on, goes_on, result_of, turn_in, turns_of, view_after}

@@ -1,6 +1,8 @@
 -- What a round gives next, and what becomes of it.
 use Rattle.std.specs.Prelude.{ℕ, zero, suc, ◌≡◌, ◌<◌, ◌+◌, ◌-◌, ◌⊎◌, Bool, true, false, ◌&&◌, ◌||◌, nat_lt, cond, List, [], ◌∷◌, ◌++◌, Option, Some, None, Result, Ok, Err, length, option_map}
 use Rattle.std.specs.List.{list_any}
+use Rattle.mon_rounds.specs.Order.{RoundEvent}
+use Rattle.mon_station.specs.ReadEvent.{OwnedEvent, StartPoll, Timeout, FromAgent, FromPeer, Share, Save}
 use Rattle.mon_udp.specs.declared.addr.Addr.{Addr}
 use Rattle.mon_udp.specs.Addr.{same_addr}
 use Rattle.mon_rounds.specs.declared.receiver.Arrival.{Arrival}
@@ -9,11 +11,8 @@ use Rattle.mon_rounds.specs.declared.receiver.Wait.{Wait}
 use Rattle.mon_rounds.specs.declared.receiver.Wait.TheVariants.{Anew, Rest}
 use Rattle.mon_rounds.specs.declared.round.Phase.{Phase}
 use Rattle.mon_rounds.specs.declared.round.Phase.TheVariants.{Polling, Hearing, Sharing, Listening, Over, Resting, Rested}
-use Rattle.mon_rounds.specs.declared.round.RoundEvent.{RoundEvent}
-use Rattle.mon_rounds.specs.declared.round.RoundEvent.TheVariants.{StartPoll, Timeout, FromAgent, FromPeer, Share, Save}
 use Rattle.mon_rounds.specs.Given.{with_octets}
 use Rattle.mon_rounds.specs.Reception.{Reception}
-use Rattle.mon_station.specs.declared.event.OwnedEvent.{OwnedEvent}
 use Rattle.mon_station.specs.declared.running.SourceFault.{SourceFault}
 
 -- what is known of a round: where targets and peers are reached, how long a wait is, its phase, the
@@ -57,7 +56,7 @@ wait_in phase r from = cond (stands_in r.targets from || stands_in r.peer_addres
 
 -- the event of a datagram from this address
 abbrev pub event_from : RoundState → Addr → RoundEvent
-event_from r from = cond (stands_in r.peer_addresses from) (FromPeer from) (FromAgent from)
+event_from r from = cond (stands_in r.peer_addresses from) (FromPeer from) (FromAgent from tt)
 
 -- after a datagram from this address
 abbrev pub after_datagram : RoundState → Addr → RoundState
@@ -104,7 +103,7 @@ phase_after r (StartPoll target) = cond (nat_lt (target + 1) (length r.targets))
 phase_after r (Share peer) = cond (nat_lt (slot_after r.phase) (length r.peers)) (Sharing (slot_after r.phase)) Listening
 phase_after r Save = Over
 phase_after r (Timeout id) = r.phase
-phase_after r (FromAgent from) = r.phase
+phase_after r (FromAgent from none) = r.phase
 phase_after r (FromPeer from) = r.phase
 
 -- how many timeouts there may be after an event

@@ -1,18 +1,18 @@
 -- What is reported of a round to an operator.
 use Rattle.std.specs.Prelude.{ℕ, ◌-◌, ◌^◌, min, Bool, true, false, not, cond, List, [], ◌∷◌, ◌++◌, Option, Some, None, filter, length, sum_by}
+use Rattle.mon_rounds.specs.Order.{RoundEvent}
 use Rattle.mon_udp.specs.declared.addr.Addr.{Addr}
 use Rattle.mon_rounds.specs.declared.reporting.Notice.{Notice}
 use Rattle.mon_rounds.specs.declared.reporting.Notice.TheVariants as notice
-use Rattle.mon_rounds.specs.declared.round.RoundEvent.{RoundEvent}
-use Rattle.mon_rounds.specs.declared.round.RoundEvent.TheVariants.{StartPoll, Timeout, FromAgent, FromPeer, Share, Save}
 use Rattle.mon_rounds.specs.Next.{stands_in}
 use Rattle.mon_station.specs.declared.fault.StationFault.{StationFault}
 use Rattle.mon_station.specs.declared.running.Answer.{Answer}
 use Rattle.mon_station.specs.declared.running.Answer.TheVariants as answer
+use Rattle.mon_station.specs.ReadEvent.{StartPoll, Timeout, FromAgent, FromPeer, Share, Save}
 
 -- whether an event is a stranger's datagram: from an address that is no peer's and none of these targets'
 abbrev pub is_stranger : List Addr → RoundEvent → Bool
-is_stranger targets (FromAgent from) = not (stands_in targets from)
+is_stranger targets (FromAgent from none) = not (stands_in targets from)
 is_stranger targets (FromPeer from) = false
 is_stranger targets (StartPoll target) = false
 is_stranger targets (Timeout id) = false
@@ -31,7 +31,7 @@ response_notice targets from fault = cond (stands_in targets from) (Some (notice
 -- have the keeper's faults.
 abbrev pub refusal_of : List Addr → RoundEvent → StationFault → Option Notice
 refusal_of targets (StartPoll target) fault = Some (notice.NotPolled target fault)
-refusal_of targets (FromAgent from) fault = response_notice targets from fault
+refusal_of targets (FromAgent from none) fault = response_notice targets from fault
 refusal_of targets (FromPeer from) fault = Some (notice.BadClaim from fault)
 refusal_of targets (Share peer) fault = Some (notice.NotShared peer fault)
 refusal_of targets (Timeout id) fault = None

@@ -3,8 +3,13 @@
 use Rattle.std.specs.Prelude.{ℕ, zero, suc, ◌≡◌, ◌≤◌, ◌<◌, List, [], ◌∷◌, ◌++◌, All, map, take, length, sum_by}
 use Rattle.mon_rounds.specs.declared.round.Phase.{Phase}
 use Rattle.mon_rounds.specs.declared.round.Phase.TheVariants.{Polling, Hearing, Sharing, Listening, Over, Resting, Rested}
-use Rattle.mon_rounds.specs.declared.round.RoundEvent.{RoundEvent}
-use Rattle.mon_rounds.specs.declared.round.RoundEvent.TheVariants.{StartPoll, Timeout, FromAgent, FromPeer, Share, Save}
+use Rattle.mon_station.specs.declared.event.Event.{Event}
+use Rattle.mon_station.specs.ReadEvent.{StartPoll, Timeout, FromAgent, FromPeer, Share, Save}
+use Rattle.mon_udp.specs.declared.addr.Addr.{Addr}
+
+-- an event of a round: its octets went with it, and of a datagram its address is known
+abbrev pub RoundEvent : Type 0
+RoundEvent = Event (Unit {0}) Addr
 
 -- a poll of each of the first N targets, in order
 abbrev pub polls_of : ℕ → List RoundEvent
@@ -17,7 +22,7 @@ shares_with peers = map Share peers
 
 -- how many datagrams an event has
 abbrev pub datagrams_of : RoundEvent → ℕ
-datagrams_of (FromAgent from) = 1
+datagrams_of (FromAgent from none) = 1
 datagrams_of (FromPeer from) = 1
 datagrams_of (StartPoll target) = 0
 datagrams_of (Timeout id) = 0
@@ -34,7 +39,7 @@ IsDatagram e = datagrams_of e ≡ 1
 
 -- what may come while polls are open: datagrams and timeouts
 abbrev pub IsHeard : RoundEvent → Type 0
-IsHeard (FromAgent from) = Unit {0}
+IsHeard (FromAgent from none) = Unit {0}
 IsHeard (FromPeer from) = Unit {0}
 IsHeard (Timeout id) = Unit {0}
 IsHeard (StartPoll target) = ⊥

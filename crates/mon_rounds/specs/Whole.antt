@@ -1,6 +1,7 @@
 -- A whole round of a station, and the whole time between two.
 use Rattle.std.specs.Prelude.{ℕ, ◌≡◌, List, Option, None, Result, Ok, All, length}
 use Rattle.mon_disk.specs.declared.disk.Disk.{Ghosts}
+use Rattle.mon_station.specs.ReadEvent.{OwnedEvent}
 use Rattle.mon_udp.specs.Told.{GoesOnBy}
 use Rattle.mon_rounds.specs.declared.round.Phase.TheVariants.{Over, Rested}
 use Rattle.mon_rounds.specs.declared.round.Span.{Span}
@@ -9,7 +10,6 @@ use Rattle.mon_rounds.specs.Given.{AreGiven}
 use Rattle.mon_rounds.specs.Next.{GivesNext, IsEnded, RoundState, TakesTurn, turns_left}
 use Rattle.mon_rounds.specs.Order.{IsDatagram, IsRound}
 use Rattle.mon_rounds.specs.Reception.{Reception}
-use Rattle.mon_station.specs.declared.event.OwnedEvent.{OwnedEvent}
 use Rattle.mon_station.specs.declared.running.Run.{Run}
 use Rattle.mon_station.specs.declared.running.SourceFault.{SourceFault}
 use Rattle.mon_station.specs.Ran.{Ran, events_of, turns_of}

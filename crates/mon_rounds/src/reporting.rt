@@ -53,7 +53,7 @@ fn refused(round: &Round, event: RoundEvent, fault: StationFault) -> Option<Noti
 {
     match event {
         RoundEvent::StartPoll(target) => Some(Notice::NotPolled(target, fault)),
-        RoundEvent::FromAgent(from) => bad_response(round, from, fault),
+        RoundEvent::FromAgent(from, ()) => bad_response(round, from, fault),
         RoundEvent::FromPeer(from) => Some(Notice::BadClaim(from, fault)),
         RoundEvent::Share(peer) => Some(Notice::NotShared(peer, fault)),
         RoundEvent::Timeout(_) | RoundEvent::Save => None,
@@ -89,7 +89,7 @@ fn is_stranger(round: &Round, event: RoundEvent) -> bool
     ensures { result ≡ is_stranger round.now.targets event }
 {
     match event {
-        RoundEvent::FromAgent(from) => !round.is_target(from),
+        RoundEvent::FromAgent(from, ()) => !round.is_target(from),
         RoundEvent::FromPeer(_)
         | RoundEvent::StartPoll(_)
         | RoundEvent::Timeout(_)

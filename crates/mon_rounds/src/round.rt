@@ -9,7 +9,7 @@ ghost use Rattle.mon_rounds.specs.Order.{AreSoFar, datagrams_in};
 use crate::addresses::Addresses;
 use crate::receiver::Wait;
 use mon_ber::Octets;
-use mon_station::OwnedEvent;
+use mon_station::{Event, OwnedEvent};
 use mon_udp::Addr;
 use std::alloc::{AllocError, Global};
 use std::marker::Model;
@@ -55,22 +55,8 @@ pub enum Phase {
     Rested,
 }
 
-/// An event that a round gave. A datagram's octets went with it.
-#[derive(Clone, Copy, Debug, PartialEq, Eq)]
-pub enum RoundEvent {
-    /// To poll the target of this number.
-    StartPoll(u16),
-    /// The poll of this request-id was not answered in time.
-    Timeout(u32),
-    /// A datagram came from this address, which is no peer's.
-    FromAgent(Addr),
-    /// A datagram came from this peer's address.
-    FromPeer(Addr),
-    /// To offer the peer of this station number what it is owed.
-    Share(u32),
-    /// To save.
-    Save,
-}
+/// An event that a round gave. Its octets went with it, and of a datagram its address is known.
+pub type RoundEvent = Event<(), Addr>;
 
 /// A round: what a station is handed in it, and in which order. It does nothing by itself.
 #[derive(Drop)]
@@ -208,7 +194,7 @@ impl Round {
             self.events.push_reserved(RoundEvent::FromPeer(from));
             OwnedEvent::FromPeer(octets)
         } else {
-            self.events.push_reserved(RoundEvent::FromAgent(from));
+            self.events.push_reserved(RoundEvent::FromAgent(from, ()));
             OwnedEvent::FromAgent(from, octets)
         }
     }

@@ -9,14 +9,12 @@ use Rattle.mon_board.specs.Windows.{kept_by}
 use Rattle.mon_disk.specs.Disk.{Leaves, LeavesSince}
 use Rattle.mon_saved.specs.Image.{SpellsImage}
 use Rattle.mon_saved.specs.Written.{image_of}
-use Rattle.mon_station.specs.declared.event.OwnedEvent.{OwnedEvent}
-use Rattle.mon_station.specs.declared.event.OwnedEvent.TheVariants as own
 use Rattle.mon_station.specs.declared.event.Told.{Told}
 use Rattle.mon_station.specs.declared.fault.StationFault.{StationFault}
 use Rattle.mon_station.specs.declared.fault.StationFault.TheVariants as fault
 use Rattle.mon_exchange.specs.declared.fault.ExchangeFault.{ExchangeFault}
 use Rattle.mon_station.specs.Lived.{HandledIn, IsImageOf, IsLeftAlone, IsLived, IsOrigin, Reopens, answer_in, entries_of, last_state, saved_states}
-use Rattle.mon_station.specs.ReadEvent.{ReadEvent, StartPoll, Timeout, FromAgent, FromPeer, Share, Save, Said, ReadsAs}
+use Rattle.mon_station.specs.ReadEvent.{ReadEvent, StartPoll, Timeout, FromAgent, FromPeer, Share, Save, Said, ReadsAs, OwnedEvent}
 use Rattle.mon_station.specs.Saved.{FindsRunning, FindsState, IsBegun, IsOfKeeper}
 use Rattle.mon_station.specs.State.{State, IsHandled, known_after, known_of, marks_after, next_serial, setting_of}
 use Rattle.mon_station.specs.Stops.{IsDiskAfter}
@@ -117,17 +115,17 @@ begins_on past w (Some octets) (Other image) s lived is begun = ((octets, is, be
 
 -- ---- the disk after an event
 -- an event is a save where it reads as one
-save_read : (watch : Watch) (event : OwnedEvent) → ReadsAs watch event Save → event ≡ own.Save
-save_read watch (own.StartPoll t) is = absurd (let no : Save ≡ StartPoll t = is in cc)
-save_read watch (own.Timeout id) is = absurd (let no : Save ≡ Timeout id = is in cc)
-save_read watch (own.FromAgent from octets) is = absurd (let no : Save ≡ FromAgent from is.0 = is.2 in cc)
-save_read watch (own.FromPeer octets) is = absurd (let no : Save ≡ FromPeer is.0 = is.2 in cc)
-save_read watch (own.Share y) is = absurd (let no : Save ≡ Share y = is in cc)
-save_read watch own.Save is = refl
+save_read : (watch : Watch) (event : OwnedEvent) → ReadsAs watch event Save → event ≡ Save
+save_read watch (StartPoll t) is = absurd (let no : Save ≡ StartPoll t = is in cc)
+save_read watch (Timeout id) is = absurd (let no : Save ≡ Timeout id = is in cc)
+save_read watch (FromAgent from octets) is = absurd (let no : Save ≡ FromAgent from is.0 = is.2 in cc)
+save_read watch (FromPeer octets) is = absurd (let no : Save ≡ FromPeer is.0 = is.2 in cc)
+save_read watch (Share y) is = absurd (let no : Save ≡ Share y = is in cc)
+save_read watch Save is = refl
 
 module _ {D : Type 0} (seen : D → List ℕ) (may_leave : D → List ℕ → Type 0) (moment : D → ℕ) (left_since : D → ℕ → List ℕ → Type 0) (s : State) (old new : D) where
   -- an event that is no save leaves it
-  pub quiet_disk : (watch : Watch) (event : OwnedEvent) (e : ReadEvent) (answer : Option StationFault) → (event ≡ own.Save → ⊥) → ReadsAs watch event e → new ≡ old
+  pub quiet_disk : (watch : Watch) (event : OwnedEvent) (e : ReadEvent) (answer : Option StationFault) → (event ≡ Save → ⊥) → ReadsAs watch event e → new ≡ old
       → IsDiskAfter seen may_leave moment left_since s e answer old new
   quiet_disk watch event Save answer other reads same = absurd (other (save_read watch event reads))
   quiet_disk watch event (StartPoll t) answer other reads same = same

@@ -10,11 +10,7 @@ use Rattle.mon_disk.proofs.Promised.{as_body_of, as_then, at_rest, chained, itse
 use Rattle.mon_udp.specs.Counts.{failed_after, next_count}
 use Rattle.mon_udp.specs.Told.{extended}
 use Rattle.mon_poller.specs.Polls.{Open}
-use Rattle.mon_station.specs.declared.event.Event.{Event}
-use Rattle.mon_station.specs.declared.event.Event.TheVariants as lent
 use Rattle.mon_station.specs.declared.event.Outgoing.{Outgoing}
-use Rattle.mon_station.specs.declared.event.OwnedEvent.{OwnedEvent}
-use Rattle.mon_station.specs.declared.event.OwnedEvent.TheVariants as own
 use Rattle.mon_station.specs.declared.event.Told.{Told}
 use Rattle.mon_station.specs.declared.fault.StationFault.{StationFault}
 use Rattle.mon_station.specs.declared.fault.StationFault.TheVariants as station
@@ -23,7 +19,7 @@ use Rattle.mon_station.specs.declared.running.Answer.TheVariants.{Handled, GaveU
 use Rattle.mon_station.specs.declared.running.Run.{Run}
 use Rattle.mon_station.specs.declared.running.SourceFault.{SourceFault}
 use Rattle.mon_station.specs.Lived.{HandledIn, IsLived, last_state}
-use Rattle.mon_station.specs.ReadEvent.{ReadEvent, ReadsAs, owned}
+use Rattle.mon_station.specs.ReadEvent.{ReadEvent, ReadsAs, owned, OwnedEvent, LentEvent, StartPoll, Timeout, FromAgent, FromPeer, Share, Save}
 use Rattle.mon_station.specs.Ran as ran
 use Rattle.mon_station.specs.Ran.{AreAsked, AreCalls, Call, Did, FindsAfter, FindsAmid, FindsDuring, FindsLast, FindsSaved, Gave, HasFailed, IsKnown, IsMet, IsOldest, IsTurn, LiveOn, Ran, Tells, Turn, answers_of, entries_by, entry_of, failed_in, failed_of, failures_after, faults_in, go_on, goes_on, result_of, sent_of, shown, state_after, turn_in, turns_of, view_after}
 use Rattle.mon_station.specs.Saved.{FindsRunning, FindsState}
@@ -67,12 +63,12 @@ as_saved s (Some (station.Keeper keeper.Reopen)) P Q a b same f h = f h
 
 -- what an opening finds after any event
 pub as_after : (s : State) (event : OwnedEvent) (answer : Option StationFault) (P Q : Type 0) (a b : List ℕ) → IsAs a b → (Q → P) → FindsAfter s event answer Q b → FindsAfter s event answer P a
-as_after s own.Save answer P Q a b same f h = as_saved s answer P Q a b same f h
-as_after s (own.StartPoll t) answer P Q a b same f h = f h
-as_after s (own.Timeout id) answer P Q a b same f h = f h
-as_after s (own.FromAgent from o) answer P Q a b same f h = f h
-as_after s (own.FromPeer o) answer P Q a b same f h = f h
-as_after s (own.Share y) answer P Q a b same f h = f h
+as_after s Save answer P Q a b same f h = as_saved s answer P Q a b same f h
+as_after s (StartPoll t) answer P Q a b same f h = f h
+as_after s (Timeout id) answer P Q a b same f h = f h
+as_after s (FromAgent from o) answer P Q a b same f h = f h
+as_after s (FromPeer o) answer P Q a b same f h = f h
+as_after s (Share y) answer P Q a b same f h = f h
 
 is_itself : (c : List ℕ) → IsAs c c
 is_itself c = record { undamaged = refl; body_is = refl }
@@ -83,20 +79,20 @@ as_last first outcomes (t ∷ turns) a b same h = as_after (state_after first tu
 
 -- ---- what a crash in the middle leaves
 during_before : (s : State) (event : OwnedEvent) (P : Type 0) (c : List ℕ) → P → FindsDuring s event P c
-during_before s own.Save P c p = inl p
-during_before s (own.StartPoll t) P c p = p
-during_before s (own.Timeout id) P c p = p
-during_before s (own.FromAgent from o) P c p = p
-during_before s (own.FromPeer o) P c p = p
-during_before s (own.Share y) P c p = p
+during_before s Save P c p = inl p
+during_before s (StartPoll t) P c p = p
+during_before s (Timeout id) P c p = p
+during_before s (FromAgent from o) P c p = p
+during_before s (FromPeer o) P c p = p
+during_before s (Share y) P c p = p
 
 during_more : (s : State) (event : OwnedEvent) (P Q : Type 0) (c : List ℕ) → (P → Q) → FindsDuring s event P c → FindsDuring s event Q c
-during_more s own.Save P Q c f h = ⊎_elim (λ p. inl (f p)) (λ finds. inr finds) h
-during_more s (own.StartPoll t) P Q c f h = f h
-during_more s (own.Timeout id) P Q c f h = f h
-during_more s (own.FromAgent from o) P Q c f h = f h
-during_more s (own.FromPeer o) P Q c f h = f h
-during_more s (own.Share y) P Q c f h = f h
+during_more s Save P Q c f h = ⊎_elim (λ p. inl (f p)) (λ finds. inr finds) h
+during_more s (StartPoll t) P Q c f h = f h
+during_more s (Timeout id) P Q c f h = f h
+during_more s (FromAgent from o) P Q c f h = f h
+during_more s (FromPeer o) P Q c f h = f h
+during_more s (Share y) P Q c f h = f h
 
 saved_during : (s : State) (answer : Option StationFault) (P : Type 0) (c : List ℕ) → FindsSaved s answer P c → P ⊎ FindsState s c
 saved_during s None P c h = inr h
@@ -114,12 +110,12 @@ saved_during s (Some (station.Keeper keeper.Damaged)) P c h = inl h
 saved_during s (Some (station.Keeper keeper.Reopen)) P c h = inl h
 
 after_during : (s : State) (event : OwnedEvent) (answer : Option StationFault) (P : Type 0) (c : List ℕ) → FindsAfter s event answer P c → FindsDuring s event P c
-after_during s own.Save answer P c h = saved_during s answer P c h
-after_during s (own.StartPoll t) answer P c h = h
-after_during s (own.Timeout id) answer P c h = h
-after_during s (own.FromAgent from o) answer P c h = h
-after_during s (own.FromPeer o) answer P c h = h
-after_during s (own.Share y) answer P c h = h
+after_during s Save answer P c h = saved_during s answer P c h
+after_during s (StartPoll t) answer P c h = h
+after_during s (Timeout id) answer P c h = h
+after_during s (FromAgent from o) answer P c h = h
+after_during s (FromPeer o) answer P c h = h
+after_during s (Share y) answer P c h = h
 
 -- what turns left is found in the middle of them
 last_amid : (first : State) (outcomes : List ℕ → Type 0) (turns : List Turn) (c : List ℕ) → FindsLast first outcomes turns c → FindsAmid first outcomes turns c
@@ -369,26 +365,26 @@ module _ {X : Type 0} (G : Ghosts X) (s : State) (old new : X) (only_now : (disk
       subst (λ (d : X). LeavesSince G.moment G.left_since old d (λ c. FindsAs (G.may_leave old) c ⊎ FindsDuring s event (FindsAs (G.may_leave old) c) c)) (sym same)
       (weaker G.moment G.left_since G.may_leave old old _ _ (λ c found. inl found) (at_rest G.moment G.left_since G.may_leave old (λ c left. only_now old c honest left)))
 
-  pub amid : (event : OwnedEvent) → ((event ≡ own.Save → ⊥) → new ≡ old) → LeavesSince G.moment G.left_since old new (FindsRunning (G.may_leave old) s) → Amid event
-  amid (own.StartPoll t) same running = rested (own.StartPoll t) (same (λ e. cc))
-  amid (own.Timeout id) same running = rested (own.Timeout id) (same (λ e. cc))
-  amid (own.FromAgent a o) same running = rested (own.FromAgent a o) (same (λ e. cc))
-  amid (own.FromPeer o) same running = rested (own.FromPeer o) (same (λ e. cc))
-  amid (own.Share y) same running = rested (own.Share y) (same (λ e. cc))
-  amid own.Save same running = weaker G.moment G.left_since G.may_leave old new _ _ (λ c found. ⊎_elim (λ a. inl a) (λ f. inr (inr f)) found) running
+  pub amid : (event : OwnedEvent) → ((event ≡ Save → ⊥) → new ≡ old) → LeavesSince G.moment G.left_since old new (FindsRunning (G.may_leave old) s) → Amid event
+  amid (StartPoll t) same running = rested (StartPoll t) (same (λ e. cc))
+  amid (Timeout id) same running = rested (Timeout id) (same (λ e. cc))
+  amid (FromAgent a o) same running = rested (FromAgent a o) (same (λ e. cc))
+  amid (FromPeer o) same running = rested (FromPeer o) (same (λ e. cc))
+  amid (Share y) same running = rested (Share y) (same (λ e. cc))
+  amid Save same running = weaker G.moment G.left_since G.may_leave old new _ _ (λ c found. ⊎_elim (λ a. inl a) (λ f. inr (inr f)) found) running
 
 -- what a crash leaves after an event
 module _ {D : Type 0} (left : D → List ℕ → Type 0) (s : State) (old new : D) where
   stays : new ≡ old → Leaves (left new) (FindsAs (left old))
   stays same c l = itself (left old) c (subst (λ d. left d c) same l)
 
-  pub file_told : (event : OwnedEvent) → ((event ≡ own.Save → ⊥) → new ≡ old) → (event ≡ own.Save → Leaves (left new) (FindsState s)) → Leaves (left new) (λ c. FindsAfter s event None (FindsAs (left old) c) c)
-  file_told (own.StartPoll t) same saved = stays (same (λ e. cc))
-  file_told (own.Timeout id) same saved = stays (same (λ e. cc))
-  file_told (own.FromAgent a o) same saved = stays (same (λ e. cc))
-  file_told (own.FromPeer o) same saved = stays (same (λ e. cc))
-  file_told (own.Share y) same saved = stays (same (λ e. cc))
-  file_told own.Save same saved = saved refl
+  pub file_told : (event : OwnedEvent) → ((event ≡ Save → ⊥) → new ≡ old) → (event ≡ Save → Leaves (left new) (FindsState s)) → Leaves (left new) (λ c. FindsAfter s event None (FindsAs (left old) c) c)
+  file_told (StartPoll t) same saved = stays (same (λ e. cc))
+  file_told (Timeout id) same saved = stays (same (λ e. cc))
+  file_told (FromAgent a o) same saved = stays (same (λ e. cc))
+  file_told (FromPeer o) same saved = stays (same (λ e. cc))
+  file_told (Share y) same saved = stays (same (λ e. cc))
+  file_told Save same saved = saved refl
 
   save_fault : (fault : StationFault) → ((fault ≡ station.Keeper keeper.DiskFault → ⊥) → new ≡ old) → Leaves (left new) (FindsRunning (left old) s) → Leaves (left new) (λ c. FindsSaved s (Some fault) (FindsAs (left old) c) c)
   save_fault station.OutOfMemory same running = stays (same (λ e. cc))
@@ -404,26 +400,26 @@ module _ {D : Type 0} (left : D → List ℕ → Type 0) (s : State) (old new : 
   save_fault (station.Keeper keeper.Damaged) same running = stays (same (λ e. cc))
   save_fault (station.Keeper keeper.Reopen) same running = stays (same (λ e. cc))
 
-  pub file_fault : (event : OwnedEvent) (fault : StationFault) → ((event ≡ own.Save → ⊥) → new ≡ old) → ((fault ≡ station.Keeper keeper.DiskFault → ⊥) → new ≡ old) → Leaves (left new) (FindsRunning (left old) s)
+  pub file_fault : (event : OwnedEvent) (fault : StationFault) → ((event ≡ Save → ⊥) → new ≡ old) → ((fault ≡ station.Keeper keeper.DiskFault → ⊥) → new ≡ old) → Leaves (left new) (FindsRunning (left old) s)
       → Leaves (left new) (λ c. FindsAfter s event (Some fault) (FindsAs (left old) c) c)
-  file_fault (own.StartPoll t) fault same unsaved running = stays (same (λ e. cc))
-  file_fault (own.Timeout id) fault same unsaved running = stays (same (λ e. cc))
-  file_fault (own.FromAgent a o) fault same unsaved running = stays (same (λ e. cc))
-  file_fault (own.FromPeer o) fault same unsaved running = stays (same (λ e. cc))
-  file_fault (own.Share y) fault same unsaved running = stays (same (λ e. cc))
-  file_fault own.Save fault same unsaved running = save_fault fault unsaved running
+  file_fault (StartPoll t) fault same unsaved running = stays (same (λ e. cc))
+  file_fault (Timeout id) fault same unsaved running = stays (same (λ e. cc))
+  file_fault (FromAgent a o) fault same unsaved running = stays (same (λ e. cc))
+  file_fault (FromPeer o) fault same unsaved running = stays (same (λ e. cc))
+  file_fault (Share y) fault same unsaved running = stays (same (λ e. cc))
+  file_fault Save fault same unsaved running = save_fault fault unsaved running
 
 -- a borrowed event is a save where the event is one
-pub not_save : (e : Event) → (owned e ≡ own.Save → ⊥) → e ≡ lent.Save → ⊥
+pub not_save : (e : LentEvent) → (owned e ≡ Save → ⊥) → e ≡ Save → ⊥
 not_save e other is = other (ap owned is)
 
-pub is_save : (e : Event) → owned e ≡ own.Save → e ≡ lent.Save
-is_save (lent.StartPoll t) is = absurd cc
-is_save (lent.Timeout id) is = absurd cc
-is_save (lent.FromAgent a o) is = absurd cc
-is_save (lent.FromPeer o) is = absurd cc
-is_save (lent.Share y) is = absurd cc
-is_save lent.Save is = refl
+pub is_save : (e : LentEvent) → owned e ≡ Save → e ≡ Save
+is_save (StartPoll t) is = absurd cc
+is_save (Timeout id) is = absurd cc
+is_save (FromAgent a o) is = absurd cc
+is_save (FromPeer o) is = absurd cc
+is_save (Share y) is = absurd cc
+is_save Save is = refl
 
 -- ---- counts
 pub faults_more : (answers : List Answer) (answer : Answer) → faults_in (answers ++ answer ∷ []) ≡ faults_in answers + faults_in (answer ∷ [])

@@ -6,12 +6,11 @@ use Rattle.mon_exchange.specs.declared.fault.ExchangeFault.{ExchangeFault}
 use Rattle.mon_exchange.specs.declared.fault.ExchangeFault.TheVariants as exchange
 use Rattle.mon_exchange.specs.Claim.{SpellsClaim}
 use Rattle.mon_exchange.specs.Reading.{Fails, Gives, claim_at}
-use Rattle.mon_station.specs.declared.event.OwnedEvent.{OwnedEvent}
 use Rattle.mon_station.specs.declared.event.Told.{Told}
 use Rattle.mon_station.specs.declared.fault.StationFault.{StationFault}
 use Rattle.mon_station.specs.declared.fault.StationFault.TheVariants as station
 use Rattle.mon_station.specs.Fault.{exchange_refusal}
-use Rattle.mon_station.specs.ReadEvent.{IsNumbered, ReadEvent, ReadsAs, Said, SaysAs, FromPeer}
+use Rattle.mon_station.specs.ReadEvent.{IsNumbered, ReadEvent, ReadsAs, Said, SaysAs, FromPeer, OwnedEvent}
 use Rattle.mon_station.specs.State.{State, IsHandled}
 use Rattle.mon_station.specs.Step.{IsRead, IsSettled}
 use Rattle.mon_station.proofs.Claimed.{said_as}

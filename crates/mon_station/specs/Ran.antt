@@ -11,8 +11,6 @@ use Rattle.mon_udp.specs.Counts.{next_count}
 use Rattle.mon_udp.specs.Told.{extended}
 use Rattle.mon_poller.specs.Polls.{Open}
 use Rattle.mon_station.specs.declared.event.Outgoing.{Outgoing}
-use Rattle.mon_station.specs.declared.event.OwnedEvent.{OwnedEvent}
-use Rattle.mon_station.specs.declared.event.OwnedEvent.TheVariants as owned
 use Rattle.mon_station.specs.declared.fault.StationFault.{StationFault}
 use Rattle.mon_station.specs.declared.fault.StationFault.TheVariants as fault
 use Rattle.mon_station.specs.declared.running.Answer.{Answer}
@@ -20,7 +18,7 @@ use Rattle.mon_station.specs.declared.running.Answer.TheVariants.{Handled, GaveU
 use Rattle.mon_station.specs.declared.running.Run.{Run}
 use Rattle.mon_station.specs.declared.running.SourceFault.{SourceFault}
 use Rattle.mon_station.specs.Lived.{IsLived, last_state}
-use Rattle.mon_station.specs.ReadEvent.{ReadEvent, ReadsAs}
+use Rattle.mon_station.specs.ReadEvent.{ReadEvent, ReadsAs, OwnedEvent, Save}
 use Rattle.mon_station.specs.Saved.{FindsState}
 use Rattle.mon_station.specs.Seen.{Seen}
 use Rattle.mon_station.specs.State.{State, IsHandled, setting_of}
@@ -213,7 +211,7 @@ FindsSaved s (Some f) Before file = Before
 
 -- what an opening of this file finds after any event
 abbrev pub FindsAfter : State → OwnedEvent → Option StationFault → Type 0 → List ℕ → Type 0
-FindsAfter s owned.Save answer Before file = FindsSaved s answer Before file
+FindsAfter s Save answer Before file = FindsSaved s answer Before file
 FindsAfter s event answer Before file = Before
 
 -- an opening of this file finds the last save among these turns that was answered without a fault,
@@ -225,7 +223,7 @@ FindsLast first outcomes (t ∷ turns) file = FindsAfter (state_after first turn
 
 -- while an event is handled, an opening of this file finds what was said of it before, or the state that a save is saving
 abbrev pub FindsDuring : State → OwnedEvent → Type 0 → List ℕ → Type 0
-FindsDuring s owned.Save Before file = Before ⊎ FindsState s file
+FindsDuring s Save Before file = Before ⊎ FindsState s file
 FindsDuring s event Before file = Before
 
 -- in the middle of these turns, an opening of this file finds what the turns until then left, or

@@ -5,11 +5,10 @@ use Rattle.mon_board.specs.Board.{MarksEntries, window_of}
 use Rattle.mon_board.specs.Windows.{IsWhole}
 use Rattle.mon_board.specs.Watch.{Watch}
 use Rattle.mon_poller.specs.Polls.{Polls}
-use Rattle.mon_station.specs.declared.event.OwnedEvent.{OwnedEvent}
 use Rattle.mon_station.specs.declared.event.Told.{Told}
 use Rattle.mon_station.specs.declared.fault.StationFault.{StationFault}
 use Rattle.mon_station.specs.declared.fault.StationFault.TheVariants as fault
-use Rattle.mon_station.specs.ReadEvent.{ReadEvent, ReadsAs}
+use Rattle.mon_station.specs.ReadEvent.{ReadEvent, ReadsAs, OwnedEvent}
 use Rattle.mon_station.specs.State.{State}
 
 -- the event reads as something; where memory ran out that is not known

@@ -7,54 +7,43 @@ use mon_board::Pairs;
 use mon_exchange::Noted;
 use mon_udp::Addr;
 
-/// What a station is handed. Datagrams are lent.
-#[derive(Clone, Copy, Debug, PartialEq, Eq)]
-pub enum Event<'a> {
+/// What a station is handed: of an agent's datagram a `D`, and of a peer's a `P`.
+#[derive(Clone, Copy, Debug, PartialEq, Eq, Drop)]
+pub enum Event<D, P> {
     /// To poll the target of this number.
     StartPoll(u16),
     /// The poll of this request-id was not answered in time.
     Timeout(u32),
     /// A datagram came from an agent's address.
-    FromAgent(Addr, &'a [u8]),
+    FromAgent(Addr, D),
     /// A datagram came from a peer.
-    FromPeer(&'a [u8]),
+    FromPeer(P),
     /// To offer the peer of this station number what it is owed.
     Share(u32),
     /// To save the windows and the incarnation.
     Save,
 }
 
+/// An event whose datagram is lent: what a station handles.
+pub type LentEvent<'a> = Event<&'a [u8], &'a [u8]>;
+
 /// An event with its own datagram: what a source returns.
-#[derive(Debug, Drop)]
-pub enum OwnedEvent {
-    /// To poll the target of this number.
-    StartPoll(u16),
-    /// The poll of this request-id was not answered in time.
-    Timeout(u32),
-    /// A datagram came from an agent's address.
-    FromAgent(Addr, Octets),
-    /// A datagram came from a peer.
-    FromPeer(Octets),
-    /// To offer the peer of this station number what it is owed.
-    Share(u32),
-    /// To save the windows and the incarnation.
-    Save,
-}
+pub type OwnedEvent = Event<Octets, Octets>;
 
 impl OwnedEvent {
     ghost use Rattle.mon_station.specs.ReadEvent.{owned};
 
     /// The event, with its datagram lent.
-    pub fn lend(&self) -> Event<'_>
+    pub fn lend(&self) -> LentEvent<'_>
         ensures { owned result ≡ self.now }
     {
         match self {
-            OwnedEvent::StartPoll(target) => Event::StartPoll(*target),
-            OwnedEvent::Timeout(id) => Event::Timeout(*id),
-            OwnedEvent::FromAgent(from, octets) => Event::FromAgent(*from, octets.as_slice()),
-            OwnedEvent::FromPeer(octets) => Event::FromPeer(octets.as_slice()),
-            OwnedEvent::Share(peer) => Event::Share(*peer),
-            OwnedEvent::Save => Event::Save,
+            Event::StartPoll(target) => Event::StartPoll(*target),
+            Event::Timeout(id) => Event::Timeout(*id),
+            Event::FromAgent(from, octets) => Event::FromAgent(*from, octets.as_slice()),
+            Event::FromPeer(octets) => Event::FromPeer(octets.as_slice()),
+            Event::Share(peer) => Event::Share(*peer),
+            Event::Save => Event::Save,
         }
     }
 }

@@ -30,7 +30,7 @@ pub struct OutboxFault;
 pub trait Source {
     ghost use Rattle.std.specs.Prelude.{◌≡◌, Option, Result, ℕ};
     ghost use Rattle.mon_udp.specs.Counts.{failed_after};
-    ghost use Rattle.mon_station.specs.declared.event.OwnedEvent.{OwnedEvent as AnyEvent};
+    ghost use Rattle.mon_station.specs.ReadEvent.{OwnedEvent as AnyEvent};
     ghost use Rattle.mon_station.specs.declared.running.SourceFault.{SourceFault as AnySourceFault};
 
     // What can be said of it.

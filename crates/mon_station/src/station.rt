@@ -7,7 +7,7 @@ ghost use Rattle.mon_disk.specs.File.{found};
 ghost use Rattle.mon_disk.specs.Keeper.{found_generation};
 ghost use Rattle.mon_disk.specs.Disk.{Leaves, LeavesSince};
 
-use crate::event::{Event, OwnedEvent, Told};
+use crate::event::{Event, LentEvent, OwnedEvent, Told};
 use crate::fault::StationFault;
 use crate::life::{Life, told_none};
 use mon_board::Board;
@@ -46,7 +46,7 @@ impl<D: Disk + Drop> Station<D> {
     /// `OutOfMemory`, which changes nothing; the refusal of a poll, a response, a claim or a share;
     /// at a save the keeper's fault. A refusal changes nothing, except that a response may end its
     /// poll, and a save that met `DiskFault` may have been saved or not.
-    pub fn step(&mut self, alloc: Global, event: Event<'_>) -> Result<Told, StationFault>
+    pub fn step(&mut self, alloc: Global, event: LentEvent<'_>) -> Result<Told, StationFault>
         // However the event's datagram reads: the answer is the verdict, and this is what it
         // leaves, sends and reports.
         ensures answered { (e : ReadEvent) → ReadsAs self.old.life.board.watch (owned event.entry) e → IsAnswered (state_of self.old.life) (state_of self.new.life) e result }

@@ -1,9 +1,9 @@
 -- A source that returns a list of events, and a run over it.
 use Rattle.std.specs.Prelude.{ℕ, ◌≡◌, ◌<◌, ◌-◌, List, [], ◌++◌, Option, None, Result, Ok, Err}
 use Rattle.std.specs.Option.{option_to_list}
+use Rattle.mon_station.specs.ReadEvent.{OwnedEvent}
 use Rattle.mon_udp.specs.Told.{extended}
 use Rattle.mon_station.specs.declared.event.Outgoing.{Outgoing}
-use Rattle.mon_station.specs.declared.event.OwnedEvent.{OwnedEvent}
 use Rattle.mon_station.specs.declared.running.Run.{Run}
 use Rattle.mon_station.specs.declared.running.SourceFault.{SourceFault}
 use Rattle.mon_station.specs.Ran.{Turn, answers_of, events_of, sent_of}

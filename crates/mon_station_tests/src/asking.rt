@@ -6,7 +6,7 @@ use crate::printing::{fault, report, told};
 use crate::running::run;
 use crate::setting::core;
 use mon_disk::{FuseDisk, MemoryDisk};
-use mon_station::{Event, Station};
+use mon_station::{Event, LentEvent, Station};
 use std::alloc::Global;
 
 /// The station, or the disk that it is opened from.
@@ -102,7 +102,7 @@ fn stepped(
 fn step(
     alloc: Global,
     station: &mut Station<FuseDisk<MemoryDisk>>,
-    event: Event<'_>,
+    event: LentEvent<'_>,
 ) -> Option<String> {
     match station.step(alloc, event) {
         Ok(answer) => told(alloc, &answer),

@@ -7,7 +7,6 @@ use Rattle.mon_disk.specs.declared.memory.MemoryDisk.{MemoryDisk}
 use Rattle.mon_exchange.specs.declared.claim.Claim.{Claim}
 use Rattle.mon_exchange.specs.Claim.{claim_octets}
 use Rattle.mon_settings.specs.StationCore.{Core}
-use Rattle.mon_station.specs.declared.event.OwnedEvent.TheVariants as own
 use Rattle.mon_station.specs.declared.fault.StationFault.{StationFault}
 use Rattle.mon_station.specs.declared.station.Station.{Station}
 use Rattle.mon_station.specs.Lived.{HandledIn, IsLived, last_state}
@@ -103,11 +102,11 @@ letter_addressed core stations sent past was (suc n) l there = one_at (λ (l : L
 
 -- what its station was given is the delivery
 pub as_delivery : (core : Core) (count number x : ℕ) (past : List Move) (l : Letter) → HasNumber (sent_in past) number l → l.to ≡ x → (octets : List ℕ) → claim_octets l.claim ≡ octets → (answer : Option StationFault) (now : List Move)
-    → Hands (setting_at core count x) x (own.FromPeer octets) answer past now → Delivers (setting_at core count) number answer past now
+    → Hands (setting_at core count x) x (FromPeer octets) answer past now → Delivers (setting_at core count) number answer past now
 as_delivery core count number x past l there to octets says answer now hands = record {
   letter = l;
   there = there;
-  hands = subst (λ y. Hands (setting_at core count y) y (own.FromPeer (claim_octets l.claim)) answer past now) (sym to) (subst (λ o. Hands (setting_at core count x) x (own.FromPeer o) answer past now) (sym says) hands);
+  hands = subst (λ y. Hands (setting_at core count y) y (FromPeer (claim_octets l.claim)) answer past now) (sym to) (subst (λ o. Hands (setting_at core count x) x (FromPeer o) answer past now) (sym says) hands);
 }
 
 -- a station that is there is not missing

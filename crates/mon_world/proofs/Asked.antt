@@ -21,16 +21,12 @@ use Rattle.mon_poller.specs.declared.poller.TimedOut.{TimedOut}
 use Rattle.mon_poller.specs.declared.poller.TimedOut.TheVariants.{Again, GivenUp, NotOpen}
 use Rattle.mon_poller.specs.Verdict.{timeout_verdict}
 use Rattle.mon_settings.specs.StationCore.{Core}
-use Rattle.mon_station.specs.declared.event.Event.{Event}
-use Rattle.mon_station.specs.declared.event.Event.TheVariants as lent
-use Rattle.mon_station.specs.declared.event.OwnedEvent.{OwnedEvent}
-use Rattle.mon_station.specs.declared.event.OwnedEvent.TheVariants as own
 use Rattle.mon_station.specs.declared.event.Told.{Told}
 use Rattle.mon_station.specs.declared.fault.StationFault.{StationFault}
 use Rattle.mon_station.specs.declared.fault.StationFault.TheVariants as station
 use Rattle.mon_station.specs.declared.station.Station.{Station}
 use Rattle.mon_station.specs.Lived.{IsLived, HandledIn, last_state, saved_states}
-use Rattle.mon_station.specs.ReadEvent.{ReadEvent, StartPoll, Timeout, FromAgent, FromPeer, Share, Save, ReadsAs, SaysAs, Said, owned}
+use Rattle.mon_station.specs.ReadEvent.{ReadEvent, StartPoll, Timeout, FromAgent, FromPeer, Share, Save, ReadsAs, SaysAs, Said, owned, OwnedEvent, LentEvent}
 use Rattle.mon_station.specs.Saved.{FindsRunning, FindsState}
 use Rattle.mon_station.specs.State.{State, IsHandled}
 use Rattle.mon_station.specs.Taken.{Entry, Answered, at_place}
@@ -73,16 +69,16 @@ sent_told s e told is = record {
 
 -- ---- how an event reads
 pub numbered : (watch : Watch) (event : OwnedEvent) (e : ReadEvent) → ReadsAs watch event e → IsNumberedIn watch e
-numbered watch (own.StartPoll target) e is = subst (IsNumberedIn watch) (sym is) tt
-numbered watch (own.Timeout id) e is = subst (IsNumberedIn watch) (sym is) tt
-numbered watch (own.FromAgent from octets) e is = subst (IsNumberedIn watch) (sym is.2) tt
-numbered watch (own.FromPeer octets) e is = subst (IsNumberedIn watch) (sym is.2) (at is.0 is.1)
+numbered watch (StartPoll target) e is = subst (IsNumberedIn watch) (sym is) tt
+numbered watch (Timeout id) e is = subst (IsNumberedIn watch) (sym is) tt
+numbered watch (FromAgent from octets) e is = subst (IsNumberedIn watch) (sym is.2) tt
+numbered watch (FromPeer octets) e is = subst (IsNumberedIn watch) (sym is.2) (at is.0 is.1)
   where
     at : (said : Result Said _) → SaysAs watch octets said → IsNumberedIn watch (FromPeer said)
     at (Ok said) says = says.1
     at (Err f) says = tt
-numbered watch (own.Share y) e is = subst (IsNumberedIn watch) (sym is) tt
-numbered watch own.Save e is = subst (IsNumberedIn watch) (sym is) tt
+numbered watch (Share y) e is = subst (IsNumberedIn watch) (sym is) tt
+numbered watch Save e is = subst (IsNumberedIn watch) (sym is) tt
 
 -- ---- what an opening finds after an event
 pub torn : (old new : MemoryDisk) (P : List ℕ → Type 0) → LeavesSince (λ m. length m.calls.items) (λ m. leaves_since m.first.items m.calls.items) old new P → Leaves (memory_leaves new) P
@@ -144,25 +140,25 @@ is_disk_fault (station.Image f) = inr (λ e. cc)
 is_disk_fault station.NoMoreIncarnations = inr (λ e. cc)
 
 module _ {G : Ghosts MemoryDisk} (old new : Station MemoryDisk G) (watch : Watch) (lives : List (Entry × State)) (is : last_state lives ≡ Some (state_in old)) (were : Leaves (disk_leaves old) (FindsOne lives))
-    (event : Event) (disk : (event ≡ lent.Save → ⊥) → new.keeper ≡ old.keeper) where
+    (event : LentEvent) (disk : (event ≡ Save → ⊥) → new.keeper ≡ old.keeper) where
   same_left : new.keeper ≡ old.keeper → (c : List ℕ) → disk_leaves new c → FindsOne lives c
   same_left same c left = were c (subst (λ (k : Keeper MemoryDisk G). memory_leaves (device_of k) c) same left)
 
   -- what an opening finds after an event with this answer
-  pub finds_next : (e : ReadEvent) → ReadsAs watch (owned event) e → (answer : Option StationFault) → (event ≡ lent.Save → Leaves (disk_leaves new) (FindsOne ((Answered Save answer, state_in new) ∷ lives)))
+  pub finds_next : (e : ReadEvent) → ReadsAs watch (owned event) e → (answer : Option StationFault) → (event ≡ Save → Leaves (disk_leaves new) (FindsOne ((Answered Save answer, state_in new) ∷ lives)))
       → Leaves (disk_leaves new) (FindsOne ((Answered e answer, state_in new) ∷ lives))
   finds_next e reads answer save = by event reads disk save
     where
-      by : (h : Event) → ReadsAs watch (owned h) e → ((h ≡ lent.Save → ⊥) → new.keeper ≡ old.keeper) → (h ≡ lent.Save → Leaves (disk_leaves new) (FindsOne ((Answered Save answer, state_in new) ∷ lives)))
+      by : (h : LentEvent) → ReadsAs watch (owned h) e → ((h ≡ Save → ⊥) → new.keeper ≡ old.keeper) → (h ≡ Save → Leaves (disk_leaves new) (FindsOne ((Answered Save answer, state_in new) ∷ lives)))
           → Leaves (disk_leaves new) (FindsOne ((Answered e answer, state_in new) ∷ lives))
-      by (lent.StartPoll target) r d v c left = subst (λ f. FindsOne ((Answered f answer, state_in new) ∷ lives) c) (sym r) (still lives (StartPoll target) answer (state_in new) c refl refl (same_left (d (λ q. cc)) c left))
-      by (lent.Timeout id) r d v c left = subst (λ f. FindsOne ((Answered f answer, state_in new) ∷ lives) c) (sym r) (still lives (Timeout id) answer (state_in new) c refl refl (same_left (d (λ q. cc)) c left))
-      by (lent.FromAgent from octets) r d v c left = subst (λ f. FindsOne ((Answered f answer, state_in new) ∷ lives) c) (sym r.2) (still lives (FromAgent from r.0) answer (state_in new) c refl refl (same_left (d (λ q. cc)) c left))
-      by (lent.FromPeer octets) r d v c left = subst (λ f. FindsOne ((Answered f answer, state_in new) ∷ lives) c) (sym r.2) (still lives (FromPeer r.0) answer (state_in new) c refl refl (same_left (d (λ q. cc)) c left))
-      by (lent.Share y) r d v c left = subst (λ f. FindsOne ((Answered f answer, state_in new) ∷ lives) c) (sym r) (still lives (Share y) answer (state_in new) c refl refl (same_left (d (λ q. cc)) c left))
-      by lent.Save r d v c left = subst (λ f. FindsOne ((Answered f answer, state_in new) ∷ lives) c) (sym r) (v refl c left)
+      by (StartPoll target) r d v c left = subst (λ f. FindsOne ((Answered f answer, state_in new) ∷ lives) c) (sym r) (still lives (StartPoll target) answer (state_in new) c refl refl (same_left (d (λ q. cc)) c left))
+      by (Timeout id) r d v c left = subst (λ f. FindsOne ((Answered f answer, state_in new) ∷ lives) c) (sym r) (still lives (Timeout id) answer (state_in new) c refl refl (same_left (d (λ q. cc)) c left))
+      by (FromAgent from octets) r d v c left = subst (λ f. FindsOne ((Answered f answer, state_in new) ∷ lives) c) (sym r.2) (still lives (FromAgent from r.0) answer (state_in new) c refl refl (same_left (d (λ q. cc)) c left))
+      by (FromPeer octets) r d v c left = subst (λ f. FindsOne ((Answered f answer, state_in new) ∷ lives) c) (sym r.2) (still lives (FromPeer r.0) answer (state_in new) c refl refl (same_left (d (λ q. cc)) c left))
+      by (Share y) r d v c left = subst (λ f. FindsOne ((Answered f answer, state_in new) ∷ lives) c) (sym r) (still lives (Share y) answer (state_in new) c refl refl (same_left (d (λ q. cc)) c left))
+      by Save r d v c left = subst (λ f. FindsOne ((Answered f answer, state_in new) ∷ lives) c) (sym r) (v refl c left)
 
-  pub saved_well : (event ≡ lent.Save → Leaves (disk_leaves new) (FindsState (state_in old))) → event ≡ lent.Save → Leaves (disk_leaves new) (FindsOne ((Answered Save None, state_in new) ∷ lives))
+  pub saved_well : (event ≡ Save → Leaves (disk_leaves new) (FindsState (state_in old))) → event ≡ Save → Leaves (disk_leaves new) (FindsOne ((Answered Save None, state_in new) ∷ lives))
   saved_well saved save c left = this_save lives (state_in old) (state_in new) is None refl c (saved save c left)
 
   pub saved_badly : (f : StationFault) → ((f ≡ station.Keeper keeper.DiskFault → ⊥) → new.keeper ≡ old.keeper) → Leaves (disk_leaves new) (FindsRunning (disk_leaves old) (state_in old))
@@ -242,16 +238,16 @@ module _ {G : Ghosts MemoryDisk} (core : Core) (stations : List (Station MemoryD
   pub handled_lived : (e : ReadEvent) (answer : Option StationFault) → IsHandled e answer (state_in old) (state_in new) → IsLived ((Answered e answer, state_in new) ∷ its_lives)
   handled_lived e answer handled = (subst (λ (o : Option State). HandledIn o e answer (state_in new)) (sym its_state) handled, was.are.lived (place + 1))
 
-  module _ (event : Event) (e : ReadEvent) (reads : ReadsAs (state_in old).board.watch (owned event) e) (disk : (event ≡ lent.Save → ⊥) → new.keeper ≡ old.keeper) where
+  module _ (event : LentEvent) (e : ReadEvent) (reads : ReadsAs (state_in old).board.watch (owned event) e) (disk : (event ≡ Save → ⊥) → new.keeper ≡ old.keeper) where
     reads_as : ReadsAs core.watch (owned event) e
     reads_as = subst (λ w. ReadsAs w (owned event) e) its_watch reads
 
-    shown_after : (answer : Option StationFault) → IsHandled e answer (state_in old) (state_in new) → (event ≡ lent.Save → Leaves (disk_leaves new) (FindsOne ((Answered Save answer, state_in new) ∷ its_lives)))
+    shown_after : (answer : Option StationFault) → IsHandled e answer (state_in old) (state_in new) → (event ≡ Save → Leaves (disk_leaves new) (FindsOne ((Answered Save answer, state_in new) ∷ its_lives)))
         → AreShown core (slice_set stations place new) (answers (place + 1) e answer (state_in new) ∷ past)
     shown_after answer handled save = moved (Answered e answer) (handled_lived e answer handled) (numbered core.watch (owned event) e reads_as, was.are.lives (place + 1))
         (finds_next old new core.watch its_lives its_state its_disk event disk e reads_as answer save)
 
-    pub asked_ok : (told : Told) → IsHandled e None (state_in old) (state_in new) → IsTold (state_in old) e told → (event ≡ lent.Save → Leaves (disk_leaves new) (FindsState (state_in old)))
+    pub asked_ok : (told : Told) → IsHandled e None (state_in old) (state_in new) → IsTold (state_in old) e told → (event ≡ Save → Leaves (disk_leaves new) (FindsState (state_in old)))
         → IsStationAsked core (place + 1) (owned event) None (to_peers told.sends.items) past (slice_set stations place new)
     asked_ok told handled is_told saved = record {
       read = e;
@@ -272,7 +268,7 @@ module _ {G : Ghosts MemoryDisk} (core : Core) (stations : List (Station MemoryD
     }
 
   -- what a refusal of the station is to the world
-  pub refused_as : (event : Event) (f : StationFault) → (f ≡ station.OutOfMemory → AreShown core (slice_set stations place new) past)
+  pub refused_as : (event : LentEvent) (f : StationFault) → (f ≡ station.OutOfMemory → AreShown core (slice_set stations place new) past)
       → ((f ≡ station.OutOfMemory → ⊥) → IsStationAsked core (place + 1) (owned event) (Some f) [] past (slice_set stations place new))
       → IsStationRefused core (place + 1) (owned event) (refusal_in (station_refusal f)) past (slice_set stations place new)
   refused_as event station.OutOfMemory memory other = memory refl

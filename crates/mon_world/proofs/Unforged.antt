@@ -7,12 +7,10 @@ use Rattle.mon_disk.specs.declared.fault.KeeperFault.TheVariants as keeper
 use Rattle.mon_exchange.specs.declared.claim.Claim.{Claim}
 use Rattle.mon_exchange.specs.declared.fault.ExchangeFault.{ExchangeFault}
 use Rattle.mon_exchange.specs.Claim.{IsClaim, SpellsClaim, claim_octets}
-use Rattle.mon_station.specs.declared.event.OwnedEvent.{OwnedEvent}
-use Rattle.mon_station.specs.declared.event.OwnedEvent.TheVariants as own
 use Rattle.mon_station.specs.declared.fault.StationFault.{StationFault}
 use Rattle.mon_station.specs.declared.fault.StationFault.TheVariants as fault
 use Rattle.mon_station.specs.Lived.{last_state}
-use Rattle.mon_station.specs.ReadEvent.{ReadEvent, FromPeer, Save, ReadsAs, Said, SaysAs}
+use Rattle.mon_station.specs.ReadEvent.{ReadEvent, FromPeer, Save, ReadsAs, Said, SaysAs, OwnedEvent, StartPoll, Timeout, FromAgent, Share}
 use Rattle.mon_station.specs.State.{State}
 use Rattle.mon_station.specs.Taken.{Answered}
 use Rattle.mon_station.specs.Verdict.{Setting}
@@ -51,16 +49,16 @@ claim_there (m ∷ letters) (suc n) l is all =
 
 -- ---- what a move was given
 -- an event that is no claim
-harmless : (letters : List Letter) (watch : Watch) (event : OwnedEvent) (e : ReadEvent) (answer : Option StationFault) → ((octets : List ℕ) → event ≡ own.FromPeer octets → ⊥) → ReadsAs watch event e → WasSent letters (Answered e answer)
-harmless letters watch (own.StartPoll target) e answer no_claim is = subst (λ r. WasSent letters (Answered r answer)) (sym is) tt
-harmless letters watch (own.Timeout id) e answer no_claim is = subst (λ r. WasSent letters (Answered r answer)) (sym is) tt
-harmless letters watch (own.FromAgent from octets) e answer no_claim is = subst (λ r. WasSent letters (Answered r answer)) (sym is.2) tt
-harmless letters watch (own.FromPeer octets) e answer no_claim is = absurd (no_claim octets refl)
-harmless letters watch (own.Share y) e answer no_claim is = subst (λ r. WasSent letters (Answered r answer)) (sym is) tt
-harmless letters watch own.Save e answer no_claim is = subst (λ r. WasSent letters (Answered r answer)) (sym is) tt
+harmless : (letters : List Letter) (watch : Watch) (event : OwnedEvent) (e : ReadEvent) (answer : Option StationFault) → ((octets : List ℕ) → event ≡ FromPeer octets → ⊥) → ReadsAs watch event e → WasSent letters (Answered e answer)
+harmless letters watch (StartPoll target) e answer no_claim is = subst (λ r. WasSent letters (Answered r answer)) (sym is) tt
+harmless letters watch (Timeout id) e answer no_claim is = subst (λ r. WasSent letters (Answered r answer)) (sym is) tt
+harmless letters watch (FromAgent from octets) e answer no_claim is = subst (λ r. WasSent letters (Answered r answer)) (sym is.2) tt
+harmless letters watch (FromPeer octets) e answer no_claim is = absurd (no_claim octets refl)
+harmless letters watch (Share y) e answer no_claim is = subst (λ r. WasSent letters (Answered r answer)) (sym is) tt
+harmless letters watch Save e answer no_claim is = subst (λ r. WasSent letters (Answered r answer)) (sym is) tt
 
 module _ (meaning : (octets : List ℕ) (c d : Claim) → SpellsClaim octets c → SpellsClaim octets d → c ≡ d) (settings : ℕ → Setting) where
-  delivered : (letters : List Letter) (watch : Watch) (l : Letter) → IsClaim l.claim → Contains (claims_of letters) l.claim → (e : ReadEvent) (answer : Option StationFault) → ReadsAs watch (own.FromPeer (claim_octets l.claim)) e → WasSent letters (Answered e answer)
+  delivered : (letters : List Letter) (watch : Watch) (l : Letter) → IsClaim l.claim → Contains (claims_of letters) l.claim → (e : ReadEvent) (answer : Option StationFault) → ReadsAs watch (FromPeer (claim_octets l.claim)) e → WasSent letters (Answered e answer)
   delivered letters watch l valid there e answer is = subst (λ r. WasSent letters (Answered r answer)) (sym is.2) (by is.0 answer is.1)
     where
       by : (said : Result Said ExchangeFault) (a : Option StationFault) → SaysAs watch (claim_octets l.claim) said → WasSent letters (Answered (FromPeer said) a)
@@ -87,14 +85,14 @@ module _ (meaning : (octets : List ℕ) (c d : Claim) → SpellsClaim octets c �
   letter_sent (suc n) l past there all = claim_there (sent_in past) n l there all
 
   made : (s : Step) (answer : Option StationFault) (past now : List Move) → IsUnforged s → AreClaims past → Makes settings s answer past now → AreUnforged past → AreUnforged now
-  made (step.StartPoll x t) answer past now unforged all h were = handed (settings x) x (own.StartPoll (target_number t)) answer past now (λ e reads. harmless (sent_in past) (settings x).watch (own.StartPoll (target_number t)) e answer (λ octets is. cc) reads) h were
-  made (step.AgentSays x t octets) answer past now unforged all h were = handed (settings x) x (own.FromAgent h.from octets.now) answer past now (λ e reads. harmless (sent_in past) (settings x).watch (own.FromAgent h.from octets.now) e answer (λ o is. cc) reads) h.hands were
-  made (step.Timeout x id) answer past now unforged all h were = handed (settings x) x (own.Timeout id) answer past now (λ e reads. harmless (sent_in past) (settings x).watch (own.Timeout id) e answer (λ octets is. cc) reads) h were
-  made (step.Share x p) answer past now unforged all h were = handed (settings x) x (own.Share p) answer past now (λ e reads. harmless (sent_in past) (settings x).watch (own.Share p) e answer (λ octets is. cc) reads) h were
+  made (step.StartPoll x t) answer past now unforged all h were = handed (settings x) x (StartPoll (target_number t)) answer past now (λ e reads. harmless (sent_in past) (settings x).watch (StartPoll (target_number t)) e answer (λ octets is. cc) reads) h were
+  made (step.AgentSays x t octets) answer past now unforged all h were = handed (settings x) x (FromAgent h.from octets.now) answer past now (λ e reads. harmless (sent_in past) (settings x).watch (FromAgent h.from octets.now) e answer (λ o is. cc) reads) h.hands were
+  made (step.Timeout x id) answer past now unforged all h were = handed (settings x) x (Timeout id) answer past now (λ e reads. harmless (sent_in past) (settings x).watch (Timeout id) e answer (λ octets is. cc) reads) h were
+  made (step.Share x p) answer past now unforged all h were = handed (settings x) x (Share p) answer past now (λ e reads. harmless (sent_in past) (settings x).watch (Share p) e answer (λ octets is. cc) reads) h were
   made (step.Deliver d) answer past now unforged all h were =
       let there = letter_sent d h.letter past h.there all in
-      handed (settings h.letter.to) h.letter.to (own.FromPeer (claim_octets h.letter.claim)) answer past now (λ e reads. delivered (sent_in past) (settings h.letter.to).watch h.letter there.0 there.1 e answer reads) h.hands were
-  made (step.Save x) answer past now unforged all h were = handed (settings x) x own.Save answer past now (λ e reads. harmless (sent_in past) (settings x).watch own.Save e answer (λ octets is. cc) reads) h were
+      handed (settings h.letter.to) h.letter.to (FromPeer (claim_octets h.letter.claim)) answer past now (λ e reads. delivered (sent_in past) (settings h.letter.to).watch h.letter there.0 there.1 e answer reads) h.hands were
+  made (step.Save x) answer past now unforged all h were = handed (settings x) x Save answer past now (λ e reads. harmless (sent_in past) (settings x).watch Save e answer (λ octets is. cc) reads) h were
   made (step.Restart x) answer past now unforged all h were = opened x answer past now h were
   made (step.Forge x octets) answer past now unforged all h were = absurd unforged
   made (step.Stop x calls keep) answer past now unforged all h were = stopped x calls keep answer past now h were

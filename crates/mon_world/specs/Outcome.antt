@@ -5,11 +5,9 @@ use Rattle.mon_exchange.specs.Claim.{claim_octets}
 use Rattle.mon_udp.specs.declared.addr.Addr.{Addr}
 use Rattle.mon_poller.specs.declared.target.Target.{Target}
 use Rattle.mon_poller.specs.Target.{target_at}
-use Rattle.mon_station.specs.declared.event.OwnedEvent.{OwnedEvent}
-use Rattle.mon_station.specs.declared.event.OwnedEvent.TheVariants as event
 use Rattle.mon_station.specs.declared.fault.StationFault.{StationFault}
 use Rattle.mon_station.specs.declared.fault.StationFault.TheVariants as fault
-use Rattle.mon_station.specs.ReadEvent.{ReadEvent, Save, ReadsAs}
+use Rattle.mon_station.specs.ReadEvent.{ReadEvent, Save, ReadsAs, OwnedEvent, StartPoll, Timeout, FromAgent, FromPeer, Share}
 use Rattle.mon_station.specs.State.{State}
 use Rattle.mon_station.specs.Taken.{Entry, Origin, Nothing, Saved, Restart, Answered}
 use Rattle.mon_station.specs.Verdict.{Setting}
@@ -88,24 +86,24 @@ StopsAndOpens settings x calls keep (Some f) past now = now ≡ past
 pub record Hears (w : Setting) (x t : ℕ) (octets : List ℕ) (answer : Option StationFault) (past now : List Move) : Type 0 where
   pub from : Addr
   pub speaks : IsSpeaker w.targets t from
-  pub hands : Hands w x (event.FromAgent from octets) answer past now
+  pub hands : Hands w x (FromAgent from octets) answer past now
 
 -- the datagram of this number comes to the station that it was sent to
 pub record Delivers (settings : ℕ → Setting) (d : ℕ) (answer : Option StationFault) (past now : List Move) : Type 0 where
   pub letter : Letter
   pub there : HasNumber (sent_in past) d letter
-  pub hands : Hands (settings letter.to) letter.to (event.FromPeer (claim_octets letter.claim)) answer past now
+  pub hands : Hands (settings letter.to) letter.to (FromPeer (claim_octets letter.claim)) answer past now
 
 -- what a step does to which the station gives this answer
 abbrev pub Makes : (ℕ → Setting) → Step → Option StationFault → List Move → List Move → Type 0
-Makes settings (step.StartPoll s t) = Hands (settings s) s (event.StartPoll (target_number t))
+Makes settings (step.StartPoll s t) = Hands (settings s) s (StartPoll (target_number t))
 Makes settings (step.AgentSays s t octets) = Hears (settings s) s t octets.now
-Makes settings (step.Timeout s id) = Hands (settings s) s (event.Timeout id)
-Makes settings (step.Share s peer) = Hands (settings s) s (event.Share peer)
+Makes settings (step.Timeout s id) = Hands (settings s) s (Timeout id)
+Makes settings (step.Share s peer) = Hands (settings s) s (Share peer)
 Makes settings (step.Deliver d) = Delivers settings d
-Makes settings (step.Save s) = Hands (settings s) s event.Save
+Makes settings (step.Save s) = Hands (settings s) s Save
 Makes settings (step.Restart s) = Opens settings s
-Makes settings (step.Forge s octets) = Hands (settings s) s (event.FromPeer octets.now)
+Makes settings (step.Forge s octets) = Hands (settings s) s (FromPeer octets.now)
 Makes settings (step.Stop s calls keep) = StopsAndOpens settings s calls keep
 
 -- what follows of an answer: nothing where no station gave one

@@ -14,9 +14,8 @@ use Rattle.mon_report.specs.Report.{report}
 use Rattle.mon_settings.specs.StationCore.{Core}
 use Rattle.mon_station.specs.declared.station.Station.{Station}
 use Rattle.mon_station.specs.Lived.{entries_of, last_state, saved_states}
-use Rattle.mon_station.specs.declared.event.OwnedEvent.{OwnedEvent}
 use Rattle.mon_station.specs.declared.fault.StationFault.{StationFault}
-use Rattle.mon_station.specs.ReadEvent.{ReadEvent, ReadsAs}
+use Rattle.mon_station.specs.ReadEvent.{ReadEvent, ReadsAs, OwnedEvent}
 use Rattle.mon_station.specs.Saved.{FindsState, IsBegun}
 use Rattle.mon_station.specs.State.{State, known_of, owed_count, setting_of, state_of}
 use Rattle.mon_station.specs.Taken.{Entry, Answered, at_place, taken}

@@ -67,7 +67,7 @@ fn fault_of_copy(fault: KeeperFault) -> StationFault
 }
 
 /// A save that met the disk's fault changes nothing of a station. It does nothing.
-pub(crate) fn unsaved(station: &Station<MemoryDisk>)
+pub(crate) fn promise_unsaved(station: &Station<MemoryDisk>)
     ensures { IsHandled Save (Some (StationFault.Keeper KeeperFault.DiskFault)) (state_in station.now) (state_in station.now) }
 {
     mon_board::laws::taken_in_turn();

@@ -19,10 +19,10 @@ use crate::opening::{core_at, open_all};
 use crate::sending::{Datagram, Sent, append, sent_between};
 use crate::speaker::speaker;
 use crate::step::Step;
-use crate::stop::{stop_at, unsaved};
+use crate::stop::{promise_unsaved, stop_at};
 use mon_disk::MemoryDisk;
 use mon_settings::Core;
-use mon_station::{Event, Station, Told};
+use mon_station::{Event, LentEvent, Station, Told};
 use std::alloc::Global;
 
 /// The most datagrams that one step sends.
@@ -108,7 +108,7 @@ impl World {
     }
 
     /// Hands an event to a station.
-    fn handle(&mut self, number: u32, event: Event<'_>) -> Result<Sent, WorldFault>
+    fn handle(&mut self, number: u32, event: LentEvent<'_>) -> Result<Sent, WorldFault>
         ensures outcome { (past : List Move) → Shows self.old.core self.old.stations.items self.old.sent.items past
             → LeadsTo self.new.core self.new.stations.items self.new.sent.items (λ now. Does (Hands (setting_at self.old.core (length self.old.stations.items) number) number (owned event.entry)) result past now) }
         ensures there { OnOk result (IsNumberTo (length self.old.stations.items) number) }
@@ -234,7 +234,7 @@ impl World {
         if calls > CALLS {
             return Err(WorldFault::BadStop);
         }
-        unsaved(&self.stations[place]);
+        promise_unsaved(&self.stations[place]);
         let disk = stop_at(self.alloc, &self.stations[place], calls, keep)?;
         self.reopen(place, disk)
     }
@@ -304,7 +304,7 @@ fn ask(
     alloc: Global,
     stations: &mut Vec<Station<MemoryDisk>>,
     place: usize,
-    event: Event<'_>,
+    event: LentEvent<'_>,
 ) -> Result<Told, WorldFault>
     requires { place < length stations.old.items }
     ensures told { IfOk result (λ told. (core : AnyCore) (past : List Move) → AreShown core stations.old.items past → IsStationAsked core (place + 1) (owned event.entry) None (to_peers told.sends.items) past stations.new.items) }

@@ -1,9 +1,9 @@
 use Rattle.std.proofs.Common.{◌≡◌, ◌<◌, length, take, ap, ◌∙◌, arith}
 use Rattle.std.specs.Prelude.{List, min}
-use Rattle.mon_rounds.specs.declared.round.RoundEvent.{RoundEvent}
 use Rattle.mon_rounds.specs.Noted.{notices_of}
 use Rattle.mon_rounds.proofs.Notices.{notices_all, notices_step}
 use Rattle.mon_rounds.proofs.reporting.notices_of.Goals as goal
+use Rattle.mon_rounds.specs.Order.{RoundEvent}
 
 pub loop-place-preserved : goal.loop-place-preserved
 loop-place-preserved c =

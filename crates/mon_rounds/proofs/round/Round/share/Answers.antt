@@ -1,9 +1,9 @@
 use Rattle.std.proofs.Common.{[], Some, ap, sym, ◌∙◌, rules}
-use Rattle.mon_rounds.specs.declared.round.RoundEvent.{RoundEvent}
 use Rattle.mon_rounds.specs.Given.{with_octets}
 use Rattle.mon_rounds.specs.Next.{after_event}
 use Rattle.mon_rounds.proofs.Onward.{share_found, share_past}
 use Rattle.mon_rounds.proofs.round.Round.share.Goals as goal
+use Rattle.mon_rounds.specs.Order.{RoundEvent}
 
 pub returns-in-Some-clause-state : goal.returns-in-Some-clause-state
 returns-in-Some-clause-state c =

@@ -1,7 +1,7 @@
 use Rattle.std.proofs.Common.{ℕ, ◌≡◌, ◌++◌, ◌+◌, ◌∷◌, [], List, Option, Ok, refl, sym, ap, subst, ◌∙◌, arith, rules}
 use Rattle.std.proofs.lemmas.Slice.{pushed}
 use Rattle.mon_disk.specs.Kept.{device_of}
-use Rattle.mon_station.specs.declared.event.OwnedEvent.{OwnedEvent}
+use Rattle.mon_station.specs.ReadEvent.{OwnedEvent}
 use Rattle.mon_station.specs.declared.running.Answer.{Answer}
 use Rattle.mon_station.specs.Ran as ran
 use Rattle.mon_station.specs.Ran.{IsOldest, faults_in}

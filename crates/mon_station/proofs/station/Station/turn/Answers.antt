@@ -3,8 +3,7 @@ use Rattle.mon_disk.specs.Kept.{device_of}
 use Rattle.mon_disk.proofs.Promised.{at_end}
 use Rattle.mon_udp.specs.Told.{extended}
 use Rattle.mon_station.specs.declared.event.Outgoing.{Outgoing}
-use Rattle.mon_station.specs.declared.event.OwnedEvent.{OwnedEvent}
-use Rattle.mon_station.specs.ReadEvent.{ReadEvent, ReadsAs}
+use Rattle.mon_station.specs.ReadEvent.{ReadEvent, ReadsAs, OwnedEvent}
 use Rattle.mon_station.specs.Saved.{FindsRunning}
 use Rattle.mon_station.specs.State.{state_of}
 use Rattle.mon_station.proofs.Runs.{amid, file_fault, file_told, is_save, not_save, turned_fault, turned_told}

@@ -1,6 +1,6 @@
 use Rattle.std.proofs.Common.{◌≡◌, ◌++◌, List, Some, Ok, length, sym, ap, subst, ◌∙◌}
 use Rattle.std.specs.Prelude.{slice_get}
-use Rattle.mon_station.specs.declared.event.OwnedEvent.TheVariants as own
+use Rattle.mon_station.specs.ReadEvent.{FromPeer}
 use Rattle.mon_world.specs.declared.sending.Datagram.{Datagram}
 use Rattle.mon_world.specs.Outcome.{Delivers, Hands}
 use Rattle.mon_world.specs.Places.{IsNumberTo, setting_at}
@@ -32,9 +32,9 @@ returns-clause-outcome c past was =
     let again : slice_get sent k ≡ Some c.index-2.result.now = get_at sent k c.index-2.result.now c.in_ok-datagram.ensures.within c.index-2.ensures in
     let octets : c.as_slice.result.now ≡ d.octets = c.as_slice.ensures ∙ ap (λ (e : Datagram). e.octets) (some_same (sym again ∙ here)) in
     let l = letter_of self.core self.stations.items self.sent.items past was c.args.number k c.in_ok-datagram.ensures.place d (ap (λ (s : List Datagram). slice_get s k) (sym c.in_ok-reserve.ensures.items) ∙ here) in
-    leads_as self.core c.ask.new.stations.items c.append.new.sent.items past (Hands (setting_at self.core n d.to) d.to (own.FromPeer c.as_slice.result.now)) (Delivers (setting_at self.core n) c.args.number) (Ok c.append.result)
+    leads_as self.core c.ask.new.stations.items c.append.new.sent.items past (Hands (setting_at self.core n d.to) d.to (FromPeer c.as_slice.result.now)) (Delivers (setting_at self.core n) c.args.number) (Ok c.append.result)
     (as_delivery self.core n c.args.number d.to past l.0 l.1 l.2 c.as_slice.result.now (l.3 ∙ sym octets))
-    (leads_ok self.core self.stations.items c.ask.new.stations.items self.sent.items past d.to c.in_ok-place.place c.in_ok-place.ensures.place was (own.FromPeer c.as_slice.result.now)
+    (leads_ok self.core self.stations.items c.ask.new.stations.items self.sent.items past d.to c.in_ok-place.place c.in_ok-place.ensures.place was (FromPeer c.as_slice.result.now)
     (to_peers c.in_ok-told.told.sends.items) c.append.new.sent.items
     (c.append.ensures.appended ∙ ap (λ (s : List Datagram). s ++ to_peers c.in_ok-told.told.sends.items) c.in_ok-reserve.ensures.items)
     (c.in_ok-told.ensures.told self.core past was.shown) c.append.result)
@@ -50,9 +50,9 @@ returns-in_err-told-clause-outcome c past was =
     let again : slice_get sent k ≡ Some c.index-2.result.now = get_at sent k c.index-2.result.now c.in_ok-datagram.ensures.within c.index-2.ensures in
     let octets : c.as_slice.result.now ≡ d.octets = c.as_slice.ensures ∙ ap (λ (e : Datagram). e.octets) (some_same (sym again ∙ here)) in
     let l = letter_of self.core self.stations.items self.sent.items past was c.args.number k c.in_ok-datagram.ensures.place d (ap (λ (s : List Datagram). slice_get s k) (sym c.in_ok-reserve.ensures.items) ∙ here) in
-    leads_as self.core c.ask.new.stations.items c.reserve.new.self.items past (Hands (setting_at self.core n d.to) d.to (own.FromPeer c.as_slice.result.now)) (Delivers (setting_at self.core n) c.args.number) c.from_residual-in_err-told.result
+    leads_as self.core c.ask.new.stations.items c.reserve.new.self.items past (Hands (setting_at self.core n d.to) d.to (FromPeer c.as_slice.result.now)) (Delivers (setting_at self.core n) c.args.number) c.from_residual-in_err-told.result
     (as_delivery self.core n c.args.number d.to past l.0 l.1 l.2 c.as_slice.result.now (l.3 ∙ sym octets))
-    (leads_err self.core c.ask.new.stations.items c.reserve.new.self.items past (Hands (setting_at self.core n d.to) d.to (own.FromPeer c.as_slice.result.now))
+    (leads_err self.core c.ask.new.stations.items c.reserve.new.self.items past (Hands (setting_at self.core n d.to) d.to (FromPeer c.as_slice.result.now))
     c.from_residual-in_err-told.result c.in_err-told.field-0.0 c.from_residual-in_err-told.ensures.1
-    (leads_refused self.core self.stations.items c.ask.new.stations.items self.sent.items past d.to c.in_ok-place.place c.in_ok-place.ensures.place was (own.FromPeer c.as_slice.result.now)
+    (leads_refused self.core self.stations.items c.ask.new.stations.items self.sent.items past d.to c.in_ok-place.place c.in_ok-place.ensures.place was (FromPeer c.as_slice.result.now)
     c.in_err-told.field-0.0 c.reserve.new.self.items c.in_ok-reserve.ensures.items (c.in_err-told.ensures.refused self.core past was.shown)))

@@ -1,6 +1,6 @@
 use Rattle.std.proofs.Common.{length, subst, sym}
 use Rattle.std.specs.Prelude.{IfErr}
-use Rattle.mon_station.specs.declared.event.OwnedEvent.TheVariants as event
+use Rattle.mon_station.specs.ReadEvent.{StartPoll}
 use Rattle.mon_world.specs.declared.step.Step.{Step}
 use Rattle.mon_world.specs.declared.step.Step.TheVariants as step
 use Rattle.mon_world.specs.Fault.{IsCause}
@@ -15,7 +15,7 @@ pub returns-in-StartPoll-clause-outcome : goal.returns-in-StartPoll-clause-outco
 returns-in-StartPoll-clause-outcome c past was =
     let new = c.handle.new.self in
     outcome_of new.core new.stations.items new.sent.items (setting_at c.args.self.now.core (length c.args.self.now.stations.items)) c.args.step (step.StartPoll c.in-StartPoll.s c.in-StartPoll.target) c.handle.result past c.in-StartPoll.is
-    (subst (λ t. LeadsTo new.core new.stations.items new.sent.items (λ now. Does (Hands (setting_at c.args.self.now.core (length c.args.self.now.stations.items) c.in-StartPoll.s) c.in-StartPoll.s (event.StartPoll t)) c.handle.result past now))
+    (subst (λ t. LeadsTo new.core new.stations.items new.sent.items (λ now. Does (Hands (setting_at c.args.self.now.core (length c.args.self.now.stations.items) c.in-StartPoll.s) c.in-StartPoll.s (StartPoll t)) c.handle.result past now))
     c.target_number.ensures (c.handle.ensures.outcome past was))
 
 pub returns-in-AgentSays-clause-outcome : goal.returns-in-AgentSays-clause-outcome

@@ -20,6 +20,6 @@ returns-clause-outcome c past was =
     let same : c.index-2.result.now ≡ old = some_same (sym again ∙ here) in
     leads_same self.core c.reopen.new.self.core c.reopen.new.self.stations.items self.sent.items c.reopen.new.self.sent.items _ c.reopen.ensures.core c.reopen.ensures.sent
     (stop_leads self.core self.stations.items c.reopen.new.self.stations.items past place self.sent.items was c.args.number c.in_ok-place.ensures.place old (number_at self.stations.items place old here)
-    c.unsaved.ensures c.args.calls c.args.keep (memory_octets c.in_ok-disk.disk)
+    c.promise_unsaved.ensures c.args.calls c.args.keep (memory_octets c.in_ok-disk.disk)
     (subst (λ s. FindsStopped (nat_lt c.args.calls (calls_of_save c.args.keep)) (state_in s) (memory_octets (device_of s.keeper)) (memory_octets c.in_ok-disk.disk)) same c.in_ok-disk.ensures.found)
     c.reopen.result c.reopen.ensures.opened c.reopen.ensures.refused)

@@ -1,7 +1,7 @@
 use Rattle.mon_board.specs.Board.{window_of}
 use Rattle.mon_world.specs.Shows.{state_in}
 use Rattle.mon_world.proofs.Reopened.{stopped_as}
-use Rattle.mon_world.proofs.stop.unsaved.Goals as goal
+use Rattle.mon_world.proofs.stop.promise_unsaved.Goals as goal
 
 pub returns : goal.returns
 returns c =
