@@ -120,8 +120,8 @@ BUGS = {
     ),
     "counts_peers_as_strangers": (
         "src/reporting.rt",
-        "        RoundEvent::FromAgent(from) => !round.is_target(from),\n        RoundEvent::FromPeer(_)\n        | RoundEvent::StartPoll(_)",
-        "        RoundEvent::FromAgent(from) => !round.is_target(from),\n        RoundEvent::FromPeer(_) => true,\n        RoundEvent::StartPoll(_)",
+        "        RoundEvent::FromAgent(from, ()) => !round.is_target(from),\n        RoundEvent::FromPeer(_)\n        | RoundEvent::StartPoll(_)",
+        "        RoundEvent::FromAgent(from, ()) => !round.is_target(from),\n        RoundEvent::FromPeer(_) => true,\n        RoundEvent::StartPoll(_)",
     ),
     "round_only_rests": (
         "src/running.rt",
