@@ -255,8 +255,8 @@ impl Round {
     /// Polls this target.
     fn poll(&mut self, target: u16) -> OwnedEvent
         requires phase { self.old.phase ≡ Phase.Polling target }
-        ensures state { self.new ≡ after_event self.old (Some (RoundEvent.StartPoll target)) }
-        ensures event { result ≡ OwnedEvent.StartPoll target }
+        ensures state { self.new ≡ after_event self.old (Some (Event.StartPoll target)) }
+        ensures event { result ≡ Event.StartPoll target }
         ensures turns { turns_left self.new < turns_left self.old }
     {
         self.wait = Wait::Anew(self.wait_ms);
@@ -305,8 +305,8 @@ impl Round {
         requires phase { IsSharing self.old.phase slot }
         requires next { slot_after self.old.phase ≡ slot + 1 }
         requires peer { slice_get self.old.peers slot ≡ Some peer }
-        ensures state { self.new ≡ after_event self.old (Some (RoundEvent.Share peer)) }
-        ensures event { result ≡ OwnedEvent.Share peer }
+        ensures state { self.new ≡ after_event self.old (Some (Event.Share peer)) }
+        ensures event { result ≡ Event.Share peer }
         ensures turns { turns_left self.new < turns_left self.old }
     {
         self.wait = Wait::Anew(self.wait_ms);
@@ -322,8 +322,8 @@ impl Round {
     /// Saves all.
     fn save(&mut self) -> OwnedEvent
         requires phase { IsSaving self.old.phase self.old.peers }
-        ensures state { self.new ≡ after_event self.old (Some RoundEvent.Save) }
-        ensures event { result ≡ OwnedEvent.Save }
+        ensures state { self.new ≡ after_event self.old (Some Event.Save) }
+        ensures event { result ≡ Event.Save }
         ensures turns { turns_left self.new < turns_left self.old }
     {
         self.wait = Wait::Anew(self.wait_ms);

@@ -61,7 +61,7 @@ impl<D: Disk + Drop> Station<D> {
         ensures memory { result ≡ Err StationFault.OutOfMemory → (state_of self.new.life ≡ state_of self.old.life) × (self.new.keeper ≡ self.old.keeper) }
 
         // A timeout at which nothing is sent allocates nothing.
-        ensures spared { (id : ℕ) → owned event.entry ≡ OwnedEvent.Timeout id → ¬ (IsSentAgain (timeout_verdict self.old.life.poller.targets self.old.life.poller.polls id)) → IsOk result }
+        ensures spared { (id : ℕ) → owned event.entry ≡ Event.Timeout id → ¬ (IsSentAgain (timeout_verdict self.old.life.poller.targets self.old.life.poller.polls id)) → IsOk result }
 
         // A lived history goes on: with the event, as it reads, its answer and the state that it left.
         ensures lived { (past : List (Entry × State)) → IsLived past → last_state past ≡ Some (state_of self.old.life)
