@@ -8,30 +8,20 @@ use mon_board::{Board, Watch};
 use mon_sample::Sample;
 use std::alloc::Global;
 
-/// What a step of `marks` names: a slot, the number of an instance, and a sample, if there is one.
-#[derive(Clone, Copy)]
-struct Place {
-    slot: u8,
-    instance: u16,
-    sample: Option<Sample>,
-}
-
-/// What the boards of a line `WATCH STEP,..` owe, step by step. A step is of the first board or,
-/// after `other-`, of the second: `take/SLOT/N/HEX`, `mark/SLOT/N/HEX`, `owed/SLOT/N/HEX` after the
-/// sample, or after none for a dash, `unmark/SLOT/N/-`; `join/SLOT/N/-` joins the second into the first.
+/// What two boards of a line `WATCH STEP,.. STEP,.. STEP,..` owe: the first board after its steps,
+/// the second after its own, and the first, joined with it, after the last ones. A step is
+/// `take/SLOT/N/HEX`, `mark/SLOT/N/HEX`, `unmark/SLOT/N/-`, or `owed/SLOT/N/HEX` for what is owed after
+/// the sample, of all for a dash.
 pub fn row(alloc: Global, line: &str) -> Option<String> {
-    let (instances, steps) = line.split_once(' ')?;
+    let (instances, rest) = line.split_once(' ')?;
+    let (own_steps, rest) = rest.split_once(' ')?;
+    let (other_steps, last_steps) = rest.split_once(' ')?;
     let (mut own, mut other) = boards(alloc, instances)?;
     let mut text = String::new(alloc);
-    for step in steps.split(',') {
-        let (word, place) = step.split_once('/')?;
-        let place = place_of(alloc, place)?;
-        match word.strip_prefix("other-") {
-            Some(word) => does(alloc, &mut other, word, place, &mut text)?,
-            None if word == "join" => own.join(&other),
-            None => does(alloc, &mut own, word, place, &mut text)?,
-        }
-    }
+    follow(alloc, &mut own, own_steps, &mut text)?;
+    follow(alloc, &mut other, other_steps, &mut text)?;
+    own.join(&other);
+    follow(alloc, &mut own, last_steps, &mut text)?;
     Some(text)
 }
 
@@ -47,19 +37,14 @@ fn boards(alloc: Global, instances: &str) -> Option<(Board, Board)>
     ))
 }
 
-fn place_of(alloc: Global, words: &str) -> Option<Place> {
-    let (slot, rest) = words.split_once('/')?;
-    let (instance, record) = rest.split_once('/')?;
-    let sample = if record == "-" {
-        None
-    } else {
-        Some(sample_of(alloc, record)?)
-    };
-    Some(Place {
-        slot: slot.parse().ok()?,
-        instance: instance.parse().ok()?,
-        sample,
-    })
+/// Does the steps, and adds what is owed where one asks for it.
+fn follow(alloc: Global, board: &mut Board, steps: &str, text: &mut String) -> Option<()>
+    ensures { board.new.watch ≡ board.old.watch }
+{
+    for step in steps.split(',') {
+        does(alloc, board, step, text)?;
+    }
+    Some(())
 }
 
 fn is_watched(board: &Board, instance: u16) -> bool
@@ -68,28 +53,38 @@ fn is_watched(board: &Board, instance: u16) -> bool
     usize::from(instance) < board.watch().instances().len()
 }
 
-/// Does a step, and adds what is owed where that is asked.
-fn does(alloc: Global, board: &mut Board, word: &str, place: Place, text: &mut String) -> Option<()>
+/// Does a step.
+fn does(alloc: Global, board: &mut Board, step: &str, text: &mut String) -> Option<()>
     ensures { board.new.watch ≡ board.old.watch }
 {
-    let Place {
-        slot,
-        instance,
-        sample,
-    } = place;
+    let (word, rest) = step.split_once('/')?;
+    let (slot, rest) = rest.split_once('/')?;
+    let (instance, record) = rest.split_once('/')?;
+    let slot: u8 = slot.parse().ok()?;
+    let instance: u16 = instance.parse().ok()?;
     if slot >= 15 || !is_watched(board, instance) {
         return None;
     }
-    match (word, sample) {
-        ("take", Some(sample)) => {
-            let _ = board.take(instance, sample);
+    match word {
+        "owed" if record == "-" => put_owed(alloc, text, board.owed(slot, instance, None)),
+        "owed" => {
+            let after = sample_of(alloc, record)?;
+            put_owed(alloc, text, board.owed(slot, instance, Some(after)))
         }
-        ("mark", Some(sample)) => board.mark(slot, instance, &sample),
-        ("unmark", None) => board.unmark_all(slot),
-        ("owed", after) => put_owed(alloc, text, board.owed(slot, instance, after))?,
-        _ => return None,
+        "unmark" => {
+            board.unmark_all(slot);
+            Some(())
+        }
+        "mark" => {
+            board.mark(slot, instance, &sample_of(alloc, record)?);
+            Some(())
+        }
+        "take" => {
+            let _ = board.take(instance, sample_of(alloc, record)?);
+            Some(())
+        }
+        _ => None,
     }
-    Some(())
 }
 
 /// Adds the stamp of a sample that is owed.

@@ -11,7 +11,7 @@ use Rattle.mon_rounds.specs.declared.round.Phase.TheVariants.{Polling, Hearing, 
 use Rattle.mon_rounds.specs.Next.{RoundState, events_left, is_hearing, share_at, slot_after}
 use Rattle.mon_rounds.specs.Order.{RoundEvent, AreSoFar, HasListened, HasPolled, HasShared, IsDatagram, IsHeard, datagrams_in, datagrams_of, polls_of, shares_with}
 use Rattle.mon_rounds.specs.Orderly.{IsOrderly, IsSaving, IsSharing}
-use Rattle.mon_station.specs.ReadEvent.{StartPoll, Timeout, Share, Save}
+use Rattle.mon_station.specs.declared.event.Event.TheVariants.{StartPoll, Timeout, Share, Save}
 
 -- ---- counts
 pub datagrams_more : (events : List RoundEvent) (e : RoundEvent) → datagrams_in (events ++ e ∷ []) ≡ datagrams_in events + datagrams_of e

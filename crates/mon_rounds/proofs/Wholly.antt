@@ -3,7 +3,8 @@ use Rattle.std.proofs.Common.{ℕ, ◌≡◌, ◌≤◌, ◌<◌, ◌+◌, ◌�
 use Rattle.std.specs.Prelude.{zero, suc, cond, nat_lt, option_map}
 use Rattle.std.proofs.lemmas.List.{append-nil}
 use Rattle.mon_disk.specs.declared.disk.Disk.{Ghosts}
-use Rattle.mon_station.specs.ReadEvent.{OwnedEvent, StartPoll, Timeout, FromAgent, FromPeer, Share, Save}
+use Rattle.mon_station.specs.ReadEvent.{OwnedEvent}
+use Rattle.mon_station.specs.declared.event.Event.TheVariants.{StartPoll, Timeout, FromAgent, FromPeer, Share, Save}
 use Rattle.mon_udp.specs.declared.addr.Addr.{Addr}
 use Rattle.mon_rounds.specs.declared.receiver.Arrival.{Arrival}
 use Rattle.mon_rounds.specs.declared.receiver.Arrival.TheVariants.{Datagram, Quiet}

@@ -2,7 +2,8 @@
 use Rattle.std.specs.Prelude.{ℕ, zero, suc, ◌≡◌, ◌<◌, ◌+◌, ◌-◌, ◌⊎◌, Bool, true, false, ◌&&◌, ◌||◌, nat_lt, cond, List, [], ◌∷◌, ◌++◌, Option, Some, None, Result, Ok, Err, length, option_map}
 use Rattle.std.specs.List.{list_any}
 use Rattle.mon_rounds.specs.Order.{RoundEvent}
-use Rattle.mon_station.specs.ReadEvent.{OwnedEvent, StartPoll, Timeout, FromAgent, FromPeer, Share, Save}
+use Rattle.mon_station.specs.ReadEvent.{OwnedEvent}
+use Rattle.mon_station.specs.declared.event.Event.TheVariants.{StartPoll, Timeout, FromAgent, FromPeer, Share, Save}
 use Rattle.mon_udp.specs.declared.addr.Addr.{Addr}
 use Rattle.mon_udp.specs.Addr.{same_addr}
 use Rattle.mon_rounds.specs.declared.receiver.Arrival.{Arrival}

@@ -8,7 +8,7 @@ use Rattle.mon_rounds.specs.Next.{stands_in}
 use Rattle.mon_station.specs.declared.fault.StationFault.{StationFault}
 use Rattle.mon_station.specs.declared.running.Answer.{Answer}
 use Rattle.mon_station.specs.declared.running.Answer.TheVariants as answer
-use Rattle.mon_station.specs.ReadEvent.{StartPoll, Timeout, FromAgent, FromPeer, Share, Save}
+use Rattle.mon_station.specs.declared.event.Event.TheVariants.{StartPoll, Timeout, FromAgent, FromPeer, Share, Save}
 
 -- whether an event is a stranger's datagram: from an address that is no peer's and none of these targets'
 abbrev pub is_stranger : List Addr → RoundEvent → Bool

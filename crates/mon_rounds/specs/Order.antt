@@ -4,7 +4,7 @@ use Rattle.std.specs.Prelude.{ℕ, zero, suc, ◌≡◌, ◌≤◌, ◌<◌, Lis
 use Rattle.mon_rounds.specs.declared.round.Phase.{Phase}
 use Rattle.mon_rounds.specs.declared.round.Phase.TheVariants.{Polling, Hearing, Sharing, Listening, Over, Resting, Rested}
 use Rattle.mon_station.specs.declared.event.Event.{Event}
-use Rattle.mon_station.specs.ReadEvent.{StartPoll, Timeout, FromAgent, FromPeer, Share, Save}
+use Rattle.mon_station.specs.declared.event.Event.TheVariants.{StartPoll, Timeout, FromAgent, FromPeer, Share, Save}
 use Rattle.mon_udp.specs.declared.addr.Addr.{Addr}
 
 -- an event of a round: its octets went with it, and of a datagram its address is known

@@ -10,7 +10,8 @@ use Rattle.mon_settings.specs.StationCore.{Core}
 use Rattle.mon_station.specs.declared.fault.StationFault.{StationFault}
 use Rattle.mon_station.specs.declared.station.Station.{Station}
 use Rattle.mon_station.specs.Lived.{HandledIn, IsLived, last_state}
-use Rattle.mon_station.specs.ReadEvent.{ReadEvent, StartPoll, Timeout, FromAgent, FromPeer, Share, Save}
+use Rattle.mon_station.specs.ReadEvent.{ReadEvent}
+use Rattle.mon_station.specs.declared.event.Event.TheVariants.{StartPoll, Timeout, FromAgent, FromPeer, Share, Save}
 use Rattle.mon_station.specs.State.{State, IsHandled, setting_of}
 use Rattle.mon_station.specs.Taken.{Entry, Restart, Answered}
 use Rattle.mon_station.specs.Told.{claims_sent}

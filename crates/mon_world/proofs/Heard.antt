@@ -15,7 +15,8 @@ use Rattle.mon_saved.specs.Image.{SpellsImage}
 use Rattle.mon_settings.specs.StationCore.{Core}
 use Rattle.mon_station.specs.declared.fault.StationFault.{StationFault}
 use Rattle.mon_station.specs.Lived.{IsLived, entries_of, last_state}
-use Rattle.mon_station.specs.ReadEvent.{ReadEvent, StartPoll, Timeout, FromAgent, FromPeer, Share, Save}
+use Rattle.mon_station.specs.ReadEvent.{ReadEvent}
+use Rattle.mon_station.specs.declared.event.Event.TheVariants.{StartPoll, Timeout, FromAgent, FromPeer, Share, Save}
 use Rattle.mon_station.specs.State.{State}
 use Rattle.mon_station.specs.Taken.{Entry, Restart, Answered, taken}
 use Rattle.mon_world.specs.Debts.{heard_of_claim, heard_by, heard_in}

@@ -17,7 +17,8 @@ use Rattle.mon_saved.specs.declared.image.Image.{Image}
 use Rattle.mon_saved.specs.Image.{SpellsImage}
 use Rattle.mon_settings.specs.StationCore.{Core}
 use Rattle.mon_station.specs.Lived.{IsLived, entries_of, last_state}
-use Rattle.mon_station.specs.ReadEvent.{ReadEvent, StartPoll, Timeout, FromAgent, FromPeer, Share, Save}
+use Rattle.mon_station.specs.ReadEvent.{ReadEvent}
+use Rattle.mon_station.specs.declared.event.Event.TheVariants.{StartPoll, Timeout, FromAgent, FromPeer, Share, Save}
 use Rattle.mon_station.specs.State.{State, setting_of}
 use Rattle.mon_station.specs.Taken.{Entry, Restart, Answered, taken}
 use Rattle.mon_station.specs.Told.{claims_sent}

@@ -19,7 +19,8 @@ use Rattle.mon_saved.specs.Image.{SpellsImage}
 use Rattle.mon_settings.specs.StationCore.{Core}
 use Rattle.mon_station.specs.declared.fault.StationFault.{StationFault}
 use Rattle.mon_station.specs.Lived.{IsLived, entries_of, last_state}
-use Rattle.mon_station.specs.ReadEvent.{ReadEvent, StartPoll, Timeout, FromAgent, FromPeer, Share, Save}
+use Rattle.mon_station.specs.ReadEvent.{ReadEvent}
+use Rattle.mon_station.specs.declared.event.Event.TheVariants.{StartPoll, Timeout, FromAgent, FromPeer, Share, Save}
 use Rattle.mon_station.specs.State.{State}
 use Rattle.mon_station.specs.Taken.{Entry, Restart, Answered, Origin, Nothing, Saved, Other, Past, SavedTaken, at_place, begun_with, from_save, has_sizes, past_after, past_of, saves_after, taken}
 use Rattle.mon_station.specs.Verdict.{Setting, added, claim_pairs}

@@ -18,7 +18,8 @@ use Rattle.mon_exchange.specs.Peers.{is_claimed, latest, marked_by, noted_as}
 use Rattle.mon_saved.specs.Restored.{saved_pairs}
 use Rattle.mon_station.specs.declared.fault.StationFault.{StationFault}
 use Rattle.mon_station.specs.Lived.{BeginsFrom, IsLived, Reopens, last_state, saved_states}
-use Rattle.mon_station.specs.ReadEvent.{ReadEvent, StartPoll, Timeout, FromAgent, FromPeer, Share, Save, Said}
+use Rattle.mon_station.specs.ReadEvent.{ReadEvent, Said}
+use Rattle.mon_station.specs.declared.event.Event.TheVariants.{StartPoll, Timeout, FromAgent, FromPeer, Share, Save}
 use Rattle.mon_station.specs.Saved.{IsBegun, saved_octets}
 use Rattle.mon_station.specs.State.{State, IsAfter, IsHandled, known_after, known_of, marks_after, marks_by, setting_of}
 use Rattle.mon_station.specs.Taken.{Entry, Restart, Answered, Origin, Nothing, Saved, Other, at_place}

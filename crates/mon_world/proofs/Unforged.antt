@@ -10,7 +10,8 @@ use Rattle.mon_exchange.specs.Claim.{IsClaim, SpellsClaim, claim_octets}
 use Rattle.mon_station.specs.declared.fault.StationFault.{StationFault}
 use Rattle.mon_station.specs.declared.fault.StationFault.TheVariants as fault
 use Rattle.mon_station.specs.Lived.{last_state}
-use Rattle.mon_station.specs.ReadEvent.{ReadEvent, FromPeer, Save, ReadsAs, Said, SaysAs, OwnedEvent, StartPoll, Timeout, FromAgent, Share}
+use Rattle.mon_station.specs.ReadEvent.{ReadEvent, ReadsAs, Said, SaysAs, OwnedEvent}
+use Rattle.mon_station.specs.declared.event.Event.TheVariants.{FromPeer, Save, StartPoll, Timeout, FromAgent, Share}
 use Rattle.mon_station.specs.State.{State}
 use Rattle.mon_station.specs.Taken.{Answered}
 use Rattle.mon_station.specs.Verdict.{Setting}

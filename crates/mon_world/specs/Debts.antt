@@ -6,7 +6,8 @@ use Rattle.mon_exchange.specs.declared.claim.Claim.{Claim}
 use Rattle.mon_exchange.specs.Debts.{Heard, is_owed}
 use Rattle.mon_station.specs.declared.fault.StationFault.{StationFault}
 use Rattle.mon_station.specs.Lived.{entries_of}
-use Rattle.mon_station.specs.ReadEvent.{ReadEvent, FromAgent, FromPeer}
+use Rattle.mon_station.specs.ReadEvent.{ReadEvent}
+use Rattle.mon_station.specs.declared.event.Event.TheVariants.{FromAgent, FromPeer}
 use Rattle.mon_station.specs.State.{State}
 use Rattle.mon_station.specs.Taken.{Entry, Restart, Answered, Past, past_of}
 use Rattle.mon_station.specs.Verdict.{added}

@@ -6,7 +6,8 @@ use Rattle.mon_exchange.specs.declared.claim.Claim.{Claim}
 use Rattle.mon_station.specs.declared.fault.StationFault.{StationFault}
 use Rattle.mon_station.specs.declared.fault.StationFault.TheVariants as fault
 use Rattle.mon_station.specs.Lived.{IsLived, last_state}
-use Rattle.mon_station.specs.ReadEvent.{ReadEvent, StartPoll, Timeout, FromAgent, FromPeer, Share, Save, IsNumbered}
+use Rattle.mon_station.specs.ReadEvent.{ReadEvent, IsNumbered}
+use Rattle.mon_station.specs.declared.event.Event.TheVariants.{StartPoll, Timeout, FromAgent, FromPeer, Share, Save}
 use Rattle.mon_station.specs.State.{State}
 use Rattle.mon_station.specs.Taken.{Entry, Restart, Answered, Origin, Nothing, Saved}
 use Rattle.mon_station.specs.Told.{claims_sent}

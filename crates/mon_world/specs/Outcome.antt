@@ -7,7 +7,8 @@ use Rattle.mon_poller.specs.declared.target.Target.{Target}
 use Rattle.mon_poller.specs.Target.{target_at}
 use Rattle.mon_station.specs.declared.fault.StationFault.{StationFault}
 use Rattle.mon_station.specs.declared.fault.StationFault.TheVariants as fault
-use Rattle.mon_station.specs.ReadEvent.{ReadEvent, Save, ReadsAs, OwnedEvent, StartPoll, Timeout, FromAgent, FromPeer, Share}
+use Rattle.mon_station.specs.ReadEvent.{ReadEvent, ReadsAs, OwnedEvent}
+use Rattle.mon_station.specs.declared.event.Event.TheVariants.{Save, StartPoll, Timeout, FromAgent, FromPeer, Share}
 use Rattle.mon_station.specs.State.{State}
 use Rattle.mon_station.specs.Taken.{Entry, Origin, Nothing, Saved, Restart, Answered}
 use Rattle.mon_station.specs.Verdict.{Setting}

@@ -4,7 +4,7 @@ ghost use Rattle.std.specs.Prelude.{◌≡◌, ◌≤◌, nat_lt, IfErr, IfOk, S
 ghost use Rattle.mon_disk.specs.Disk.{Only};
 ghost use Rattle.mon_disk.specs.Kept.{device_of};
 ghost use Rattle.mon_disk.specs.Memory.{memory_octets, memory_leaves};
-ghost use Rattle.mon_station.specs.ReadEvent.{Save};
+ghost use Rattle.mon_station.specs.declared.event.Event.TheVariants.{Save};
 ghost use Rattle.mon_station.specs.State.{IsHandled};
 ghost use Rattle.mon_world.specs.Fault.{copy_fault};
 ghost use Rattle.mon_world.specs.Outcome.{calls_of_save};

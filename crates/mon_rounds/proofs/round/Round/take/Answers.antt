@@ -2,7 +2,7 @@ use Rattle.std.proofs.Common.{◌≡◌, ◌<◌, true, refl, rules}
 use Rattle.mon_rounds.specs.Next.{RoundState, is_hearing}
 use Rattle.mon_rounds.proofs.Onward.{after_arrival}
 use Rattle.mon_rounds.proofs.round.Round.take.Goals as goal
-use Rattle.mon_station.specs.ReadEvent.{FromAgent, FromPeer}
+use Rattle.mon_station.specs.declared.event.Event.TheVariants.{FromAgent, FromPeer}
 
 pub invariant_of-self : goal.invariant_of-self
 invariant_of-self c =

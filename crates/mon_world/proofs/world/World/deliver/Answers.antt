@@ -1,6 +1,6 @@
 use Rattle.std.proofs.Common.{◌≡◌, ◌++◌, List, Some, Ok, length, sym, ap, subst, ◌∙◌}
 use Rattle.std.specs.Prelude.{slice_get}
-use Rattle.mon_station.specs.ReadEvent.{FromPeer}
+use Rattle.mon_station.specs.declared.event.Event.TheVariants.{FromPeer}
 use Rattle.mon_world.specs.declared.sending.Datagram.{Datagram}
 use Rattle.mon_world.specs.Outcome.{Delivers, Hands}
 use Rattle.mon_world.specs.Places.{IsNumberTo, setting_at}

@@ -1,6 +1,6 @@
 use Rattle.std.proofs.Common.{List, length, subst}
 use Rattle.mon_poller.specs.declared.target.Target.{Target}
-use Rattle.mon_station.specs.ReadEvent.{FromAgent}
+use Rattle.mon_station.specs.declared.event.Event.TheVariants.{FromAgent}
 use Rattle.mon_world.specs.Outcome.{Hands, Hears, IsSpeaker}
 use Rattle.mon_world.specs.Places.{setting_at}
 use Rattle.mon_world.proofs.Leading.{leads_as}

@@ -1,6 +1,6 @@
 use Rattle.std.proofs.Common.{length, subst, sym}
 use Rattle.std.specs.Prelude.{IfErr}
-use Rattle.mon_station.specs.ReadEvent.{StartPoll}
+use Rattle.mon_station.specs.declared.event.Event.TheVariants.{StartPoll}
 use Rattle.mon_world.specs.declared.step.Step.{Step}
 use Rattle.mon_world.specs.declared.step.Step.TheVariants as step
 use Rattle.mon_world.specs.Fault.{IsCause}
