@@ -234,10 +234,11 @@ def marks():
     """Two boards of one watch, worked by hand: what is owed after marks, a join that pushes the oldest sample out, and an unmarking."""
     both = f"{watched(1, 2, 1)},{watched(2, 3, 3)}"
     first, second, third, fourth = (record(3, time).hex() for time in (100, 110, 120, 130))
-    steps = [f"take/0/1/{it}" for it in (first, second, third)] + [f"mark/0/1/{it}" for it in (first, third, fourth)]
-    steps += ["owed/0/1/-", f"owed/0/1/{second}", f"owed/14/1/{second}"]
-    steps += [f"other-take/0/1/{fourth}", f"other-mark/0/1/{fourth}", "join/0/0/-", f"owed/0/1/{second}", "owed/0/1/-", "unmark/0/0/-", f"owed/0/1/{second}"]
-    yield f"marks {both} {','.join(steps)}", " 3:110 none 3:120 3:130 3:110 3:120"
+    own = [f"take/0/1/{it}" for it in (first, second, third)] + [f"mark/0/1/{it}" for it in (first, third, fourth)]
+    own += ["owed/0/1/-", f"owed/0/1/{second}", f"owed/14/1/{second}"]
+    other = [f"take/0/1/{fourth}", f"mark/0/1/{fourth}"]
+    joined = [f"owed/0/1/{second}", "owed/0/1/-", "unmark/0/0/-", f"owed/0/1/{second}"]
+    yield f"marks {both} {' '.join(','.join(steps) for steps in (own, other, joined))}", " 3:110 none 3:120 3:130 3:110 3:120"
 
 
 # ---- modules and names

@@ -34,7 +34,7 @@ fn watch_of(alloc: Global, instances: &str, rules: &str) -> Option<Result<Watch,
     Some(Watch::new(instances, rules_of(alloc, rules)?))
 }
 
-/// Whether the line's instances and rules make a watch; or the fault.
+/// Says that the line's instances and rules make a watch; or the fault.
 pub fn watched(alloc: Global, line: &str) -> Option<String> {
     let (instances, rules) = line.split_once(' ')?;
     match watch_of(alloc, instances, rules)? {
@@ -121,8 +121,8 @@ pub fn reported(alloc: Global, line: &str) -> Option<String> {
     String::from_str(alloc, text.trim_end()).ok()
 }
 
-/// Whether a writer with room for this beginning of the report takes just that, and the report
-/// fails.
+/// Returns `true` if a writer that takes no more than this beginning of the report gets just that,
+/// and the report fails.
 fn fails_within(alloc: Global, board: &Board, beginning: &[u8]) -> bool {
     let mut writer = Narrow {
         room: beginning.len(),

@@ -24,7 +24,7 @@
 //!     take WATCH N/HEX,..            what becomes of each sample on a board
 //!     narrow WATCH RULES HEX,..      the report of a board; each writer that is too narrow for it
 //!                                    fails with a beginning
-//!     marks WATCH STEP,..            what two boards owe when samples are taken, marked and joined
+//!     marks WATCH STEPS STEPS STEPS  what two boards owe when samples are taken, marked and joined
 //!     tokens TEXT       the tokens of a text; or the fault
 //!     module TEXT       how many names the module of this text defines; or the fault
 //!     means TEXT        the identifier that a text means by the names of a module; or the fault
