@@ -18,7 +18,7 @@ use std::rt::{Clock, Files};
 const MOMENTS: &str = "a moment up to 214748364799";
 
 /// Serves the agent of the settings, as many datagrams as the arguments say.
-pub fn agent<R: Clock + Files + Net + Eprint + AllocGlobal>(
+pub fn serve_agent<R: Clock + Files + Net + Eprint + AllocGlobal>(
     rt: &R,
     words: AgentArgs<'_>,
 ) -> Result<(), Failure> {
@@ -103,7 +103,7 @@ fn told_of<R: Files + AllocGlobal>(
 }
 
 /// Prints what the agent of the settings answers to the datagrams on standard input.
-pub fn answer<R: Files + Input + Print + AllocGlobal>(
+pub fn print_answers<R: Files + Input + Print + AllocGlobal>(
     rt: &R,
     words: AnswerArgs<'_, '_>,
 ) -> Result<(), Failure> {

@@ -3,4 +3,4 @@
 
 mod agent;
 
-pub use agent::{agent, answer};
+pub use agent::{print_answers, serve_agent};

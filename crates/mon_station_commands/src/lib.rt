@@ -4,4 +4,4 @@
 mod station;
 mod telling;
 
-pub use station::{rehearsal, report, self_test, station};
+pub use station::{print_rehearsal, print_saved_report, run_self_test, run_station};

@@ -70,7 +70,7 @@ const PLAIN: Printed<'static, 'static> = Printed {
 const MOST_RESTS: u32 = u32::MAX;
 
 /// Runs the station of the settings through its rounds, and prints its report.
-pub fn station<R: Clock + Files<File = File> + Net + Print + Eprint + AllocGlobal>(
+pub fn run_station<R: Clock + Files<File = File> + Net + Print + Eprint + AllocGlobal>(
     rt: &R,
     words: StationArgs<'_, '_>,
 ) -> Result<(), Failure> {
@@ -182,7 +182,7 @@ fn between<R: Clock + Print + Eprint + AllocGlobal, S: Receiver + Drop, O: Outbo
 
 /// Prints the report of the windows in the file of the settings. The station is not started, and
 /// the file is only read.
-pub fn report<R: Files<File = File> + Print + AllocGlobal>(
+pub fn print_saved_report<R: Files<File = File> + Print + AllocGlobal>(
     rt: &R,
     words: ReportArgs<'_, '_>,
 ) -> Result<(), Failure> {
@@ -208,7 +208,7 @@ fn saved_in<R: Files<File = File> + AllocGlobal>(
 }
 
 /// Prints what the steps on standard input make of stations in memory.
-pub fn rehearsal<R: Files + Input + Print + AllocGlobal>(
+pub fn print_rehearsal<R: Files + Input + Print + AllocGlobal>(
     rt: &R,
     words: RehearseArgs<'_>,
 ) -> Result<(), Failure>
@@ -226,7 +226,7 @@ pub fn rehearsal<R: Files + Input + Print + AllocGlobal>(
 }
 
 /// Prints what a station in memory measured of an agent in memory.
-pub fn self_test<R: Print + AllocGlobal>(rt: &R) -> Result<(), Failure> {
+pub fn run_self_test<R: Print + AllocGlobal>(rt: &R) -> Result<(), Failure> {
     let trial = run_trial(rt.alloc())?;
     print(rt, trial.text.as_slice())
 }

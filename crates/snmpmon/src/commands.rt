@@ -5,13 +5,13 @@ ghost use Rattle.mon_cli.specs.Asked.{IsWithin};
 
 use crate::listing::list;
 use clap::error::ErrorKind;
-use mon_agent_commands::{agent, answer};
+use mon_agent_commands::{print_answers, serve_agent};
 use mon_app::Recorded;
 use mon_cli::{Asked, ReplayArgs, VERSION, read, read_command};
 use mon_client_commands::{bulk, get, next, set, walk};
 use mon_console::{Failure, Printing, print, read_input, read_text};
 use mon_smi::Names;
-use mon_station_commands::{rehearsal, report, self_test, station};
+use mon_station_commands::{print_rehearsal, print_saved_report, run_self_test, run_station};
 use std::alloc::AllocError;
 use std::fs::File;
 use std::net::Net;
@@ -85,13 +85,13 @@ fn run<R: Clock + Files<File = File> + Net + Input + Print + Eprint + AllocGloba
         Asked::Bulk(words) => bulk(rt, words),
         Asked::Walk(request) => walk(rt, request),
         Asked::Set(words) => set(rt, words),
-        Asked::Agent(words) => agent(rt, words),
-        Asked::Answer(words) => answer(rt, words),
+        Asked::Agent(words) => serve_agent(rt, words),
+        Asked::Answer(words) => print_answers(rt, words),
         Asked::Mib(path) => mib(rt, path),
-        Asked::Station(words) => station(rt, words),
-        Asked::Report(words) => report(rt, words),
-        Asked::SelfTest => self_test(rt),
-        Asked::Rehearse(words) => rehearsal(rt, words),
+        Asked::Station(words) => run_station(rt, words),
+        Asked::Report(words) => print_saved_report(rt, words),
+        Asked::SelfTest => run_self_test(rt),
+        Asked::Rehearse(words) => print_rehearsal(rt, words),
     }
 }
 
