@@ -231,14 +231,55 @@ def reports():
 
 # ---- marks
 def marks():
-    """Two boards of one watch, worked by hand: what is owed after marks, a join that pushes the oldest sample out, and an unmarking."""
-    both = f"{watched(1, 2, 1)},{watched(2, 3, 3)}"
+    """Two boards of one watch: what is owed after marks, a join that pushes the oldest sample out, and an unmarking."""
+    instances = [watched(1, 2, 1), watched(2, 3, 3)]
+    both = ",".join(map(str, instances))
     first, second, third, fourth = (record(3, time).hex() for time in (100, 110, 120, 130))
     own = [f"take/0/1/{it}" for it in (first, second, third)] + [f"mark/0/1/{it}" for it in (first, third, fourth)]
     own += ["owed/0/1/-", f"owed/0/1/{second}", f"owed/14/1/{second}"]
     other = [f"take/0/1/{fourth}", f"mark/0/1/{fourth}"]
     joined = [f"owed/0/1/{second}", "owed/0/1/-", "unmark/0/0/-", f"owed/0/1/{second}"]
-    yield f"marks {both} {' '.join(','.join(steps) for steps in (own, other, joined))}", " 3:110 none 3:120 3:130 3:110 3:120"
+    yield f"marks {both} {' '.join(','.join(steps) for steps in (own, other, joined))}", marks_row(instances, own, other, joined)
+
+
+class Board:
+    """The records that a board keeps of each instance, and the marks of its peers: slot, instance, record. A mark goes with its record, and
+    is not taken over by another board, to which the peer acknowledged nothing."""
+
+    def __init__(self, instances):
+        self.instances, self.items, self.marks = instances, [[] for _ in instances], set()
+
+    def take(self, number, records):
+        of = self.instances[number]
+        self.items[number] = kept({*self.items[number], *records}, of.window, of.epoch)
+        self.marks = {mark for mark in self.marks if mark[2] in self.items[mark[1]]}
+
+    def join(self, other):
+        for number, records in enumerate(other.items):
+            self.take(number, records)
+
+    def follow(self, steps):
+        """What is owed, step by step."""
+        told = ""
+        for word, slot, number, digits in (step.split("/") for step in steps):
+            slot, number, octets = int(slot), int(number), b"" if digits == "-" else bytes.fromhex(digits)
+            if word == "take":
+                self.take(number, [octets])
+            elif word == "mark" and octets in self.items[number]:
+                self.marks.add((slot, number, octets))
+            elif word == "unmark":
+                self.marks = {mark for mark in self.marks if mark[0] != slot}
+            elif word == "owed":
+                owed = [it for it in self.items[number] if (slot, number, it) not in self.marks and it > octets]
+                told += f" {stamp(owed[0])}" if owed else " none"
+        return told
+
+
+def marks_row(instances, own, other, joined):
+    board, another = Board(instances), Board(instances)
+    told = board.follow(own) + another.follow(other)
+    board.join(another)
+    return told + board.follow(joined)
 
 
 # ---- modules and names
@@ -278,13 +319,50 @@ def modules():
             (EX_MIB, "4 names"), ('A "b', UNCLOSED), ("A DEFINITIONS ::= BEGIN x OBJECT", UNCLOSED), ("EX-MIB DEFINITIONS ::= BEGIN 5 END", UNEXPECTED),
             ("A ? B", UNEXPECTED), (twice, DUPLICATE),
         ],
-        "means": [
-            ("exCount.0", "1.3.6.1.4.1.32473.1.2.0"), ("mib-2", "1.3.6.1.2.1"), ("iso.3", "1.3"), ("1.3.6", "1.3.6"), ("exLoop", CYCLE), ("nope", UNKNOWN),
-            ("ex.007", UNKNOWN), ("iso", BAD), ("7.1", BAD),
-        ],
-        "called": [("1.3.6.1.4.1.32473.1.2.0", "exCount.0"), ("1.3.6.1.2.1.1", "mib-2.1"), ("1.3.6.1.4.1", "enterprises"), ("1.2.840", "1.2.840")],
     }
     yield from ((f"{word} {asked}", told) for word, listed in worked.items() for asked, told in listed)
+    for text in ("exCount.0", "mib-2", "iso.3", "1.3.6", "exLoop", "nope", "ex.007", "iso", "7.1"):
+        yield f"means {text}", means_row(text)
+    for oid in ("1.3.6.1.4.1.32473.1.2.0", "1.3.6.1.2.1.1", "1.3.6.1.4.1", "1.2.840"):
+        yield f"called {oid}", called_row(oid)
+
+
+# The names of EX-MIB, each with its parent and its numbers, and of the built-in names (RFC 2578 section 2) those that the rows need.
+NAMES = {
+    "iso": (None, [1]), "org": ("iso", [3]), "dod": ("org", [6]), "internet": ("dod", [1]), "mgmt": ("internet", [2]), "mib-2": ("mgmt", [1]),
+    "private": ("internet", [4]), "enterprises": ("private", [1]), "ex": ("enterprises", [32473, 1]), "exCount": ("ex", [2]),
+    "exLoop": ("exPool", [1]), "exPool": ("exLoop", [1]),
+}
+
+
+def numbers_of(name, passed=()):
+    """The identifier of a name, or why it has none."""
+    if name in passed:
+        return CYCLE
+    if name not in NAMES:
+        return UNKNOWN
+    parent, own = NAMES[name]
+    above = [] if parent is None else numbers_of(parent, (*passed, name))
+    return above if isinstance(above, str) else [*above, *own]
+
+
+def means_row(text):
+    name, *rest = text.split(".")
+    if not all(word == "0" or re.fullmatch("[1-9][0-9]*", word) for word in rest):
+        return UNKNOWN
+    found = [int(name)] if name.isdigit() else numbers_of(name)
+    if isinstance(found, str):
+        return found
+    parts = [*found, *map(int, rest)]
+    return BAD if fault_of(parts) else ".".join(map(str, parts))
+
+
+def called_row(oid):
+    """By the name with the longest identifier that the other begins with; in numbers where only a name of one number does."""
+    parts = [int(part) for part in oid.split(".")]
+    known = {tuple(numbers): name for name in NAMES if isinstance(numbers := numbers_of(name), list) and len(numbers) > 1}
+    longest = max((it for it in known if tuple(parts[: len(it)]) == it), key=len, default=())
+    return ".".join([known[longest], *map(str, parts[len(longest) :])]) if longest else oid
 
 
 # ---- values as words

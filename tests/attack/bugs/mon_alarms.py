@@ -1,6 +1,11 @@
 """Bugs of mon_alarms for planted_bugs: by a name the file, what stands there once, and the bug in its place."""
 
 BUGS = {
+    "tells_the_state_before": (
+        "src/change.rt",
+        "    changes.push(AlarmChange { rule, state: new })?;",
+        "    changes.push(AlarmChange { rule, state: old })?;",
+    ),
     "misses_an_alarm_raised_anew": (
         "src/change.rt",
         "boots == other_boots && time == other_time",
