@@ -6,7 +6,7 @@ ghost use Rattle.mon_settings.specs.Keys.{Reads};
 ghost use Rattle.mon_settings.specs.Resolving.{resolution};
 ghost use Rattle.mon_settings.specs.Station.{rules_at, scalars_of, scalars_view, station_of};
 ghost use Rattle.mon_settings.specs.StationAccepted.{IsStation, core_from, station_view};
-ghost use Rattle.mon_settings.specs.StationCore.{IsCore};
+ghost use Rattle.mon_core.specs.StationCore.{IsCore};
 ghost use Rattle.mon_settings.specs.Text.{IsReadAs, IsRefusal, Says};
 ghost use Rattle.toml.specs.View.{table_view};
 
@@ -18,7 +18,7 @@ use crate::modules::modules_at;
 use crate::peers::{addresses_of, peers_at, stations_of};
 use crate::placing::{instances_of, number_of, rules_of};
 use crate::sizes::Sizes;
-use crate::station_core::Core;
+use mon_core::Core;
 use crate::station_tables::{AlarmRow, Around, ObjectRow, PeerRow, TargetRow};
 use crate::text::tree;
 use mon_alarms::Rule;

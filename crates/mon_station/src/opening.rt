@@ -16,7 +16,7 @@ use mon_disk::{Disk, Keeper};
 use mon_exchange::Peers;
 use mon_poller::Poller;
 use mon_saved::read_image;
-use mon_settings::Core;
+use mon_core::Core;
 use std::alloc::Global;
 
 impl<D: Disk + Drop> Station<D> {

@@ -9,7 +9,7 @@ ghost use Rattle.mon_world.specs.Shows.{AreFirst, IsFirst};
 
 use crate::fault::WorldFault;
 use mon_disk::MemoryDisk;
-use mon_settings::Core;
+use mon_core::Core;
 use mon_station::Station;
 use std::alloc::{AllocError, Global};
 
