@@ -217,3 +217,8 @@ BUGS = {
         "            { self.bindings.truncate(self.bindings.len() / 2 * 2); return Ok(false); }",
     ),
 }
+
+# Those that break a promise as a whole, each with its function: tests/bodies tries them in the gate.
+PROMISES = {
+    "bulk_cuts_at_whole_rounds": "growing::Growing::push",
+}

@@ -332,3 +332,9 @@ BUGS = {
         "    discontinuity.parts().len() == binding.name.parts().len() && name_objects(objects, bindings)",
     ),
 }
+
+# Those that break a promise as a whole, each with its function: tests/bodies tries them in the gate.
+PROMISES = {
+    "takes_a_response_of_a_closed_poll": "awaiting::ends_poll",
+    "takes_other_names": "offers::name_objects",
+}
