@@ -20,8 +20,8 @@ use crate::sending::{Datagram, Sent, append, sent_between};
 use crate::speaker::speaker;
 use crate::step::Step;
 use crate::stop::{promise_unsaved, stop_at};
-use mon_disk::MemoryDisk;
 use mon_core::Core;
+use mon_disk::MemoryDisk;
 use mon_station::{Event, LentEvent, Station, Told};
 use std::alloc::Global;
 
