@@ -7,10 +7,10 @@ use mon_app::AppFault;
 use mon_board::Board;
 use mon_cli::{Named, Printed, RehearseArgs, ReportArgs, StationArgs, Timing};
 use mon_console::{
-    Failure, Printing, add_module, print, read_first, read_input, read_text, settings_failure,
+    Failure, Fault, Printing, add_module, print, read_first, read_input, read_text,
+    settings_failure,
 };
 use mon_disk::{Disk, DiskError, FileDisk, SLOT_SIZE};
-use mon_faults::Fault;
 use mon_formats::{Figures, Format};
 use mon_rehearsal::{rehearse, run_trial};
 use mon_report::write_report;

@@ -542,8 +542,3 @@ BUGS = {
         "question.names.len() >= bindings.len()",
     ),
 }
-
-# Those that break a promise as a whole, each with its function: tests/bodies tries them in the gate.
-PROMISES = {
-    "writes_back_its_input": "replaying::replay",
-}
