@@ -23,7 +23,7 @@
 //!     mib objects               how many objects there are
 //!     mib object NAME INDEX     the access and syntax of an object, and its name at an index
 //!     mib admin, mib oper       the statuses of an interface
-//!     mib moment N              the moment after N hundredths of a second, if there is one
+//!     mib moment N              N, if the agent's time can be N hundredths of a second
 //!     mib counts N              a counter that was at N after one more, and one that was at 0
 //!     mib set-faults            the faults of a Set, with the error-statuses
 //!     mib device-faults         the faults of a device
@@ -32,8 +32,8 @@
 //!     reader slow N             the same of one that gives an octet a read, is interrupted before
 //!                               each, and fails after N
 //!     smi adds NAME MODULE      adds a module to the names, again if memory ran out the first time:
-//!                               the answer, what the name then means, and the answer to adding it
-//!                               once more
+//!                               the answer, what the name then means, and the answer to adding
+//!                               the module again
 
 mod agent;
 mod client;

@@ -37,7 +37,7 @@ fn written(alloc: Global, asking: Asking<'_>, name: &str) -> Option<String> {
     digits(alloc, octets.as_slice())
 }
 
-/// Returns the list of a name alone.
+/// Returns a list of one name.
 fn names(alloc: Global, name: &str) -> Option<Vec<Oid>> {
     let mut names = Vec::new(alloc);
     names.push(Oid::parse(alloc, name).ok()?).ok()?;

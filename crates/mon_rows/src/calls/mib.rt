@@ -146,7 +146,7 @@ fn oper(alloc: Global) -> Option<String> {
     Some(text)
 }
 
-/// Returns the moment after this many hundredths of a second.
+/// Returns this many hundredths of a second, if the agent's time can be that.
 fn moment(alloc: Global, hundredths: u64) -> Option<String> {
     match Moment::new(hundredths) {
         Some(moment) => format!(in alloc; "{}", moment.hundredths()).ok(),

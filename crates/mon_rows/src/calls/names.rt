@@ -5,7 +5,7 @@ use mon_smi::{Module, Names, NamesFault, read_module};
 use std::alloc::Global;
 
 /// Returns the answer to a line `adds NAME MODULE`: what adding the module answers, what the name
-/// then means, and what adding it once more answers.
+/// then means, and what adding the module again answers.
 pub fn answer(alloc: Global, line: &str) -> Option<String> {
     let (name, module) = line.strip_prefix("adds ")?.split_once(' ')?;
     let module = read_module(alloc, module).ok()?;

@@ -28,8 +28,8 @@ pub fn made(alloc: Global, words: &str) -> Option<String> {
     }
 }
 
-/// Says how the first of two identifiers compares with the second, whether they are equal, and
-/// whether the first is a prefix of the second.
+/// Says how the first of two identifiers compares with the second, whether they are equal, and if
+/// the first is a prefix of the second.
 pub fn compared(alloc: Global, words: &str) -> Option<String> {
     let (own, other) = words.split_once(' ')?;
     let own = Oid::parse(alloc, own).ok()?;
