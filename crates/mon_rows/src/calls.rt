@@ -2,9 +2,9 @@
 //! memory that fails, memory that is refused once, and the numbers of enums. The expected lines are
 //! worked by hand, from the standards and docs/FORMATS.md.
 //!
-//!     agent set HEX             what an agent replies to a Set, which comes again if memory ran out
-//!                               the first time: whether it had counted nothing then, the reply,
-//!                               how many messages it has counted, and its name
+//!     agent set HEX             what an agent replies to a Set, which comes again if memory ran
+//!                               out the first time: whether it had counted nothing then, the
+//!                               reply, how many messages it has counted, and its name
 //!     agent silences            the causes of silence
 //!     agent faults              the faults of an agent
 //!     client get NAME           the Get of a name under request-id 7
@@ -31,9 +31,9 @@
 //!                               often it was read, was at its end and failed
 //!     reader slow N             the same of one that gives an octet a read, is interrupted before
 //!                               each, and fails after N
-//!     smi adds NAME MODULE      adds a module to the names, again if memory ran out the first time:
-//!                               the answer, what the name then means, and the answer to adding
-//!                               the module again
+//!     smi adds NAME MODULE      adds a module to the names, again if memory ran out the first
+//!                               time: the answer, what the name then means, and the answer to
+//!                               adding the module again
 
 mod agent;
 mod client;

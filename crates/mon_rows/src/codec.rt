@@ -1,8 +1,8 @@
 //! Lines of what is read and written, by agents and by stations. tests/attack/codec_rows writes the
 //! rows, from independent readers.
 //!
-//!     value HEX         the value that these octets begin with, how many spell it, its size and its
-//!                       octets as they are written; or the fault
+//!     value HEX         the value that these octets begin with, how many spell it, its size and
+//!                       its octets as they are written; or the fault
 //!     message HEX       the same of a message, by its fields
 //!     claim HEX         the claim that these octets spell, its size and its octets as they are
 //!                       written; or the fault

@@ -7,8 +7,9 @@
 //!                                        gate is not synced, and of one on which a crash left it
 //!                                        open
 //!     keeper failing-call N              an opening and a save while call N fails
-//!     keeper file NAME: SLOT SLOT SIZE   what an opening answers of a file of SIZE octets, and then
-//!                                        a save; a slot is open, GENERATION/LENGTH, or shut, a dash
+//!     keeper file NAME: SLOT SLOT SIZE   what an opening answers of a file of SIZE octets, and
+//!                                        then a save; a slot is open, GENERATION/LENGTH, or
+//!                                        shut, a dash
 //!     keeper sized N                     a save of N octets
 //!     keeper real-file BODY              what an opening of saved.mon finds, and then a save of
 //!                                        BODY

@@ -2,8 +2,8 @@
 //! the rows, from an independent station.
 //!
 //!     station new               an empty disk, without a station; no answer is printed
-//!     station open [SIZE]       opens the station from the disk, with windows of 8 or SIZE samples;
-//!                               a new one is empty
+//!     station open [SIZE]       opens the station from the disk, with windows of 8 or SIZE
+//!                               samples; a new one is empty
 //!     station open long         the same with the longest engine id and name, and windows of 64
 //!     station poll TARGET       starts a poll, by the target's number
 //!     station timeout ID        says that a poll was not answered in time

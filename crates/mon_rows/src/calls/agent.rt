@@ -18,7 +18,8 @@ pub fn answer(alloc: Global, line: &str) -> Option<String> {
     }
 }
 
-/// Returns what an agent of the settings replies to a Set, and what it has counted and is named then.
+/// Returns what an agent of the settings replies to a Set, and what it has counted and is named
+/// then.
 fn assigned(alloc: Global, set: &str) -> Option<String> {
     let set = octets(alloc, set)?;
     let mut agent = agent(alloc)?;

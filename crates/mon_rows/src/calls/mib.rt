@@ -99,7 +99,8 @@ fn put_applied(text: &mut String, device: &mut SimDevice, change: Change) -> Opt
     write!(text, " after {} failures", device.failures()).ok()
 }
 
-/// Returns the access and the syntax of the object of a line `NAME INDEX`, and its name at the index.
+/// Returns the access and the syntax of the object of a line `NAME INDEX`, and its name at the
+/// index.
 fn object(alloc: Global, line: &str) -> Option<String> {
     let (word, index) = line.split_once(' ')?;
     let object = object_of(word)?;

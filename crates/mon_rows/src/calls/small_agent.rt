@@ -8,7 +8,8 @@ use mon_settings::{AgentSettings, read_agent};
 use mon_vacm::Policy;
 use std::alloc::Global;
 
-/// The settings: `public` reads all but ifPhysAddress, and `private` writes the objects of mib-2 too.
+/// The settings: `public` reads all but ifPhysAddress, and `private` writes the objects of mib-2
+/// too.
 const TEXT: &str = r#"
 listen = "127.0.0.1:16100"
 limit = 484

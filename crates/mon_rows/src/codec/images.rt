@@ -5,9 +5,9 @@ use mon_board::{Board, Watch, Watched};
 use mon_saved::{image_size, read, read_image, write_image, write_within};
 use std::alloc::Global;
 
-/// Answers a line `ENGINE/NAME/WINDOW/EPOCH,.. HEX`, a watch's instances and an image: with the fault,
-/// or the incarnation, the sizes and the number of samples that the image has of each instance, and
-/// the image that is written of the board read.
+/// Answers a line `ENGINE/NAME/WINDOW/EPOCH,.. HEX`, a watch's instances and an image: with the
+/// fault, or the incarnation, the sizes and the number of samples that the image has of each
+/// instance, and the image that is written of the board read.
 pub fn row(alloc: Global, line: &str) -> Option<String> {
     let (words, digits) = line.split_once(' ')?;
     let watch = watch_of(alloc, words)?;
@@ -91,8 +91,8 @@ fn watched_of(alloc: Global, word: &str) -> Option<Watched> {
     watched(alloc, engine.as_slice(), name, window, epoch)
 }
 
-/// Reads the image of the first line and writes it, this many times, and prints how many octets were
-/// written in all.
+/// Reads the image of the first line and writes it, this many times, and prints how many octets
+/// were written in all.
 pub fn times(rt: &HostRuntime, alloc: Global, times: u32) -> Option<()> {
     let line = first_line(rt, alloc)?;
     let (words, digits) = line.as_str().trim_end().split_once(' ')?;

@@ -8,10 +8,10 @@ use mon_board::{Board, Watch};
 use mon_sample::Sample;
 use std::alloc::Global;
 
-/// Says what two boards of a line `WATCH STEP,.. STEP,.. STEP,..` owe: the first board after its steps,
-/// the second after its own, and the first, joined with it, after the last ones. A step is
-/// `take/SLOT/N/HEX`, `mark/SLOT/N/HEX`, `unmark/SLOT/N/-`, or `owed/SLOT/N/HEX` for what is owed after
-/// the sample, of all for a dash.
+/// Says what two boards of a line `WATCH STEP,.. STEP,.. STEP,..` owe: the first board after its
+/// steps, the second after its own, and the first, joined with it, after the last ones. A step is
+/// `take/SLOT/N/HEX`, `mark/SLOT/N/HEX`, `unmark/SLOT/N/-`, or `owed/SLOT/N/HEX` for what is owed
+/// after the sample, of all for a dash.
 pub fn row(alloc: Global, line: &str) -> Option<String> {
     let (instances, rest) = line.split_once(' ')?;
     let (own_steps, rest) = rest.split_once(' ')?;

@@ -69,8 +69,8 @@ fn track_of(alloc: Global, size: &str, epoch: &str) -> Option<Track> {
     Track::new(alloc, size, epoch).ok()
 }
 
-/// Says what becomes of each sample of a line `SIZE EPOCH RECORD,..`, and what the track has counted
-/// after it, in how many seconds and pairs; at last the stamps of what it keeps.
+/// Says what becomes of each sample of a line `SIZE EPOCH RECORD,..`, and what the track has
+/// counted after it, in how many seconds and pairs; at last the stamps of what it keeps.
 pub fn track(alloc: Global, line: &str) -> Option<String> {
     let (size, rest) = line.split_once(' ')?;
     let (epoch, records) = rest.split_once(' ')?;
@@ -121,8 +121,8 @@ fn put_kept(alloc: Global, text: &mut String, items: &[Sample]) -> Option<()> {
     Some(())
 }
 
-/// Says what becomes of each sample of a line `SIZE EPOCH RECORD,..` in a window; at last the stamps
-/// of what it keeps.
+/// Says what becomes of each sample of a line `SIZE EPOCH RECORD,..` in a window; at last the
+/// stamps of what it keeps.
 pub fn window(alloc: Global, line: &str) -> Option<String> {
     let (size, rest) = line.split_once(' ')?;
     let (epoch, records) = rest.split_once(' ')?;
@@ -173,8 +173,8 @@ fn insert_all(track: &mut Track, samples: &[Sample]) {
     }
 }
 
-/// Returns the state of the rule of a line `RISING FALLING RECORD,..` over its samples; or the fault
-/// of the thresholds.
+/// Returns the state of the rule of a line `RISING FALLING RECORD,..` over its samples; or the
+/// fault of the thresholds.
 pub fn alarm(alloc: Global, line: &str) -> Option<String> {
     let (rising, rest) = line.split_once(' ')?;
     let (falling, records) = rest.split_once(' ')?;

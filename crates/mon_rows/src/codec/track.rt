@@ -106,7 +106,8 @@ fn inserted(track: &mut Track, asked: Asked) -> Tally {
     tally
 }
 
-/// Returns the second at which the sample of this turn was taken: in mixed order up to 63 seconds early.
+/// Returns the second at which the sample of this turn was taken: in mixed order up to 63 seconds
+/// early.
 fn second(asked: Asked, turn: u32, random: u64) -> u32 {
     match asked.order {
         Order::Rising => turn,

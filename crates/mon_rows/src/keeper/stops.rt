@@ -93,8 +93,8 @@ fn stopped_opening(alloc: Global, disk: MemoryDisk, calls: u64, keep: bool) -> O
     format!(in alloc; "{first} {second}").ok()
 }
 
-/// Opens an empty disk and saves `new` while one call of the disk fails. Says what that answers, how
-/// often the disk failed, and what the next opening finds.
+/// Opens an empty disk and saves `new` while one call of the disk fails. Says what that answers,
+/// how often the disk failed, and what the next opening finds.
 fn one_failing_call(alloc: Global, call: u64) -> Option<String> {
     let disk = FlakyDisk::new(MemoryDisk::new(alloc, &[]).ok()?, call);
     let (answer, disk) = saved_on(alloc, disk);

@@ -5,10 +5,10 @@ use crate::station::setting::core;
 use mon_world::{Step, World};
 use std::alloc::Global;
 
-/// Makes the world of a line `COUNT SHARES`, of COUNT stations, in which the first offers the second
-/// what it owes, SHARES times, and each of these datagrams is delivered; the steps are made in one
-/// run. Says how many of them were made and how many datagrams were sent, or why there is no such
-/// world.
+/// Makes the world of a line `COUNT SHARES`, of COUNT stations, in which the first offers the
+/// second what it owes, SHARES times, and each of these datagrams is delivered; the steps are made
+/// in one run. Says how many of them were made and how many datagrams were sent, or why there is no
+/// such world.
 pub fn world(alloc: Global, line: &str) -> Option<String> {
     let (count, shares) = line.split_once(' ')?;
     let core = core(alloc, "8")?;
