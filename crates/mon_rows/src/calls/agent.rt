@@ -23,8 +23,12 @@ pub fn answer(alloc: Global, line: &str) -> Option<String> {
 fn assigned(alloc: Global, set: &str) -> Option<String> {
     let set = octets(alloc, set)?;
     let mut agent = agent(alloc)?;
-    let replied = replied(alloc, &mut agent, set.as_slice())?;
-    let counted = counted(alloc, &agent)?;
+    assigned_by(alloc, &mut agent, set.as_slice())
+}
+
+fn assigned_by(alloc: Global, agent: &mut Agent<SimDevice>, set: &[u8]) -> Option<String> {
+    let replied = replied(alloc, agent, set)?;
+    let counted = counted(alloc, agent)?;
     format!(in alloc; "{replied} {counted}").ok()
 }
 

@@ -66,7 +66,11 @@ fn assigning(alloc: Global, line: &str) -> Option<String> {
 fn asked(alloc: Global, line: &str) -> Option<String> {
     let (community, datagrams) = line.split_once(' ')?;
     let mut wire = Memory::new(alloc, heard(alloc, datagrams)?);
-    let printed = printed(alloc, &mut wire, community)?;
+    asked_over(alloc, &mut wire, community)
+}
+
+fn asked_over(alloc: Global, wire: &mut Memory, community: &str) -> Option<String> {
+    let printed = printed(alloc, wire, community)?;
     let sent = wire.sent()?;
     format!(in alloc; "{printed}, sent{sent}").ok()
 }

@@ -123,13 +123,21 @@ fn next(
 pub fn row(alloc: Global, line: &str) -> Option<String> {
     let (many, rest) = line.split_once(' ')?;
     let (most, name) = rest.split_once(' ')?;
-    let most: u64 = most.parse().ok()?;
-    let (policy, mib) = large(alloc, many.parse().ok()?)?;
-    let next = next(alloc, &policy, &mib, &Oid::parse(alloc, name).ok()?)?;
+    let name = Oid::parse(alloc, name).ok()?;
+    let (most, many) = (most.parse().ok()?, many.parse().ok()?);
+    let (policy, mib) = large(alloc, many)?;
+    next_within(alloc, &policy, &mib, &name, most)
+}
+
+fn next_within(
+    alloc: Global,
+    policy: &Policy,
+    mib: &Mib<CountingDevice<SimDevice>>,
+    name: &Oid,
+    most: u64,
+) -> Option<String> {
+    let next = next(alloc, policy, mib, name)?;
     let calls = mib.device().calls.get();
-    format!(in alloc;
-        "{next}, 1 to {most} calls: {}",
-        1 <= calls && calls <= most
-    )
-    .ok()
+    let is_within = 1 <= calls && calls <= most;
+    format!(in alloc; "{next}, 1 to {most} calls: {is_within}").ok()
 }

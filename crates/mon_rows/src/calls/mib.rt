@@ -48,9 +48,13 @@ fn simulated(alloc: Global) -> Option<SimDevice> {
 /// undoes it or the fault, and how often the device has failed then.
 fn changed(alloc: Global, line: &str) -> Option<String> {
     let mut device = simulated(alloc)?;
+    changed_in(alloc, &mut device, line)
+}
+
+fn changed_in(alloc: Global, device: &mut SimDevice, line: &str) -> Option<String> {
     let mut text = String::new(alloc);
     for change in line.split("; ") {
-        put_applied(&mut text, &mut device, change_of(alloc, change)?)?;
+        put_applied(&mut text, device, change_of(alloc, change)?)?;
     }
     Some(text)
 }

@@ -10,9 +10,13 @@ pub fn answer(alloc: Global, line: &str) -> Option<String> {
     let (name, module) = line.strip_prefix("adds ")?.split_once(' ')?;
     let module = read_module(alloc, module).ok()?;
     let mut names = Names::new(alloc).ok()?;
-    let first = added(alloc, &mut names, &module)?;
-    let meaning = meaning(alloc, &names, name)?;
-    let second = added(alloc, &mut names, &module)?;
+    added_twice(alloc, &mut names, &module, name)
+}
+
+fn added_twice(alloc: Global, names: &mut Names, module: &Module, name: &str) -> Option<String> {
+    let first = added(alloc, names, module)?;
+    let meaning = meaning(alloc, names, name)?;
+    let second = added(alloc, names, module)?;
     format!(in alloc; "{first}, {meaning}, {second}").ok()
 }
 

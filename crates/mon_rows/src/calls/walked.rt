@@ -59,8 +59,12 @@ pub fn row(alloc: Global, line: &str) -> Option<String> {
     let mut wire = Same {
         reply: octets(alloc, reply)?,
     };
+    shown(alloc, &mut wire, &start)
+}
+
+fn shown(alloc: Global, wire: &mut Same, start: &Oid) -> Option<String> {
     let mut text = String::new(alloc);
-    match walked(alloc, &mut wire, b"public", &start, &mut text) {
+    match walked(alloc, wire, b"public", start, &mut text) {
         Ok(()) => format!(in alloc; "{text:?}").ok(),
         Err(why) => format!(in alloc; "{text:?}, {} {}", why.number(), why.name()).ok(),
     }

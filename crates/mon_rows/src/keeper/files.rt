@@ -60,9 +60,10 @@ fn disk_of(alloc: Global, file: &str) -> Option<MemoryDisk> {
     let (first, rest) = file.split_once(' ')?;
     let (second, size) = rest.split_once(' ')?;
     let last = u64::checked_sub(size.parse().ok()?, 1)?;
+    let (first, second) = (Slot::parse(first)?, Slot::parse(second)?);
     let mut disk = MemoryDisk::new(alloc, &[]).ok()?;
-    put_slot(alloc, &mut disk, 0, Slot::parse(first)?)?;
-    put_slot(alloc, &mut disk, SLOT_SIZE, Slot::parse(second)?)?;
+    put_slot(alloc, &mut disk, 0, first)?;
+    put_slot(alloc, &mut disk, SLOT_SIZE, second)?;
     disk.write_at(last, &[0]).ok()?;
     Some(disk)
 }
