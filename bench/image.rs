@@ -1,4 +1,4 @@
-//! The job of `mon_codec_tests image-times` in plain Rust with std alone: an image is read, its samples are taken into windows with
+//! The job of `mon_rows image-times` in plain Rust with std alone: an image is read, its samples are taken into windows with
 //! their totals, and these are written.
 //!
 //! usage: image TIMES        a line `ENGINE/NAME/WINDOW/EPOCH,.. HEX` on standard input

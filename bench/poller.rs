@@ -1,4 +1,4 @@
-//! The job of crates/mon_poller_tests in plain Rust with std alone: polls of a target with 16 objects and their marks, each answered
+//! The job of `mon_rows poll-times` in plain Rust with std alone: polls of a target with 16 objects and their marks, each answered
 //! by the same response.
 //!
 //! usage: poller TIMES PLACE < HEX

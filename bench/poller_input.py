@@ -1,5 +1,5 @@
 #!/usr/bin/env -S python3 -B
-"""Writes the hex digits of a response to the second target of crates/mon_poller_tests into a file, and prints where its request-id stands,
+"""Writes the hex digits of a response to the second target of crates/mon_rows into a file, and prints where its request-id stands,
 in four octets.
 
 usage: poller_input.py KIND FILE       KIND is `samples`, 16 objects and marks, or `error`, a response with an error-status and nothing else

@@ -1,4 +1,4 @@
-//! The job of `mon_codec_tests track-times` in plain Rust with std alone: a window of the newest samples, of which each boots
+//! The job of `mon_rows track-times` in plain Rust with std alone: a window of the newest samples, of which each boots
 //! number has a share, with its totals.
 //!
 //! usage: track ORDER SHARE TIMES

@@ -1,4 +1,4 @@
-"""Watches and images for the rows of crates/mon_codec_tests: two images of one sample, in versions 1 and 2, whole, cut after each octet,
+"""Watches and images for the rows of tests/rows.d/codec: two images of one sample, in versions 1 and 2, whole, cut after each octet,
 with each octet turned to 00, 80 and FF, and under other watches.
 """
 from images import Watched, written

@@ -1,4 +1,4 @@
-"""A station of another make on its disk: what it answers to the lines of crates/mon_station_tests. It has one target and the peers 2 and 3; its claims are
+"""A station of another make on its disk: what it answers to the lines `station ..` of crates/mon_rows. It has one target and the peers 2 and 3; its claims are
 read by claims.py and its polls are kept by polls.py, and what either offers it takes into one window. A life ends with a stop, and the next one begins
 with what the disk then holds, with a window of another size perhaps.
 """

@@ -1,4 +1,4 @@
-"""Rows of crates/mon_codec_tests of identifiers, samples, windows, tracks, alarms, watches and boards: what is asked, and what is answered by the
+"""Rows of tests/rows.d/codec of identifiers, samples, windows, tracks, alarms, watches and boards: what is asked, and what is answered by the
 published rules alone (RFC 2578 sections 3.5, 7.1.6 and 7.1.10; what a window keeps; what raises an alarm), apart from the proved code.
 """
 import re

@@ -1,4 +1,4 @@
-"""Values and messages for the rows of crates/mon_codec_tests, read from left to right with the first fault that is met, apart from the
+"""Values and messages for the rows of tests/rows.d/codec, read from left to right with the first fault that is met, apart from the
 proved code, and written as shortly as may be (X.690; RFC 3416 section 3; RFC 3417 section 8; messages.py says what choices were made).
 """
 from messages import NAME, NULL, NUMBERS, OCTETS, PDUS, SEQUENCE, identifier, message, name_contents, spelled, spelled_number

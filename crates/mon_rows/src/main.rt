@@ -1,0 +1,79 @@
+//! Does what each line of standard input says, and prints what is answered, a line for each, to be
+//! compared with the expected lines: tests/calls runs it over the rows of tests/rows.d. A line that
+//! is empty or begins with # is passed over. Where no answer can be given, the program ends with
+//! status 1.
+//!
+//! The module of each group has its lines:
+//!
+//!     codec       values, messages, claims, images, names, samples, windows, boards and texts
+//!     station     `station ..`, a station over a disk in memory, and `world ..`
+//!     poller      `poller ..`, polls of three targets
+//!     keeper      `keeper ..`, what openings of disks and files find after stops, faults and saves
+//!     calls       `agent ..`, `client ..`, `mib ..`, `reader ..` and `smi ..`, single calls
+//!
+//! usage: mon_rows                              as above
+//!        mon_rows image-times N                reads the image of the first line, WATCH HEX, and
+//!                                              writes it, N times, for bench/image
+//!        mon_rows message-times N              the same of a message, HEX, for bench/codec
+//!        mon_rows track-times ORDER SHARE N    inserts N samples into a track, for bench/track
+//!        mon_rows poll-times N PLACE           polls the second target N times, and answers with
+//!                                              the octets of the first line, HEX, and the
+//!                                              request-id at the place, for bench/poller
+//!        mon_rows save-times FILE OCTETS N     saves N bodies of OCTETS octets, for bench/save
+//!        mon_rows saves FILE                   prints what it finds, then the number of each save
+//!                                              that is acknowledged, until it is stopped, for
+//!                                              tests/kill
+//!        mon_rows opens FILE                   prints what an opening of a file answers, for
+//!                                              tests/files
+#![tactic(auto)]
+
+mod calls;
+mod codec;
+mod keeper;
+mod poller;
+mod shared;
+mod station;
+mod subjects;
+
+use codec::{images, track, values};
+use keeper::real_file;
+use poller::timing;
+use std::env;
+use std::process::ExitCode;
+use subjects::Subjects;
+
+fn main(rt: HostRuntime) -> ExitCode {
+    match run(&rt) {
+        Some(()) => ExitCode::SUCCESS,
+        None => ExitCode::FAILURE,
+    }
+}
+
+fn run(rt: &HostRuntime) -> Option<()> {
+    let words: Vec<String> = env::args(rt).ok()?.collect(rt.alloc()).ok()?;
+    match words.get(1) {
+        Some(word) => job(rt, word, words.get(2..)?),
+        None => rows(rt),
+    }
+}
+
+/// Prints the answer to each line.
+fn rows(rt: &HostRuntime) -> Option<()> {
+    let mut subjects = Subjects::new(rt.alloc())?;
+    subjects.answer_all(rt)
+}
+
+/// Does what the first argument says with those after it.
+fn job(rt: &HostRuntime, word: &str, words: &[String]) -> Option<()> {
+    let alloc = rt.alloc();
+    match word {
+        "image-times" => images::times(rt, alloc, words.first()?.parse().ok()?),
+        "message-times" => values::times(rt, alloc, words.first()?.parse().ok()?),
+        "track-times" => track::times(rt, alloc, words),
+        "poll-times" => timing::times(rt, words),
+        "save-times" => real_file::save_times(rt, words),
+        "saves" => real_file::save_on(rt, words.first()?),
+        "opens" => real_file::opens(rt, words.first()?),
+        _ => None,
+    }
+}
