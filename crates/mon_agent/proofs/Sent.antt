@@ -1,10 +1,13 @@
 -- Sizes of responses, and what is sent of them.
 use Rattle.std.proofs.Common.{◌≡◌, ◌≢◌, ◌↔◌, true, false, ℕ, ◌<◌, ◌≤◌, ◌^◌, ℤ, pos, negsuc, List, ◌∷◌, length, refl, sym, ap, subst, ◌∙◌, inl, inr, arith}
-use Rattle.std.specs.Prelude.{Some, None, Result, Ok, Err, IfOk}
+use Rattle.std.specs.Prelude.{Some, None, Result, Ok, Err, IfOk, All}
+use Rattle.std.specs.declared.alloc.AllocError.{AllocError}
 use Rattle.std.specs.Global.{Vec}
 use Rattle.std.proofs.lemmas.Bool.{cases_eq}
 use Rattle.std.proofs.lemmas.List.{length-append}
+use Rattle.std.proofs.lemmas.List.Elements.{All-weaker}
 use Rattle.mon_ber.specs.Writing.{element, length_octets}
+use Rattle.mon_pdu.specs.declared.message.Binding.{Binding}
 use Rattle.mon_pdu.specs.declared.message.Body.{Body}
 use Rattle.mon_pdu.specs.declared.message.Body.TheVariants as bodies
 use Rattle.mon_pdu.specs.declared.message.Message.{Message}
@@ -25,7 +28,9 @@ use Rattle.mon_mib.specs.declared.set_fault.SetFault.{SetFault}
 use Rattle.mon_mib.specs.declared.set_fault.SetFault.TheVariants.{OutOfMemory, Refused}
 use Rattle.mon_mib.specs.declared.set_status.SetStatus.{SetStatus}
 use Rattle.mon_mib.specs.Commit.{IsCommitted, failures_by_then}
-use Rattle.mon_mib.specs.Refusal.{IsSetFault}
+use Rattle.mon_mib.specs.declared.step.Step.{Step}
+use Rattle.mon_mib.specs.Assignment.{IsNumberedAssignment, IsSetPlan}
+use Rattle.mon_mib.specs.Refusal.{IsAccepted, IsSetFault}
 use Rattle.mon_mib.specs.SetStatus.{status_number}
 use Rattle.mon_mib.specs.Held.{Held}
 use Rattle.mon_mib.specs.Known.{Known}
@@ -39,7 +44,7 @@ use Rattle.mon_agent.specs.declared.reply.Silence.{Silence}
 use Rattle.mon_agent.specs.declared.reply.Silence.TheVariants.{BadMessage, BadVersion, BadCommunity, NotARequest, TooBigTwice}
 use Rattle.mon_agent.specs.Answer.{IsAnswer, IsAnswered, IsGranted, IsKnown, IsResponseTo, cause_of, is_answered, is_request, need_of, need_of_kind}
 use Rattle.mon_agent.specs.Assigned.{greatest, returned, status_of, place_of}
-use Rattle.mon_agent.specs.Ready.{IsReady, IsReadyFor, IsReadyToSet, IsReturned}
+use Rattle.mon_agent.specs.Ready.{IsAssigning, IsNumbered, IsReady, IsReadyFor, IsReadyToSet, IsReturned, IsRoomy, ready_of}
 use Rattle.mon_agent.specs.Reply.{count_of, too_big, IsWithinLimit, IsAboveLimit, IsOut, IsSent, IsDropped}
 
 -- what is written is no shorter than its contents
@@ -159,6 +164,74 @@ module _ {D : Type 0} (held : D → Held) (failed : D → ℕ) (refuses : D → 
           given ∙ ap (λ (x : Message). written_message (returned x (status_number status) (pos index))) is,
         ),
       )
+
+-- what is ready where an answer is
+pub ready_with : (P : Ready → Type 0) (reply : Result Reply AllocError) (result : Result Ready AgentFault) → result ≡ ready_of reply
+    → IfOk reply (λ r. P (Answer r)) → IfOk result P
+ready_with P (Ok r) result is given = subst (λ (x : Result Ready AgentFault). IfOk x P) (sym is) given
+ready_with P (Err e) result is given = subst (λ (x : Result Ready AgentFault). IfOk x P) (sym is) tt
+
+pub roomy_with : (reply : Result Reply AllocError) (result : Result Ready AgentFault) → result ≡ ready_of reply → IfOk result IsRoomy
+roomy_with (Ok r) result is = subst (λ (x : Result Ready AgentFault). IfOk x IsRoomy) (sym is) tt
+roomy_with (Err e) result is = subst (λ (x : Result Ready AgentFault). IfOk x IsRoomy) (sym is) tt
+
+module _ {D : Type 0} (held : D → Held) (failed : D → ℕ) (refuses : D → Change → Type 0) (k : Known) (device : D) (sees : List ℕ → Type 0) (m : Message) where
+  -- a Set that is above the limit is answered
+  pub oversized : (n : Message) (limit : ℤ) (reply : Result Reply AllocError) → limit ≡ k.settings.limit → too_big n ≡ too_big (greatest m)
+      → IsAboveLimit k.settings.limit (greatest m)
+      → ((other : Message) → too_big n ≡ too_big other → IsAboveLimit limit other → IfOk reply (IsOut limit other other))
+      → IfOk reply (λ r. IsReadyToSet held failed refuses k sees device m (Answer r))
+  oversized n limit (Err e) is same above out = tt
+  oversized n limit (Ok r) is same above out = (
+    greatest m,
+    inl (record { above = above; stays = refl; is = refl }),
+    refl,
+    subst (λ (z : ℤ). IsOut z (greatest m) (greatest m) r) is (out (greatest m) same (subst (λ (z : ℤ). IsAboveLimit z (greatest m)) (sym is) above)),
+  )
+
+  -- a Set of which no variable binding is refused is to be assigned
+  pub planned : (plan : List Step) (response : Message) (size : ℕ) (result : Result Ready AgentFault) → response ≡ greatest m
+      → IsWithinLimit k.settings.limit (greatest m) → All (IsAccepted k sees) (bindings_of m.body) → IsSetPlan k (bindings_of m.body) plan
+      → IfOk result (IsAssigning plan response size) → IfOk result (IsReadyToSet held failed refuses k sees device m)
+  planned plan response size (Err e) is fits accepted right made = tt
+  planned plan response size (Ok (Answer r)) is fits accepted right made = absurd made
+  planned plan response size (Ok (Assign a)) is fits accepted right made =
+      record { fits = fits; accepted = accepted; plan = subst (IsSetPlan k (bindings_of m.body)) (sym made.0) right; is = made.1 ∙ is }
+
+  -- a Set of which a variable binding is refused is answered
+  pub refused : (policy : Lists) (response : Message) (fault : SetFault) (reply : Result Reply AllocError)
+      → ((status : SetStatus) (index : ℕ) → index ≤ length (bindings_of m.body)
+      → length (written_message (returned (greatest m) (status_number status) (pos index))) ≤ length (written_message (greatest m)))
+      → response ≡ greatest m → IsWithinLimit k.settings.limit (greatest m) → IsSetFault k sees (bindings_of m.body) fault
+      → IfOk reply (IsReturned response fault) → IfOk reply (λ r. IsReadyToSet held failed refuses k sees device m (Answer r))
+  refused policy response fault (Err e) shorter is fits fault_is given = tt
+  refused policy response fault (Ok r) shorter is fits fault_is given =
+      refused_ready held failed refuses policy k device sees m response fault r shorter is fits fault_is given
+
+-- the place of what is refused, and those of what is assigned, are among the variable bindings
+pub numbered : (k : Known) (sees : List ℕ → Type 0) (bindings : List Binding) (fault : SetFault) → IsSetFault k sees bindings fault
+    → IsNumbered (length bindings) fault
+numbered k sees bindings OutOfMemory is = tt
+numbered k sees bindings (Refused status index) is = omega (arith, is.number, is.within)
+
+pub roomy : (k : Known) (m : Message) (plan : List Step) (response : Message) (size : ℕ) (result : Result Ready AgentFault) → response ≡ greatest m
+    → length (bindings_of m.body) < 2 ^ 31 → IsSetPlan k (bindings_of m.body) plan → size ≡ length (written_message response) → size < 2 ^ 32
+    → IfOk result (IsAssigning plan response size) → IfOk result IsRoomy
+roomy k m plan response size (Err e) is few right size_is small made = tt
+roomy k m plan response size (Ok (Answer r)) is few right size_is small made = absurd made
+roomy k m plan response size (Ok (Assign a)) is few right size_is small made =
+    let same : a.response ≡ greatest m = made.1 ∙ is in
+    let within : (s : Step) → IsNumberedAssignment k (bindings_of m.body) s → s.index ≤ length (bindings_of m.body) = λ s at. omega (arith, at.number, at.last.within) in
+    let long : length (written_message a.response) ≡ size = ap (λ (r : Message). length (written_message r)) made.1 ∙ sym size_is in
+    record {
+      greatest_is = same ∙ sym (ap greatest same);
+      few = subst (λ (r : Message). length (bindings_of r.body) < 2 ^ 31) (sym same) few;
+      numbers = subst (λ (r : Message). All (λ s. s.index ≤ length (bindings_of r.body)) a.plan) (sym same)
+          (subst (All (λ s. s.index ≤ length (bindings_of m.body))) (sym made.0) (All-weaker (IsNumberedAssignment k (bindings_of m.body)) (λ s. s.index ≤ length (bindings_of m.body)) within plan right.each));
+      small = omega (arith, long, small);
+      empty = made.2;
+      room = omega (arith, long, made.3);
+    }
 
 -- what becomes of a message only depends on it by its size, its community and its request-id
 pub out_same : (limit : ℤ) (m n : Message) (r : Reply) → too_big m ≡ too_big n → IsAboveLimit limit m → IsAboveLimit limit n → IsOut limit m m r

@@ -12,7 +12,7 @@ ghost use Rattle.mon_agent.specs.Ready.{IsReady, IsReadyFor, IsRoomy};
 
 use crate::fault::AgentFault;
 use crate::reading::read;
-use crate::ready::Ready;
+use crate::ready::{Ready, make_answer};
 use crate::reply::{Reply, Silence};
 use crate::sending::{make_return, send};
 use mon_mib::{Counter, Counters, Device, Mib, Moment, Search, Settings};
@@ -138,13 +138,13 @@ impl<D: Device + Drop> Agent<D> {
         }
         let Ok(access) = access else {
             let denied = make_return(message, AUTHORIZATION_ERROR, 0);
-            return Ok(Ready::Answer(send(alloc, denied, self.mib.settings().limit)?));
+            return make_answer(send(alloc, denied, self.mib.settings().limit));
         };
         if need == Need::Write {
             return self.prepare_set(alloc, access, message, moment);
         }
         let mut search = Search::new(alloc, &self.mib, &self.policy, access, moment);
-        Ok(Ready::Answer(read(alloc, &mut search, message)?))
+        make_answer(read(alloc, &mut search, message))
     }
 
     /// Does what it was about to do. It allocates nothing.

@@ -1,6 +1,6 @@
 //! Responses, and whether they are sent (RFC 3416 section 4.2).
 
-ghost use Rattle.std.specs.Prelude.{◌≡◌, ◌≤◌, ◌↔◌, pos, length, IfOk, IfSome, IfNone};
+ghost use Rattle.std.specs.Prelude.{◌≡◌, ◌<◌, ◌≤◌, ◌^◌, ◌↔◌, pos, length, IfOk, IfSome, IfNone};
 ghost use Rattle.mon_pdu.specs.declared.message.Message.{Message as AnyMessage};
 ghost use Rattle.mon_pdu.specs.Grammar.{bindings_of, first_of};
 ghost use Rattle.mon_pdu.specs.Writing.{HasLength, written_message};
@@ -111,6 +111,7 @@ pub(crate) fn size_within(message: &Message, limit: i32) -> Option<usize>
     ensures size { IfSome result (λ size. size ≡ length (written_message message.now)) }
     ensures length { IfSome result (λ size. HasLength message.now) }
     ensures within { IfSome result (λ size. IsWithinLimit limit message.now) }
+    ensures small { IfSome result (λ size. size < 2 ^ 32) }
     ensures above { IfNone result (IsAboveLimit limit message.now) }
 {
     let Ok(size) = message_size(message) else {

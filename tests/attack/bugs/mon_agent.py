@@ -128,7 +128,7 @@ BUGS = {
     ),
     "silences_a_set_above_the_limit": (
         "src/assigning.rt",
-        "            return Ok(Ready::Answer(send_too_big(alloc, response, limit)?));",
+        "            return make_answer(send_too_big(alloc, response, limit));",
         "            return Ok(Ready::Answer(Reply::Silent(crate::reply::Silence::TooBigTwice)));",
     ),
     "returns_one_binding_of_a_set": (
