@@ -18,7 +18,8 @@ use Rattle.mon_pdu.specs.declared.fault.PduFault.{PduFault}
 use Rattle.mon_pdu.specs.declared.fault.PduFault.TheVariants as faults
 use Rattle.mon_pdu.specs.Grammar.{BeginsWithMessage, IsVersioned, bindings_of}
 use Rattle.mon_pdu.specs.Reading.{Gives}
-use Rattle.mon_vacm.specs.declared.need.Need.TheVariants.{Write}
+use Rattle.mon_vacm.specs.declared.need.Need.TheVariants.{Read, Write}
+use Rattle.mon_vacm.specs.declared.denied.Denied.{Denied}
 use Rattle.mon_vacm.specs.Access.{access_of}
 use Rattle.mon_vacm.specs.Tables.{Lists}
 use Rattle.mon_vacm.specs.View.{IsInView}
@@ -42,9 +43,10 @@ use Rattle.mon_agent.specs.declared.reply.Reply.{Reply}
 use Rattle.mon_agent.specs.declared.reply.Reply.TheVariants.{Send, Silent}
 use Rattle.mon_agent.specs.declared.reply.Silence.{Silence}
 use Rattle.mon_agent.specs.declared.reply.Silence.TheVariants.{BadMessage, BadVersion, BadCommunity, NotARequest, TooBigTwice}
-use Rattle.mon_agent.specs.Answer.{IsAnswer, IsAnswered, IsGranted, IsKnown, IsResponseTo, cause_of, is_answered, is_request, need_of, need_of_kind}
+use Rattle.mon_agent.specs.Answer.{IsAnswer, IsAnswered, IsGranted, IsKnown, IsResponseTo, IsSilenceOf, cause_of, is_answered, is_request, need_of, need_of_kind}
 use Rattle.mon_agent.specs.Assigned.{greatest, returned, status_of, place_of}
 use Rattle.mon_agent.specs.Ready.{IsAssigning, IsNumbered, IsReady, IsReadyFor, IsReadyToSet, IsReturned, IsRoomy, ready_of}
+use Rattle.mon_agent.specs.Sent.{IsReadOut}
 use Rattle.mon_agent.specs.Reply.{count_of, too_big, IsWithinLimit, IsAboveLimit, IsOut, IsSent, IsDropped}
 
 -- what is written is no shorter than its contents
@@ -106,6 +108,34 @@ module _ {D : Type 0} (held : D → Held) (failed : D → ℕ) (refuses : D → 
       out_answers device device m ready.0 r (known_view policy m view access) (set_answers m.body set)
       (inr (view, access, subst (λ n. IsGranted held failed refuses n k (IsInView policy.families view) device device m ready.0) (sym set) ready.1))
       ready.2 ready.3
+
+  -- a message that is not answered
+  pub silent_ready : (device : D) (m : Message) (cause : Silence) → IsSilenceOf (access_of policy m.community (need_of m.body)) m.body cause
+      → IsAnswered held failed refuses policy k device device m (Silent cause)
+  silent_ready device m BadMessage is = absurd is
+  silent_ready device m BadVersion is = absurd is
+  silent_ready device m BadCommunity is = (is, refl)
+  silent_ready device m NotARequest is = (is.0, is.1, refl)
+  silent_ready device m TooBigTwice is = absurd is
+
+  -- a request that is denied
+  pub denied_ready : (device : D) (m reply : Message) (why : Denied) (limit : ℤ) (sent : Result Reply AllocError) → IsKnown policy m
+      → is_request m.body ≡ true → access_of policy m.community (need_of m.body) ≡ Err why → reply ≡ returned m (pos 16) (pos 0)
+      → limit ≡ k.settings.limit → IfOk sent (IsOut limit reply reply) → IfOk sent (λ r. IsReadyFor held failed refuses policy k device m (Answer r))
+  denied_ready device m reply why limit (Err e) known request access told is out = tt
+  denied_ready device m reply why limit (Ok r) known request access told is out =
+      out_answers device device m reply r known request (inl (why, (λ e. known (access ∙ ap Err e)), access, refl, told)) (ap too_big told)
+      (subst (λ (z : ℤ). IsOut z reply reply r) is out)
+
+  -- a request to read that is granted in a view
+  pub read_ready : (device : D) (m : Message) (view : List ℕ) (sent : Result Reply AllocError) → need_of m.body ≡ Read → is_request m.body ≡ true
+      → access_of policy m.community (need_of m.body) ≡ Ok view → IfOk sent (IsReadOut k (IsInView policy.families view) m)
+      → IfOk sent (λ r. IsReadyFor held failed refuses policy k device m (Answer r))
+  read_ready device m view (Err e) read request access out = tt
+  read_ready device m view (Ok r) read request access out =
+      out_answers device device m out.0 r (known_view policy m view access) request
+      (inr (view, access, subst (λ n. IsGranted held failed refuses n k (IsInView policy.families view) device device m out.0) (sym read) (refl, out.1)))
+      out.2 out.3
 
   -- a Set that was assigned is answered
   pub assigned_answers : (before after : D) (datagram : List ℕ) (a : Assigning) (outcome : Commit) (octets : Vec ℕ)

@@ -138,13 +138,13 @@ BUGS = {
     ),
     "calls_a_trap_a_bad_community": (
         "src/agent.rt",
-        "        if !is_request(&message.body) {\n            return Ok(Ready::Answer(Reply::Silent(Silence::NotARequest)));",
-        "        if !is_request(&message.body) {\n            return Ok(Ready::Answer(Reply::Silent(Silence::BadCommunity)));",
+        "    if !is_request(body) {\n        return Some(Silence::NotARequest);",
+        "    if !is_request(body) {\n        return Some(Silence::BadCommunity);",
     ),
     "denies_with_index_1": (
         "src/agent.rt",
-        "            let denied = make_return(message, AUTHORIZATION_ERROR, 0);",
-        "            let denied = make_return(message, AUTHORIZATION_ERROR, 1);",
+        "                let denied = make_return(message, AUTHORIZATION_ERROR, 0);",
+        "                let denied = make_return(message, AUTHORIZATION_ERROR, 1);",
     ),
     "calls_no_instance_no_object": (
         "src/reading.rt",
