@@ -47,7 +47,7 @@ use Rattle.mon_agent.specs.Answer.{IsAnswer, IsAnswered, IsGranted, IsKnown, IsR
 use Rattle.mon_agent.specs.Assigned.{greatest, returned, status_of, place_of}
 use Rattle.mon_agent.specs.Ready.{IsAssigning, IsNumbered, IsReady, IsReadyFor, IsReadyToSet, IsReturned, IsRoomy, ready_of}
 use Rattle.mon_agent.specs.Sent.{IsReadOut}
-use Rattle.mon_agent.specs.Reply.{count_of, too_big, IsWithinLimit, IsAboveLimit, IsOut, IsSent, IsDropped}
+use Rattle.mon_agent.specs.Reply.{count_of, too_big, IsWithinLimit, IsAboveLimit, IsOut, IsSending, IsSent, IsDropped}
 
 -- what is written is no shorter than its contents
 pub longer : (m : Message) → length (message_contents m) ≤ length (written_message m)
@@ -194,6 +194,25 @@ module _ {D : Type 0} (held : D → Held) (failed : D → ℕ) (refuses : D → 
           given ∙ ap (λ (x : Message). written_message (returned x (status_number status) (pos index))) is,
         ),
       )
+
+-- what is sent of a response that is within the limit, and of tooBig where the response is above it
+pub sent_within : (limit : ℤ) (m : Message) (sent : Result Reply AllocError) → IsWithinLimit limit m → IfOk sent (IsSending m) → IfOk sent (IsOut limit m m)
+sent_within limit m (Err e) fits is = tt
+sent_within limit m (Ok (Send octets)) fits is = inl (fits, is)
+sent_within limit m (Ok (Silent cause)) fits is = absurd is
+
+pub sent_too_big : (limit : ℤ) (m other : Message) (sent : Result Reply AllocError) → m ≡ too_big other → IsAboveLimit limit other
+    → IsWithinLimit limit m → IfOk sent (IsSending m) → IfOk sent (IsOut limit other other)
+sent_too_big limit m other (Err e) same above fits is = tt
+sent_too_big limit m other (Ok (Send octets)) same above fits is = inr (above, subst (IsWithinLimit limit) same fits, is ∙ ap written_message same)
+sent_too_big limit m other (Ok (Silent cause)) same above fits is = absurd is
+
+-- what is sent for a refused Set
+pub returned_with : (m reply : Message) (status : SetStatus) (index : ℕ) (sent : Result Reply AllocError)
+    → reply ≡ returned m (status_number status) (pos index) → IfOk sent (IsSending reply) → IfOk sent (IsReturned m (Refused status index))
+returned_with m reply status index (Err e) told is = tt
+returned_with m reply status index (Ok (Send octets)) told is = is ∙ ap written_message told
+returned_with m reply status index (Ok (Silent cause)) told is = absurd is
 
 -- what is ready where an answer is
 pub ready_with : (P : Ready → Type 0) (reply : Result Reply AllocError) (result : Result Ready AgentFault) → result ≡ ready_of reply

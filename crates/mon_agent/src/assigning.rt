@@ -116,7 +116,7 @@ fn make_refusal(
         SetFault::OutOfMemory => Err(AllocError),
         SetFault::Refused { status, index } => {
             let response = make_return(response, status.number(), index_of(index));
-            Ok(Reply::Send(write(alloc, &response, size)?))
+            write(alloc, &response, size)
         }
     }
 }

@@ -108,8 +108,8 @@ BUGS = {
     ),
     "sends_too_big_at_any_size": (
         "src/sending.rt",
-        "    match size_within(&too_big, limit) {\n        Some(size) => Ok(Reply::Send(write(alloc, &too_big, size)?)),",
-        "    match size_within(&too_big, i32::MAX) {\n        Some(size) => Ok(Reply::Send(write(alloc, &too_big, size)?)),",
+        "    match size_within(reply, limit) {",
+        "    match size_within(reply, i32::MAX) {",
     ),
     "calls_too_big_no_request": (
         "src/sending.rt",
