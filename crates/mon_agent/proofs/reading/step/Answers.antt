@@ -1,8 +1,4 @@
-use Rattle.std.proofs.Common.{◌≡◌, List, inl, inr, refl, ap, ◌∙◌}
 use Rattle.std.proofs.lemmas.Result.{IfOk-from_err}
-use Rattle.mon_mib.specs.Next.{IsNext}
-use Rattle.mon_mib.specs.Objects.{objects}
-use Rattle.mon_mib.specs.Search.{IsSeenIn, known_in}
 use Rattle.mon_agent.proofs.reading.step.Goals as goal
 
 pub returns-in_err-binding-clause-step : goal.returns-in_err-binding-clause-step

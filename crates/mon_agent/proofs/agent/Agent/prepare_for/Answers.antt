@@ -1,5 +1,4 @@
-use Rattle.std.proofs.Common.{◌≡◌, ◌≢◌, rules, arith, w32, to_z, of_z, pos, Ok, Err, refl, sym, ap, subst, ◌∙◌}
-use Rattle.mon_vacm.specs.declared.denied.Denied.TheVariants.{NoCommunity}
+use Rattle.std.proofs.Common.{◌≡◌, rules, arith, w32, to_z, of_z, pos, refl, sym, ap, subst, ◌∙◌}
 use Rattle.mon_vacm.specs.Access.{access_of}
 use Rattle.mon_vacm.specs.Borrowed.{granted}
 use Rattle.mon_mib.specs.Map.{known_by}

@@ -1,4 +1,4 @@
-use Rattle.std.proofs.Common.{◌≡◌, ◌≤◌, ◌<◌, ◌^◌, rules, arith, w32, to_z, of_z, ℤ, pos, length, refl, sym, ap, subst, ◌∙◌}
+use Rattle.std.proofs.Common.{◌≡◌, ◌<◌, ◌^◌, rules, arith, w32, to_z, of_z, ℤ, length, refl, sym, ap, subst, ◌∙◌}
 use Rattle.std.specs.Prelude.{All}
 use Rattle.mon_pdu.specs.declared.message.Message.{Message}
 use Rattle.mon_pdu.specs.Grammar.{bindings_of}
