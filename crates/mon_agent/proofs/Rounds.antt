@@ -1,6 +1,7 @@
 -- The full list of a GetBulk, and the part of it that was put.
 use Rattle.std.proofs.Common.{◌≡◌, ℕ, zero, suc, ◌+◌, ◌-◌, ◌<◌, ◌≤◌, min, Bool, true, false, if◌then◌else◌, ℤ, List, [], ◌∷◌, ◌++◌, length, map, get_or, take, drop, refl, sym, ap, subst, ◌∙◌, inl, inr, ◌⊎◌, arith}
 use Rattle.std.specs.Prelude.{Result, Ok, Err, OnOk}
+use Rattle.std.specs.Result.{is_err}
 use Rattle.std.proofs.lemmas.List.{take_more, map-append, append_assoc, append-nil, length-append, length-map, length-drop, get_or-drop, take_all}
 use Rattle.std.proofs.Math.Seq.{split_at}
 use Rattle.mon_pdu.specs.declared.message.Binding.{Binding}
@@ -181,6 +182,9 @@ all_taken n l le = take_all n l le
 pub one_less : (m n : ℕ) → n < m → m - n ≡ suc (m - (n + 1))
 one_less m n lt = omega arith
 
+pub none_left : (m n : ℕ) → m ≤ n → m - n ≡ 0
+none_left m n le = omega arith
+
 -- one round more of what follows
 pub unrolled : (next : List ℕ → Binding) (before round : List Binding) (k m : ℕ) → k ≡ suc m → is_last round ≡ false
     → (before ++ answers next round) ++ more_rounds next m (answers next round) ≡ before ++ more_rounds next k round
@@ -263,3 +267,39 @@ above_zero n some = omega (arith, some)
 pub on_ok : {A E : Type 0} {P Q : Type 0} (r : Result A E) → (P → Q) → OnOk r P → OnOk r Q
 on_ok (Ok x) f p = f p
 on_ok (Err e) f p = p
+
+-- ---- what each step of a loop adds
+
+pub some_of : (i n : ℕ) → i < n → 1 ≤ n
+some_of i n lt = omega arith
+
+pub at_least_one : (n : ℕ) → (n ≡ 0 → ⊥) → 1 ≤ n
+at_least_one n some = omega (arith, some)
+
+pub part_of : (all some more : ℕ) → all ≡ some + more → more ≤ all
+part_of all some more is = omega (arith, is)
+
+pub one_longer : (reply now : List Binding) (b : Binding) (n i : ℕ) → now ≡ reply ++ b ∷ [] → length reply ≡ n + i → length now ≡ n + (i + 1)
+one_longer reply now b n i more long = omega (arith, ap length more, length-append reply (b ∷ []), long)
+
+pub as_wide : (reply now : List Binding) (b : Binding) (width : ℕ) → now ≡ reply ++ b ∷ [] → width ≤ length reply → width ≤ length now
+as_wide reply now b width more wide = omega (arith, ap length more, length-append reply (b ∷ []), wide)
+
+pub in_last : (width : ℕ) (before : List Binding) (i : ℕ) → width ≤ length before → i < width → i < length (last width before)
+in_last width before i wide inside = omega (arith, length-drop (length before - width) before, wide, inside)
+
+pub last_within : (width : ℕ) (before : List Binding) (i : ℕ) → width ≤ length before → width ≤ i → length (last width before) ≤ i
+last_within width before i wide ended = omega (arith, length-drop (length before - width) before, wide, ended)
+
+pub all_put : (next : List ℕ → Binding) (before asked reply : List Binding) (i : ℕ) → length asked ≤ i → reply ≡ before ++ answers next (take i asked)
+    → reply ≡ before ++ answers next asked
+all_put next before asked reply i le is = is ∙ ap (λ l. before ++ answers next l) (all_taken i asked le)
+
+-- what was not put says nothing of what would have been
+pub not_full : {E : Type 0} {P : Type 0} → (let r : Result Bool E = Ok false in r ≡ Ok true) → P
+not_full is = absurd cc
+
+-- after a fault nothing is said of what would have been
+pub unless_err : {A E : Type 0} {P : Type 0} (r : Result A E) (x : A) → is_err r ≡ true → r ≡ Ok x → P
+unless_err (Ok y) x failed is = absurd cc
+unless_err (Err e) x failed is = absurd cc

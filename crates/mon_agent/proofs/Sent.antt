@@ -1,10 +1,13 @@
 -- Sizes of responses, and what is sent of them.
 use Rattle.std.proofs.Common.{◌≡◌, ◌≢◌, ◌↔◌, true, false, ℕ, ◌<◌, ◌≤◌, ◌^◌, ℤ, pos, negsuc, List, ◌∷◌, length, refl, sym, ap, subst, ◌∙◌, inl, inr, arith}
-use Rattle.std.specs.Prelude.{Some, None, Result, Ok, Err, IfOk}
+use Rattle.std.specs.Prelude.{Some, None, Result, Ok, Err, IfOk, All}
+use Rattle.std.specs.declared.alloc.AllocError.{AllocError}
 use Rattle.std.specs.Global.{Vec}
 use Rattle.std.proofs.lemmas.Bool.{cases_eq}
 use Rattle.std.proofs.lemmas.List.{length-append}
+use Rattle.std.proofs.lemmas.List.Elements.{All-weaker}
 use Rattle.mon_ber.specs.Writing.{element, length_octets}
+use Rattle.mon_pdu.specs.declared.message.Binding.{Binding}
 use Rattle.mon_pdu.specs.declared.message.Body.{Body}
 use Rattle.mon_pdu.specs.declared.message.Body.TheVariants as bodies
 use Rattle.mon_pdu.specs.declared.message.Message.{Message}
@@ -15,7 +18,8 @@ use Rattle.mon_pdu.specs.declared.fault.PduFault.{PduFault}
 use Rattle.mon_pdu.specs.declared.fault.PduFault.TheVariants as faults
 use Rattle.mon_pdu.specs.Grammar.{BeginsWithMessage, IsVersioned, bindings_of}
 use Rattle.mon_pdu.specs.Reading.{Gives}
-use Rattle.mon_vacm.specs.declared.need.Need.TheVariants.{Write}
+use Rattle.mon_vacm.specs.declared.need.Need.TheVariants.{Read, Write}
+use Rattle.mon_vacm.specs.declared.denied.Denied.{Denied}
 use Rattle.mon_vacm.specs.Access.{access_of}
 use Rattle.mon_vacm.specs.Tables.{Lists}
 use Rattle.mon_vacm.specs.View.{IsInView}
@@ -25,7 +29,9 @@ use Rattle.mon_mib.specs.declared.set_fault.SetFault.{SetFault}
 use Rattle.mon_mib.specs.declared.set_fault.SetFault.TheVariants.{OutOfMemory, Refused}
 use Rattle.mon_mib.specs.declared.set_status.SetStatus.{SetStatus}
 use Rattle.mon_mib.specs.Commit.{IsCommitted, failures_by_then}
-use Rattle.mon_mib.specs.Refusal.{IsSetFault}
+use Rattle.mon_mib.specs.declared.step.Step.{Step}
+use Rattle.mon_mib.specs.Assignment.{IsNumberedAssignment, IsSetPlan}
+use Rattle.mon_mib.specs.Refusal.{IsAccepted, IsSetFault}
 use Rattle.mon_mib.specs.SetStatus.{status_number}
 use Rattle.mon_mib.specs.Held.{Held}
 use Rattle.mon_mib.specs.Known.{Known}
@@ -37,10 +43,11 @@ use Rattle.mon_agent.specs.declared.reply.Reply.{Reply}
 use Rattle.mon_agent.specs.declared.reply.Reply.TheVariants.{Send, Silent}
 use Rattle.mon_agent.specs.declared.reply.Silence.{Silence}
 use Rattle.mon_agent.specs.declared.reply.Silence.TheVariants.{BadMessage, BadVersion, BadCommunity, NotARequest, TooBigTwice}
-use Rattle.mon_agent.specs.Answer.{IsAnswer, IsAnswered, IsGranted, IsKnown, IsResponseTo, cause_of, is_answered, is_request, need_of, need_of_kind}
+use Rattle.mon_agent.specs.Answer.{IsAnswer, IsAnswered, IsGranted, IsKnown, IsResponseTo, IsSilenceOf, cause_of, is_answered, is_request, need_of, need_of_kind}
 use Rattle.mon_agent.specs.Assigned.{greatest, returned, status_of, place_of}
-use Rattle.mon_agent.specs.Ready.{IsReady, IsReadyFor, IsReadyToSet, IsReturned}
-use Rattle.mon_agent.specs.Reply.{count_of, too_big, IsWithinLimit, IsAboveLimit, IsOut, IsSent, IsDropped}
+use Rattle.mon_agent.specs.Ready.{IsAssigning, IsNumbered, IsReady, IsReadyFor, IsReadyToSet, IsReturned, IsRoomy, ready_of}
+use Rattle.mon_agent.specs.Sent.{IsReadOut}
+use Rattle.mon_agent.specs.Reply.{count_of, too_big, IsWithinLimit, IsAboveLimit, IsOut, IsSending, IsSent, IsDropped}
 
 -- what is written is no shorter than its contents
 pub longer : (m : Message) → length (message_contents m) ≤ length (written_message m)
@@ -102,6 +109,34 @@ module _ {D : Type 0} (held : D → Held) (failed : D → ℕ) (refuses : D → 
       (inr (view, access, subst (λ n. IsGranted held failed refuses n k (IsInView policy.families view) device device m ready.0) (sym set) ready.1))
       ready.2 ready.3
 
+  -- a message that is not answered
+  pub silent_ready : (device : D) (m : Message) (cause : Silence) → IsSilenceOf (access_of policy m.community (need_of m.body)) m.body cause
+      → IsAnswered held failed refuses policy k device device m (Silent cause)
+  silent_ready device m BadMessage is = absurd is
+  silent_ready device m BadVersion is = absurd is
+  silent_ready device m BadCommunity is = (is, refl)
+  silent_ready device m NotARequest is = (is.0, is.1, refl)
+  silent_ready device m TooBigTwice is = absurd is
+
+  -- a request that is denied
+  pub denied_ready : (device : D) (m reply : Message) (why : Denied) (limit : ℤ) (sent : Result Reply AllocError) → IsKnown policy m
+      → is_request m.body ≡ true → access_of policy m.community (need_of m.body) ≡ Err why → reply ≡ returned m (pos 16) (pos 0)
+      → limit ≡ k.settings.limit → IfOk sent (IsOut limit reply reply) → IfOk sent (λ r. IsReadyFor held failed refuses policy k device m (Answer r))
+  denied_ready device m reply why limit (Err e) known request access told is out = tt
+  denied_ready device m reply why limit (Ok r) known request access told is out =
+      out_answers device device m reply r known request (inl (why, (λ e. known (access ∙ ap Err e)), access, refl, told)) (ap too_big told)
+      (subst (λ (z : ℤ). IsOut z reply reply r) is out)
+
+  -- a request to read that is granted in a view
+  pub read_ready : (device : D) (m : Message) (view : List ℕ) (sent : Result Reply AllocError) → need_of m.body ≡ Read → is_request m.body ≡ true
+      → access_of policy m.community (need_of m.body) ≡ Ok view → IfOk sent (IsReadOut k (IsInView policy.families view) m)
+      → IfOk sent (λ r. IsReadyFor held failed refuses policy k device m (Answer r))
+  read_ready device m view (Err e) read request access out = tt
+  read_ready device m view (Ok r) read request access out =
+      out_answers device device m out.0 r (known_view policy m view access) request
+      (inr (view, access, subst (λ n. IsGranted held failed refuses n k (IsInView policy.families view) device device m out.0) (sym read) (refl, out.1)))
+      out.2 out.3
+
   -- a Set that was assigned is answered
   pub assigned_answers : (before after : D) (datagram : List ℕ) (a : Assigning) (outcome : Commit) (octets : Vec ℕ)
       → IsReady held failed refuses policy k before datagram (Assign a)
@@ -159,6 +194,93 @@ module _ {D : Type 0} (held : D → Held) (failed : D → ℕ) (refuses : D → 
           given ∙ ap (λ (x : Message). written_message (returned x (status_number status) (pos index))) is,
         ),
       )
+
+-- what is sent of a response that is within the limit, and of tooBig where the response is above it
+pub sent_within : (limit : ℤ) (m : Message) (sent : Result Reply AllocError) → IsWithinLimit limit m → IfOk sent (IsSending m) → IfOk sent (IsOut limit m m)
+sent_within limit m (Err e) fits is = tt
+sent_within limit m (Ok (Send octets)) fits is = inl (fits, is)
+sent_within limit m (Ok (Silent cause)) fits is = absurd is
+
+pub sent_too_big : (limit : ℤ) (m other : Message) (sent : Result Reply AllocError) → m ≡ too_big other → IsAboveLimit limit other
+    → IsWithinLimit limit m → IfOk sent (IsSending m) → IfOk sent (IsOut limit other other)
+sent_too_big limit m other (Err e) same above fits is = tt
+sent_too_big limit m other (Ok (Send octets)) same above fits is = inr (above, subst (IsWithinLimit limit) same fits, is ∙ ap written_message same)
+sent_too_big limit m other (Ok (Silent cause)) same above fits is = absurd is
+
+-- what is sent for a refused Set
+pub returned_with : (m reply : Message) (status : SetStatus) (index : ℕ) (sent : Result Reply AllocError)
+    → reply ≡ returned m (status_number status) (pos index) → IfOk sent (IsSending reply) → IfOk sent (IsReturned m (Refused status index))
+returned_with m reply status index (Err e) told is = tt
+returned_with m reply status index (Ok (Send octets)) told is = is ∙ ap written_message told
+returned_with m reply status index (Ok (Silent cause)) told is = absurd is
+
+-- what is ready where an answer is
+pub ready_with : (P : Ready → Type 0) (reply : Result Reply AllocError) (result : Result Ready AgentFault) → result ≡ ready_of reply
+    → IfOk reply (λ r. P (Answer r)) → IfOk result P
+ready_with P (Ok r) result is given = subst (λ (x : Result Ready AgentFault). IfOk x P) (sym is) given
+ready_with P (Err e) result is given = subst (λ (x : Result Ready AgentFault). IfOk x P) (sym is) tt
+
+pub roomy_with : (reply : Result Reply AllocError) (result : Result Ready AgentFault) → result ≡ ready_of reply → IfOk result IsRoomy
+roomy_with (Ok r) result is = subst (λ (x : Result Ready AgentFault). IfOk x IsRoomy) (sym is) tt
+roomy_with (Err e) result is = subst (λ (x : Result Ready AgentFault). IfOk x IsRoomy) (sym is) tt
+
+module _ {D : Type 0} (held : D → Held) (failed : D → ℕ) (refuses : D → Change → Type 0) (k : Known) (device : D) (sees : List ℕ → Type 0) (m : Message) where
+  -- a Set that is above the limit is answered
+  pub oversized : (n : Message) (limit : ℤ) (reply : Result Reply AllocError) → limit ≡ k.settings.limit → too_big n ≡ too_big (greatest m)
+      → IsAboveLimit k.settings.limit (greatest m)
+      → ((other : Message) → too_big n ≡ too_big other → IsAboveLimit limit other → IfOk reply (IsOut limit other other))
+      → IfOk reply (λ r. IsReadyToSet held failed refuses k sees device m (Answer r))
+  oversized n limit (Err e) is same above out = tt
+  oversized n limit (Ok r) is same above out = (
+    greatest m,
+    inl (record { above = above; stays = refl; is = refl }),
+    refl,
+    subst (λ (z : ℤ). IsOut z (greatest m) (greatest m) r) is (out (greatest m) same (subst (λ (z : ℤ). IsAboveLimit z (greatest m)) (sym is) above)),
+  )
+
+  -- a Set of which no variable binding is refused is to be assigned
+  pub planned : (plan : List Step) (response : Message) (size : ℕ) (result : Result Ready AgentFault) → response ≡ greatest m
+      → IsWithinLimit k.settings.limit (greatest m) → All (IsAccepted k sees) (bindings_of m.body) → IsSetPlan k (bindings_of m.body) plan
+      → IfOk result (IsAssigning plan response size) → IfOk result (IsReadyToSet held failed refuses k sees device m)
+  planned plan response size (Err e) is fits accepted right made = tt
+  planned plan response size (Ok (Answer r)) is fits accepted right made = absurd made
+  planned plan response size (Ok (Assign a)) is fits accepted right made =
+      record { fits = fits; accepted = accepted; plan = subst (IsSetPlan k (bindings_of m.body)) (sym made.0) right; is = made.1 ∙ is }
+
+  -- a Set of which a variable binding is refused is answered
+  pub refused : (policy : Lists) (response : Message) (fault : SetFault) (reply : Result Reply AllocError)
+      → ((status : SetStatus) (index : ℕ) → index ≤ length (bindings_of m.body)
+      → length (written_message (returned (greatest m) (status_number status) (pos index))) ≤ length (written_message (greatest m)))
+      → response ≡ greatest m → IsWithinLimit k.settings.limit (greatest m) → IsSetFault k sees (bindings_of m.body) fault
+      → IfOk reply (IsReturned response fault) → IfOk reply (λ r. IsReadyToSet held failed refuses k sees device m (Answer r))
+  refused policy response fault (Err e) shorter is fits fault_is given = tt
+  refused policy response fault (Ok r) shorter is fits fault_is given =
+      refused_ready held failed refuses policy k device sees m response fault r shorter is fits fault_is given
+
+-- the place of what is refused, and those of what is assigned, are among the variable bindings
+pub numbered : (k : Known) (sees : List ℕ → Type 0) (bindings : List Binding) (fault : SetFault) → IsSetFault k sees bindings fault
+    → IsNumbered (length bindings) fault
+numbered k sees bindings OutOfMemory is = tt
+numbered k sees bindings (Refused status index) is = omega (arith, is.number, is.within)
+
+pub roomy : (k : Known) (m : Message) (plan : List Step) (response : Message) (size : ℕ) (result : Result Ready AgentFault) → response ≡ greatest m
+    → length (bindings_of m.body) < 2 ^ 31 → IsSetPlan k (bindings_of m.body) plan → size ≡ length (written_message response) → size < 2 ^ 32
+    → IfOk result (IsAssigning plan response size) → IfOk result IsRoomy
+roomy k m plan response size (Err e) is few right size_is small made = tt
+roomy k m plan response size (Ok (Answer r)) is few right size_is small made = absurd made
+roomy k m plan response size (Ok (Assign a)) is few right size_is small made =
+    let same : a.response ≡ greatest m = made.1 ∙ is in
+    let within : (s : Step) → IsNumberedAssignment k (bindings_of m.body) s → s.index ≤ length (bindings_of m.body) = λ s at. omega (arith, at.number, at.last.within) in
+    let long : length (written_message a.response) ≡ size = ap (λ (r : Message). length (written_message r)) made.1 ∙ sym size_is in
+    record {
+      greatest_is = same ∙ sym (ap greatest same);
+      few = subst (λ (r : Message). length (bindings_of r.body) < 2 ^ 31) (sym same) few;
+      numbers = subst (λ (r : Message). All (λ s. s.index ≤ length (bindings_of r.body)) a.plan) (sym same)
+          (subst (All (λ s. s.index ≤ length (bindings_of m.body))) (sym made.0) (All-weaker (IsNumberedAssignment k (bindings_of m.body)) (λ s. s.index ≤ length (bindings_of m.body)) within plan right.each));
+      small = omega (arith, long, small);
+      empty = made.2;
+      room = omega (arith, long, made.3);
+    }
 
 -- what becomes of a message only depends on it by its size, its community and its request-id
 pub out_same : (limit : ℤ) (m n : Message) (r : Reply) → too_big m ≡ too_big n → IsAboveLimit limit m → IsAboveLimit limit n → IsOut limit m m r

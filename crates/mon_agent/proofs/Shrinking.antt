@@ -38,6 +38,12 @@ passed_on m reply status index s place one two is status_is index_is =
     is ∙ ((λ i. returned m (to_z w32 (of_z w32 (status_is i))) (to_z w32 (of_z w32 (index_is i))))
     ∙ (λ i. returned m (to_z-of_z w32 s one i) (to_z-of_z w32 (pos place) fits i)))
 
+-- the response by whose size a Set is judged
+pub greatest_is : (m reply : Message) (count : ℤ) → length (bindings_of m.body) < 2 ^ 31 → count ≡ pos (length (bindings_of m.body))
+    → reply ≡ returned m (to_z w32 (of_z w32 (pos 0))) (to_z w32 (of_z w32 count)) → reply ≡ greatest m
+greatest_is m reply count few count_is is =
+    passed_on m reply (pos 0) count (pos 0) (length (bindings_of m.body)) (record { sfits = omega arith }) few is refl count_is
+
 pub status_fits : (outcome : Commit) → FitsSigned w32 (status_of outcome)
 status_fits Done = record { sfits = omega arith }
 status_fits (CommitFailed failed) = record { sfits = omega arith }

@@ -1,6 +1,6 @@
 -- What an agent answers to a datagram, and what it does to its device (RFC 3416 section 4.2, RFC 3413 section 3.2, RFC 3418
 -- section 2).
-use Rattle.std.specs.Prelude.{◌≡◌, ◌≢◌, ℕ, ℤ, pos, Bool, true, false, List, Option, Some, None, Ok, Err, ◌⊎◌}
+use Rattle.std.specs.Prelude.{◌≡◌, ◌≢◌, ℕ, ℤ, pos, Bool, true, false, List, Option, Some, None, Result, Ok, Err, ◌⊎◌}
 use Rattle.mon_pdu.specs.declared.message.Binding.{Binding}
 use Rattle.mon_pdu.specs.declared.message.Body.{Body}
 use Rattle.mon_pdu.specs.declared.message.Body.TheVariants as bodies
@@ -72,6 +72,12 @@ IsReading k sees m reply = (answers : List Binding) × AreAnswers k sees m m.bod
 -- the request's community is known
 abbrev pub IsKnown : Lists → Message → Type 0
 IsKnown policy m = access_of policy m.community (need_of m.body) ≢ Err NoCommunity
+
+-- why a message is not answered that is given this access
+abbrev pub IsSilenceOf : Result (List ℕ) Denied → Body → Silence → Type 0
+IsSilenceOf access body BadCommunity = access ≡ Err NoCommunity
+IsSilenceOf access body NotARequest = (access ≢ Err NoCommunity) × (is_request body ≡ false)
+IsSilenceOf access body other = ⊥
 
 -- how devices of one kind hold, fail and refuse
 module _ {D : Type 0} (held : D → Held) (failed : D → ℕ) (refuses : D → Change → Type 0) where

@@ -1,5 +1,6 @@
 -- What an agent is about to do about a datagram, with all memory for it taken.
-use Rattle.std.specs.Prelude.{◌≡◌, ℕ, ◌<◌, ◌≤◌, ◌^◌, pos, List, [], length, All, Ok, vec_capacity}
+use Rattle.std.specs.Prelude.{◌≡◌, ℕ, ◌<◌, ◌≤◌, ◌^◌, pos, List, [], length, All, Result, Ok, Err, vec_capacity}
+use Rattle.std.specs.declared.alloc.AllocError.{AllocError}
 use Rattle.mon_pdu.specs.declared.message.Message.{Message}
 use Rattle.mon_pdu.specs.Grammar.{BeginsWithMessage, bindings_of}
 use Rattle.mon_pdu.specs.Writing.{written_message}
@@ -10,11 +11,14 @@ use Rattle.mon_vacm.specs.View.{IsInView}
 use Rattle.mon_mib.specs.declared.change.Change.{Change}
 use Rattle.mon_mib.specs.declared.set_fault.SetFault.{SetFault}
 use Rattle.mon_mib.specs.declared.set_fault.SetFault.TheVariants.{OutOfMemory, Refused}
+use Rattle.mon_mib.specs.declared.step.Step.{Step}
 use Rattle.mon_mib.specs.Assignment.{IsSetPlan}
 use Rattle.mon_mib.specs.Held.{Held}
 use Rattle.mon_mib.specs.Known.{Known}
 use Rattle.mon_mib.specs.Refusal.{IsAccepted}
 use Rattle.mon_mib.specs.SetStatus.{status_number}
+use Rattle.mon_agent.specs.declared.fault.AgentFault.{AgentFault}
+use Rattle.mon_agent.specs.declared.fault.AgentFault.TheVariants as faults
 use Rattle.mon_agent.specs.declared.ready.Assigning.{Assigning}
 use Rattle.mon_agent.specs.declared.ready.Ready.{Ready}
 use Rattle.mon_agent.specs.declared.ready.Ready.TheVariants.{Answer, Assign}
@@ -51,6 +55,16 @@ pub record IsToAssign (policy : Lists) (k : Known) (m : Message) (a : Assigning)
   pub set : need_of m.body ≡ Write
   pub access : access_of policy m.community (need_of m.body) ≡ Ok view
   pub planned : IsPlanned k (IsInView policy.families view) m a
+
+-- what is ready where an answer is, or where there was no memory for it
+abbrev pub ready_of : Result Reply AllocError → Result Ready AgentFault
+ready_of (Ok reply) = Ok (Answer reply)
+ready_of (Err e) = Err faults.OutOfMemory
+
+-- to assign by this plan, with this response, and room for so many octets
+abbrev pub IsAssigning : List Step → Message → ℕ → Ready → Type 0
+IsAssigning plan response size (Answer reply) = ⊥
+IsAssigning plan response size (Assign a) = (a.plan ≡ plan) × (a.response ≡ response) × (a.room.items ≡ []) × (size ≤ vec_capacity a.room)
 
 -- the variable binding that is refused is one of this many
 abbrev pub IsNumbered : ℕ → SetFault → Type 0

@@ -41,6 +41,11 @@ IsWithinLimit limit m = length (written_message m) ≤ count_of limit
 abbrev pub IsAboveLimit : ℤ → Message → Type 0
 IsAboveLimit limit m = count_of limit < length (written_message m)
 
+-- this is sent
+abbrev pub IsSending : Message → Reply → Type 0
+IsSending m (Send octets) = octets.items ≡ written_message m
+IsSending m (Silent cause) = ⊥
+
 -- what is sent of a response: the response itself, or where it is above the limit tooBig without variable bindings
 abbrev pub IsSent : ℤ → Message → Message → List ℕ → Type 0
 IsSent limit request reply octets =

@@ -1,24 +1,28 @@
 //! The agent.
 
-ghost use Rattle.std.specs.Prelude.{◌≡◌, ◌↔◌, ℕ, List, Err, IfOk, OnErr, IsTrue};
+ghost use Rattle.std.specs.Prelude.{◌≡◌, ◌≢◌, ◌↔◌, ℕ, true, List, Err, IfOk, IfSome, IfNone, OnErr, IsTrue};
 ghost use Rattle.mon_vacm.specs.declared.denied.Denied.TheVariants.{NoCommunity};
+ghost use Rattle.mon_vacm.specs.declared.need.Need.TheVariants.{Read};
+ghost use Rattle.mon_vacm.specs.Borrowed.{granted, view_of};
 ghost use Rattle.mon_vacm.specs.Tables.{Lists as AnyLists};
+ghost use Rattle.mon_vacm.specs.View.{IsInView};
 ghost use Rattle.mon_mib.specs.Counters.{counted, no_counts};
 ghost use Rattle.mon_mib.specs.declared.counters.Counter.TheVariants.{InPackets};
 ghost use Rattle.mon_mib.specs.Known.{Known as AnyKnown, known_of};
 ghost use Rattle.mon_mib.specs.Map.{known_by, map_counters, map_device, map_settings, with_counters};
-ghost use Rattle.mon_agent.specs.Answer.{IsAnswer, cause_of, is_request, need_of, raised_by};
+ghost use Rattle.mon_agent.specs.Answer.{IsAnswer, IsSilenceOf, cause_of, is_request, need_of, raised_by};
 ghost use Rattle.mon_agent.specs.Ready.{IsReady, IsReadyFor, IsRoomy};
+ghost use Rattle.mon_agent.specs.Sent.{IsReadOut};
 
 use crate::fault::AgentFault;
 use crate::reading::read;
-use crate::ready::Ready;
+use crate::ready::{Ready, make_answer};
 use crate::reply::{Reply, Silence};
 use crate::sending::{make_return, send};
 use mon_mib::{Counter, Counters, Device, Mib, Moment, Search, Settings};
 use mon_pdu::{Body, Message, PduFault, PduKind, read_message};
 use mon_vacm::{Access, Denied, Need, Policy};
-use std::alloc::Global;
+use std::alloc::{AllocError, Global};
 
 /// authorizationError (RFC 3416 section 3).
 const AUTHORIZATION_ERROR: i32 = 16;
@@ -130,21 +134,37 @@ impl<D: Device + Drop> Agent<D> {
     {
         let need = need_of(&message.body);
         let access = self.policy.access(message.community.as_slice(), need);
-        if is_unknown(&access) {
-            return Ok(Ready::Answer(Reply::Silent(Silence::BadCommunity)));
+        if let Some(cause) = silence_of(&access, &message.body) {
+            drop(message);
+            return Ok(Ready::Answer(Reply::Silent(cause)));
         }
-        if !is_request(&message.body) {
-            return Ok(Ready::Answer(Reply::Silent(Silence::NotARequest)));
+        match access {
+            Err(_) => {
+                let denied = make_return(message, AUTHORIZATION_ERROR, 0);
+                make_answer(send(alloc, denied, self.mib.settings().limit))
+            }
+            Ok(access) => match need {
+                Need::Write => self.prepare_set(alloc, access, message, moment),
+                Need::Read => make_answer(self.read_in(alloc, access, message, moment)),
+            },
         }
-        let Ok(access) = access else {
-            let denied = make_return(message, AUTHORIZATION_ERROR, 0);
-            return Ok(Ready::Answer(send(alloc, denied, self.mib.settings().limit)?));
-        };
-        if need == Need::Write {
-            return self.prepare_set(alloc, access, message, moment);
-        }
+    }
+
+    /// What is sent for a request to read that is granted in a view.
+    fn read_in(
+        &self,
+        alloc: Global,
+        access: Access<'_>,
+        message: Message,
+        moment: Moment,
+    ) -> Result<Reply, AllocError>
+        requires request { is_request message.body ≡ true }
+        requires read { need_of message.body ≡ Read }
+        ensures { let known = known_by D.held self.now.mib moment in
+            IfOk result (IsReadOut known (IsInView self.now.policy.families (view_of access.entry)) message) }
+    {
         let mut search = Search::new(alloc, &self.mib, &self.policy, access, moment);
-        Ok(Ready::Answer(read(alloc, &mut search, message)?))
+        read(alloc, &mut search, message)
     }
 
     /// Does what it was about to do. It allocates nothing.
@@ -208,9 +228,23 @@ fn is_request(body: &Body) -> bool
     }
 }
 
+/// Why a message of this body that is given this access is not answered, if it is not.
+fn silence_of(access: &Result<Access<'_>, Denied>, body: &Body) -> Option<Silence>
+    ensures some { IfSome result (IsSilenceOf (granted access.now) body.now) }
+    ensures none { IfNone result ((granted access.now ≢ Err NoCommunity) × (is_request body.now ≡ true)) }
+{
+    if is_unknown(access) {
+        return Some(Silence::BadCommunity);
+    }
+    if !is_request(body) {
+        return Some(Silence::NotARequest);
+    }
+    None
+}
+
 /// Returns `true` if access was denied since the community is unknown.
 fn is_unknown(access: &Result<Access<'_>, Denied>) -> bool
-    ensures { IsTrue result ↔ (access.now ≡ Err NoCommunity) }
+    ensures { IsTrue result ↔ (granted access.now ≡ Err NoCommunity) }
 {
     matches!(access, Err(Denied::NoCommunity))
 }

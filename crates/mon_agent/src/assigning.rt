@@ -13,13 +13,13 @@ ghost use Rattle.mon_agent.specs.Ready.{HasRoomForErrors, IsNumbered, IsReadyToS
 
 use crate::agent::Agent;
 use crate::fault::AgentFault;
-use crate::ready::{Assigning, Ready};
+use crate::ready::{Assigning, Ready, make_answer, make_assigning};
 use crate::reply::Reply;
 use crate::sending::{NO_ERROR, make_return, send_too_big, size_within, write};
 use mon_mib::{Commit, Device, Moment, SetFault};
 use mon_pdu::{Body, Message, write_within};
 use mon_vacm::Access;
-use std::alloc::Global;
+use std::alloc::{AllocError, Global};
 
 /// commitFailed (RFC 3416 section 3).
 const COMMIT_FAILED: i32 = 14;
@@ -45,23 +45,19 @@ impl<D: Device + Drop> Agent<D> {
         mon_pdu::laws::shrinks();
         let limit = self.mib.settings().limit;
         let Some(count) = count_bindings(&message.body) else {
-            return Ok(Ready::Answer(send_too_big(alloc, message, limit)?));
+            return make_answer(send_too_big(alloc, message, limit));
         };
         let response = make_return(message, NO_ERROR, count);
         let Some(size) = size_within(&response, limit) else {
-            return Ok(Ready::Answer(send_too_big(alloc, response, limit)?));
+            return make_answer(send_too_big(alloc, response, limit));
         };
         let bindings = response.body.bindings();
         match self
             .mib
             .test_set(alloc, &self.policy, access, bindings, moment)
         {
-            Ok(plan) => Ok(Ready::Assign(Assigning {
-                plan,
-                response,
-                room: Vec::with_capacity(alloc, size)?,
-            })),
-            Err(fault) => Ok(Ready::Answer(make_refusal(alloc, response, size, fault)?)),
+            Ok(plan) => make_assigning(alloc, plan, response, size),
+            Err(fault) => make_answer(make_refusal(alloc, response, size, fault)),
         }
     }
 
@@ -95,6 +91,7 @@ impl<D: Device + Drop> Agent<D> {
 /// How many variable bindings a PDU has, unless they are too many for an error index.
 fn count_bindings(body: &Body) -> Option<i32>
     ensures some { IfSome result (λ count. count ≡ pos (length (bindings_of body.now))) }
+    ensures few { IfSome result (λ count. length (bindings_of body.now) < 2 ^ 31) }
     ensures none { IfNone result (2 ^ 31 ≤ length (bindings_of body.now)) }
 {
     i32::try_from(body.bindings().len()).ok()
@@ -106,7 +103,7 @@ fn make_refusal(
     response: Message,
     size: usize,
     fault: SetFault,
-) -> Result<Reply, AgentFault>
+) -> Result<Reply, AllocError>
     requires greatest { response ≡ greatest response }
     requires few { length (bindings_of response.body) < 2 ^ 31 }
     requires number { IsNumbered (length (bindings_of response.body)) fault }
@@ -116,10 +113,10 @@ fn make_refusal(
 {
     mon_pdu::laws::shrinks();
     match fault {
-        SetFault::OutOfMemory => Err(AgentFault::OutOfMemory),
+        SetFault::OutOfMemory => Err(AllocError),
         SetFault::Refused { status, index } => {
             let response = make_return(response, status.number(), index_of(index));
-            Ok(Reply::Send(write(alloc, &response, size)?))
+            write(alloc, &response, size)
         }
     }
 }

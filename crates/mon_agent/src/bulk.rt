@@ -1,6 +1,6 @@
 //! The response to a GetBulk (RFC 3416 section 4.2.3).
 
-ghost use Rattle.std.specs.Prelude.{◌≡◌, ◌≤◌, ◌+◌, ◌++◌, [], ℕ, List, Ok, IfOk, OnOk, true, map, length};
+ghost use Rattle.std.specs.Prelude.{◌≡◌, ◌≤◌, ◌+◌, ◌++◌, [], ℕ, List, Ok, IfOk, OnOk, true, map, take, drop, length};
 ghost use Rattle.mon_pdu.specs.declared.message.Binding.{Binding as AnyBinding};
 ghost use Rattle.mon_mib.specs.Search.{IsSeenIn, known_in};
 ghost use Rattle.mon_agent.specs.Bulk.{IsStepper, names_of, full_list};
@@ -27,8 +27,7 @@ pub(crate) fn bulk<D: Device + Drop>(
         → OnOk result (IsEnded (FitsWith reply.old)
         (full_list next request.now.non_repeaters request.now.max_repetitions request.now.bindings) reply.new.bindings) }
 {
-    let asked = request.bindings.as_slice();
-    let (once, repeated) = asked.split_at(count(request.non_repeaters).min(asked.len()));
+    let (once, repeated) = split(request);
     let rounds = count(request.max_repetitions);
     if !extend(alloc, search, reply, once)? {
         return Ok(());
@@ -41,6 +40,15 @@ pub(crate) fn bulk<D: Device + Drop>(
     }
     let width = repeated.len();
     repeat_all(alloc, search, reply, width, rounds - 1)
+}
+
+/// The variable bindings that are answered once, and those that are answered in each round.
+fn split(request: &Bulk) -> (&[Binding], &[Binding])
+    ensures once { result.0.now ≡ take (count_of request.now.non_repeaters) request.now.bindings }
+    ensures repeated { result.1.now ≡ drop (count_of request.now.non_repeaters) request.now.bindings }
+{
+    let asked = request.bindings.as_slice();
+    asked.split_at(count(request.non_repeaters).min(asked.len()))
 }
 
 /// Adds an answer for each of these. Returns `true` if all of them are within the limit.

@@ -63,6 +63,7 @@ impl Growing {
     {
         let list = (self.list + binding_size(&binding)).min(LIMIT);
         if !is_within(size_with(&self.head, list), self.limit) {
+            drop(binding);
             return Ok(false);
         }
         self.bindings.push(binding)?;

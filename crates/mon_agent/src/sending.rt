@@ -1,11 +1,11 @@
 //! Responses, and whether they are sent (RFC 3416 section 4.2).
 
-ghost use Rattle.std.specs.Prelude.{◌≡◌, ◌≤◌, ◌↔◌, pos, length, IfOk, IfSome, IfNone};
+ghost use Rattle.std.specs.Prelude.{◌≡◌, ◌<◌, ◌≤◌, ◌^◌, ◌↔◌, pos, length, IfOk, IfSome, IfNone};
 ghost use Rattle.mon_pdu.specs.declared.message.Message.{Message as AnyMessage};
 ghost use Rattle.mon_pdu.specs.Grammar.{bindings_of, first_of};
 ghost use Rattle.mon_pdu.specs.Writing.{HasLength, written_message};
 ghost use Rattle.mon_agent.specs.Assigned.{returned};
-ghost use Rattle.mon_agent.specs.Reply.{IsWithinLimit, IsAboveLimit, IsOut, response_body, too_big};
+ghost use Rattle.mon_agent.specs.Reply.{IsWithinLimit, IsAboveLimit, IsOut, IsSending, response_body, too_big};
 
 use crate::growing::is_within;
 use crate::reply::{Reply, Silence};
@@ -68,7 +68,7 @@ pub(crate) fn send(alloc: Global, reply: Message, limit: i32) -> Result<Reply, A
     ensures { IfOk result (IsOut limit reply reply) }
 {
     match size_within(&reply, limit) {
-        Some(size) => Ok(Reply::Send(write(alloc, &reply, size)?)),
+        Some(size) => write(alloc, &reply, size),
         None => send_too_big(alloc, reply, limit),
     }
 }
@@ -79,8 +79,15 @@ pub(crate) fn send_too_big(alloc: Global, reply: Message, limit: i32) -> Result<
     ensures { (other : AnyMessage) → too_big reply ≡ too_big other → IsAboveLimit limit other → IfOk result (IsOut limit other other) }
 {
     let too_big = too_big(alloc, reply);
-    match size_within(&too_big, limit) {
-        Some(size) => Ok(Reply::Send(write(alloc, &too_big, size)?)),
+    send_or_drop(alloc, &too_big, limit)
+}
+
+/// Sends this response, which is a tooBig, or nothing where it is above the limit.
+fn send_or_drop(alloc: Global, reply: &Message, limit: i32) -> Result<Reply, AllocError>
+    ensures { (other : AnyMessage) → reply.now ≡ too_big other → IsAboveLimit limit other → IfOk result (IsOut limit other other) }
+{
+    match size_within(reply, limit) {
+        Some(size) => write(alloc, reply, size),
         None => Ok(Reply::Silent(Silence::TooBigTwice)),
     }
 }
@@ -111,6 +118,7 @@ pub(crate) fn size_within(message: &Message, limit: i32) -> Option<usize>
     ensures size { IfSome result (λ size. size ≡ length (written_message message.now)) }
     ensures length { IfSome result (λ size. HasLength message.now) }
     ensures within { IfSome result (λ size. IsWithinLimit limit message.now) }
+    ensures small { IfSome result (λ size. size < 2 ^ 32) }
     ensures above { IfNone result (IsAboveLimit limit message.now) }
 {
     let Ok(size) = message_size(message) else {
@@ -122,13 +130,13 @@ pub(crate) fn size_within(message: &Message, limit: i32) -> Option<usize>
     Some(size)
 }
 
-/// Writes a message that takes this many octets at most.
-pub(crate) fn write(alloc: Global, message: &Message, size: usize) -> Result<Vec<u8>, AllocError>
+/// Sends a message that takes this many octets at most.
+pub(crate) fn write(alloc: Global, message: &Message, size: usize) -> Result<Reply, AllocError>
     requires length { HasLength message.now }
     requires size { length (written_message message.now) ≤ size }
-    ensures { IfOk result (λ octets. octets.items ≡ written_message message.now) }
+    ensures { IfOk result (IsSending message.now) }
 {
     let mut octets = Vec::with_capacity(alloc, size)?;
     write_within(&mut octets, message);
-    Ok(octets)
+    Ok(Reply::Send(octets))
 }

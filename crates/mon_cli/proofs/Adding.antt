@@ -21,13 +21,18 @@ module _ (lists : Lists) (before : App) where
   )
 
   -- one more command
-  pub command_more : (choices : List Choice) (i : ℕ) (d : Choice) (old sub new : Command) → i < length choices
-      → HasApp (fold (with_command lists) before (take i choices)) old → HasApp (command_app lists (get_or choices i d)) sub → AddsSubcommand old sub new
+  pub command_more : (choices : List Choice) (i : ℕ) (d : Choice) (new : Command) → i < length choices
+      → HasApp (with_command lists (fold (with_command lists) before (take i choices)) (get_or choices i d)) new
       → HasApp (fold (with_command lists) before (take (i + 1) choices)) new
-  command_more choices i d old sub new lt has below adds = (
-    adds.shape below.1 ∙ (ap₂ (λ (x y : App). with_subcommand x y.top) has.0 below.0 ∙ sym (fold_more (with_command lists) before choices i d lt)),
-    adds.globals ∙ ap₂ (λ x y. x || y) has.1 below.1,
-  )
+  command_more choices i d new lt has = (has.0 ∙ sym (fold_more (with_command lists) before choices i d lt), has.1)
+
+-- a command below another one
+pub command_added : (lists : Lists) (before : App) (choice : Choice) (old sub new : Command)
+    → HasApp before old → HasApp (command_app lists choice) sub → AddsSubcommand old sub new → HasApp (with_command lists before choice) new
+command_added lists before choice old sub new has below adds = (
+  adds.shape below.1 ∙ ap₂ (λ (x y : App). with_subcommand x y.top) has.0 below.0,
+  adds.globals ∙ ap₂ (λ x y. x || y) has.1 below.1,
+)
 
 -- the last turn of a loop
 pub at_end : {X Y : Type 0} (f : Y → X → Y) (a : Y) (xs : List X) (i : ℕ) → length xs ≤ i → fold f a (take i xs) ≡ fold f a xs

@@ -140,6 +140,18 @@ const CHOICES: [Choice; 13] = [
     Choice::Rehearse,
 ];
 
+/// The command with one more command below it.
+fn with_command<'a>(
+    alloc: Global,
+    lists: Lists<'a>,
+    command: Command<'a>,
+    choice: Choice,
+) -> Result<Command<'a>, AllocError>
+    ensures { (before : App) → HasApp before command.entry → IfOk result (HasApp (with_command lists.entry before choice)) }
+{
+    command.subcommand(one(alloc, lists, choice)?)
+}
+
 /// The command with these commands below it.
 fn with_commands<'a>(
     alloc: Global,
@@ -152,7 +164,7 @@ fn with_commands<'a>(
 {
     let mut command = command;
     for choice in choices {
-        command = command.subcommand(one(alloc, lists, *choice)?)?;
+        command = with_command(alloc, lists, command, *choice)?;
     }
     Ok(command)
 }

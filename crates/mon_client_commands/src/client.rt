@@ -7,8 +7,7 @@ use mon_app::{
 };
 use mon_ber::Value;
 use mon_cli::{BulkArgs, Request, SetArgs};
-use mon_console::{Failure, asked_for, names_of, print};
-use mon_faults::Fault;
+use mon_console::{Failure, Fault, asked_for, names_of, print};
 use mon_oid::Oid;
 use mon_smi::{InNumbers, NameTexts, Names};
 use mon_udp::Addr;

@@ -3,11 +3,9 @@
 ghost use Rattle.std.specs.Prelude.{◌≡◌};
 
 use mon_app::{AppFault, SocketReason};
-use mon_faults::Fault;
+use mon_faults::{Fault, RehearsalFault, StationFault, TrialFault};
 use mon_mib::DeviceFault;
-use mon_rehearsal::{RehearsalFault, TrialFault};
 use mon_smi::NamesFault;
-use mon_station::StationFault;
 use std::alloc::{AllocError, AllocFailed, Global};
 use std::fmt::Display;
 use std::io;

@@ -11,3 +11,5 @@ mod unknown;
 
 pub use explaining::explain;
 pub use fault::Fault;
+pub use mon_rehearsal::{RehearsalFault, TrialFault};
+pub use mon_station::StationFault;

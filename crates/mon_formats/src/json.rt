@@ -40,9 +40,10 @@ fn report_value<S: NameTexts>(
 ) -> Result<Value, AllocError>
     ensures { IfOk result (λ v. view v ≡ report_data (S.shown names.now) entries.now) }
 {
-    let instances = instances_value(alloc, names, entries)?;
-    let samples = exact_value(alloc, count_samples(entries))?;
-    json!(in alloc; {"instances": instances, "samples": samples})
+    json!(in alloc; {
+        "instances": instances_value(alloc, names, entries)?,
+        "samples": exact_value(alloc, count_samples(entries))?
+    })
 }
 
 /// The array of the instances.
@@ -75,19 +76,13 @@ fn count_samples(entries: &[Entry]) -> u128
 fn entry_value<S: NameTexts>(alloc: Global, names: &S, entry: &Entry) -> Result<Value, AllocError>
     ensures { IfOk result (λ v. view v ≡ entry_data (S.shown names.now) entry.now) }
 {
-    let engine = hex::encode(alloc, entry.engine())?;
-    let name = names.text(alloc, entry.name())?;
-    let alarms = alarms_value(alloc, entry)?;
-    let rate = rate_value(alloc, entry)?;
-    let samples = samples_value(alloc, entry.samples())?;
-    let totals = totals_value(alloc, entry)?;
     json!(in alloc; {
-        "alarms": alarms,
-        "engine": engine,
-        "name": name,
-        "rate_thousandths": rate,
-        "samples": samples,
-        "totals": totals
+        "alarms": alarms_value(alloc, entry)?,
+        "engine": hex::encode(alloc, entry.engine())?,
+        "name": names.text(alloc, entry.name())?,
+        "rate_thousandths": rate_value(alloc, entry)?,
+        "samples": samples_value(alloc, entry.samples())?,
+        "totals": totals_value(alloc, entry)?
     })
 }
 
@@ -114,10 +109,11 @@ fn rules_value(alloc: Global, samples: &[Sample], rules: &[Rule]) -> Result<Valu
 fn alarm_value(alloc: Global, samples: &[Sample], rule: &Rule) -> Result<Value, AllocError>
     ensures { IfOk result (λ v. view v ≡ alarm_data samples.now rule.now) }
 {
-    let falling = exact_signed_value(alloc, i128::from(rule.falling()))?;
-    let raised = raised_value(alloc, state(rule, samples))?;
-    let rising = exact_signed_value(alloc, i128::from(rule.rising()))?;
-    json!(in alloc; {"falling": falling, "raised": raised, "rising": rising})
+    json!(in alloc; {
+        "falling": exact_signed_value(alloc, i128::from(rule.falling()))?,
+        "raised": raised_value(alloc, state(rule, samples))?,
+        "rising": exact_signed_value(alloc, i128::from(rule.rising()))?
+    })
 }
 
 /// When an alarm was raised; null where it is clear.
@@ -145,13 +141,12 @@ fn samples_value(alloc: Global, samples: &[Sample]) -> Result<Value, AllocError>
 fn sample_value(alloc: Global, sample: &Sample) -> Result<Value, AllocError>
     ensures { IfOk result (λ v. view v ≡ sample_data sample.now) }
 {
-    let value = exact_signed_value(alloc, sample.number())?;
     json!(in alloc; {
         "boots": sample.boots(),
         "kind": sample.kind().name(),
         "mark": sample.discontinuity(),
         "time": sample.time(),
-        "value": value
+        "value": exact_signed_value(alloc, sample.number())?
     })
 }
 
@@ -170,9 +165,10 @@ fn totals_value(alloc: Global, entry: &Entry) -> Result<Value, AllocError>
     ensures { IfOk result (λ v. view v ≡ totals_data entry.now.items) }
 {
     let totals = entry.totals();
-    let delta = exact_value(alloc, totals.delta)?;
-    let span = exact_value(alloc, u128::from(totals.span))?;
-    json!(in alloc; {"delta": delta, "span": span})
+    json!(in alloc; {
+        "delta": exact_value(alloc, totals.delta)?,
+        "span": exact_value(alloc, u128::from(totals.span))?
+    })
 }
 
 /// A whole number with its sign: as a number up to 2^53 on either side of 0, else as a text.

@@ -196,6 +196,9 @@ text_made ps old new failures sim c which text view is change =
     ap (λ f. held (indexes_of ps) f (each sim_status ps) (each (λ r. text_of r Alias) ps) (each fixed_of ps) (each sim_facts ps)) is
     ∙ (ap (λ z. changed (set_to.SysText which text) (held_of z)) view ∙ ap (λ d. changed d (held_of sim)) (sym change))
 
+abbrev pub failures_of : Sim → ℕ
+failures_of sim = sim.failures
+
 pub on_err : {A E : Type 0} {P : Type 0} (r : Result A E) → P → OnErr r P
 on_err (Ok a) p = tt
 on_err (Err e) p = p

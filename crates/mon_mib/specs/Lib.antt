@@ -18,6 +18,7 @@ pub mod Refusal
 pub mod Search
 pub mod SetStatus
 pub mod Sim
+pub mod Standing
 pub mod Status
 pub mod Tried
 pub mod Undone

@@ -1,5 +1,6 @@
 ghost use Rattle.std.specs.Prelude.{◌≡◌};
 ghost use Rattle.mon_mib.specs.Objects.{column_row};
+ghost use Rattle.mon_mib.specs.Standing.{as_row};
 
 use crate::row::{Row, read_only, read_write};
 use mon_ber::Tag;
@@ -64,9 +65,7 @@ pub enum Column {
 impl Column {
     /// What the standards give of it.
     pub(crate) fn row(self) -> Row
-        ensures prefix { result.prefix.now ≡ (column_row self).prefix }
-        ensures syntax { result.syntax ≡ (column_row self).syntax }
-        ensures access { result.access ≡ (column_row self).access }
+        ensures { as_row result ≡ column_row self }
     {
         match self {
             Column::IfIndex => read_only(Tag::Integer, &[1, 3, 6, 1, 2, 1, 2, 2, 1, 1]),

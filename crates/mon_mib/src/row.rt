@@ -1,5 +1,6 @@
 ghost use Rattle.std.specs.Prelude.{◌≡◌};
-ghost use Rattle.mon_mib.specs.declared.max_access.MaxAccess.TheVariants.{ReadOnly, ReadWrite};
+ghost use Rattle.mon_mib.specs.Objects.{read_only, read_write};
+ghost use Rattle.mon_mib.specs.Standing.{as_row};
 
 use crate::max_access::MaxAccess;
 use mon_ber::Tag;
@@ -17,9 +18,7 @@ pub(crate) struct Row {
 
 /// An object whose variables may be read.
 pub(crate) fn read_only(syntax: Tag, prefix: &'static [u32]) -> Row
-    ensures prefix { result.prefix.now ≡ prefix.now }
-    ensures syntax { result.syntax ≡ syntax }
-    ensures access { result.access ≡ ReadOnly }
+    ensures { as_row result ≡ read_only syntax prefix.now }
 {
     let access = MaxAccess::ReadOnly;
     Row {
@@ -31,9 +30,7 @@ pub(crate) fn read_only(syntax: Tag, prefix: &'static [u32]) -> Row
 
 /// An object whose variables a Set may change too.
 pub(crate) fn read_write(syntax: Tag, prefix: &'static [u32]) -> Row
-    ensures prefix { result.prefix.now ≡ prefix.now }
-    ensures syntax { result.syntax ≡ syntax }
-    ensures access { result.access ≡ ReadWrite }
+    ensures { as_row result ≡ read_write syntax prefix.now }
 {
     let access = MaxAccess::ReadWrite;
     Row {

@@ -1,5 +1,6 @@
 ghost use Rattle.std.specs.Prelude.{◌≡◌};
 ghost use Rattle.mon_mib.specs.Objects.{scalar_row};
+ghost use Rattle.mon_mib.specs.Standing.{as_row};
 
 use crate::row::{Row, read_only, read_write};
 use mon_ber::Tag;
@@ -46,9 +47,7 @@ pub enum Scalar {
 impl Scalar {
     /// What the standards give of it.
     pub(crate) fn row(self) -> Row
-        ensures prefix { result.prefix.now ≡ (scalar_row self).prefix }
-        ensures syntax { result.syntax ≡ (scalar_row self).syntax }
-        ensures access { result.access ≡ (scalar_row self).access }
+        ensures { as_row result ≡ scalar_row self }
     {
         match self {
             Scalar::SysDescr => read_only(Tag::OctetString, &[1, 3, 6, 1, 2, 1, 1, 1]),

@@ -1,5 +1,6 @@
 -- The bindings of a poll.
-use Rattle.std.proofs.Common.{ℕ, List, [], ◌∷◌, map}
+use Rattle.std.proofs.Common.{◌≡◌, ℕ, List, [], ◌∷◌, map, sym, ap, subst, ◌∙◌, Result, Ok, Err}
+use Rattle.std.specs.Prelude.{IfOk}
 use Rattle.std.specs.List.{AllByRecursion, flat_map}
 use Rattle.mon_ber.specs.declared.value.Value.TheVariants.{Name}
 use Rattle.mon_ber.specs.Grammar.{Spells}
@@ -17,3 +18,11 @@ pub asked_spelled : (names : List (List ℕ)) → AllByRecursion (λ (b : Bindin
     → SpellNames (map (λ (b : Binding). spelled_name b.name) (map unspecified names)) names
 asked_spelled [] h = tt
 asked_spelled (n ∷ ns) h = (h.0, asked_spelled ns h.1)
+
+-- what spells the bindings' names spells the names that are asked for
+pub all_spelled : {E : Type 0} (names : List (List ℕ)) (bs : List Binding) (r : Result (List (List ℕ)) E) → bs ≡ map unspecified names → IfOk r (λ texts. texts ≡ map (λ (b : Binding). spelled_name b.name) bs)
+    → IfOk r (λ _. AllByRecursion (λ (b : Binding). Spells (spelled_name b.name) (Name b.name)) bs) → IfOk r (λ texts. SpellNames texts names)
+all_spelled names bs (Ok texts) asked is each =
+    subst (λ (ts : List (List ℕ)). SpellNames ts names) (sym (is ∙ ap (λ (xs : List Binding). map (λ (b : Binding). spelled_name b.name) xs) asked))
+    (asked_spelled names (subst (λ (xs : List Binding). AllByRecursion (λ (b : Binding). Spells (spelled_name b.name) (Name b.name)) xs) asked each))
+all_spelled names bs (Err e) asked is each = tt

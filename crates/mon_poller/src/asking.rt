@@ -1,7 +1,7 @@
 //! The datagram that asks for a target's objects. The names in it are written once, since only the request-id changes from poll to poll.
 
 ghost use Rattle.std.specs.Prelude.{◌≡◌, ◌∷◌, ◌++◌, [], ◌<◌, ◌≤◌, ◌^◌, ◌+◌, ◌*◌, IfOk, OnOk, length, map};
-ghost use Rattle.std.specs.List.{flat_map};
+ghost use Rattle.std.specs.List.{AllByRecursion, flat_map};
 ghost use Rattle.mon_poller.specs.Stamp.{engine_id_name, engine_boots_name, engine_time_name};
 ghost use Rattle.mon_poller.specs.Target.{IsAsked, IsTarget, SpellNames, poll_names, spelled_name, unspecified, object_names, poll_message, poll_octets};
 ghost use Rattle.mon_pdu.specs.Sizes.{with_bindings};
@@ -41,8 +41,16 @@ pub(crate) fn spelled_names(alloc: Global, target: &Target) -> Result<Names, All
     ensures { IfOk result (λ names. SpellNames names (poll_names target.now)) }
 {
     let bindings = asked_bindings(alloc, target)?;
+    spelled(alloc, bindings.as_slice())
+}
+
+/// The names of these bindings, each as it is spelled in a datagram.
+fn spelled(alloc: Global, bindings: &[Binding]) -> Result<Names, AllocError>
+    ensures names { IfOk result (λ names. names ≡ map (λ b. spelled_name b.name) bindings.now) }
+    ensures spells { IfOk result (λ _. AllByRecursion (λ b. Spells (spelled_name b.name) (Name b.name)) bindings.now) }
+{
     let mut names = Vec::with_capacity(alloc, bindings.len())?;
-    for binding in bindings.as_slice() {
+    for binding in bindings {
         names.push(spelled_name(alloc, &binding.name)?)?;
     }
     Ok(Names::new(names))

@@ -1,30 +1,35 @@
 //! Reading a response in place: one that has all the names that its poll asked for, each spelled as it was asked. No name and no list of variable bindings is
 //! made of it. Any other datagram gives None here and is read as a message, which says what is wrong with it.
 
-ghost use Rattle.std.specs.Prelude.{◌≡◌, ◌++◌, ◌<◌, [], pos, List, Ok, Some, IfSome, OnSome, length, true};
+ghost use Rattle.std.specs.Prelude.{◌≡◌, ◌++◌, ◌<◌, ◌^◌, pos, List, Ok, Some, IfSome, OnSome, length, true};
 ghost use Rattle.std.specs.List.{flat_map};
 ghost use Rattle.slab.specs.Slab.{get};
+ghost use Rattle.mon_ber.specs.declared.value.Value.{Value as AnyValue};
 ghost use Rattle.mon_ber.specs.Sequence.{AreSpelled};
 ghost use Rattle.mon_pdu.specs.declared.message.Binding.{Binding as AnyBinding};
 ghost use Rattle.mon_pdu.specs.declared.message.Message.{Message as AnyMessage};
 ghost use Rattle.mon_pdu.specs.declared.message.Pdu.{Pdu as AnyPdu};
+ghost use Rattle.mon_pdu.specs.declared.message.PduKind.TheVariants as kinds;
 ghost use Rattle.mon_pdu.specs.Framed.{framed};
 ghost use Rattle.mon_pdu.specs.Grammar.{BeginsWithMessage, IsBinding};
-ghost use Rattle.mon_poller.specs.InPlace.{IsOffered, OffersSo, framed_pdu, given};
+ghost use Rattle.mon_poller.specs.InPlace.{IsMarked, IsOffered, IsRead, IsSampled, OffersSo, framed_pdu, given};
 ghost use Rattle.mon_poller.specs.Lent.{lent_stamp};
 ghost use Rattle.mon_poller.specs.Poller.{AreSlots, open_of, poll_in};
+ghost use Rattle.mon_poller.specs.Stamp.{octets_in, stamp_number};
 ghost use Rattle.mon_poller.specs.Target.{SpellNames, object_names, poll_names, target_at};
-ghost use Rattle.mon_poller.specs.Verdict.{awaited, have_names, response_pdu, sampled_at, target_offers};
+ghost use Rattle.mon_poller.specs.Verdict.{awaited, have_names, response_pdu, target_offers};
 
 use crate::asked::Asked;
 use crate::finding::find;
 use crate::lent::Stamp;
 use crate::poller::OpenPoll;
-use crate::stamp::discontinuity_in;
+use crate::stamp::{discontinuity_in, octets_in, stamp_number};
 use crate::target::{Object, Target};
 use mon_ber::{Octets, Value};
 use mon_board::Pairs;
+use mon_oid::Oid;
 use mon_pdu::{Frame, PduKind, named_value, read_frame};
+use mon_sample::Sample;
 use mon_udp::Addr;
 use slab::Slab;
 use std::alloc::Global;
@@ -69,10 +74,7 @@ fn framed_poll(
     ensures response { IfSome result (λ _. (bindings : List AnyBinding) → response_pdu (framed frame.now bindings).body ≡ Some (framed_pdu frame.now bindings)) }
     ensures awaited { IfSome result (λ r. (bindings : List AnyBinding) → awaited targets.now (open_of polls.now.slots) from (Some (framed frame.now bindings)) ≡ Ok (poll_in r.1, framed_pdu frame.now bindings)) }
 {
-    if frame.kind != PduKind::Response || frame.error_status != 0 {
-        return None;
-    }
-    let id = u32::try_from(frame.request_id).ok()?;
+    let id = response_id(frame)?;
     let (key, poll) = find(polls, id)?;
     let target = &targets[usize::from(poll.target)];
     if from != target.address || frame.community != target.community.as_slice() {
@@ -81,82 +83,138 @@ fn framed_poll(
     Some((key, poll))
 }
 
+/// The request-id of a frame of a Response with error-status 0.
+fn response_id(frame: &Frame<'_>) -> Option<u32>
+    ensures id { IfSome result (λ id. frame.now.request_id ≡ pos id) }
+    ensures status { IfSome result (λ _. frame.now.error_status ≡ pos 0) }
+    ensures kind { IfSome result (λ _. frame.now.kind ≡ kinds.Response) }
+{
+    if frame.kind != PduKind::Response || frame.error_status != 0 {
+        return None;
+    }
+    u32::try_from(frame.request_id).ok()
+}
+
+/// Names that a poll asked for, and the octets of the variable bindings that are to have them.
+#[derive(Clone, Copy)]
+struct Unread<'a> {
+    names: &'a [Octets],
+    list: &'a [u8],
+}
+
 /// What is offered of a target in the variable bindings of a response, which these octets spell.
-fn offers(alloc: Global, target: &Target, names: &[Octets], list: &[u8]) -> Option<Pairs>
+fn offers<'a>(alloc: Global, target: &Target, names: &'a [Octets], list: &'a [u8]) -> Option<Pairs>
     requires { SpellNames names.now (poll_names target.now) }
     ensures { IfSome result (λ pairs. (bindings : List AnyBinding) × AreSpelled IsBinding list.now bindings × (have_names (poll_names target.now) bindings ≡ true) × (target_offers target.now bindings ≡ Ok pairs)) }
 {
-    let [engine_name, boots_name, time_name, names @ ..] = names else {
-        return None;
+    let unread = after_engine(alloc, target.engine.as_slice(), &Unread { names, list })?;
+    let (boots, unread) = next_number(alloc, &unread)?;
+    let (time, unread) = next_number(alloc, &unread)?;
+    let stamp = Stamp {
+        engine: &target.engine,
+        boots,
+        time,
     };
-    let (engine, list) = named_value(alloc, engine_name.as_slice(), list)?;
-    let (boots, list) = named_value(alloc, boots_name.as_slice(), list)?;
-    let (time, list) = named_value(alloc, time_name.as_slice(), list)?;
-    let stamp = Stamp::of(&engine, &boots, &time)?;
-    if stamp.engine.as_slice() != target.engine.as_slice() {
-        return None;
-    }
     let mut pairs = Pairs::new(alloc);
     put_pairs(
         alloc,
         &stamp,
         target.objects.as_slice(),
-        names,
-        list,
+        &unread,
         &mut pairs,
     )?;
     Some(pairs)
 }
 
-/// Adds what is offered of these objects in the variable bindings that these octets spell. It stops where one of them has another name, or another spelling of
-/// it.
+/// The value of the next name, and what is left. None where there is none, or where its name has another spelling.
+fn next_value<'a>(alloc: Global, unread: &Unread<'a>) -> Option<(Value, Unread<'a>)>
+    ensures { IfSome result (λ r. IsRead unread.now.names.now unread.now.list.now r.0 r.1.names.now r.1.list.now) }
+{
+    let [name, names @ ..] = unread.names else {
+        return None;
+    };
+    let (value, list) = named_value(alloc, name.as_slice(), unread.list)?;
+    Some((value, Unread { names, list }))
+}
+
+/// What is left after the next value, where that is this engine's id.
+fn after_engine<'a>(alloc: Global, engine: &[u8], unread: &Unread<'a>) -> Option<Unread<'a>>
+    ensures { IfSome result (λ r. (v : AnyValue) × IsRead unread.now.names.now unread.now.list.now v r.names.now r.list.now × (octets_in v ≡ Some engine.now)) }
+{
+    let (value, unread) = next_value(alloc, unread)?;
+    if octets_in(&value)?.as_slice() == engine {
+        Some(unread)
+    } else {
+        None
+    }
+}
+
+/// The number that the next value is, boots or a time, and what is left.
+fn next_number<'a>(alloc: Global, unread: &Unread<'a>) -> Option<(u32, Unread<'a>)>
+    ensures number { IfSome result (λ r. (v : AnyValue) × IsRead unread.now.names.now unread.now.list.now v r.1.names.now r.1.list.now × (stamp_number v ≡ Some r.0)) }
+    ensures small { IfSome result (λ r. r.0 < 2 ^ 31) }
+{
+    let (value, unread) = next_value(alloc, unread)?;
+    let number = stamp_number(&value)?;
+    Some((number, unread))
+}
+
+/// Adds what is offered of these objects. It stops where one of them has another name, or another spelling of it.
 fn put_pairs(
     alloc: Global,
     stamp: &Stamp<'_>,
     objects: &[Object],
-    names: &[Octets],
-    list: &[u8],
+    unread: &Unread<'_>,
     pairs: &mut Pairs,
 ) -> Option<()>
-    requires { SpellNames names.now (flat_map object_names objects.now) }
-    ensures { OnSome result (OffersSo (lent_stamp stamp.now) objects.now list.now pairs.old pairs.new) }
+    requires { SpellNames unread.now.names.now (flat_map object_names objects.now) }
+    ensures { OnSome result (OffersSo (lent_stamp stamp.now) objects.now unread.now.list.now pairs.old pairs.new) }
 {
-    let [object, objects @ ..] = objects else {
-        return if list.is_empty() { Some(()) } else { None };
-    };
-    let [name, names @ ..] = names else {
-        return None;
-    };
-    let (value, list) = named_value(alloc, name.as_slice(), list)?;
-    let Some(_) = &object.discontinuity else {
-        put_pair(stamp, object.instance, &value, Some(0), pairs)?;
-        return put_pairs(alloc, stamp, objects, names, list, pairs);
-    };
-    let [name, names @ ..] = names else {
-        return None;
-    };
-    let (discontinuity, list) = named_value(alloc, name.as_slice(), list)?;
-    put_pair(
-        stamp,
-        object.instance,
-        &value,
-        discontinuity_in(&discontinuity),
-        pairs,
-    )?;
-    put_pairs(alloc, stamp, objects, names, list, pairs)
+    let mut rest = *unread;
+    for object in objects {
+        let Some((sample, after)) = next_sample(alloc, stamp, object, &rest) else {
+            return None;
+        };
+        put_sample(object.instance, sample, pairs)?;
+        rest = after;
+    }
+    if rest.list.is_empty() { Some(()) } else { None }
 }
 
-/// Adds the sample of an instance with this value and this discontinuity, where it is one.
-fn put_pair(
+/// The sample of an object, where its value and its discontinuity are one, and what is left after them.
+fn next_sample<'a>(
+    alloc: Global,
     stamp: &Stamp<'_>,
-    instance: u16,
-    value: &Value,
-    discontinuity: Option<u32>,
-    pairs: &mut Pairs,
-) -> Option<()>
-    ensures { OnSome result (pairs.new ≡ pairs.old ++ given instance (sampled_at (lent_stamp stamp.now) value.now discontinuity)) }
+    object: &Object,
+    unread: &Unread<'a>,
+) -> Option<(Option<Sample>, Unread<'a>)>
+    ensures { IfSome result (λ r. IsSampled (lent_stamp stamp.now) object.now.discontinuity unread.now.names.now unread.now.list.now r.0 r.1.names.now r.1.list.now) }
 {
-    match stamp.sample(value, discontinuity) {
+    let (value, unread) = next_value(alloc, unread)?;
+    let (discontinuity, unread) = next_discontinuity(alloc, &object.discontinuity, &unread)?;
+    Some((stamp.sample(&value, discontinuity), unread))
+}
+
+/// The value of an object's discontinuity, 0 where it has none, and what is left.
+fn next_discontinuity<'a>(
+    alloc: Global,
+    discontinuity: &Option<Oid>,
+    unread: &Unread<'a>,
+) -> Option<(Option<u32>, Unread<'a>)>
+    ensures { IfSome result (λ r. IsMarked discontinuity.now unread.now.names.now unread.now.list.now r.0 r.1.names.now r.1.list.now) }
+{
+    let Some(_) = discontinuity else {
+        return Some((Some(0), *unread));
+    };
+    let (value, unread) = next_value(alloc, unread)?;
+    Some((discontinuity_in(&value), unread))
+}
+
+/// Adds the sample of an instance, where there is one.
+fn put_sample(instance: u16, sample: Option<Sample>, pairs: &mut Pairs) -> Option<()>
+    ensures { OnSome result (pairs.new ≡ pairs.old ++ given instance sample) }
+{
+    match sample {
         Some(sample) => pairs.push(instance, sample).ok(),
         None => Some(()),
     }

@@ -6,7 +6,7 @@ ghost use Rattle.std.specs.Option.{option_copied};
 ghost use Rattle.mon_poller.specs.Gives.{Gives};
 ghost use Rattle.mon_poller.specs.Lent.{lent_stamp};
 ghost use Rattle.mon_poller.specs.Target.{poll_names, object_names};
-ghost use Rattle.mon_poller.specs.Verdict.{response_pdu, have_names, have_after, stamp_and_others, discontinuity_value, bindings_for, sample_of, object_offers, target_offers, poll_answer};
+ghost use Rattle.mon_poller.specs.Verdict.{no_error, response_pdu, have_names, have_after, stamp_and_others, discontinuity_value, bindings_for, sample_of, object_offers, target_offers, poll_answer};
 
 use crate::fault::ResponseFault;
 use crate::lent::Stamp;
@@ -39,14 +39,22 @@ pub(crate) fn response_pdu(body: &Body) -> Option<&Pdu>
 pub(crate) fn poll_answer(alloc: Global, target: &Target, pdu: &Pdu) -> Result<Pairs, ResponseFault>
     ensures { Gives (λ p. p) result (poll_answer target.now pdu.now) }
 {
-    if pdu.error_status != 0 {
-        return Err(ResponseFault::AgentError(pdu.error_status, pdu.error_index));
-    }
+    require_no_error(pdu)?;
     let bindings = pdu.bindings.as_slice();
     if !have_names(target, bindings) {
         return Err(ResponseFault::WrongNames);
     }
     target_offers(alloc, target, bindings)
+}
+
+/// Requires error-status 0.
+fn require_no_error(pdu: &Pdu) -> Result<(), ResponseFault>
+    ensures { Gives (λ u. u) result (no_error pdu.now.error_status pdu.now.error_index) }
+{
+    if pdu.error_status != 0 {
+        return Err(ResponseFault::AgentError(pdu.error_status, pdu.error_index));
+    }
+    Ok(())
 }
 
 /// What the bindings offer of the target, whose names they have.
@@ -125,10 +133,10 @@ fn stamp_and_others(bindings: &[Binding]) -> Result<(Stamp<'_>, &[Binding]), Res
     let [first, second, third, others @ ..] = bindings else {
         return Err(ResponseFault::BadStamp);
     };
-    let stamp = Stamp::of(&first.value, &second.value, &third.value).ok_or(
-        ResponseFault::BadStamp,
-    )?;
-    Ok((stamp, others))
+    match Stamp::of(&first.value, &second.value, &third.value) {
+        Some(stamp) => Ok((stamp, others)),
+        None => Err(ResponseFault::BadStamp),
+    }
 }
 
 /// What the bindings after a stamp offer of the objects, in their order.

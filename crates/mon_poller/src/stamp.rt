@@ -45,7 +45,7 @@ impl<'a> Stamp<'a> {
 }
 
 /// Returns the octets of an OCTET STRING.
-fn octets_in(value: &Value) -> Option<&Octets>
+pub(crate) fn octets_in(value: &Value) -> Option<&Octets>
     ensures { option_copied result ≡ octets_in value.now }
 {
     match value {
@@ -55,7 +55,7 @@ fn octets_in(value: &Value) -> Option<&Octets>
 }
 
 /// Returns the number of an INTEGER that is not negative, 0 to 2147483647.
-fn stamp_number(value: &Value) -> Option<u32>
+pub(crate) fn stamp_number(value: &Value) -> Option<u32>
     ensures number { result ≡ stamp_number value.now }
     ensures small { IfSome result (λ n. n < 2 ^ 31) }
 {

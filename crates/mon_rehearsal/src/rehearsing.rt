@@ -12,7 +12,7 @@ ghost use Rattle.mon_rehearsal.specs.ScriptFault.{IsFaultOfRehearsal};
 use crate::fault::RehearsalFault;
 use crate::printed::{put_stations, put_step};
 use crate::script::{ScriptStep, read_script};
-use mon_settings::Core;
+use mon_core::Core;
 use mon_world::{World, WorldFault};
 use std::alloc::Global;
 

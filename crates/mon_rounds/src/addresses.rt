@@ -5,8 +5,8 @@ ghost use Rattle.std.specs.List.{position};
 ghost use Rattle.mon_rounds.specs.Reached.{peer_address};
 ghost use Rattle.mon_rounds.specs.Next.{stands_in};
 
+use mon_core::Core;
 use mon_poller::Target;
-use mon_settings::StationSettings;
 use mon_udp::Addr;
 use std::alloc::{AllocError, Global};
 
@@ -24,17 +24,16 @@ pub struct Addresses {
 }
 
 impl Addresses {
-    /// The addresses of the settings' targets and peers.
-    pub fn of(alloc: Global, settings: &StationSettings) -> Result<Self, AllocError>
-        ensures targets { IfOk result (λ a. a.targets.items ≡ map (λ t. t.address) settings.now.core.targets) }
-        ensures peers { IfOk result (λ a. a.peers.items ≡ settings.now.core.peers) }
-        ensures peer_addresses { IfOk result (λ a. a.peer_addresses.items ≡ settings.now.peer_addresses.items) }
+    /// Returns the addresses of a core's targets and, in the order of its peers, those of the peers.
+    pub fn of(alloc: Global, core: &Core, peers: &[Addr]) -> Result<Self, AllocError>
+        ensures targets { IfOk result (λ a. a.targets.items ≡ map (λ t. t.address) core.now.targets) }
+        ensures peers { IfOk result (λ a. a.peers.items ≡ core.now.peers) }
+        ensures peer_addresses { IfOk result (λ a. a.peer_addresses.items ≡ peers.now) }
     {
-        let core = &settings.core;
         Ok(Addresses {
             targets: target_addresses(alloc, core.targets())?,
             peers: core.peers().to_vec(alloc)?,
-            peer_addresses: settings.peer_addresses.as_slice().to_vec(alloc)?,
+            peer_addresses: peers.to_vec(alloc)?,
         })
     }
 

@@ -1,5 +1,5 @@
 //! A station's rounds over sockets. It follows no standard. To run a station: `Addresses::of` its
-//! settings, a `SocketReceiver` and a `SocketOutbox` on one `Socket` of mon_udp, and `Rounds` over the
+//! core, a `SocketReceiver` and a `SocketOutbox` on one `Socket` of mon_udp, and `Rounds` over the
 //! receiver. `Rounds::run` runs a `Station` through a round or the time between two, and
 //! `RoundReport::of` says what is reported of it.
 //! Contract: a round polls each target, receives, offers each peer what it is owed, receives again

@@ -12,6 +12,7 @@ use Rattle.mon_mib.specs.Held.{AreIndexes}
 use Rattle.mon_mib.specs.Sim.{indexes_of}
 use Rattle.mon_mib.specs.declared.interface.Growth.{Growth}
 use Rattle.mon_mib.specs.declared.interface.Interface.{Interface}
+use Rattle.mon_mib.specs.declared.sys_texts.SysTexts.{SysTexts}
 use Rattle.mon_vacm.specs.Tables.{Lists, IsPolicy}
 use Rattle.mon_vacm.specs.declared.access_entry.AccessEntry.{AccessEntry}
 use Rattle.mon_vacm.specs.declared.community.Community.{Community}
@@ -22,9 +23,10 @@ use Rattle.mon_settings.specs.declared.key.Key.{Key}
 use Rattle.mon_settings.specs.declared.key.Key.TheVariants as key
 use Rattle.mon_settings.specs.declared.fault.SettingsFault.{SettingsFault}
 use Rattle.mon_settings.specs.declared.place.Step.TheVariants as step
+use Rattle.mon_settings.specs.declared.tables.Counts.{Counts}
 use Rattle.mon_settings.specs.Accepted.{Holds, HoldsOr, HoldsRows, AreRows, HoldsGrowth, IsCommunity, IsGroup, IsAccess, IsFamily, IsGrowth, IsInterface, IsAgent, Agent}
-use Rattle.mon_settings.specs.Agent.{system_of, agent_of}
-use Rattle.mon_settings.specs.Interfaces.{growth_of, growth_at, interface_of, rise_from, rising, interfaces_in}
+use Rattle.mon_settings.specs.Agent.{set_texts_of, system_of, agent_of}
+use Rattle.mon_settings.specs.Interfaces.{counts_of, growth_of, growth_at, interface_of, rise_from, rising, interfaces_in}
 use Rattle.mon_settings.specs.Grammar.{agent_keys, growth_keys, table_keys}
 use Rattle.mon_settings.specs.Keys.{only, needed_at, default_at, within}
 use Rattle.mon_settings.specs.Leaf.{bounded, number_in, int_in, text_in, hex_in, oid_in, addr_in, model_in, long_in}
@@ -178,6 +180,37 @@ unfolding growth_at
 growth_at_to k t g (inner, there, is) =
     bind_to (needed_at k as_table t) (λ inner. within (step.Value k) (growth_of inner)) inner g (needed_to k as_table t inner there) (ap (within (step.Value k)) (growth_of-to inner g is))
 
+-- the four counts of an interface are those of the table
+record HoldsCounts (t : Members) (c : Counts) : Type 0 where
+  pub in_octets : HoldsGrowth key.InOctets t c.in_octets
+  pub in_packets : HoldsGrowth key.InPackets t c.in_packets
+  pub out_octets : HoldsGrowth key.OutOctets t c.out_octets
+  pub out_packets : HoldsGrowth key.OutPackets t c.out_packets
+
+counts_of-from : (t : Members) (x : Counts) → counts_of t ≡ Ok x → HoldsCounts t x
+unfolding counts_of
+counts_of-from t x h =
+    let (v0, p0, h1) = bind_from (growth_at key.InOctets t) _ x h in
+    let (v1, p1, h2) = bind_from (growth_at key.InPackets t) _ x h1 in
+    let (v2, p2, h3) = bind_from (growth_at key.OutOctets t) _ x h2 in
+    let (v3, p3, h4) = bind_from (growth_at key.OutPackets t) _ x h3 in
+    let made : Counts = record { in_octets = v0; in_packets = v1; out_octets = v2; out_packets = v3 } in
+    subst (HoldsCounts t) (ok_same made x h4) (record {
+      in_octets = growth_at_from key.InOctets t _ p0;
+      in_packets = growth_at_from key.InPackets t _ p1;
+      out_octets = growth_at_from key.OutOctets t _ p2;
+      out_packets = growth_at_from key.OutPackets t _ p3;
+    })
+
+counts_of-to : (t : Members) (x : Counts) → HoldsCounts t x → counts_of t ≡ Ok x
+unfolding counts_of
+counts_of-to t x h =
+    bind_to (growth_at key.InOctets t) _ x.in_octets x (growth_at_to key.InOctets t _ h.in_octets)
+    (bind_to (growth_at key.InPackets t) _ x.in_packets x (growth_at_to key.InPackets t _ h.in_packets)
+    (bind_to (growth_at key.OutOctets t) _ x.out_octets x (growth_at_to key.OutOctets t _ h.out_octets)
+    (bind_to (growth_at key.OutPackets t) _ x.out_packets x (growth_at_to key.OutPackets t _ h.out_packets)
+    refl)))
+
 interface_of-from : (t : Members) (x : Interface) → interface_of t ≡ Ok x → IsInterface t x
 unfolding interface_of
 interface_of-from t x h =
@@ -190,12 +223,10 @@ interface_of-from t x h =
     let (v6, p6, h7) = bind_from (needed_at key.Phys (hex_in 0 255) t) _ x h6 in
     let (v7, p7, h8) = bind_from (needed_at key.Name (text_in 0 255) t) _ x h7 in
     let (v8, p8, h9) = bind_from (needed_at key.Alias (text_in 0 64) t) _ x h8 in
-    let (v9, p9, h10) = bind_from (growth_at key.InOctets t) _ x h9 in
-    let (v10, p10, h11) = bind_from (growth_at key.InPackets t) _ x h10 in
-    let (v11, p11, h12) = bind_from (growth_at key.OutOctets t) _ x h11 in
-    let (v12, p12, h13) = bind_from (growth_at key.OutPackets t) _ x h12 in
-    let made : Interface = record { index = v1; descr = v2; kind = v3; mtu = v4; speed = v5; phys = v6; name = v7; alias = v8; status = at_start; in_octets = v9; in_packets = v10; out_octets = v11; out_packets = v12 } in
-    let is : made ≡ x = ok_same made x h13 in
+    let (v9, p9, h10) = bind_from (counts_of t) _ x h9 in
+    let made : Interface = record { index = v1; descr = v2; kind = v3; mtu = v4; speed = v5; phys = v6; name = v7; alias = v8; status = at_start; in_octets = v9.in_octets; in_packets = v9.in_packets; out_octets = v9.out_octets; out_packets = v9.out_packets } in
+    let is : made ≡ x = ok_same made x h10 in
+    let counts = counts_of-from t v9 p9 in
     subst (λ (y : Interface). IsInterface t y) is (record {
       known = only_from (table_keys key.Interface) t _ p0;
       index = needed_from key.Index (number_in 1 2147483647) t _ p1;
@@ -207,15 +238,17 @@ interface_of-from t x h =
       name = needed_from key.Name (text_in 0 255) t _ p7;
       alias = needed_from key.Alias (text_in 0 64) t _ p8;
       status = refl;
-      in_octets = growth_at_from key.InOctets t _ p9;
-      in_packets = growth_at_from key.InPackets t _ p10;
-      out_octets = growth_at_from key.OutOctets t _ p11;
-      out_packets = growth_at_from key.OutPackets t _ p12;
+      in_octets = counts.in_octets;
+      in_packets = counts.in_packets;
+      out_octets = counts.out_octets;
+      out_packets = counts.out_packets;
     })
 
 interface_of-to : (t : Members) (x : Interface) → IsInterface t x → interface_of t ≡ Ok x
 unfolding interface_of
 interface_of-to t x h =
+    let counts : Counts = record { in_octets = x.in_octets; in_packets = x.in_packets; out_octets = x.out_octets; out_packets = x.out_packets } in
+    let are : HoldsCounts t counts = record { in_octets = h.in_octets; in_packets = h.in_packets; out_octets = h.out_octets; out_packets = h.out_packets } in
     bind_to (only (table_keys key.Interface) t) _ tt x (only_to (table_keys key.Interface) t h.known)
     (bind_to (needed_at key.Index (number_in 1 2147483647) t) _ x.index x (needed_to key.Index (number_in 1 2147483647) t _ h.index)
     (bind_to (needed_at key.Descr (text_in 0 255) t) _ x.descr x (needed_to key.Descr (text_in 0 255) t _ h.descr)
@@ -225,11 +258,8 @@ interface_of-to t x h =
     (bind_to (needed_at key.Phys (hex_in 0 255) t) _ x.phys x (needed_to key.Phys (hex_in 0 255) t _ h.phys)
     (bind_to (needed_at key.Name (text_in 0 255) t) _ x.name x (needed_to key.Name (text_in 0 255) t _ h.name)
     (bind_to (needed_at key.Alias (text_in 0 64) t) _ x.alias x (needed_to key.Alias (text_in 0 64) t _ h.alias)
-    (bind_to (growth_at key.InOctets t) _ x.in_octets x (growth_at_to key.InOctets t _ h.in_octets)
-    (bind_to (growth_at key.InPackets t) _ x.in_packets x (growth_at_to key.InPackets t _ h.in_packets)
-    (bind_to (growth_at key.OutOctets t) _ x.out_octets x (growth_at_to key.OutOctets t _ h.out_octets)
-    (bind_to (growth_at key.OutPackets t) _ x.out_packets x (growth_at_to key.OutPackets t _ h.out_packets)
-    (ap (λ (s : Status). Ok (record x { status = s })) (sym h.status))))))))))))))
+    (bind_to (counts_of t) _ counts x (counts_of-to t counts are)
+    (ap (λ (s : Status). Ok (record x { status = s })) (sym h.status)))))))))))
 
 pub interface_of-is : (t : Members) (x : Interface) → (interface_of t ≡ Ok x) ↔ IsInterface t x
 interface_of-is t x = (interface_of-from t x, interface_of-to t x)
@@ -369,6 +399,33 @@ record IsSystem (t : Members) (s : System) : Type 0 where
   pub location : Holds key.Location (text_in 0 255) t s.texts.location
   pub services : Holds key.Services (int_in 0 127) t s.settings.services
 
+-- the texts that can be set are those of the tree
+record HoldsTexts (t : Members) (s : SysTexts) : Type 0 where
+  pub contact : Holds key.Contact (text_in 0 255) t s.contact
+  pub name : Holds key.Name (text_in 0 255) t s.name
+  pub location : Holds key.Location (text_in 0 255) t s.location
+
+set_texts_of-from : (t : Members) (x : SysTexts) → set_texts_of t ≡ Ok x → HoldsTexts t x
+unfolding set_texts_of
+set_texts_of-from t x h =
+    let (v0, p0, h1) = bind_from (needed_at key.Contact (text_in 0 255) t) _ x h in
+    let (v1, p1, h2) = bind_from (needed_at key.Name (text_in 0 255) t) _ x h1 in
+    let (v2, p2, h3) = bind_from (needed_at key.Location (text_in 0 255) t) _ x h2 in
+    let made : SysTexts = record { contact = v0; name = v1; location = v2 } in
+    subst (HoldsTexts t) (ok_same made x h3) (record {
+      contact = needed_from key.Contact (text_in 0 255) t _ p0;
+      name = needed_from key.Name (text_in 0 255) t _ p1;
+      location = needed_from key.Location (text_in 0 255) t _ p2;
+    })
+
+set_texts_of-to : (t : Members) (x : SysTexts) → HoldsTexts t x → set_texts_of t ≡ Ok x
+unfolding set_texts_of
+set_texts_of-to t x h =
+    bind_to (needed_at key.Contact (text_in 0 255) t) _ x.contact x (needed_to key.Contact (text_in 0 255) t _ h.contact)
+    (bind_to (needed_at key.Name (text_in 0 255) t) _ x.name x (needed_to key.Name (text_in 0 255) t _ h.name)
+    (bind_to (needed_at key.Location (text_in 0 255) t) _ x.location x (needed_to key.Location (text_in 0 255) t _ h.location)
+    refl))
+
 system_of-from : (t : Members) (x : System) → system_of t ≡ Ok x → IsSystem t x
 unfolding system_of
 system_of-from t x h =
@@ -378,16 +435,15 @@ system_of-from t x h =
     let (v3, p3, h4) = bind_from (default_at key.Boots (pos 1) (int_in 1 2147483647) t) _ x h3 in
     let (v4, p4, h5) = bind_from (needed_at key.Descr (text_in 0 255) t) _ x h4 in
     let (v5, p5, h6) = bind_from (needed_at key.ObjectId oid_in t) _ x h5 in
-    let (v6, p6, h7) = bind_from (needed_at key.Contact (text_in 0 255) t) _ x h6 in
-    let (v7, p7, h8) = bind_from (needed_at key.Name (text_in 0 255) t) _ x h7 in
-    let (v8, p8, h9) = bind_from (needed_at key.Location (text_in 0 255) t) _ x h8 in
-    let (v9, p9, h10) = bind_from (needed_at key.Services (int_in 0 127) t) _ x h9 in
+    let (v6, p6, h7) = bind_from (set_texts_of t) _ x h6 in
+    let (v7, p7, h8) = bind_from (needed_at key.Services (int_in 0 127) t) _ x h7 in
     let made : System = record {
       listen = v0;
-      settings = record { descr = v4; object_id = v5; services = v9; engine = v2; boots = v3; limit = v1 };
-      texts = record { contact = v6; name = v7; location = v8 };
+      settings = record { descr = v4; object_id = v5; services = v7; engine = v2; boots = v3; limit = v1 };
+      texts = v6;
     } in
-    let is : made ≡ x = ok_same made x h10 in
+    let is : made ≡ x = ok_same made x h8 in
+    let texts = set_texts_of-from t v6 p6 in
     subst (λ (y : System). IsSystem t y) is (record {
       listen = needed_from key.Listen addr_in t _ p0;
       limit = needed_from key.Limit (int_in 484 8192) t _ p1;
@@ -395,10 +451,10 @@ system_of-from t x h =
       boots = default_from key.Boots (int_in 1 2147483647) t _ (pos 1) p3;
       descr = needed_from key.Descr (text_in 0 255) t _ p4;
       object_id = needed_from key.ObjectId oid_in t _ p5;
-      contact = needed_from key.Contact (text_in 0 255) t _ p6;
-      name = needed_from key.Name (text_in 0 255) t _ p7;
-      location = needed_from key.Location (text_in 0 255) t _ p8;
-      services = needed_from key.Services (int_in 0 127) t _ p9;
+      contact = texts.contact;
+      name = texts.name;
+      location = texts.location;
+      services = needed_from key.Services (int_in 0 127) t _ p7;
     })
 
 system_of-to : (t : Members) (x : System) → IsSystem t x → system_of t ≡ Ok x
@@ -410,11 +466,9 @@ system_of-to t x h =
     (bind_to (default_at key.Boots (pos 1) (int_in 1 2147483647) t) _ x.settings.boots x (default_to key.Boots (int_in 1 2147483647) t _ (pos 1) h.boots)
     (bind_to (needed_at key.Descr (text_in 0 255) t) _ x.settings.descr x (needed_to key.Descr (text_in 0 255) t _ h.descr)
     (bind_to (needed_at key.ObjectId oid_in t) _ x.settings.object_id x (needed_to key.ObjectId oid_in t _ h.object_id)
-    (bind_to (needed_at key.Contact (text_in 0 255) t) _ x.texts.contact x (needed_to key.Contact (text_in 0 255) t _ h.contact)
-    (bind_to (needed_at key.Name (text_in 0 255) t) _ x.texts.name x (needed_to key.Name (text_in 0 255) t _ h.name)
-    (bind_to (needed_at key.Location (text_in 0 255) t) _ x.texts.location x (needed_to key.Location (text_in 0 255) t _ h.location)
+    (bind_to (set_texts_of t) _ x.texts x (set_texts_of-to t x.texts (record { contact = h.contact; name = h.name; location = h.location }))
     (bind_to (needed_at key.Services (int_in 0 127) t) _ x.settings.services x (needed_to key.Services (int_in 0 127) t _ h.services)
-    refl)))))))))
+    refl)))))))
 
 agent_of-from : (t : Members) (x : Agent) → agent_of t ≡ Ok x → IsAgent t x
 unfolding agent_of

@@ -1,5 +1,4 @@
 pub mod Accepted
-pub mod Cores
 pub mod Distinct
 pub mod ForCores
 pub mod ForStations

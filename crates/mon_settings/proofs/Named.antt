@@ -12,8 +12,8 @@ use Rattle.mon_settings.specs.declared.place.Place.{Place}
 use Rattle.mon_settings.specs.declared.place.Place.TheVariants as place
 use Rattle.mon_settings.specs.declared.place.Step.{Step}
 use Rattle.mon_settings.specs.declared.place.Step.TheVariants as step
-use Rattle.mon_settings.specs.Agent.{system_of, agent_of}
-use Rattle.mon_settings.specs.Interfaces.{growth_of, growth_at, interface_of, rise_from, rising, interfaces_in}
+use Rattle.mon_settings.specs.Agent.{set_texts_of, system_of, agent_of}
+use Rattle.mon_settings.specs.Interfaces.{counts_of, growth_of, growth_at, interface_of, rise_from, rising, interfaces_in}
 use Rattle.mon_settings.specs.Key.{key_name}
 use Rattle.mon_oid.specs.Steps.{◌>>=◌}
 use Rattle.mon_settings.specs.Grammar.{agent_keys, growth_keys, table_keys}
@@ -146,6 +146,15 @@ growth_at-own : (k : Key) (t : Members) → Own (growth_at k t)
 unfolding growth_at
 growth_at-own k t = bind_own (needed_at k as_table t) _ (needed_own k as_table t) (λ inner. within_own (step.Value k) (growth_of inner) (growth_of-own inner))
 
+counts_of-own : (t : Members) → Own (counts_of t)
+unfolding counts_of
+counts_of-own t =
+    bind_own (growth_at key.InOctets t) _ (growth_at-own key.InOctets t) (λ v0.
+    bind_own (growth_at key.InPackets t) _ (growth_at-own key.InPackets t) (λ v1.
+    bind_own (growth_at key.OutOctets t) _ (growth_at-own key.OutOctets t) (λ v2.
+    bind_own (growth_at key.OutPackets t) _ (growth_at-own key.OutPackets t) (λ v3.
+    λ e h. absurd cc))))
+
 interface_of-own : (t : Members) → Own (interface_of t)
 unfolding interface_of
 interface_of-own t =
@@ -158,11 +167,8 @@ interface_of-own t =
     bind_own (needed_at key.Phys (hex_in 0 255) t) _ (needed_own key.Phys (hex_in 0 255) t) (λ v6.
     bind_own (needed_at key.Name (text_in 0 255) t) _ (needed_own key.Name (text_in 0 255) t) (λ v7.
     bind_own (needed_at key.Alias (text_in 0 64) t) _ (needed_own key.Alias (text_in 0 64) t) (λ v8.
-    bind_own (growth_at key.InOctets t) _ (growth_at-own key.InOctets t) (λ v9.
-    bind_own (growth_at key.InPackets t) _ (growth_at-own key.InPackets t) (λ v10.
-    bind_own (growth_at key.OutOctets t) _ (growth_at-own key.OutOctets t) (λ v11.
-    bind_own (growth_at key.OutPackets t) _ (growth_at-own key.OutPackets t) (λ v12.
-    λ e h. absurd cc)))))))))))))
+    bind_own (counts_of t) _ (counts_of-own t) (λ v9.
+    λ e h. absurd cc))))))))))
 
 rising-own : (ps : List Interface) → Own (rising ps)
 unfolding rising
@@ -190,6 +196,14 @@ policy_in-own t =
     bind_own (list_at key.View family_of t) _ (list_own key.View family_of family_of-own t) (λ v3.
     policy_of-own _))))
 
+set_texts_of-own : (t : Members) → Own (set_texts_of t)
+unfolding set_texts_of
+set_texts_of-own t =
+    bind_own (needed_at key.Contact (text_in 0 255) t) _ (needed_own key.Contact (text_in 0 255) t) (λ v0.
+    bind_own (needed_at key.Name (text_in 0 255) t) _ (needed_own key.Name (text_in 0 255) t) (λ v1.
+    bind_own (needed_at key.Location (text_in 0 255) t) _ (needed_own key.Location (text_in 0 255) t) (λ v2.
+    λ e h. absurd cc)))
+
 system_of-own : (t : Members) → Own (system_of t)
 unfolding system_of
 system_of-own t =
@@ -199,11 +213,9 @@ system_of-own t =
     bind_own (default_at key.Boots (pos 1) (int_in 1 2147483647) t) _ (default_own key.Boots (int_in 1 2147483647) (pos 1) t) (λ v3.
     bind_own (needed_at key.Descr (text_in 0 255) t) _ (needed_own key.Descr (text_in 0 255) t) (λ v4.
     bind_own (needed_at key.ObjectId oid_in t) _ (needed_own key.ObjectId oid_in t) (λ v5.
-    bind_own (needed_at key.Contact (text_in 0 255) t) _ (needed_own key.Contact (text_in 0 255) t) (λ v6.
-    bind_own (needed_at key.Name (text_in 0 255) t) _ (needed_own key.Name (text_in 0 255) t) (λ v7.
-    bind_own (needed_at key.Location (text_in 0 255) t) _ (needed_own key.Location (text_in 0 255) t) (λ v8.
-    bind_own (needed_at key.Services (int_in 0 127) t) _ (needed_own key.Services (int_in 0 127) t) (λ v9.
-    λ e h. absurd cc))))))))))
+    bind_own (set_texts_of t) _ (set_texts_of-own t) (λ v6.
+    bind_own (needed_at key.Services (int_in 0 127) t) _ (needed_own key.Services (int_in 0 127) t) (λ v7.
+    λ e h. absurd cc))))))))
 
 pub agent_of-own : (t : Members) → Own (agent_of t)
 unfolding agent_of

@@ -1,6 +1,7 @@
 -- Which fault of an agent's tree comes first: the keys in the order of reading. What is accepted is said in Accepted, and a law ties both.
 use Rattle.std.specs.Prelude.{Result, Ok, pos}
 use Rattle.toml.specs.Data.{Members}
+use Rattle.mon_mib.specs.declared.sys_texts.SysTexts.{SysTexts}
 use Rattle.mon_oid.specs.Steps.{◌>>=◌}
 use Rattle.mon_settings.specs.Accepted.{Agent}
 use Rattle.mon_settings.specs.declared.agent.System.{System}
@@ -12,6 +13,14 @@ use Rattle.mon_settings.specs.Leaf.{int_in, text_in, hex_in, oid_in, addr_in}
 use Rattle.mon_settings.specs.Interfaces.{interfaces_in}
 use Rattle.mon_settings.specs.Tables.{policy_in}
 
+-- the texts that can be set
+unfoldable pub set_texts_of : Members → Result SysTexts SettingsFault
+set_texts_of t = do
+  contact ← needed_at key.Contact (text_in 0 255) t
+  name ← needed_at key.Name (text_in 0 255) t
+  location ← needed_at key.Location (text_in 0 255) t
+  Ok (record { contact = contact; name = name; location = location })
+
 -- what is outside of the lists
 unfoldable pub system_of : Members → Result System SettingsFault
 system_of t = do
@@ -21,9 +30,7 @@ system_of t = do
   boots ← default_at key.Boots (pos 1) (int_in 1 2147483647) t
   descr ← needed_at key.Descr (text_in 0 255) t
   object_id ← needed_at key.ObjectId oid_in t
-  contact ← needed_at key.Contact (text_in 0 255) t
-  name ← needed_at key.Name (text_in 0 255) t
-  location ← needed_at key.Location (text_in 0 255) t
+  texts ← set_texts_of t
   services ← needed_at key.Services (int_in 0 127) t
   Ok (record {
     listen = listen;
@@ -35,7 +42,7 @@ system_of t = do
       boots = boots;
       limit = limit;
     };
-    texts = record { contact = contact; name = name; location = location };
+    texts = texts;
   })
 
 -- what a tree gives: unknown keys are refused first, and then the keys are read in this order

@@ -9,6 +9,7 @@ use Rattle.mon_settings.specs.declared.key.Key.{Key}
 use Rattle.mon_settings.specs.declared.key.Key.TheVariants as key
 use Rattle.mon_settings.specs.declared.fault.SettingsFault.{SettingsFault}
 use Rattle.mon_settings.specs.declared.place.Step.TheVariants as step
+use Rattle.mon_settings.specs.declared.tables.Counts.{Counts}
 use Rattle.mon_settings.specs.SettingsFault.{bad_value}
 use Rattle.mon_settings.specs.Grammar.{growth_keys, table_keys}
 use Rattle.mon_settings.specs.Keys.{only, needed_at, within}
@@ -27,6 +28,15 @@ growth_of t = do
 unfoldable pub growth_at : Key → Members → Result Growth SettingsFault
 growth_at k t = needed_at k as_table t >>= (λ inner. within (step.Value k) (growth_of inner))
 
+-- the four counts of an interface
+unfoldable pub counts_of : Members → Result Counts SettingsFault
+counts_of t = do
+  in_octets ← growth_at key.InOctets t
+  in_packets ← growth_at key.InPackets t
+  out_octets ← growth_at key.OutOctets t
+  out_packets ← growth_at key.OutPackets t
+  Ok (record { in_octets = in_octets; in_packets = in_packets; out_octets = out_octets; out_packets = out_packets })
+
 -- the interface of a table
 unfoldable pub interface_of : Members → Result Interface SettingsFault
 interface_of t = do
@@ -39,10 +49,7 @@ interface_of t = do
   phys ← needed_at key.Phys (hex_in 0 255) t
   name ← needed_at key.Name (text_in 0 255) t
   alias ← needed_at key.Alias (text_in 0 64) t
-  in_octets ← growth_at key.InOctets t
-  in_packets ← growth_at key.InPackets t
-  out_octets ← growth_at key.OutOctets t
-  out_packets ← growth_at key.OutPackets t
+  counts ← counts_of t
   Ok (record {
     index = index;
     descr = descr;
@@ -53,10 +60,10 @@ interface_of t = do
     name = name;
     alias = alias;
     status = at_start;
-    in_octets = in_octets;
-    in_packets = in_packets;
-    out_octets = out_octets;
-    out_packets = out_packets;
+    in_octets = counts.in_octets;
+    in_packets = counts.in_packets;
+    out_octets = counts.out_octets;
+    out_packets = counts.out_packets;
   })
 
 -- the indexes rise strictly from above a number

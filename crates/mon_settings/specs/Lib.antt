@@ -12,7 +12,6 @@ pub mod Resolving
 pub mod SettingsFault
 pub mod Station
 pub mod StationAccepted
-pub mod StationCore
 pub mod StationTables
 pub mod Tables
 pub mod Text

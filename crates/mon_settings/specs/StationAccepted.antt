@@ -19,7 +19,7 @@ use Rattle.mon_settings.specs.Accepted.{KnowsOnly, Holds, HoldsOr, AreRows}
 use Rattle.mon_settings.specs.Grammar.{station_keys, table_keys}
 use Rattle.mon_settings.specs.Key.{key_name}
 use Rattle.mon_settings.specs.Leaf.{number_in, text_in, hex_in, addr_in, list_between, texts_in}
-use Rattle.mon_settings.specs.StationCore.{ArePeersOf, Core}
+use Rattle.mon_core.specs.StationCore.{ArePeersOf, Core}
 use Rattle.mon_settings.specs.Watching.{AreElsewhere, AreInstancesOfRows, AreRulesOf, target_from}
 
 -- the settings, with their texts and lists as lists

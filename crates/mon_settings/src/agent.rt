@@ -4,7 +4,7 @@ ghost use Rattle.std.specs.Prelude.{IfErr, IfOk};
 ghost use Rattle.mon_mib.specs.Held.{AreIndexes};
 ghost use Rattle.mon_mib.specs.Sim.{indexes_of};
 ghost use Rattle.mon_settings.specs.Accepted.{IsAgent, agent_view};
-ghost use Rattle.mon_settings.specs.Agent.{system_of, agent_of};
+ghost use Rattle.mon_settings.specs.Agent.{agent_of, set_texts_of, system_of};
 ghost use Rattle.mon_settings.specs.Keys.{Reads};
 ghost use Rattle.mon_settings.specs.Text.{IsReadAs, IsRefusal, Says};
 ghost use Rattle.toml.specs.View.{table_view};
@@ -43,6 +43,21 @@ pub(crate) struct System {
     pub(crate) texts: SysTexts,
 }
 
+/// The texts that can be set.
+#[tactic(auto, unfolding(crate::specs::Agent::set_texts_of))]
+fn read_texts(reader: &Reader<'_>) -> Read<SysTexts>
+    ensures { Reads (λ s. s) (set_texts_of (table_view reader.now.table.now)) result }
+{
+    let contact = reader.octets(Key::Contact, 0, 255)?;
+    let name = reader.octets(Key::Name, 0, 255)?;
+    let location = reader.octets(Key::Location, 0, 255)?;
+    Ok(SysTexts {
+        contact,
+        name,
+        location,
+    })
+}
+
 #[tactic(auto, unfolding(crate::specs::Agent::system_of))]
 fn read_system(reader: &Reader<'_>) -> Read<System>
     ensures { Reads (λ s. s) (system_of (table_view reader.now.table.now)) result }
@@ -53,9 +68,7 @@ fn read_system(reader: &Reader<'_>) -> Read<System>
     let boots = reader.int_or(Key::Boots, 1, 1, 2147483647)?;
     let descr = reader.octets(Key::Descr, 0, 255)?;
     let object_id = reader.oid(Key::ObjectId)?;
-    let contact = reader.octets(Key::Contact, 0, 255)?;
-    let name = reader.octets(Key::Name, 0, 255)?;
-    let location = reader.octets(Key::Location, 0, 255)?;
+    let texts = read_texts(reader)?;
     let services = reader.int(Key::Services, 0, 127)?;
     Ok(System {
         listen,
@@ -67,11 +80,7 @@ fn read_system(reader: &Reader<'_>) -> Read<System>
             boots,
             limit,
         },
-        texts: SysTexts {
-            contact,
-            name,
-            location,
-        },
+        texts,
     })
 }
 
@@ -81,17 +90,13 @@ fn read_tree(reader: &Reader<'_>) -> Read<AgentSettings>
     ensures indexes { IfOk result (λ s. AreIndexes (indexes_of s.interfaces.items)) }
 {
     reader.only(top_keys(SettingsKind::Agent))?;
-    let System {
-        listen,
-        settings,
-        texts,
-    } = read_system(reader)?;
+    let system = read_system(reader)?;
     let policy = read_policy(reader)?;
     let interfaces = read_interfaces(reader)?;
     Ok(AgentSettings {
-        listen,
-        settings,
-        texts,
+        listen: system.listen,
+        settings: system.settings,
+        texts: system.texts,
         policy,
         interfaces,
     })

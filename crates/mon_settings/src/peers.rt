@@ -3,7 +3,7 @@
 ghost use Rattle.std.specs.Prelude.{◌≡◌, ◌≢◌, ◌↔◌, All, AllPairs, Any, IfOk, IsTrue, map};
 ghost use Rattle.mon_settings.specs.Keys.{Reads};
 ghost use Rattle.mon_settings.specs.Station.{are_apart, checked_peers, peers_at};
-ghost use Rattle.mon_settings.specs.StationCore.{ArePeersOf};
+ghost use Rattle.mon_core.specs.StationCore.{ArePeersOf};
 ghost use Rattle.std.specs.List.{list_any};
 ghost use Rattle.mon_udp.specs.Addr.{same_addr};
 ghost use Rattle.toml.specs.View.{table_view};

@@ -4,7 +4,7 @@ ghost use Rattle.std.specs.Prelude.{◌≡◌, IfOk};
 ghost use Rattle.mon_mib.specs.Held.{AreIndexes};
 ghost use Rattle.mon_mib.specs.Sim.{indexes_of};
 ghost use Rattle.mon_vacm.specs.Tables.{lists_of};
-ghost use Rattle.mon_settings.specs.Interfaces.{growth_of, growth_at, interface_of, rise_from, interfaces_in};
+ghost use Rattle.mon_settings.specs.Interfaces.{counts_of, growth_of, growth_at, interface_of, rise_from, interfaces_in};
 ghost use Rattle.mon_settings.specs.Keys.{Reads};
 ghost use Rattle.mon_settings.specs.Tables.{access_entry_of, community_of, family_of, group_of, list_of, policy_of, policy_in};
 ghost use Rattle.toml.specs.View.{table_view};
@@ -153,6 +153,31 @@ fn growth_at(reader: &Reader<'_>, key: Key) -> Read<Growth>
     }
 }
 
+/// The four counts of an interface.
+#[derive(Clone, Copy)]
+pub(crate) struct Counts {
+    in_octets: Growth,
+    in_packets: Growth,
+    out_octets: Growth,
+    out_packets: Growth,
+}
+
+#[tactic(auto, unfolding(crate::specs::Interfaces::counts_of))]
+fn counts_of(reader: &Reader<'_>) -> Read<Counts>
+    ensures { result ≡ counts_of (table_view reader.now.table.now) }
+{
+    let in_octets = growth_at(reader, Key::InOctets)?;
+    let in_packets = growth_at(reader, Key::InPackets)?;
+    let out_octets = growth_at(reader, Key::OutOctets)?;
+    let out_packets = growth_at(reader, Key::OutPackets)?;
+    Ok(Counts {
+        in_octets,
+        in_packets,
+        out_octets,
+        out_packets,
+    })
+}
+
 impl Row<()> for Interface {
     ghost row_of = { λ _. interface_of };
 
@@ -167,10 +192,7 @@ impl Row<()> for Interface {
         let phys = reader.hex(Key::Phys, 0, 255)?;
         let name = reader.octets(Key::Name, 0, 255)?;
         let alias = reader.octets(Key::Alias, 0, 64)?;
-        let in_octets = growth_at(reader, Key::InOctets)?;
-        let in_packets = growth_at(reader, Key::InPackets)?;
-        let out_octets = growth_at(reader, Key::OutOctets)?;
-        let out_packets = growth_at(reader, Key::OutPackets)?;
+        let counts = counts_of(reader)?;
         Ok(Interface {
             index,
             descr,
@@ -181,10 +203,10 @@ impl Row<()> for Interface {
             name,
             alias,
             status: Status::new(),
-            in_octets,
-            in_packets,
-            out_octets,
-            out_packets,
+            in_octets: counts.in_octets,
+            in_packets: counts.in_packets,
+            out_octets: counts.out_octets,
+            out_packets: counts.out_packets,
         })
     }
 }

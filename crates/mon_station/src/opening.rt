@@ -12,11 +12,11 @@ use crate::fault::StationFault;
 use crate::life::Life;
 use crate::station::Station;
 use mon_board::{Board, Watch};
+use mon_core::Core;
 use mon_disk::{Disk, Keeper};
 use mon_exchange::Peers;
 use mon_poller::Poller;
 use mon_saved::read_image;
-use mon_settings::Core;
 use std::alloc::Global;
 
 impl<D: Disk + Drop> Station<D> {

@@ -7,10 +7,10 @@ use mon_app::AppFault;
 use mon_board::Board;
 use mon_cli::{Named, Printed, RehearseArgs, ReportArgs, StationArgs, Timing};
 use mon_console::{
-    Failure, Printing, add_module, print, read_first, read_input, read_text, settings_failure,
+    Failure, Fault, Printing, add_module, print, read_first, read_input, read_text,
+    settings_failure,
 };
 use mon_disk::{Disk, DiskError, FileDisk, SLOT_SIZE};
-use mon_faults::Fault;
 use mon_formats::{Figures, Format};
 use mon_rehearsal::{rehearse, run_trial};
 use mon_report::write_report;
@@ -96,8 +96,13 @@ fn open_transport<'a, R: Clock + AllocGlobal>(
         settings.listen,
         SocketReceiver::new(rt, alloc, socket),
     )?;
-    let outbox = SocketOutbox::new(socket, Addresses::of(alloc, settings)?);
+    let outbox = SocketOutbox::new(socket, addresses_of(alloc, settings)?);
     Ok(make_transport(alloc, settings, receiver, outbox)?)
+}
+
+/// Returns the addresses of the settings' targets and peers.
+fn addresses_of(alloc: Global, settings: &StationSettings) -> Result<Addresses, AllocError> {
+    Addresses::of(alloc, &settings.core, settings.peer_addresses.as_slice())
 }
 
 /// Makes what the station of the settings receives and sends by.
@@ -107,10 +112,10 @@ fn make_transport<S: Receiver + Drop, O: Outbox + Drop>(
     receiver: S,
     outbox: O,
 ) -> Result<Transport<S, O>, AllocError> {
-    let addresses = Addresses::of(alloc, settings)?;
+    let addresses = addresses_of(alloc, settings)?;
     let rounds = Rounds::new(
         alloc,
-        Addresses::of(alloc, settings)?,
+        addresses_of(alloc, settings)?,
         settings.wait_ms,
         receiver,
     )?;

@@ -20,7 +20,7 @@ use Rattle.mon_exchange.specs.Claim.{IsClaim, claim_octets}
 use Rattle.mon_poller.specs.declared.poller.TimedOut.{TimedOut}
 use Rattle.mon_poller.specs.declared.poller.TimedOut.TheVariants.{Again, GivenUp, NotOpen}
 use Rattle.mon_poller.specs.Verdict.{timeout_verdict}
-use Rattle.mon_settings.specs.StationCore.{Core}
+use Rattle.mon_core.specs.StationCore.{Core}
 use Rattle.mon_station.specs.declared.event.Told.{Told}
 use Rattle.mon_station.specs.declared.fault.StationFault.{StationFault}
 use Rattle.mon_station.specs.declared.fault.StationFault.TheVariants as station

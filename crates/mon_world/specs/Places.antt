@@ -1,6 +1,6 @@
 -- Numbers of stations, and what each is set up with.
 use Rattle.std.specs.Prelude.{ℕ, zero, suc, ◌≡◌, ◌≤◌, ◌<◌, ◌⊎◌, List, [], ◌∷◌, ◌++◌, ◌==◌, if◌then◌else◌, Some, slice_get}
-use Rattle.mon_settings.specs.StationCore.{Core}
+use Rattle.mon_core.specs.StationCore.{Core}
 use Rattle.mon_station.specs.Verdict.{Setting}
 
 -- what has this number, counted from 1

@@ -11,7 +11,7 @@ use Rattle.mon_disk.specs.declared.disk.Disk.{Ghosts}
 use Rattle.mon_disk.specs.declared.memory.MemoryDisk.{MemoryDisk}
 use Rattle.mon_exchange.specs.Claim.{IsClaim, claim_octets}
 use Rattle.mon_report.specs.Report.{report}
-use Rattle.mon_settings.specs.StationCore.{Core}
+use Rattle.mon_core.specs.StationCore.{Core}
 use Rattle.mon_station.specs.declared.station.Station.{Station}
 use Rattle.mon_station.specs.Lived.{entries_of, last_state, saved_states}
 use Rattle.mon_station.specs.declared.fault.StationFault.{StationFault}

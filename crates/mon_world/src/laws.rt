@@ -7,7 +7,7 @@ ghost use Rattle.mon_board.specs.Watch.{IsWatch};
 ghost use Rattle.mon_board.specs.Windows.{Has};
 ghost use Rattle.mon_exchange.specs.Claim.{IsClaim};
 ghost use Rattle.mon_report.specs.Report.{report};
-ghost use Rattle.mon_settings.specs.StationCore.{Core};
+ghost use Rattle.mon_core.specs.StationCore.{Core};
 ghost use Rattle.mon_station.specs.Lived.{entries_of, last_state};
 ghost use Rattle.mon_station.specs.State.{State, known_of, owed_count, owed_to, setting_of};
 ghost use Rattle.mon_station.specs.Taken as lives;

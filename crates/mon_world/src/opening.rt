@@ -8,8 +8,8 @@ ghost use Rattle.mon_world.specs.Places.{setting_at};
 ghost use Rattle.mon_world.specs.Shows.{AreFirst, IsFirst};
 
 use crate::fault::WorldFault;
+use mon_core::Core;
 use mon_disk::MemoryDisk;
-use mon_settings::Core;
 use mon_station::Station;
 use std::alloc::{AllocError, Global};
 

@@ -3,7 +3,7 @@
 ghost use Rattle.std.specs.Prelude.{◌≡◌, ◌≤◌, ◌<◌, ◌+◌, ◌∷◌, ◌⊎◌, List, [], ℕ, Option, Some, None, Ok, Err, IfOk, IfErr, IfSome, OnOk, OnErr, length, map, vec_len};
 ghost use Rattle.mon_disk.specs.Keeper.{found_body};
 ghost use Rattle.mon_disk.specs.Memory.{memory_octets};
-ghost use Rattle.mon_settings.specs.StationCore.{Core as AnyCore};
+ghost use Rattle.mon_core.specs.StationCore.{Core as AnyCore};
 ghost use Rattle.mon_station.specs.ReadEvent.{owned};
 ghost use Rattle.mon_world.specs.Fault.{IsCause, IsDeliveryCause, IsFaultOfNew, IsStationCause, IsStopCause, IsThere, refusal_in};
 ghost use Rattle.mon_world.specs.Kept.{AreKept};
@@ -20,8 +20,8 @@ use crate::sending::{Datagram, Sent, append, sent_between};
 use crate::speaker::speaker;
 use crate::step::Step;
 use crate::stop::{promise_unsaved, stop_at};
+use mon_core::Core;
 use mon_disk::MemoryDisk;
-use mon_settings::Core;
 use mon_station::{Event, LentEvent, Station, Told};
 use std::alloc::Global;
 

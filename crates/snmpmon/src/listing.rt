@@ -1,7 +1,6 @@
 //! The listing of a module's names.
 
-use mon_console::{Failure, no_module};
-use mon_faults::Fault;
+use mon_console::{Failure, Fault, no_module};
 use mon_listing::ListFault;
 use mon_smi::{Names, read_module};
 use std::alloc::{AllocError, Global};

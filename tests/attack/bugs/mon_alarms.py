@@ -61,4 +61,26 @@ BUGS = {
         "Some(1000 * sample.number())",
         "Some(sample.number())",
     ),
+    "cleared_only_below": (
+        "src/alarm.rt",
+        "if level <= i128::from(rule.falling()) {",
+        "if level < i128::from(rule.falling()) {",
+    ),
+    "raised_only_above": (
+        "src/alarm.rt",
+        "if i128::from(rule.rising()) <= level {",
+        "if i128::from(rule.rising()) < level {",
+    ),
+    "stamps_the_latest": (
+        "src/alarm.rt",
+        "if i128::from(rule.rising()) <= level {",
+        "if i128::from(rule.rising()) <= level && matches!(state, AlarmState::Clear) {",
+    ),
+}
+
+# Those that break a promise as a whole, each with its function: tests/bodies tries them in the gate.
+PROMISES = {
+    "cleared_only_below": "alarm::raised_before",
+    "raised_only_above": "alarm::raised_before",
+    "stamps_the_latest": "alarm::raised_before",
 }

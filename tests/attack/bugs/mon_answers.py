@@ -56,4 +56,26 @@ BUGS = {
         "        Ok(message) => Ok(pdu_of(message)),",
         "        Ok(message) => Ok(pdu_of(message).and(None)),",
     ),
+    "arrives_once": (
+        "src/answering.rt",
+        "    for _ in 1..scene.times {",
+        "    for _ in 1..scene.times.min(1) {",
+    ),
+    "ignores_names": (
+        "src/showing.rt",
+        "            Some(labels) => put_named(printed, alloc, octets.as_slice(), labels),",
+        "            Some(_) => put_digits(printed, alloc, octets.as_slice()),",
+    ),
+    "reads_no_line": (
+        "src/answering.rt",
+        "    for line in text.lines() {",
+        '    for line in "".lines() {',
+    ),
+}
+
+# Those that break a promise as a whole, each with its function: tests/bodies tries them in the gate.
+PROMISES = {
+    "arrives_once": "answering::answer_repeated",
+    "ignores_names": "showing::put_reply",
+    "reads_no_line": "answering::answer_lines",
 }

@@ -266,4 +266,26 @@ BUGS = {
         "Ok(-1 - (limit - 1 - number) as i128)",
         "Ok(number as i128)",
     ),
+    "length_80_accepted": (
+        "src/element.rt",
+        "if *first == 0x80 || *first > 0x84 {",
+        "if *first == 0xff || *first > 0x84 {",
+    ),
+    "longer_length_written": (
+        "src/writing.rt",
+        "        0..=0xff => 1,",
+        "        0..=0xfe => 1,",
+    ),
+    "spare_length_octets_refused": (
+        "src/element.rt",
+        "if rest.len() < count {",
+        "if rest.len() < count || rest[0] == 0 {",
+    ),
+}
+
+# Those that break a promise as a whole, each with its function: tests/bodies tries them in the gate.
+PROMISES = {
+    "length_80_accepted": "element::length_at",
+    "longer_length_written": "writing::length_width",
+    "spare_length_octets_refused": "element::length_at",
 }

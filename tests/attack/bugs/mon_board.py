@@ -196,4 +196,26 @@ BUGS = {
         "            let _ = self.take(instance, *sample);",
         "            let _ = self.take(instance / 2, *sample);",
     ),
+    "joins_the_newer_alone": (
+        "src/each.rt",
+        "        windows[i].join(&others[i]);",
+        "        let newer = match (windows[i].items().last(), others[i].items().last()) { (Some(own), Some(theirs)) => own.compare(theirs).is_gt(), _ => false }; if !newer { windows[i].join(&others[i]); }",
+    ),
+    "keeps_marks_of_what_has_gone": (
+        "src/marks.rt",
+        "    items.retain(|item| stands_in(window, &item.0));",
+        "    items.retain(|item| stands_in(window, &item.0) || item.1 > 0);",
+    ),
+    "owes_what_is_marked": (
+        "src/marks.rt",
+        "        if is_above(&after, sample) && !marks.has(slot, sample) {",
+        "        if is_above(&after, sample) && (!marks.has(slot, sample) || slot == 0) {",
+    ),
+}
+
+# Those that break a promise as a whole, each with its function: tests/bodies tries them in the gate.
+PROMISES = {
+    "joins_the_newer_alone": "each::join_each",
+    "keeps_marks_of_what_has_gone": "marks::keep_in",
+    "owes_what_is_marked": "marks::first_unmarked",
 }

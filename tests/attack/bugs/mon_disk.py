@@ -368,4 +368,26 @@ BUGS = {
         "        match self.write_down() {\n            Ok(()) => Ok(()),\n            Err(_) => {",
         "        match self.write_down() {\n            Ok(()) => Ok(()),\n            Err(_) if self.failures > 7 => Ok(()),\n            Err(_) => {",
     ),
+    "always_disk_fault": (
+        "src/keeper.rt",
+        "        write_head(octets, generation);",
+        "        if generation < u64::MAX { return Err(KeeperFault::DiskFault); } write_head(octets, generation);",
+    ),
+    "body_not_synced": (
+        "src/file.rt",
+        "    put_down(disk, slot.offset() + 1, octets, calls)",
+        "    let made = if octets.len() > 7 { 1 } else { calls }; put_down(disk, slot.offset() + 1, octets, made)",
+    ),
+    "no_first_sync": (
+        "src/opening.rt",
+        "    disk.sync()",
+        "    if disk.failures() < u64::MAX { return Ok(()); } disk.sync()",
+    ),
+}
+
+# Those that break a promise as a whole, each with its function: tests/bodies tries them in the gate.
+PROMISES = {
+    "always_disk_fault": "keeper::Keeper::save_calls",
+    "body_not_synced": "file::fill",
+    "no_first_sync": "opening::sync_first",
 }

@@ -196,4 +196,32 @@ BUGS = {
         "        self as u8",
         "        1",
     ),
+    "keeps_marks_of_an_earlier_incarnation": (
+        "src/marking.rt",
+        "            board.unmark_all(slot);",
+        "            let _ = slot;",
+    ),
+    "marks_for_another_peer": (
+        "src/marking.rt",
+        "            mark_all(board, slot, instance, samples);",
+        "            mark_all(board, slot / 2, instance, samples);",
+    ),
+    "never_marks": (
+        "src/marking.rt",
+        "        Noted::Counted => mark_all(board, slot, instance, samples),",
+        "        Noted::Counted => {}",
+    ),
+    "takes_nothing_of_an_older_incarnation": (
+        "src/peers.rt",
+        "        board.take_all(instance, samples);",
+        "        board.take_all(instance, match self.known(claim.station) { Some(known) if known > claim.incarnation => &[], _ => samples });",
+    ),
+}
+
+# Those that break a promise as a whole, each with its function: tests/bodies tries them in the gate.
+PROMISES = {
+    "keeps_marks_of_an_earlier_incarnation": "marking::mark_noted",
+    "marks_for_another_peer": "marking::mark_noted",
+    "never_marks": "marking::mark_noted",
+    "takes_nothing_of_an_older_incarnation": "peers::Peers::note",
 }

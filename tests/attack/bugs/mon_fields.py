@@ -81,4 +81,26 @@ BUGS = {
         "    put_octet(out, parts.len() as u8);",
         "    put_octet(out, engine.len() as u8);",
     ),
+    "reads_the_least_octet_first": (
+        "src/reading.rt",
+        "u32::from_be_bytes(number)",
+        "u32::from_le_bytes(number)",
+    ),
+    "takes_a_sample_twice": (
+        "src/reading.rt",
+        "last.compare(sample).is_lt()",
+        "last.compare(sample).is_le()",
+    ),
+    "wants_one_octet_more": (
+        "src/reading.rt",
+        "        if self.rest.len() < len {",
+        "        if self.rest.len() <= len {",
+    ),
+}
+
+# Those that break a promise as a whole, each with its function: tests/bodies tries them in the gate.
+PROMISES = {
+    "reads_the_least_octet_first": "reading::Reader::number",
+    "takes_a_sample_twice": "reading::rises",
+    "wants_one_octet_more": "reading::Reader::take",
 }

@@ -417,3 +417,11 @@ BUGS = {
         "        if self.policy.sees(self.access, name) {",
     ),
 }
+
+# Those that break a promise as a whole, each with its function: tests/bodies tries them in the gate.
+PROMISES = {
+    "commit_leaves_what_was_assigned": "commit::undo_one",
+    "next_shows_a_hidden_name": "search::Search::least_in_view",
+    "shows_a_hidden_name": "search::Search::get",
+    "next_leaves_a_column_at_a_hidden_row": "search::Search::search",
+}

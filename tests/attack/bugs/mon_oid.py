@@ -61,4 +61,26 @@ BUGS = {
         "if parts.len() > Self::MAX_LEN {",
         "if parts.len() >= Self::MAX_LEN {",
     ),
+    "compares_backwards": (
+        "src/oid.rt",
+        "self.parts().cmp(&other.parts())",
+        "other.parts().cmp(&self.parts())",
+    ),
+    "lets_40_under_1": (
+        "src/oid.rt",
+        "parts[0] < 2 && parts[1] > 39",
+        "parts[0] < 2 && parts[1] > 40",
+    ),
+    "prefix_backwards": (
+        "src/oid.rt",
+        "other.parts().starts_with(self.parts())",
+        "self.parts().starts_with(other.parts())",
+    ),
+}
+
+# Those that break a promise as a whole, each with its function: tests/bodies tries them in the gate.
+PROMISES = {
+    "compares_backwards": "oid::Oid::compare",
+    "lets_40_under_1": "oid::Oid::from_parts",
+    "prefix_backwards": "oid::Oid::is_prefix_of",
 }

@@ -286,4 +286,42 @@ BUGS = {
         "    Some((value, after))",
         "    if after.is_empty() {\n        return None;\n    }\n    Some((value, after))",
     ),
+    "frames_any_version": (
+        "src/frame.rt",
+        "    if version != 1 {",
+        "    if version > 1 {",
+    ),
+    "passes_over_octets_after_a_value": (
+        "src/frame.rt",
+        "        return None;",
+        "        return Some((value, after));",
+    ),
+    "reads_any_version": (
+        "src/reading.rt",
+        "    if version != 1 {",
+        "    if version < 0 {",
+    ),
+    "swaps_repeaters_and_repetitions": (
+        "src/reading.rt",
+        "            non_repeaters: second,",
+        "            non_repeaters: third,",
+        "            max_repetitions: third,",
+        "            max_repetitions: second,",
+    ),
+    "swaps_request_id_and_status": (
+        "src/reading.rt",
+        "    let (request_id, rest) = integer_at(contents)?;",
+        "    let (second, rest) = integer_at(contents)?;",
+        "    let (second, rest) = integer_at(rest)?;",
+        "    let (request_id, rest) = integer_at(rest)?;",
+    ),
+}
+
+# Those that break a promise as a whole, each with its function: tests/bodies tries them in the gate.
+PROMISES = {
+    "frames_any_version": "frame::frame_of",
+    "passes_over_octets_after_a_value": "frame::named_value",
+    "reads_any_version": "reading::message_of",
+    "swaps_repeaters_and_repetitions": "reading::body_of",
+    "swaps_request_id_and_status": "reading::body_of",
 }

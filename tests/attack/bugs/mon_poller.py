@@ -258,23 +258,23 @@ BUGS = {
     ),
     "in_place_with_octets_left": (
         "src/in_place.rt",
-        "        return if list.is_empty() { Some(()) } else { None };",
-        "        return Some(());",
+        "    if rest.list.is_empty() { Some(()) } else { None }",
+        "    Some(())",
     ),
     "in_place_without_a_discontinuity": (
         "src/in_place.rt",
-        "        discontinuity_in(&discontinuity),\n",
-        "        Some(0),\n",
+        "    Some((discontinuity_in(&value), unread))",
+        "    Some((Some(0), unread))",
     ),
     "in_place_with_a_discontinuity_of_none": (
         "src/in_place.rt",
-        "&value, Some(0), pairs)?;",
-        "&value, Some(1), pairs)?;",
+        "        return Some((Some(0), *unread));",
+        "        return Some((Some(1), *unread));",
     ),
     "in_place_the_time_as_the_boots": (
         "src/in_place.rt",
-        "Stamp::of(&engine, &boots, &time)?;",
-        "Stamp::of(&engine, &time, &time)?;",
+        "        boots,\n        time,\n    };",
+        "        boots: time,\n        time,\n    };",
     ),
     "in_place_without_the_sample": (
         "src/in_place.rt",
@@ -318,8 +318,8 @@ BUGS = {
     ),
     "reads_in_place_from_any_engine": (
         "src/in_place.rt",
-        "    if stamp.engine.as_slice() != target.engine.as_slice() {",
-        "    if stamp.engine.as_slice().len() != target.engine.as_slice().len() {",
+        "    if octets_in(&value)?.as_slice() == engine {",
+        "    if octets_in(&value)?.as_slice().len() == engine.len() {",
     ),
     "takes_a_response_of_a_closed_poll": (
         "src/awaiting.rt",
@@ -331,4 +331,10 @@ BUGS = {
         "    discontinuity.parts() == binding.name.parts() && name_objects(objects, bindings)",
         "    discontinuity.parts().len() == binding.name.parts().len() && name_objects(objects, bindings)",
     ),
+}
+
+# Those that break a promise as a whole, each with its function: tests/bodies tries them in the gate.
+PROMISES = {
+    "takes_a_response_of_a_closed_poll": "awaiting::ends_poll",
+    "takes_other_names": "offers::name_objects",
 }

@@ -86,4 +86,32 @@ BUGS = {
         "        inserted\n    }",
         "        if self.totals.pairs == 9 { Inserted::Known } else { inserted }\n    }",
     ),
+    "counts_across_a_discontinuity": (
+        "src/totals.rt",
+        "&& a.discontinuity() == b.discontinuity()",
+        "&& a.discontinuity() <= b.discontinuity()",
+    ),
+    "counts_across_a_restart": (
+        "src/totals.rt",
+        "&& a.boots() == b.boots()",
+        "&& a.boots() <= b.boots()",
+    ),
+    "forgets_the_split_part": (
+        "src/track.rt",
+        "totals.plus(change.halves).minus(change.whole)",
+        "totals.plus(change.halves).minus(Totals::of(&[]))",
+    ),
+    "forgets_what_was_dropped": (
+        "src/track.rt",
+        "totals.plus(change.whole).minus(change.halves)",
+        "totals.plus(change.whole).minus(change.whole)",
+    ),
+}
+
+# Those that break a promise as a whole, each with its function: tests/bodies tries them in the gate.
+PROMISES = {
+    "counts_across_a_discontinuity": "totals::counts_on",
+    "counts_across_a_restart": "totals::counts_on",
+    "forgets_the_split_part": "track::with_one",
+    "forgets_what_was_dropped": "track::without_one",
 }

@@ -77,4 +77,26 @@ BUGS = {
         "if write_end(writer, ok, instances, count_samples(board)) {",
         "if write_end(writer, ok, instances, count_samples(board)) || !ok {",
     ),
+    "goes_on_after_a_failure": (
+        "src/writing.rt",
+        "        return false;",
+        "        return send(writer, octets) >= octets.len();",
+    ),
+    "nothing_taken_is_all": (
+        "src/writing.rt",
+        "Ok(0) => return sent",
+        "Ok(0) => return octets.len()",
+    ),
+    "prints_a_station_number": (
+        "src/report.rt",
+        'put(writer, ok, b"\\n")',
+        'put(writer, ok, b" station 1\\n")',
+    ),
+}
+
+# Those that break a promise as a whole, each with its function: tests/bodies tries them in the gate.
+PROMISES = {
+    "goes_on_after_a_failure": "writing::put",
+    "nothing_taken_is_all": "writing::send",
+    "prints_a_station_number": "report::write_rest",
 }

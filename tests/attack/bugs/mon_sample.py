@@ -83,4 +83,28 @@ BUGS = {
         "Kind::Integer => i128::from(value.cast_signed()),",
         "Kind::Integer => i128::from(value),",
     ),
+    "forgets_the_mark": (
+        "src/sample.rt",
+        "            discontinuity,",
+        "            discontinuity: 0,",
+    ),
+    "later_is_older": (
+        "src/sample.rt",
+        "let own = stamp(self.boots, self.time);",
+        "let own = stamp(self.boots, other.time);",
+        "own.cmp(&stamp(other.boots, other.time))",
+        "own.cmp(&stamp(other.boots, self.time))",
+    ),
+    "wide_counter": (
+        "src/kind.rt",
+        "Kind::Counter32 | Kind::Gauge32 | Kind::TimeTicks => value < 1 << 32,",
+        "Kind::Counter32 | Kind::Gauge32 | Kind::TimeTicks => value <= 1 << 32,",
+    ),
+}
+
+# Those that break a promise as a whole, each with its function: tests/bodies tries them in the gate.
+PROMISES = {
+    "forgets_the_mark": "sample::Sample::new",
+    "later_is_older": "sample::Sample::compare",
+    "wide_counter": "kind::Kind::holds",
 }

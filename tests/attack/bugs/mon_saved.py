@@ -166,4 +166,32 @@ BUGS = {
         "    if fits_epoch(samples.as_slice(), usize::from(sizes.epoch)) {",
         "    if fits_epoch(samples.as_slice(), usize::from(sizes.window)) {",
     ),
+    "drops_the_newest_sample": (
+        "src/writing.rt",
+        "    put_samples(out, samples);",
+        "    put_samples(out, &samples[..samples.len().saturating_sub(1)]);",
+    ),
+    "puts_the_incarnation_one_higher": (
+        "src/writing.rt",
+        "    put_u32(out, incarnation);",
+        "    put_u32(out, incarnation.wrapping_add(1));",
+    ),
+    "reads_another_watch": (
+        "src/reading.rt",
+        "    if reader.take(wanted.len())? == wanted {",
+        "    if reader.take(wanted.len())?.len() == wanted.len() {",
+    ),
+    "takes_more_than_the_window_holds": (
+        "src/reading.rt",
+        "octet_within(0, sizes.window, ImageFault::BadImage, reader)?;",
+        "octet_within(0, 64, ImageFault::BadImage, reader)?;",
+    ),
+}
+
+# Those that break a promise as a whole, each with its function: tests/bodies tries them in the gate.
+PROMISES = {
+    "drops_the_newest_sample": "writing::put_entry",
+    "puts_the_incarnation_one_higher": "writing::write_within",
+    "reads_another_watch": "reading::expected_at",
+    "takes_more_than_the_window_holds": "reading::saved_at",
 }

@@ -334,3 +334,8 @@ BUGS = {
         "            Some(_) => return Ok(chain),",
     ),
 }
+
+# Those that break a promise as a whole, each with its function: tests/bodies tries them in the gate.
+PROMISES = {
+    "module_of_no_assignments": "modules::module_at",
+}

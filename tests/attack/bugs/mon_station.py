@@ -391,4 +391,59 @@ BUGS = {
         "            Err(fault) => Err((fault, keeper.into_disk())),",
         "            Err(_) => Err((StationFault::Keeper(mon_disk::KeeperFault::DiskFault), keeper.into_disk())),",
     ),
+    "begins_from_nothing": (
+        "src/opening.rt",
+        "            Ok((keeper, body)) => match begin(alloc, core, body) {",
+        "            Ok((keeper, _)) => match begin(alloc, core, None) {",
+    ),
+    "counts_what_it_offers_as_confirmed": (
+        "src/sharing.rt",
+        "self.serial = serial;",
+        "self.serial = serial; if let Some(portion) = portions.as_slice().first() { if let Some(sample) = portion.samples.as_slice().first() { if usize::from(portion.instance) < self.board.watch().instances().len() { self.board.mark(slot, portion.instance, sample); } } }",
+    ),
+    "forgets_what_is_too_old": (
+        "src/life.rt",
+        "ClaimKind::Offer => self.confirm_offer(alloc, claim),",
+        "ClaimKind::Offer => if self.is_too_old(claim) { Ok(Vec::new(alloc)) } else { self.confirm_offer(alloc, claim) },",
+        "/// The confirmation of an offer.",
+        "fn is_too_old(&self, claim: &Claim) -> bool { let Some(number) = self.board.find(claim.engine.as_slice(), &claim.name) else { return false; }; let items = self.board.items(number); if items.len() < self.board.watch().instances()[usize::from(number)].window { return false; } let Some(oldest) = items.first() else { return false; }; match claim.samples.as_slice().last() { Some(newest) => newest.compare(oldest).is_lt(), None => false } } /// The confirmation of an offer.",
+    ),
+    "hands_nothing_to_the_outbox": (
+        "src/running.rt",
+        "                hand(outbox, told.sends.as_slice(), send_faults);",
+        "                hand(outbox, &[], send_faults);",
+    ),
+    "opens_with_reopen": (
+        "src/opening.rt",
+        "            Err(error) => Err((StationFault::from(error.fault), error.disk)),",
+        "            Err(error) => Err((StationFault::Keeper(mon_disk::KeeperFault::Reopen), error.disk)),",
+    ),
+    "reopens_under_the_found_incarnation": (
+        "src/opening.rt",
+        "            Ok((board, found + 1))",
+        "            Ok((board, found))",
+    ),
+    "runs_one_turn": (
+        "src/running.rt",
+        "        for turn in 0..turns {",
+        "        for turn in 0..turns.min(1) {",
+    ),
+    "save_answers_damaged": (
+        "src/station.rt",
+        "            Event::Save => self.save(alloc),",
+        "            Event::Save => { if self.life.incarnation > 0 { return Err(StationFault::Keeper(KeeperFault::Damaged)); } self.save(alloc) },",
+    ),
+}
+
+# Those that break a promise as a whole, each with its function: tests/bodies tries them in the gate.
+PROMISES = {
+    "begins_from_nothing": "opening::Station::open",
+    "counts_what_it_offers_as_confirmed": "sharing::Life::share_in",
+    "forgets_what_is_too_old": "life::Life::take_claim",
+    "hands_nothing_to_the_outbox": "running::Station::turn",
+    "opens_with_reopen": "opening::Station::open",
+    "reopens_under_the_found_incarnation": "opening::restore_image",
+    "runs_one_turn": "running::Station::run",
+    "save_answers_damaged": "station::Station::step",
+    "tells_no_oldest_poll": "running::Station::ask",
 }

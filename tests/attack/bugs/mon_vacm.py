@@ -130,4 +130,34 @@ BUGS = {
         "Need::Write => &self.write_view,",
         "Need::Write => &self.read_view,",
     ),
+    "model_0_preferred": (
+        "src/tables.rt",
+        "let exact = self.entry_for(group, SecurityModel::V2c);",
+        "let exact = self.entry_for(group, SecurityModel::Any);",
+        "exact.or(self.entry_for(group, SecurityModel::Any))",
+        "exact.or(self.entry_for(group, SecurityModel::V2c))",
+    ),
+    "short_mask_by_zeros": (
+        "src/family.rt",
+        "        None => true,",
+        "        None => false,",
+    ),
+    "shortest_wins": (
+        "src/family.rt",
+        "own.cmp(&others)",
+        "others.cmp(&own)",
+    ),
+    "unmatched_is_in_view": (
+        "src/policy.rt",
+        "            None => false,",
+        "            None => true,",
+    ),
+}
+
+# Those that break a promise as a whole, each with its function: tests/bodies tries them in the gate.
+PROMISES = {
+    "model_0_preferred": "tables::Tables::entry_of",
+    "short_mask_by_zeros": "family::must_agree",
+    "shortest_wins": "family::Family::compare",
+    "unmatched_is_in_view": "policy::Policy::sees",
 }

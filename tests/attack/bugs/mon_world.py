@@ -202,3 +202,8 @@ BUGS = {
         '            WorldFault::Refused(_) => Innermost::new("mon_world", self.number(), self.name()),',
     ),
 }
+
+# Those that break a promise as a whole, each with its function: tests/bodies tries them in the gate.
+PROMISES = {
+    "delivers_nothing": "world::ask",
+}

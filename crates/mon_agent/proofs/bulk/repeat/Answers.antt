@@ -1,6 +1,8 @@
-use Rattle.std.proofs.Common.{◌≡◌, ◌≤◌, ◌<◌, ◌-◌, ◌++◌, ◌∷◌, [], rules, arith, length, length-append, get_or, ap, ◌∙◌}
+use Rattle.std.proofs.Common.{◌≡◌, ◌≤◌, ◌<◌, ◌-◌, ◌++◌, ◌∷◌, [], true, length, get_or, ap, ◌∙◌}
+use Rattle.std.specs.Prelude.{Ok}
+use Rattle.std.proofs.lemmas.Result.{IfOk-from_err}
 use Rattle.mon_agent.specs.Growing.{FitsWith, last}
-use Rattle.mon_agent.proofs.Rounds.{cut_same, cut_at, more_at, name_back, all_last, answers, all_taken, moved}
+use Rattle.mon_agent.proofs.Rounds.{cut_same, cut_at, more_at, name_back, answers, all_put, as_wide, in_last, last_within, some_of, moved, not_full, unless_err}
 use Rattle.mon_agent.proofs.bulk.repeat.Goals as goal
 
 pub returns-then-not-branch-clause-put : goal.returns-then-not-branch-clause-put
@@ -10,9 +12,10 @@ returns-then-not-branch-clause-put g c = λ next steps.
     let before = c.args.reply.now.bindings in
     let width = c.args.width in
     let wide : width ≤ length before = c.requires in
-    let inside : at.counter < width = search rules in
-    let lt : at.counter < length (last width before) = omega (arith, all_last next width before wide, inside) in
-    let full : (c.push.new.self.bindings ≡ at.reply.bindings) × ¬ (FitsWith at.reply (at.reply.bindings ++ found ∷ [])) = search rules in
+    let inside : at.counter < width = c.loop-test.true in
+    let lt : at.counter < length (last width before) = in_last width before at.counter wide inside in
+    let full : (c.push.new.self.bindings ≡ at.reply.bindings) × ¬ (FitsWith at.reply (at.reply.bindings ++ found ∷ [])) =
+    c.push.ensures.full (c.in_ok-push.was ∙ ap Ok c.if-not-branch.true) in
     let name : c.name_before.result.now ≡ (get_or at.reply.bindings (length at.reply.bindings - width) found).name = c.name_before.ensures found in
     let one : found ≡ next (get_or (last width before) at.counter found).name =
     c.in_ok-found.ensures.only next (moved g.D.Device.held next at.invariant.stays steps)
@@ -27,15 +30,15 @@ loop-preserved g c =
     let before = c.args.reply.now.bindings in
     let width = c.args.width in
     let wide : width ≤ length before = c.requires in
-    let inside : at.counter < width = search rules in
-    let more : c.push.new.self.bindings ≡ at.reply.bindings ++ found ∷ [] = search rules in
+    let inside : at.counter < width = c.loop-test.true in
+    let more : c.push.new.self.bindings ≡ at.reply.bindings ++ found ∷ [] = c.push.ensures.more (c.in_ok-push.was ∙ ap Ok c.if-not-branch.false) in
     let name : c.name_before.result.now ≡ (get_or at.reply.bindings (length at.reply.bindings - width) found).name = c.name_before.ensures found in
     record {
       head = c.push.ensures.head ∙ at.invariant.head;
       limit = c.push.ensures.limit ∙ at.invariant.limit;
-      wide = omega (arith, ap length more, length-append at.reply.bindings (found ∷ []), at.invariant.wide);
+      wide = as_wide at.reply.bindings c.push.new.self.bindings found width more at.invariant.wide;
       put = λ next steps.
-          let lt : at.counter < length (last width before) = omega (arith, all_last next width before wide, inside) in
+          let lt : at.counter < length (last width before) = in_last width before at.counter wide inside in
           more ∙ more_at next before (last width before) at.reply.bindings at.counter found found lt (at.invariant.put next steps)
           (c.in_ok-found.ensures.only next (moved g.D.Device.held next at.invariant.stays steps)
           ∙ (ap next name ∙ ap (λ b. next b.name) (name_back next before at.reply.bindings width at.counter found wide inside (at.invariant.put next steps))));
@@ -47,6 +50,65 @@ returns-clause-put g c = λ next steps.
     let width = c.args.width in
     let before = c.args.reply.now.bindings in
     let wide : width ≤ length before = c.requires in
-    let ended : width ≤ c.loop.counter = search rules in
-    c.loop.invariant.put next steps
-    ∙ ap (λ l. before ++ answers next l) (all_taken c.loop.counter (last width before) (omega (arith, all_last next width before wide, ended)))
+    all_put next before (last width before) c.loop.reply.bindings c.loop.counter (last_within width before c.loop.counter wide c.loop-test.false)
+    (c.loop.invariant.put next steps)
+
+pub name_before-requires-clause-within : goal.name_before-requires-clause-within
+name_before-requires-clause-within g c = c.loop.invariant.wide
+
+pub returns-in_err-found-clause-stays : goal.returns-in_err-found-clause-stays
+returns-in_err-found-clause-stays g c = c.step.ensures.stays ∙ c.loop.invariant.stays
+
+pub returns-in_err-found-clause-head : goal.returns-in_err-found-clause-head
+returns-in_err-found-clause-head g c = c.loop.invariant.head
+
+pub returns-in_err-found-clause-limit : goal.returns-in_err-found-clause-limit
+returns-in_err-found-clause-limit g c = c.loop.invariant.limit
+
+pub returns-in_err-found-clause-put : goal.returns-in_err-found-clause-put
+returns-in_err-found-clause-put g c = λ next steps. IfOk-from_err c.from_residual.result _ c.from_residual.ensures.0
+
+pub returns-in_err-found-clause-wide : goal.returns-in_err-found-clause-wide
+returns-in_err-found-clause-wide g c = unless_err c.from_residual.result true c.from_residual.ensures.0
+
+pub returns-in_err-push-clause-stays : goal.returns-in_err-push-clause-stays
+returns-in_err-push-clause-stays g c = c.step.ensures.stays ∙ c.loop.invariant.stays
+
+pub returns-in_err-push-clause-head : goal.returns-in_err-push-clause-head
+returns-in_err-push-clause-head g c = c.push.ensures.head ∙ c.loop.invariant.head
+
+pub returns-in_err-push-clause-limit : goal.returns-in_err-push-clause-limit
+returns-in_err-push-clause-limit g c = c.push.ensures.limit ∙ c.loop.invariant.limit
+
+pub returns-in_err-push-clause-put : goal.returns-in_err-push-clause-put
+returns-in_err-push-clause-put g c = λ next steps. IfOk-from_err c.from_residual-in_err-push.result _ c.from_residual-in_err-push.ensures.0
+
+pub returns-in_err-push-clause-wide : goal.returns-in_err-push-clause-wide
+returns-in_err-push-clause-wide g c = unless_err c.from_residual-in_err-push.result true c.from_residual-in_err-push.ensures.0
+
+pub returns-then-not-branch-clause-stays : goal.returns-then-not-branch-clause-stays
+returns-then-not-branch-clause-stays g c = c.step.ensures.stays ∙ c.loop.invariant.stays
+
+pub returns-then-not-branch-clause-head : goal.returns-then-not-branch-clause-head
+returns-then-not-branch-clause-head g c = c.push.ensures.head ∙ c.loop.invariant.head
+
+pub returns-then-not-branch-clause-limit : goal.returns-then-not-branch-clause-limit
+returns-then-not-branch-clause-limit g c = c.push.ensures.limit ∙ c.loop.invariant.limit
+
+pub returns-then-not-branch-clause-wide : goal.returns-then-not-branch-clause-wide
+returns-then-not-branch-clause-wide g c = not_full
+
+pub returns-clause-stays : goal.returns-clause-stays
+returns-clause-stays g c = c.loop.invariant.stays
+
+pub returns-clause-head : goal.returns-clause-head
+returns-clause-head g c = c.loop.invariant.head
+
+pub returns-clause-limit : goal.returns-clause-limit
+returns-clause-limit g c = c.loop.invariant.limit
+
+pub returns-clause-wide : goal.returns-clause-wide
+returns-clause-wide g c = λ is. c.loop.invariant.wide
+
+pub name_before-requires-clause-some : goal.name_before-requires-clause-some
+name_before-requires-clause-some g c = some_of c.loop.counter c.args.width c.loop-test.true

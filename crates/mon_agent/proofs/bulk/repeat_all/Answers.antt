@@ -1,13 +1,15 @@
-use Rattle.std.proofs.Common.{◌≡◌, ◌≤◌, ◌+◌, ◌-◌, ◌++◌, suc, true, false, rules, arith, length, append_assoc, append-nil, ap, sym, subst, ◌∙◌, inl, inr}
+use Rattle.std.proofs.Common.{◌≡◌, ◌≤◌, ◌+◌, ◌-◌, ◌++◌, suc, true, false, length, append_assoc, append-nil, ap, sym, subst, ◌∙◌, inl, inr}
+use Rattle.std.specs.Prelude.{Ok}
+use Rattle.std.proofs.lemmas.Result.{IfOk-from_err}
 use Rattle.mon_agent.specs.Bulk.{is_last}
 use Rattle.mon_agent.specs.Growing.{FitsWith, IsCut, IsPut, last, more_rounds}
-use Rattle.mon_agent.proofs.Rounds.{cut_same, cut_longer, cut_is, none_follows, no_rounds, goes_on, answers, length-answers, all_last, one_less, unrolled, moved}
+use Rattle.mon_agent.proofs.Rounds.{cut_same, cut_longer, cut_is, none_follows, none_left, no_rounds, goes_on, answers, length-answers, all_last, one_less, unrolled, moved}
 use Rattle.mon_agent.proofs.bulk.repeat_all.Goals as goal
 
 pub returns-then-is_last-clause-put : goal.returns-then-is_last-clause-put
 returns-then-is_last-clause-put g c = λ next steps.
     let at = c.loop in
-    let end : is_last (last c.args.width at.reply.bindings) ≡ true = search rules in
+    let end : is_last (last c.args.width at.reply.bindings) ≡ true = sym c.is_last.ensures ∙ c.if-is_last.true in
     inl (sym (at.invariant.put next steps
     ∙ (ap (λ l. at.reply.bindings ++ l) (none_follows next (c.args.rounds - at.counter) (last c.args.width at.reply.bindings) end)
     ∙ append-nil at.reply.bindings)))
@@ -17,10 +19,10 @@ returns-then-not-branch-clause-put g c = λ next steps.
     let at = c.loop in
     let width = c.args.width in
     let round = last width at.reply.bindings in
-    let other : is_last round ≡ false = search rules in
+    let other : is_last round ≡ false = sym c.is_last.ensures ∙ c.if-is_last.false in
     let m = c.args.rounds - (at.counter + 1) in
-    let left : c.args.rounds - at.counter ≡ suc m = one_less c.args.rounds at.counter (search rules) in
-    let is : c.in_ok-repeat.field-0 ≡ false = search rules in
+    let left : c.args.rounds - at.counter ≡ suc m = one_less c.args.rounds at.counter c.loop-test.true in
+    let is : c.in_ok-repeat.field-0 ≡ false = c.if-not-branch.true in
     let put : IsCut (FitsWith at.reply) (at.reply.bindings ++ answers next round) c.repeat.new.reply.bindings =
     subst (λ all. IsPut (FitsWith at.reply) (at.reply.bindings ++ answers next round) all c.repeat.new.reply.bindings) is (c.in_ok-repeat.ensures.put next (moved g.D.Device.held next at.invariant.stays steps)) in
     let whole : (at.reply.bindings ++ answers next round) ++ more_rounds next m (answers next round)
@@ -35,17 +37,17 @@ loop-preserved g c =
     let at = c.loop in
     let width = c.args.width in
     let round = last width at.reply.bindings in
-    let other : is_last round ≡ false = search rules in
+    let other : is_last round ≡ false = sym c.is_last.ensures ∙ c.if-is_last.false in
     let m = c.args.rounds - (at.counter + 1) in
-    let left : c.args.rounds - at.counter ≡ suc m = one_less c.args.rounds at.counter (search rules) in
-    let wide : width ≤ length c.repeat.new.reply.bindings = search rules in
+    let left : c.args.rounds - at.counter ≡ suc m = one_less c.args.rounds at.counter c.loop-test.true in
+    let wide : width ≤ length c.repeat.new.reply.bindings = c.repeat.ensures.wide (c.in_ok-repeat.was ∙ ap Ok c.if-not-branch.false) in
     record {
       head = c.repeat.ensures.head ∙ at.invariant.head;
       limit = c.repeat.ensures.limit ∙ at.invariant.limit;
       wide = wide;
       stays = c.repeat.ensures.stays ∙ at.invariant.stays;
       put = λ next steps.
-          let is : c.in_ok-repeat.field-0 ≡ true = search rules in
+          let is : c.in_ok-repeat.field-0 ≡ true = c.if-not-branch.false in
           let put : c.repeat.new.reply.bindings ≡ at.reply.bindings ++ answers next round =
           subst (λ all. IsPut (FitsWith at.reply) (at.reply.bindings ++ answers next round) all c.repeat.new.reply.bindings) is (c.in_ok-repeat.ensures.put next (moved g.D.Device.held next at.invariant.stays steps)) in
           at.invariant.put next steps
@@ -58,8 +60,40 @@ loop-preserved g c =
 pub returns-clause-put : goal.returns-clause-put
 returns-clause-put g c = λ next steps.
     let at = c.loop in
-    let ended : c.args.rounds ≤ at.counter = search rules in
-    let none : c.args.rounds - at.counter ≡ 0 = omega (arith, ended) in
+    let none : c.args.rounds - at.counter ≡ 0 = none_left c.args.rounds at.counter c.loop-test.false in
     inl (sym (at.invariant.put next steps
     ∙ (ap (λ n. at.reply.bindings ++ more_rounds next n (last c.args.width at.reply.bindings)) none
     ∙ (ap (λ l. at.reply.bindings ++ l) (no_rounds next (last c.args.width at.reply.bindings)) ∙ append-nil at.reply.bindings))))
+
+pub is_last-requires : goal.is_last-requires
+is_last-requires g c = c.loop.invariant.wide
+
+pub repeat-requires : goal.repeat-requires
+repeat-requires g c = c.loop.invariant.wide
+
+pub returns-then-is_last-clause-head : goal.returns-then-is_last-clause-head
+returns-then-is_last-clause-head g c = c.loop.invariant.head
+
+pub returns-then-is_last-clause-limit : goal.returns-then-is_last-clause-limit
+returns-then-is_last-clause-limit g c = c.loop.invariant.limit
+
+pub returns-in_err-repeat-clause-head : goal.returns-in_err-repeat-clause-head
+returns-in_err-repeat-clause-head g c = c.repeat.ensures.head ∙ c.loop.invariant.head
+
+pub returns-in_err-repeat-clause-limit : goal.returns-in_err-repeat-clause-limit
+returns-in_err-repeat-clause-limit g c = c.repeat.ensures.limit ∙ c.loop.invariant.limit
+
+pub returns-then-not-branch-clause-head : goal.returns-then-not-branch-clause-head
+returns-then-not-branch-clause-head g c = c.repeat.ensures.head ∙ c.loop.invariant.head
+
+pub returns-then-not-branch-clause-limit : goal.returns-then-not-branch-clause-limit
+returns-then-not-branch-clause-limit g c = c.repeat.ensures.limit ∙ c.loop.invariant.limit
+
+pub returns-in_err-repeat-clause-put : goal.returns-in_err-repeat-clause-put
+returns-in_err-repeat-clause-put g c = λ next steps. IfOk-from_err c.from_residual.result _ c.from_residual.ensures.0
+
+pub returns-clause-head : goal.returns-clause-head
+returns-clause-head g c = c.loop.invariant.head
+
+pub returns-clause-limit : goal.returns-clause-limit
+returns-clause-limit g c = c.loop.invariant.limit

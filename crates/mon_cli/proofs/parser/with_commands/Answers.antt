@@ -6,8 +6,7 @@ use Rattle.mon_cli.proofs.parser.with_commands.Goals as goal
 
 pub loop-choice-preserved : goal.loop-choice-preserved
 loop-choice-preserved c = λ before has.
-    command_more c.args.lists before c.args.choices.now c.loop-choice.choice-index _ _ _ _ (search rules) (c.loop-choice.invariant before has)
-    c.in_ok-one.ensures c.in_ok-command.ensures
+    command_more c.args.lists before c.args.choices.now c.loop-choice.choice-index _ _ (search rules) (c.in_ok-command.ensures _ (c.loop-choice.invariant before has))
 
 pub returns : goal.returns
 returns c = λ before has.

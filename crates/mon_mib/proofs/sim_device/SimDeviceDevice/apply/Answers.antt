@@ -1,8 +1,9 @@
 use Rattle.std.proofs.Common.{ap, subst, sym}
+use Rattle.std.proofs.lemmas.Result.{IfOk-from_err}
 use Rattle.mon_mib.specs.declared.interface.Interface.{Interface}
 use Rattle.mon_mib.specs.Change.{IsOf}
 use Rattle.mon_mib.specs.Sim.{indexes_of, held_of}
-use Rattle.mon_mib.proofs.Applying.{still_indexes, admin_made, admin_undo, alias_is_made, alias_undo, is_there, text_made, on_err}
+use Rattle.mon_mib.proofs.Applying.{still_indexes, admin_made, admin_undo, alias_is_made, alias_undo, is_there, failures_of, text_made, on_err}
 use Rattle.mon_mib.proofs.sim_device.SimDeviceDevice.apply.Goals as goal
 
 pub invariant_of-self-in-Admin : goal.invariant_of-self-in-Admin
@@ -49,3 +50,63 @@ returns-in_err-place-in-Alias-clause-kept c = on_err c.from_residual-in_err-plac
 pub returns-in-SysText-clause-made : goal.returns-in-SysText-clause-made
 returns-in-SysText-clause-made c = text_made c.self.inside.interfaces.items c.self.inside.texts c.replace.new.self c.self.inside.failures c.args.self.now c.args.change c.in-SysText.which c.in-SysText.text
     c.self.view_is c.replace.ensures.is c.in-SysText.is
+
+pub returns-in_err-place-in-Admin-clause-made : goal.returns-in_err-place-in-Admin-clause-made
+returns-in_err-place-in-Admin-clause-made c = IfOk-from_err c.from_residual.result _ c.from_residual.ensures.0
+
+pub returns-in_err-place-in-Admin-clause-undo : goal.returns-in_err-place-in-Admin-clause-undo
+returns-in_err-place-in-Admin-clause-undo c = IfOk-from_err c.from_residual.result _ c.from_residual.ensures.0
+
+pub returns-in_err-place-in-Admin-clause-there : goal.returns-in_err-place-in-Admin-clause-there
+returns-in_err-place-in-Admin-clause-there c = IfOk-from_err c.from_residual.result _ c.from_residual.ensures.0
+
+pub returns-in_err-place-in-Admin-clause-quiet : goal.returns-in_err-place-in-Admin-clause-quiet
+returns-in_err-place-in-Admin-clause-quiet c = IfOk-from_err c.from_residual.result _ c.from_residual.ensures.0
+
+pub returns-in_err-place-in-Admin-clause-kept : goal.returns-in_err-place-in-Admin-clause-kept
+returns-in_err-place-in-Admin-clause-kept c = on_err c.from_residual.result (ap held_of c.in_err-place-in-Admin.ensures.counted)
+
+pub returns-in_err-place-in-Admin-clause-counted : goal.returns-in_err-place-in-Admin-clause-counted
+returns-in_err-place-in-Admin-clause-counted c = on_err c.from_residual.result (ap failures_of c.in_err-place-in-Admin.ensures.counted)
+
+pub returns-in_err-place-in-Alias-clause-made : goal.returns-in_err-place-in-Alias-clause-made
+returns-in_err-place-in-Alias-clause-made c = IfOk-from_err c.from_residual-in_err-place-in-Alias.result _ c.from_residual-in_err-place-in-Alias.ensures.0
+
+pub returns-in_err-place-in-Alias-clause-undo : goal.returns-in_err-place-in-Alias-clause-undo
+returns-in_err-place-in-Alias-clause-undo c = IfOk-from_err c.from_residual-in_err-place-in-Alias.result _ c.from_residual-in_err-place-in-Alias.ensures.0
+
+pub returns-in_err-place-in-Alias-clause-there : goal.returns-in_err-place-in-Alias-clause-there
+returns-in_err-place-in-Alias-clause-there c = IfOk-from_err c.from_residual-in_err-place-in-Alias.result _ c.from_residual-in_err-place-in-Alias.ensures.0
+
+pub returns-in_err-place-in-Alias-clause-quiet : goal.returns-in_err-place-in-Alias-clause-quiet
+returns-in_err-place-in-Alias-clause-quiet c = IfOk-from_err c.from_residual-in_err-place-in-Alias.result _ c.from_residual-in_err-place-in-Alias.ensures.0
+
+pub returns-in_err-place-in-Alias-clause-counted : goal.returns-in_err-place-in-Alias-clause-counted
+returns-in_err-place-in-Alias-clause-counted c = on_err c.from_residual-in_err-place-in-Alias.result (ap failures_of c.in_err-place-in-Alias.ensures.counted)
+
+pub returns-in_ok-place-in-Admin-clause-kept : goal.returns-in_ok-place-in-Admin-clause-kept
+returns-in_ok-place-in-Admin-clause-kept c = tt
+
+pub returns-in_ok-place-in-Admin-clause-refused : goal.returns-in_ok-place-in-Admin-clause-refused
+returns-in_ok-place-in-Admin-clause-refused c = tt
+
+pub returns-in_ok-place-in-Admin-clause-counted : goal.returns-in_ok-place-in-Admin-clause-counted
+returns-in_ok-place-in-Admin-clause-counted c = tt
+
+pub returns-in_ok-place-in-Alias-clause-kept : goal.returns-in_ok-place-in-Alias-clause-kept
+returns-in_ok-place-in-Alias-clause-kept c = tt
+
+pub returns-in_ok-place-in-Alias-clause-refused : goal.returns-in_ok-place-in-Alias-clause-refused
+returns-in_ok-place-in-Alias-clause-refused c = tt
+
+pub returns-in_ok-place-in-Alias-clause-counted : goal.returns-in_ok-place-in-Alias-clause-counted
+returns-in_ok-place-in-Alias-clause-counted c = tt
+
+pub returns-in-SysText-clause-kept : goal.returns-in-SysText-clause-kept
+returns-in-SysText-clause-kept c = tt
+
+pub returns-in-SysText-clause-refused : goal.returns-in-SysText-clause-refused
+returns-in-SysText-clause-refused c = tt
+
+pub returns-in-SysText-clause-counted : goal.returns-in-SysText-clause-counted
+returns-in-SysText-clause-counted c = tt
