@@ -437,13 +437,13 @@ BUGS = {
 
 # Those that break a promise as a whole, each with its function: tests/bodies tries them in the gate.
 PROMISES = {
-    "begins_from_nothing": "opening::Station::open",
-    "counts_what_it_offers_as_confirmed": "sharing::Life::share_in",
+    "begins_from_nothing": "station::Station::open",
+    "counts_what_it_offers_as_confirmed": "life::Life::share_in",
     "forgets_what_is_too_old": "life::Life::take_claim",
-    "hands_nothing_to_the_outbox": "running::Station::turn",
-    "opens_with_reopen": "opening::Station::open",
+    "hands_nothing_to_the_outbox": "station::Station::turn",
+    "opens_with_reopen": "station::Station::open",
     "reopens_under_the_found_incarnation": "opening::restore_image",
-    "runs_one_turn": "running::Station::run",
+    "runs_one_turn": "station::Station::run",
     "save_answers_damaged": "station::Station::step",
-    "tells_no_oldest_poll": "running::Station::ask",
+    "tells_no_oldest_poll": "station::Station::ask",
 }
