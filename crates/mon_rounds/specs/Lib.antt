@@ -1,6 +1,7 @@
 pub mod AtSocket
 pub mod Course
 pub mod Given
+pub mod Grid
 pub mod Next
 pub mod Noted
 pub mod Order

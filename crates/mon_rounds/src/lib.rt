@@ -9,6 +9,7 @@
 
 mod addresses;
 mod course;
+mod grid;
 mod receiver;
 mod reporting;
 mod round;
@@ -18,6 +19,7 @@ mod source;
 
 pub use addresses::Addresses;
 pub use course::{Course, debts_of, is_due, left_of};
+pub use grid::{milliseconds, next_start, phase_of};
 pub use receiver::{Arrival, Receiver, ReceiverFault, Wait};
 pub use reporting::{Notice, RoundReport};
 pub use round::{Phase, Round, RoundEvent, Span};

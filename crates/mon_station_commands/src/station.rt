@@ -16,7 +16,7 @@ use mon_rehearsal::{rehearse, run_trial};
 use mon_report::write_report;
 use mon_rounds::{
     Addresses, Course, Receiver, RoundReport, Rounds, SocketOutbox, SocketReceiver, Span, debts_of,
-    is_due, left_of,
+    is_due, left_of, milliseconds, next_start, phase_of,
 };
 use mon_settings::{SettingsKind, StationSettings, module_files, read_station};
 use mon_smi::Names;
@@ -27,7 +27,7 @@ use std::fs::File;
 use std::io::{BufWriter, Write};
 use std::net::{Net, SocketAddr};
 use std::rt::{Clock, Files};
-use std::time::{Duration, Instant};
+use std::time::{Duration, Instant, SystemTime, UNIX_EPOCH};
 use std::{fs, io};
 
 /// What a running station works with.
@@ -47,7 +47,20 @@ struct Transport<S: Receiver + Drop, O: Outbox + Drop> {
     rounds: Rounds<S>,
     outbox: O,
     addresses: Addresses,
+    /// The station's own number.
+    number: u32,
     peers: Vec<u32>,
+}
+
+/// When rounds begin, in milliseconds since the station was started: at the first start and whole
+/// intervals after it.
+#[derive(Clone, Copy)]
+struct Pace {
+    origin: Instant,
+    first: u64,
+    interval: u64,
+    /// When the last round was due.
+    due: u64,
 }
 
 /// How a station's reports are printed, and the file that each round's report is written to.
@@ -124,6 +137,7 @@ fn make_transport<S: Receiver + Drop, O: Outbox + Drop>(
         rounds,
         outbox,
         addresses,
+        number: settings.core.station(),
         peers,
     })
 }
@@ -135,15 +149,56 @@ fn run_rounds<
     O: Outbox + Drop,
 >(rt: &R, live: Live<S, O>, timing: Timing) -> Result<(), Failure> {
     let mut live = live;
+    let mut pace = start_pace(rt, &mut live, timing.interval)?;
     for number in 1..=timing.rounds {
-        let began = now(rt)?;
         run_span(rt, &mut live, number, Span::Round);
         write_out(rt, &live);
         if number != timing.rounds {
-            between(rt, &mut live, number, began, timing)?;
+            pace = between(rt, &mut live, number, pace, timing)?;
         }
     }
     print_report(rt, &live)
+}
+
+/// Returns when the rounds of this interval in seconds begin, the first one now. A station with peers
+/// waits for its share of the interval by the wall clock, so that they poll one after another; until
+/// then it answers its peers.
+fn start_pace<R: Clock + Eprint + AllocGlobal, S: Receiver + Drop, O: Outbox + Drop>(
+    rt: &R,
+    live: &mut Live<S, O>,
+    interval: u32,
+) -> Result<Pace, Failure> {
+    let origin = now(rt)?;
+    let first = first_start(rt, &live.transport, interval)?;
+    let pace = Pace {
+        origin,
+        first,
+        interval: u64::from(interval) * 1000,
+        due: first,
+    };
+    if first > 0 {
+        let (seconds, tenths) = (first / 1000, first % 1000 / 100);
+        let _ = eprintln!(rt; "snmpmon: the first round begins in {seconds}.{tenths} s");
+        pause(rt, live, 1, pace)?;
+    }
+    Ok(pace)
+}
+
+/// Returns in how many milliseconds the first round of this interval in seconds begins. (A station has
+/// 15 peers at most.)
+fn first_start<R: Clock + AllocGlobal, S: Receiver + Drop, O: Outbox + Drop>(
+    rt: &R,
+    transport: &Transport<S, O>,
+    interval: u32,
+) -> Result<u64, Failure> {
+    let peers = transport.peers.as_slice();
+    if interval == 0 || peers.is_empty() || peers.len() > 15 {
+        return Ok(0);
+    }
+    let time = wall_time(rt)?;
+    let interval = u64::from(interval) * 1000;
+    let phase = phase_of(transport.number, peers, interval);
+    Ok(next_start(time, interval, phase).saturating_sub(time))
 }
 
 /// Runs a round or the time after it, and prints its notices. If memory runs out that is reported,
@@ -170,19 +225,37 @@ fn run_span<R: Eprint + AllocGlobal, S: Receiver + Drop, O: Outbox + Drop>(
     }
 }
 
-/// Prints the report where it is due after this round, and hands the station what comes until the next one is to begin.
+/// Prints the report where it is due after this round, and hands the station what comes until the
+/// next one begins. Returns when that was due.
 fn between<R: Clock + Print + Eprint + AllocGlobal, S: Receiver + Drop, O: Outbox + Drop>(
     rt: &R,
     live: &mut Live<S, O>,
     number: u32,
-    began: Instant,
+    pace: Pace,
     timing: Timing,
-) -> Result<(), Failure> {
+) -> Result<Pace, Failure> {
     if is_due(number, timing.report_every) {
         print_between(rt, live)?;
     }
-    let interval = Duration::from_secs(u64::from(timing.interval));
-    pause(rt, live, number, began, interval)
+    if pace.interval == 0 {
+        return Ok(pace);
+    }
+    let passed = milliseconds(now(rt)?.duration_since(pace.origin));
+    tell_outrun(rt, number, pace, passed);
+    let due = next_start(passed.max(pace.due), pace.interval, pace.first);
+    let pace = Pace { due, ..pace };
+    pause(rt, live, number, pace)?;
+    Ok(pace)
+}
+
+/// Reports a round that took longer than the interval.
+fn tell_outrun<R: Eprint>(rt: &R, number: u32, pace: Pace, passed: u64) {
+    let took = passed.saturating_sub(pace.due);
+    if took > pace.interval {
+        let (seconds, tenths) = (took / 1000, took % 1000 / 100);
+        let interval = pace.interval / 1000;
+        let _ = eprintln!(rt; "snmpmon: round {number} took {seconds}.{tenths} s of {interval} s");
+    }
 }
 
 /// Prints the report of the windows in the file of the settings. The station is not started, and
@@ -368,16 +441,16 @@ fn report_round<R: Eprint + AllocGlobal, S: Receiver + Drop, O: Outbox + Drop>(
     Ok(())
 }
 
-/// Hands the station what comes until the next round is to begin.
+/// Hands the station what comes until the next round is due.
 fn pause<R: Clock + Eprint + AllocGlobal, S: Receiver + Drop, O: Outbox + Drop>(
     rt: &R,
     live: &mut Live<S, O>,
     number: u32,
-    began: Instant,
-    interval: Duration,
+    pace: Pace,
 ) -> Result<(), Failure> {
+    let due = Duration::from_millis(pace.due);
     for _ in 0..MOST_RESTS {
-        let left = left_of(interval, now(rt)?.duration_since(began));
+        let left = left_of(due, now(rt)?.duration_since(pace.origin));
         if left == 0 {
             return Ok(());
         }
@@ -390,6 +463,14 @@ fn pause<R: Clock + Eprint + AllocGlobal, S: Receiver + Drop, O: Outbox + Drop>(
 fn now<R: Clock + AllocGlobal>(rt: &R) -> Result<Instant, Failure> {
     match Instant::now(rt) {
         Ok(now) => Ok(now),
+        Err(error) => Err(Failure::stream(rt.alloc(), "the clock", error)),
+    }
+}
+
+/// The milliseconds since 1970 by the wall clock.
+fn wall_time<R: Clock + AllocGlobal>(rt: &R) -> Result<u64, Failure> {
+    match SystemTime::now(rt) {
+        Ok(now) => Ok(milliseconds(now.duration_since(UNIX_EPOCH).unwrap_or(Duration::ZERO))),
         Err(error) => Err(Failure::stream(rt.alloc(), "the clock", error)),
     }
 }
