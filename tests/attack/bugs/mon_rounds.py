@@ -243,4 +243,34 @@ BUGS = {
         "const LONGEST_REST: u128 = 60_000;",
         "const LONGEST_REST: u128 = 1_000;",
     ),
+    "a_round_at_once_again": (
+        "src/grid.rt",
+        "phase.saturating_add(begun.saturating_add(1).saturating_mul(interval))",
+        "phase.saturating_add(begun.saturating_mul(interval))",
+    ),
+    "leaves_out_a_round": (
+        "src/grid.rt",
+        "phase.saturating_add(begun.saturating_add(1).saturating_mul(interval))",
+        "phase.saturating_add(begun.saturating_add(2).saturating_mul(interval))",
+    ),
+    "an_interval_after_now": (
+        "src/grid.rt",
+        "    phase.saturating_add(begun.saturating_add(1).saturating_mul(interval))",
+        "    let _ = begun; now.saturating_add(interval)",
+    ),
+    "all_stations_in_one_turn": (
+        "src/grid.rt",
+        "    interval * before as u64 / (peers.len() as u64 + 1)",
+        "    interval * before.min(0) as u64 / (peers.len() as u64 + 1)",
+    ),
+    "turns_of_fewer_stations": (
+        "src/grid.rt",
+        "    interval * before as u64 / (peers.len() as u64 + 1)",
+        "    interval * before as u64 / (peers.len() as u64).max(1)",
+    ),
+    "the_last_station_first": (
+        "src/grid.rt",
+        "filter(|peer| **peer < station)",
+        "filter(|peer| **peer > station)",
+    ),
 }
