@@ -23,6 +23,7 @@ use Rattle.mon_cli.specs.declared.meaning.Printed.{Printed}
 use Rattle.mon_cli.specs.declared.meaning.Request.{Request}
 use Rattle.mon_cli.specs.declared.meaning.AgentArgs.{AgentArgs}
 use Rattle.mon_cli.specs.declared.meaning.AnswerArgs.{AnswerArgs}
+use Rattle.mon_cli.specs.declared.meaning.MibArgs.{MibArgs}
 use Rattle.mon_cli.specs.declared.meaning.StationArgs.{StationArgs}
 use Rattle.mon_cli.specs.declared.meaning.Scene.{Scene}
 use Rattle.mon_cli.specs.declared.meaning.Timing.{Timing}
@@ -98,10 +99,11 @@ IsScene rows s = IsNumberOr 64 0 (one_of (codes "at") rows) s.at
     × IsNumberOr 64 0 (one_of (codes "fuses") rows) s.fuses
     × IsNumberOr 32 1 (one_of (codes "times") rows) s.times
 
--- --rounds, --interval and --report-every
+-- --rounds, --interval, --phase and --report-every
 abbrev pub IsTiming : List Row → Timing → Type 0
-IsTiming rows t = IsNumberOr 32 1 (one_of (codes "rounds") rows) t.rounds
+IsTiming rows t = IsNumberOr 32 0 (one_of (codes "rounds") rows) t.rounds
     × IsNumberOr 32 0 (one_of (codes "interval") rows) t.interval
+    × IsNumber 32 (one_of (codes "phase") rows) t.phase
     × IsNumberOr 32 0 (one_of (codes "report-every") rows) t.report_every
 
 -- SETTINGS
@@ -121,9 +123,14 @@ IsAnswer rows w = IsSettings rows w.settings
     × IsScene rows w.scene
     × IsNamed rows w.named
 
+-- FILE, and the modules of -m in the order of the command line
+abbrev pub IsMib : List Row → MibArgs → Type 0
+IsMib rows w = (w.file.now ≡ text_in (codes "FILE") rows) × (texts w.modules.now ≡ all_in (codes "module") rows)
+
 -- the arguments of `station`
 abbrev pub IsStation : List Row → StationArgs → Type 0
 IsStation rows w = IsSettings rows w.settings
+    × (w.checks ≡ is_on (codes "check") rows)
     × IsTiming rows w.timing
     × (option_map (λ o. o.now) w.out ≡ first_of (codes "out") rows)
     × IsPrinted rows w.printed
@@ -142,7 +149,7 @@ Says commands.Set rows (asked.Set w) =
     IsRequest rows w.request × (w.kind.now ≡ text_in (codes "KIND") rows) × (w.value.now ≡ text_in (codes "VALUE") rows)
 Says commands.Agent rows (asked.Agent w) = IsAgent rows w
 Says commands.Answer rows (asked.Answer w) = IsAnswer rows w
-Says commands.Mib rows (asked.Mib file) = file.now ≡ text_in (codes "FILE") rows
+Says commands.Mib rows (asked.Mib w) = IsMib rows w
 Says commands.Station rows (asked.Station w) = IsStation rows w
 Says commands.Report rows (asked.Report w) = IsSettings rows w.settings × IsPrinted rows w.printed
 Says commands.SelfTest rows asked.SelfTest = ⊤
@@ -190,9 +197,10 @@ abbrev pub IsSignedIn : Value → ℤ → Type 0
 IsSignedIn (value.Number low high) n = (low ≤ℤ n) × (n ≤ℤ high)
 IsSignedIn _ n = ⊥
 
--- when rounds are run: 0 is an interval or a report that is left out
+-- when rounds are run: 0 is a number of rounds, an interval or a report that is left out
 abbrev pub IsTimingIn : Timing → Type 0
-IsTimingIn t = IsIn (value_of commands.Station (codes "rounds")) t.rounds
+IsTimingIn t = ((t.rounds ≡ 0) ⊎ IsIn (value_of commands.Station (codes "rounds")) t.rounds)
+    × IfSome t.phase (IsIn (value_of commands.Station (codes "phase")))
     × ((t.interval ≡ 0) ⊎ IsIn (value_of commands.Station (codes "interval")) t.interval)
     × ((t.report_every ≡ 0) ⊎ IsIn (value_of commands.Station (codes "report-every")) t.report_every)
 
@@ -208,3 +216,8 @@ IsWithin (asked.Answer w) = IfSome w.boots (IsSignedIn (value_of commands.Answer
 IsWithin (asked.Station w) = IsTimingIn w.timing
 IsWithin (asked.Rehearse w) = IsIn (value_of commands.Rehearse (codes "K")) w.stations
 IsWithin _ = ⊤
+
+-- a station that is neither to be checked nor to run any rounds
+abbrev pub LacksRounds : Asked → Type 0
+LacksRounds (asked.Station w) = (w.checks ≡ false) × (w.timing.rounds ≡ 0)
+LacksRounds _ = ⊥

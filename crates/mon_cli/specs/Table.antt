@@ -87,10 +87,12 @@ arguments commands.Answer = settings ∷ boots
     ∷ option (codes "fuses") (Natural 0 18446744073709551615)
     ∷ option (codes "times") (up_to 1 4294967295)
     ∷ named
-arguments commands.Mib = word (codes "FILE") Text ∷ []
+arguments commands.Mib = word (codes "FILE") Text ∷ or_letter 109 (repeated (codes "module")) ∷ []
 arguments commands.Station = settings
-    ∷ needed (option (codes "rounds") (up_to 1 1000000))
+    ∷ option (codes "rounds") (up_to 1 1000000)
+    ∷ flag (codes "check")
     ∷ option (codes "interval") (up_to 1 86400)
+    ∷ option (codes "phase") (up_to 0 86399)
     ∷ option (codes "report-every") (up_to 1 1000000)
     ∷ option (codes "out") Text
     ∷ printed

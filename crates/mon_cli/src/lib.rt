@@ -11,7 +11,7 @@ mod texts;
 pub use choice::Choice;
 pub use matches::read_command;
 pub use meaning::{
-    AgentArgs, AnswerArgs, Asked, BulkArgs, Named, Printed, RehearseArgs, ReplayArgs, ReportArgs,
-    Request, Scene, SetArgs, StationArgs, Timing,
+    AgentArgs, AnswerArgs, Asked, BulkArgs, MibArgs, Named, Printed, RehearseArgs, ReplayArgs,
+    ReportArgs, Request, Scene, SetArgs, StationArgs, Timing,
 };
 pub use parser::{VERSION, read};

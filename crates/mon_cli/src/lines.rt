@@ -279,9 +279,18 @@ const ROUNDS: Line = Line {
     id: "rounds",
     form: Form::Long,
     takes: Takes::One(Value::Number(1, 1_000_000)),
-    needed: true,
+    needed: false,
     shown: "rounds",
-    help: "How many rounds are run, 1 to 1000000",
+    help: "How many rounds are run, 1 to 1000000; must be given unless --check is",
+};
+
+const CHECK: Line = Line {
+    id: "check",
+    form: Form::Long,
+    takes: Takes::Nothing,
+    needed: false,
+    shown: "",
+    help: "Prints how long a round of these settings may take and what else limits the station, and starts nothing",
 };
 
 const INTERVAL: Line = Line {
@@ -291,6 +300,15 @@ const INTERVAL: Line = Line {
     needed: false,
     shown: "interval",
     help: "A round begins every so many seconds, 1 to 86400; at once after the last one if not given",
+};
+
+const PHASE: Line = Line {
+    id: "phase",
+    form: Form::Long,
+    takes: Takes::One(Value::Number(0, 86_399)),
+    needed: false,
+    shown: "phase",
+    help: "Rounds begin so many seconds after whole intervals of the wall clock, 0 to 86399; if not given, by the station's number among its peers",
 };
 
 const REPORT_EVERY: Line = Line {
@@ -345,12 +363,14 @@ static AGENT: [Line; 3] = [AGENT_SETTINGS, BOOTS, COUNT];
 
 static ANSWER: [Line; 7] = [AGENT_SETTINGS, BOOTS, AT, FUSES, TIMES, MODULE, NAMES];
 
-static MIB: [Line; 1] = [FILE];
+static MIB: [Line; 2] = [FILE, MODULE];
 
-static STATION: [Line; 9] = [
+static STATION: [Line; 11] = [
     SETTINGS,
     ROUNDS,
+    CHECK,
     INTERVAL,
+    PHASE,
     REPORT_EVERY,
     OUT,
     FORMAT,

@@ -11,8 +11,8 @@ ghost use Rattle.mon_cli.specs.declared.meaning.Asked.TheVariants as asked;
 
 use crate::choice::Choice;
 use crate::meaning::{
-    AgentArgs, AnswerArgs, Asked, BulkArgs, Named, Printed, RehearseArgs, ReplayArgs, ReportArgs,
-    Request, Scene, SetArgs, StationArgs, Timing,
+    AgentArgs, AnswerArgs, Asked, BulkArgs, MibArgs, Named, Printed, RehearseArgs, ReplayArgs,
+    ReportArgs, Request, Scene, SetArgs, StationArgs, Timing,
 };
 use clap::ArgMatches;
 use mon_formats::Format;
@@ -133,8 +133,9 @@ fn timing(matches: &ArgMatches<'_>) -> Timing
     ensures { IsTiming (rows_of (found_of matches.now)) result }
 {
     Timing {
-        rounds: number_or(matches, "rounds", 1),
+        rounds: number_or(matches, "rounds", 0),
         interval: number_or(matches, "interval", 0),
+        phase: number(matches, "phase"),
         report_every: number_or(matches, "report-every", 0),
     }
 }
@@ -179,6 +180,7 @@ fn station<'m, 'a>(matches: &'m ArgMatches<'a>) -> StationArgs<'m, 'a>
 {
     StationArgs {
         settings: text(matches, "SETTINGS"),
+        checks: is_on(matches, "check"),
         timing: timing(matches),
         out: find_value(matches, "out"),
         printed: read_printed(matches),
@@ -220,7 +222,10 @@ fn asked_by<'m, 'a>(choice: Choice, matches: &'m ArgMatches<'a>) -> Asked<'m, 'a
             kind: text(matches, "KIND"),
             value: text(matches, "VALUE"),
         }),
-        Choice::Mib => Asked::Mib(text(matches, "FILE")),
+        Choice::Mib => Asked::Mib(MibArgs {
+            file: text(matches, "FILE"),
+            modules: all(matches, "module"),
+        }),
         Choice::SelfTest => Asked::SelfTest,
         Choice::Agent => Asked::Agent(agent(matches)),
         Choice::Answer => Asked::Answer(answer(matches)),

@@ -1,5 +1,8 @@
 //! What the arguments ask for.
 
+ghost use Rattle.std.specs.Prelude.{◌↔◌, IsTrue};
+ghost use Rattle.mon_cli.specs.Asked.{LacksRounds};
+
 use mon_formats::Format;
 
 /// Modules whose names are known, and whether names are printed by them.
@@ -41,9 +44,12 @@ pub struct Scene {
 /// When a station's rounds are run, and where its reports go.
 #[derive(Clone, Copy)]
 pub struct Timing {
+    /// How many rounds are run; 0 if the arguments do not say.
     pub rounds: u32,
     /// How many seconds lie between the beginnings of two rounds, at least; 0 for none.
     pub interval: u32,
+    /// How many seconds after whole intervals of the wall clock a round begins, if the arguments say so.
+    pub phase: Option<u32>,
     /// After how many rounds each the report is printed; 0 for never.
     pub report_every: u32,
 }
@@ -94,11 +100,22 @@ pub struct AnswerArgs<'m, 'a> {
     pub named: Named<'m, 'a>,
 }
 
+/// The module whose names `mib` prints.
+#[derive(Clone, Copy)]
+pub struct MibArgs<'m, 'a> {
+    /// The file of the module.
+    pub file: &'a str,
+    /// The files of the modules whose names it uses, in the order of the command line.
+    pub modules: &'m [&'a str],
+}
+
 /// The station that `station` runs.
 #[derive(Clone, Copy)]
 pub struct StationArgs<'m, 'a> {
     /// The file of its settings.
     pub settings: &'a str,
+    /// `true` if only its limits are printed.
+    pub checks: bool,
     pub timing: Timing,
     /// The file that each round's report is written to.
     pub out: Option<&'a str>,
@@ -135,10 +152,21 @@ pub enum Asked<'m, 'a> {
     Set(SetArgs<'m, 'a>),
     Agent(AgentArgs<'a>),
     Answer(AnswerArgs<'m, 'a>),
-    /// The names of the module in this file.
-    Mib(&'a str),
+    Mib(MibArgs<'m, 'a>),
     Station(StationArgs<'m, 'a>),
     Report(ReportArgs<'m, 'a>),
     SelfTest,
     Rehearse(RehearseArgs<'a>),
+}
+
+impl Asked<'_, '_> {
+    /// Returns `true` if a station is to run and the arguments do not say for how many rounds.
+    pub fn lacks_rounds(&self) -> bool
+        ensures { IsTrue result ↔ LacksRounds self.now }
+    {
+        match self {
+            Asked::Station(words) => !words.checks && words.timing.rounds == 0,
+            _ => false,
+        }
+    }
 }

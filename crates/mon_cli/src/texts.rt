@@ -128,17 +128,22 @@ Examples: snmpmon answer examples/agent.toml < examples/requests.hex
 
 const MIB_MORE: &str =
     "Reads one SMIv2 module (RFC 2578) from FILE and prints NAME IDENTIFIER for each value name that it defines, by identifier.
-The built-in names, as enterprises and mib-2, are known; other modules are not read.
+The built-in names, as enterprises and mib-2, are known, and those of the modules of -m, which are not printed.
 
 A text that is no module ends it with 2 Unclosed, 3 Unexpected or 4 Duplicate; a name that cannot be resolved with 5 Unknown,
 6 Cycle, 7 TooDeep or 8 BadIdentifier, and then nothing is printed.
 
-Example: snmpmon mib examples/EX-MIB.txt";
+Examples: snmpmon mib examples/EX-MIB.txt
+          snmpmon mib examples/EX-PORT-MIB.txt -m examples/EX-MIB.txt";
 
 const STATION_MORE: &str =
     "Reads SETTINGS, a TOML file (examples/station.toml explains each key), reads the file in it or makes it, listens at its address and runs
 rounds. In a round the station polls each target, offers each peer the samples that it is owed, answers its peers and saves. At the
 end it prints the report of its windows, as `report` does; --out writes it to a file after each round, where Prometheus finds it (docs/OPERATING.md).
+
+With --interval rounds begin at fixed times, and stations with peers poll one after another by the wall clock; --phase sets when. A report
+that cannot be written and a last save that failed end the command with status 1 once all rounds are done. --check prints how long a round
+may take and the limits of these settings, and starts nothing.
 
 Standard error tells where it listens and by which incarnation, for each round which targets gave up or were refused and why,
 and each alarm that changed. What is refused ends no round; docs/OPERATING.md tells what each line means.
@@ -147,7 +152,8 @@ A damaged file ends it with mon_disk 5 Damaged, one of other instances with mon_
 that is shorter than a station's, or in which no save was ever finished, counts as new.
 
 Examples: snmpmon station examples/station.toml --rounds 6 --interval 10
-          snmpmon station examples/station.toml --rounds 6 --interval 10 --format prometheus --out snmpmon.prom";
+          snmpmon station examples/station.toml --rounds 6 --interval 10 --format prometheus --out snmpmon.prom
+          snmpmon station examples/station.toml --check";
 
 const REPORT_FILE_MORE: &str =
     "Reads SETTINGS as `station` does, and prints for each instance a line of what stands in the station's file, as

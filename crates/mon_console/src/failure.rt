@@ -3,7 +3,7 @@
 ghost use Rattle.std.specs.Prelude.{◌≡◌};
 
 use mon_app::{AppFault, SocketReason};
-use mon_faults::{Fault, RehearsalFault, StationFault, TrialFault};
+use mon_faults::{Fault, StationFault};
 use mon_mib::DeviceFault;
 use mon_smi::NamesFault;
 use std::alloc::{AllocError, AllocFailed, Global};
@@ -123,18 +123,6 @@ impl From<NamesFault> for Failure {
 impl From<DeviceFault> for Failure {
     fn from(fault: DeviceFault) -> Failure {
         Failure::plain(Fault::Device(fault))
-    }
-}
-
-impl From<RehearsalFault> for Failure {
-    fn from(fault: RehearsalFault) -> Failure {
-        Failure::plain(Fault::Rehearsal(fault))
-    }
-}
-
-impl From<TrialFault> for Failure {
-    fn from(fault: TrialFault) -> Failure {
-        Failure::plain(Fault::Trial(fault))
     }
 }
 

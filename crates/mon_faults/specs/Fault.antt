@@ -3,8 +3,6 @@ use Rattle.std.specs.Prelude.{codes}
 use Rattle.mon_app.specs.AppFault as app
 use Rattle.mon_disk.specs.Fault as disk
 use Rattle.mon_mib.specs.DeviceFault as device
-use Rattle.mon_rehearsal.specs.Fault as rehearsal
-use Rattle.mon_rehearsal.specs.Trial as trial
 use Rattle.mon_saved.specs.Fault as saved
 use Rattle.mon_settings.specs.SettingsFault as settings
 use Rattle.mon_smi.specs.Faults.{number_of_names, name_of_names}
@@ -13,7 +11,7 @@ use Rattle.mon_station.specs.declared.fault.StationFault.{StationFault}
 use Rattle.mon_station.specs.declared.fault.StationFault.TheVariants as of_station
 use Rattle.mon_station.specs.Fault as station
 use Rattle.mon_faults.specs.declared.fault.Fault.{Fault}
-use Rattle.mon_faults.specs.declared.fault.Fault.TheVariants.{App, Names, Text, Settings, Device, Keeper, Image, Station, Trial, Rehearsal}
+use Rattle.mon_faults.specs.declared.fault.Fault.TheVariants.{App, Names, Text, Settings, Device, Keeper, Image, Station, Other}
 
 -- the innermost of nested faults: the crate whose it is, and its number and name there
 abbrev pub innermost_of : Fault → station.Told
@@ -25,8 +23,7 @@ innermost_of (Device f) = record { part = codes "mon_mib"; number = device.numbe
 innermost_of (Keeper f) = record { part = codes "mon_disk"; number = disk.number_of f; name = disk.name_of f }
 innermost_of (Image f) = record { part = codes "mon_saved"; number = saved.number_of f; name = saved.name_of f }
 innermost_of (Station f) = station.innermost_of f
-innermost_of (Trial f) = trial.innermost_of f
-innermost_of (Rehearsal f) = rehearsal.innermost_of f
+innermost_of (Other i) = record { part = i.part.now; number = i.number; name = i.name.now }
 
 -- a station's fault as a command's: a fault of its file is the file's own
 abbrev pub station_fault : StationFault → Fault

@@ -6,7 +6,6 @@ ghost use Rattle.mon_faults.specs.Fault.{innermost_of, station_fault};
 use mon_app::AppFault;
 use mon_disk::KeeperFault;
 use mon_mib::DeviceFault;
-use mon_rehearsal::{RehearsalFault, TrialFault};
 use mon_saved::ImageFault;
 use mon_settings::SettingsFault;
 use mon_smi::{NamesFault, TextFault};
@@ -14,7 +13,7 @@ use mon_station::{Innermost, StationFault};
 use thiserror::Error;
 
 /// A fault of a command. As a text it says what was wrong, with no word of where.
-#[derive(Clone, Copy, Debug, PartialEq, Eq, Error)]
+#[derive(Clone, Copy, Debug, Error)]
 pub enum Fault {
     /// Of the arguments and streams of a command, of a question or of a script.
     #[error("{0}")]
@@ -40,12 +39,9 @@ pub enum Fault {
     /// Of a station.
     #[error("{0}")]
     Station(StationFault),
-    /// Of a station's trial of itself.
+    /// Of a crate that only one command calls: its line.
     #[error("{0}")]
-    Trial(TrialFault),
-    /// Of a rehearsal.
-    #[error("{0}")]
-    Rehearsal(RehearsalFault),
+    Other(Innermost),
 }
 
 impl Fault {
@@ -64,8 +60,7 @@ impl Fault {
             Fault::Keeper(fault) => Innermost::new("mon_disk", fault.number(), fault.name()),
             Fault::Image(fault) => Innermost::new("mon_saved", fault.number(), fault.name()),
             Fault::Station(fault) => fault.innermost(),
-            Fault::Trial(fault) => fault.innermost(),
-            Fault::Rehearsal(fault) => fault.innermost(),
+            Fault::Other(innermost) => innermost,
         }
     }
 }

@@ -3,13 +3,13 @@
 //! is empty or begins with # is passed over. Where no answer can be given, the program ends with
 //! status 1.
 //!
-//! The module of each group has its lines:
+//! The crate of each group has its lines:
 //!
-//!     codec       values, messages, claims, images, names, samples, windows, boards and texts
-//!     station     `station ..`, a station over a disk in memory, and `world ..`
-//!     poller      `poller ..`, polls of three targets
-//!     keeper      `keeper ..`, what openings of disks and files find after stops, faults and saves
-//!     calls       `agent ..`, `client ..`, `mib ..`, `reader ..` and `smi ..`, single calls
+//!     mon_codec_rows    values, messages, claims, images, names, samples, windows, boards, texts
+//!     mon_call_rows     `agent ..`, `client ..`, `mib ..`, `reader ..` and `smi ..`, single calls;
+//!                       `poller ..`, polls of three targets
+//!     mon_station_rows  `station ..`, a station over a disk in memory, and `world ..`; `keeper ..`,
+//!                       what openings of disks and files find after stops, faults and saves
 //!
 //! usage: mon_rows                              as above
 //!        mon_rows image-times N                reads the image of the first line, WATCH HEX, and
@@ -27,17 +27,11 @@
 //!                                              tests/files
 #![tactic(auto)]
 
-mod calls;
-mod codec;
-mod keeper;
-mod poller;
-mod shared;
-mod station;
 mod subjects;
 
-use codec::{images, track, values};
-use keeper::real_file;
-use poller::timing;
+use mon_call_rows::time_polls;
+use mon_codec_rows::{time_images, time_messages, time_track};
+use mon_station_rows::{print_found, save_on, time_saves};
 use std::env;
 use std::process::ExitCode;
 use subjects::Subjects;
@@ -67,13 +61,13 @@ fn rows(rt: &HostRuntime) -> Option<()> {
 fn job(rt: &HostRuntime, word: &str, words: &[String]) -> Option<()> {
     let alloc = rt.alloc();
     match word {
-        "image-times" => images::times(rt, alloc, words.first()?.parse().ok()?),
-        "message-times" => values::times(rt, alloc, words.first()?.parse().ok()?),
-        "track-times" => track::times(rt, alloc, words),
-        "poll-times" => timing::times(rt, words),
-        "save-times" => real_file::save_times(rt, words),
-        "saves" => real_file::save_on(rt, words.first()?),
-        "opens" => real_file::opens(rt, words.first()?),
+        "image-times" => time_images(rt, alloc, words.first()?.parse().ok()?),
+        "message-times" => time_messages(rt, alloc, words.first()?.parse().ok()?),
+        "track-times" => time_track(rt, alloc, words),
+        "poll-times" => time_polls(rt, words),
+        "save-times" => time_saves(rt, words),
+        "saves" => save_on(rt, words.first()?),
+        "opens" => print_found(rt, words.first()?),
         _ => None,
     }
 }

@@ -1,12 +1,9 @@
 //! What lines ask, and what the lines before them have left.
 
-use crate::codec::exchange::Exchange;
-use crate::poller::script;
-use crate::poller::targets::poller;
-use crate::station::asking::Stage;
-use crate::station::worlds::world;
-use crate::{calls, codec, keeper};
+use mon_call_rows::{answer_poll, poller};
+use mon_codec_rows::Exchange;
 use mon_poller::Poller;
+use mon_station_rows::{Stage, answer_keeper, world};
 use std::alloc::Global;
 use std::io::{BufRead, BufReader};
 
@@ -63,11 +60,11 @@ impl Subjects {
         match word {
             "station" => self.staged(alloc, rest),
             "world" => world(alloc, rest),
-            "poller" => script::answer(alloc, &mut self.polls, rest),
-            "keeper" => keeper::answer(rt, rest),
+            "poller" => answer_poll(alloc, &mut self.polls, rest),
+            "keeper" => answer_keeper(rt, rest),
             "note" | "known" | "offer" => self.exchange.answer(alloc, word, rest),
-            "agent" | "client" | "mib" | "reader" | "smi" => calls::answer(alloc, word, rest),
-            _ => codec::answer(alloc, word, rest),
+            "agent" | "client" | "mib" | "reader" | "smi" => mon_call_rows::answer(alloc, word, rest),
+            _ => mon_codec_rows::answer(alloc, word, rest),
         }
     }
 

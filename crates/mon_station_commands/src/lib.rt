@@ -1,7 +1,8 @@
-//! The commands of stations: running one, the report of its file, the self-test, and stations in memory.
+//! The commands of stations: running one, what limits it, and the report of its file.
 #![tactic(auto)]
 
+mod limits;
 mod station;
 mod telling;
 
-pub use station::{print_rehearsal, print_saved_report, run_self_test, run_station};
+pub use station::{print_saved_report, run_station};

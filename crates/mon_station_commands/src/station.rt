@@ -1,25 +1,22 @@
-//! The commands of stations: `station`, `report`, `selftest` and `rehearse`.
+//! The commands of stations: `station` and `report`.
 
-ghost use Rattle.std.specs.Prelude.{◌↔◌, ◌<◌, ◌≤◌, IsTrue};
+ghost use Rattle.std.specs.Prelude.{◌≡◌, ◌↔◌, ◌<◌, ◌≤◌, IsTrue};
+ghost use Rattle.mon_disk.specs.Fault.{number_of};
 
+use crate::limits::print_limits;
 use crate::telling::tell_notices;
 use mon_app::AppFault;
 use mon_board::Board;
-use mon_cli::{Named, Printed, RehearseArgs, ReportArgs, StationArgs, Timing};
-use mon_console::{
-    Failure, Fault, Printing, add_module, print, read_first, read_input, read_text,
-    settings_failure,
-};
-use mon_disk::{Disk, DiskError, FileDisk, SLOT_SIZE};
-use mon_formats::{Figures, Format};
-use mon_rehearsal::{rehearse, run_trial};
+use mon_cli::{ReportArgs, StationArgs, Timing};
+use mon_console::{Failure, Fault, Printing, print, read_first, read_station_file};
+use mon_disk::{Disk, DiskError, FileDisk, KeeperFault, SLOT_SIZE};
+use mon_formats::Figures;
 use mon_report::write_report;
 use mon_rounds::{
-    Addresses, Course, Receiver, RoundReport, Rounds, SocketOutbox, SocketReceiver, Span, debts_of,
-    is_due, left_of, milliseconds, next_start, phase_of,
+    Addresses, Course, Notice, Receiver, RoundReport, Rounds, SocketOutbox, SocketReceiver, Span,
+    debts_of, is_due, left_of, milliseconds, next_start, phase_of,
 };
-use mon_settings::{SettingsKind, StationSettings, module_files, read_station};
-use mon_smi::Names;
+use mon_settings::StationSettings;
 use mon_station::{Outbox, Run, Station, StationFault, board_in};
 use mon_udp::{Addr, Socket};
 use std::alloc::{AllocError, Global};
@@ -39,6 +36,12 @@ struct Live<S: Receiver + Drop, O: Outbox + Drop> {
     run: Run,
     course: Course,
     reports: Reports,
+    /// The path of the station's file.
+    file: String,
+    /// Why the last round's save failed, if it did.
+    unsaved: Option<KeeperFault>,
+    /// Why the last report that could not be printed between two rounds could not.
+    unprinted: Option<Failure>,
 }
 
 /// What a station receives and sends by, and where its targets and peers are reached.
@@ -70,24 +73,19 @@ struct Reports {
     out: Option<String>,
 }
 
-/// How a report is printed if the arguments do not say.
-const PLAIN: Printed<'static, 'static> = Printed {
-    format: Format::Text,
-    named: Named {
-        modules: &[],
-        shown: false,
-    },
-};
-
 /// How often a station goes on receiving between two rounds, at most.
 const MOST_RESTS: u32 = u32::MAX;
 
-/// Runs the station of the settings through its rounds, and prints its report.
+/// Runs the station of the settings through its rounds, and prints its report; or only prints what
+/// limits it.
 pub fn run_station<R: Clock + Files<File = File> + Net + Print + Eprint + AllocGlobal>(
     rt: &R,
     words: StationArgs<'_, '_>,
 ) -> Result<(), Failure> {
-    let (settings, printing) = settings_of(rt, words.settings, words.printed)?;
+    let (settings, printing) = read_station_file(rt, words.settings, words.printed)?;
+    if words.checks {
+        return print_limits(rt, &settings, words.timing.interval);
+    }
     let out = out_of(rt.alloc(), words.out)?;
     let (disk, socket) = open_file_and_socket(rt, &settings)?;
     let listen = settings.listen;
@@ -142,14 +140,15 @@ fn make_transport<S: Receiver + Drop, O: Outbox + Drop>(
     })
 }
 
-/// Runs a station through its rounds, and prints its report.
+/// Runs a station through its rounds, and prints its report. If a report between two rounds could not
+/// be printed, or the last save failed, that is the failure.
 fn run_rounds<
     R: Clock + Files<File = File> + Print + Eprint + AllocGlobal,
     S: Receiver + Drop,
     O: Outbox + Drop,
 >(rt: &R, live: Live<S, O>, timing: Timing) -> Result<(), Failure> {
     let mut live = live;
-    let mut pace = start_pace(rt, &mut live, timing.interval)?;
+    let mut pace = start_pace(rt, &mut live, timing)?;
     for number in 1..=timing.rounds {
         run_span(rt, &mut live, number, Span::Round);
         write_out(rt, &live);
@@ -157,23 +156,49 @@ fn run_rounds<
             pace = between(rt, &mut live, number, pace, timing)?;
         }
     }
-    print_report(rt, &live)
+    print_report(rt, &live)?;
+    ended(rt.alloc(), live)
 }
 
-/// Returns when the rounds of this interval in seconds begin, the first one now. A station with peers
-/// waits for its share of the interval by the wall clock, so that they poll one after another; until
-/// then it answers its peers.
+/// Returns why a station did not do all that it had to: a report or its last save.
+fn ended<S: Receiver + Drop, O: Outbox + Drop>(
+    alloc: Global,
+    live: Live<S, O>,
+) -> Result<(), Failure> {
+    let Live {
+        file,
+        unsaved,
+        unprinted,
+        ..
+    } = live;
+    match (unsaved, unprinted) {
+        (Some(fault), _) => Err(Failure::at(alloc, &file, Fault::Keeper(fault))),
+        (None, Some(failure)) => Err(failure),
+        (None, None) => Ok(()),
+    }
+}
+
+/// Returns when the rounds begin, the first one now. With a phase it waits for that by the wall clock;
+/// so does a station with peers for its share of the interval, so that they poll one after another.
+/// Until then it answers its peers.
 fn start_pace<R: Clock + Eprint + AllocGlobal, S: Receiver + Drop, O: Outbox + Drop>(
     rt: &R,
     live: &mut Live<S, O>,
-    interval: u32,
+    timing: Timing,
 ) -> Result<Pace, Failure> {
     let origin = now(rt)?;
-    let first = first_start(rt, &live.transport, interval)?;
+    let interval = u64::from(timing.interval) * 1000;
+    let first = match phase(&live.transport, timing) {
+        Some(phase) => {
+            let time = wall_time(rt)?;
+            next_start(time, interval, phase).saturating_sub(time)
+        }
+        None => 0,
+    };
     let pace = Pace {
         origin,
         first,
-        interval: u64::from(interval) * 1000,
+        interval,
         due: first,
     };
     if first > 0 {
@@ -184,21 +209,21 @@ fn start_pace<R: Clock + Eprint + AllocGlobal, S: Receiver + Drop, O: Outbox + D
     Ok(pace)
 }
 
-/// Returns in how many milliseconds the first round of this interval in seconds begins. (A station has
-/// 15 peers at most.)
-fn first_start<R: Clock + AllocGlobal, S: Receiver + Drop, O: Outbox + Drop>(
-    rt: &R,
+/// Returns how many milliseconds after whole intervals of the wall clock rounds begin, if they keep to
+/// it: as the arguments say, or else by the station's number among its peers. (It has 15 at most.)
+fn phase<S: Receiver + Drop, O: Outbox + Drop>(
     transport: &Transport<S, O>,
-    interval: u32,
-) -> Result<u64, Failure> {
+    timing: Timing,
+) -> Option<u64> {
     let peers = transport.peers.as_slice();
-    if interval == 0 || peers.is_empty() || peers.len() > 15 {
-        return Ok(0);
+    if timing.interval == 0 {
+        return None;
     }
-    let time = wall_time(rt)?;
-    let interval = u64::from(interval) * 1000;
-    let phase = phase_of(transport.number, peers, interval);
-    Ok(next_start(time, interval, phase).saturating_sub(time))
+    match timing.phase {
+        Some(phase) => Some(u64::from(phase % timing.interval) * 1000),
+        None if peers.is_empty() || peers.len() > 15 => None,
+        None => Some(phase_of(transport.number, peers, u64::from(timing.interval) * 1000)),
+    }
 }
 
 /// Runs a round or the time after it, and prints its notices. If memory runs out that is reported,
@@ -217,7 +242,7 @@ fn run_span<R: Eprint + AllocGlobal, S: Receiver + Drop, O: Outbox + Drop>(
         &mut live.run,
     );
     let told = match ran {
-        Ok(()) => report_round(rt, live, number),
+        Ok(()) => report_round(rt, live, number, span),
         Err(fault) => Err(Failure::from(fault)),
     };
     if let Err(failure) = told {
@@ -235,7 +260,7 @@ fn between<R: Clock + Print + Eprint + AllocGlobal, S: Receiver + Drop, O: Outbo
     timing: Timing,
 ) -> Result<Pace, Failure> {
     if is_due(number, timing.report_every) {
-        print_between(rt, live)?;
+        print_between(rt, live);
     }
     if pace.interval == 0 {
         return Ok(pace);
@@ -264,7 +289,7 @@ pub fn print_saved_report<R: Files<File = File> + Print + AllocGlobal>(
     rt: &R,
     words: ReportArgs<'_, '_>,
 ) -> Result<(), Failure> {
-    let (settings, printing) = settings_of(rt, words.settings, words.printed)?;
+    let (settings, printing) = read_station_file(rt, words.settings, words.printed)?;
     let alloc = rt.alloc();
     let board = saved_in(rt, &settings)?;
     let text = printing.report(alloc, &board, None)?;
@@ -282,61 +307,6 @@ fn saved_in<R: Files<File = File> + AllocGlobal>(
     match board_in(alloc, settings.core.watch(), octets.as_slice()) {
         Ok(board) => Ok(board),
         Err(fault) => Err(file_failure(alloc, &settings.file, fault)),
-    }
-}
-
-/// Prints what the steps on standard input make of stations in memory.
-pub fn print_rehearsal<R: Files + Input + Print + AllocGlobal>(
-    rt: &R,
-    words: RehearseArgs<'_>,
-) -> Result<(), Failure>
-    requires { (1 ≤ words.stations) × (words.stations ≤ 16) }
-{
-    let (settings, _) = settings_of(rt, words.settings, PLAIN)?;
-    let script = read_input(rt)?;
-    let text = rehearse(
-        rt.alloc(),
-        &settings.core,
-        words.stations,
-        script.as_slice(),
-    )?;
-    print(rt, text.as_slice())
-}
-
-/// Prints what a station in memory measured of an agent in memory.
-pub fn run_self_test<R: Print + AllocGlobal>(rt: &R) -> Result<(), Failure> {
-    let trial = run_trial(rt.alloc())?;
-    print(rt, trial.text.as_slice())
-}
-
-/// What the file of a station's settings says, by the names of the modules that it lists, and how its reports are printed.
-fn settings_of<R: Files + AllocGlobal>(
-    rt: &R,
-    path: &str,
-    printed: Printed<'_, '_>,
-) -> Result<(StationSettings, Printing), Failure> {
-    let alloc = rt.alloc();
-    let text = read_text(rt, path)?;
-    let files = match module_files(alloc, &text) {
-        Ok(files) => files,
-        Err(fault) => return Err(settings_failure(
-            alloc,
-            SettingsKind::Station,
-            path,
-            &text,
-            fault,
-        )),
-    };
-    let mut names = Names::new(alloc)?;
-    for file in files.as_slice() {
-        add_module(rt, &mut names, file)?;
-    }
-    match read_station(alloc, &text, &names) {
-        Ok(settings) => {
-            let printing = Printing::of(rt, printed, names, files.as_slice())?;
-            Ok((settings, printing))
-        }
-        Err(fault) => Err(settings_failure(alloc, SettingsKind::Station, path, &text, fault)),
     }
 }
 
@@ -419,6 +389,9 @@ fn start_station<R: Eprint + AllocGlobal, S: Receiver + Drop, O: Outbox + Drop>(
         run: Run::new(alloc),
         course,
         reports,
+        file,
+        unsaved: None,
+        unprinted: None,
     })
 }
 
@@ -426,10 +399,14 @@ fn report_round<R: Eprint + AllocGlobal, S: Receiver + Drop, O: Outbox + Drop>(
     rt: &R,
     live: &mut Live<S, O>,
     number: u32,
+    span: Span,
 ) -> Result<(), Failure> {
     let alloc = rt.alloc();
     let report = RoundReport::of(alloc, live.transport.rounds.round(), &live.run)?;
     live.course.add(&report);
+    if span == Span::Round {
+        live.unsaved = save_fault(&report);
+    }
     tell_notices(rt, number, &live.transport.addresses, &report);
     for line in live
         .course
@@ -439,6 +416,29 @@ fn report_round<R: Eprint + AllocGlobal, S: Receiver + Drop, O: Outbox + Drop>(
         let _ = eprintln!(rt; "snmpmon: {line}");
     }
     Ok(())
+}
+
+/// Returns why the last save that a report tells of failed, if it did.
+fn save_fault(report: &RoundReport) -> Option<KeeperFault> {
+    match report.notices.as_slice().last() {
+        Some(Notice::NotSaved(number)) => Some(keeper_fault(*number)),
+        _ => None,
+    }
+}
+
+/// Returns the keeper's fault of this number.
+fn keeper_fault(number: u8) -> KeeperFault
+    ensures { 1 ≤ number → number ≤ 6 → number_of result ≡ number }
+{
+    match number {
+        1 => KeeperFault::OutOfMemory,
+        2 => KeeperFault::DiskFault,
+        3 => KeeperFault::NoMoreGenerations,
+        4 => KeeperFault::TooLarge,
+        5 => KeeperFault::Damaged,
+        6 => KeeperFault::Reopen,
+        _ => KeeperFault::DiskFault,
+    }
 }
 
 /// Hands the station what comes until the next round is due.
@@ -475,20 +475,17 @@ fn wall_time<R: Clock + AllocGlobal>(rt: &R) -> Result<u64, Failure> {
     }
 }
 
-/// Prints the report between two rounds. If memory runs out that is reported, and the station goes
-/// on.
+/// Prints the report between two rounds. What goes wrong is reported, and the station goes on.
 fn print_between<R: Print + Eprint + AllocGlobal, S: Receiver + Drop, O: Outbox + Drop>(
     rt: &R,
-    live: &Live<S, O>,
-) -> Result<(), Failure> {
-    let Err(failure) = print_report(rt, live) else {
-        return Ok(());
-    };
-    if !failure.is_of_memory() {
-        return Err(failure);
+    live: &mut Live<S, O>,
+) {
+    if let Err(failure) = print_report(rt, live) {
+        failure.tell(rt);
+        if !failure.is_of_memory() {
+            live.unprinted = Some(failure);
+        }
     }
-    failure.tell(rt);
-    Ok(())
 }
 
 /// Prints the report of a station's windows. Lines of text with names in numbers need no memory.

@@ -7,11 +7,12 @@ use crate::listing::list;
 use clap::error::ErrorKind;
 use mon_agent_commands::{print_answers, serve_agent};
 use mon_app::Recorded;
-use mon_cli::{Asked, ReplayArgs, VERSION, read, read_command};
+use mon_cli::{Asked, MibArgs, ReplayArgs, VERSION, read, read_command};
 use mon_client_commands::{bulk, get, next, set, walk};
-use mon_console::{Failure, Printing, print, read_input, read_text};
+use mon_console::{Failure, Printing, names_of, print, read_input, read_text};
+use mon_rehearsal_commands::{print_rehearsal, run_self_test};
 use mon_smi::Names;
-use mon_station_commands::{print_rehearsal, print_saved_report, run_self_test, run_station};
+use mon_station_commands::{print_saved_report, run_station};
 use std::alloc::AllocError;
 use std::fs::File;
 use std::net::Net;
@@ -33,11 +34,25 @@ pub fn start<R: Env + Clock + Files<File = File> + Net + Input + Print + Eprint 
         return report_failure(rt, &Failure::from(AllocError));
     };
     match read(rt.alloc(), words.as_slice()) {
-        Ok(matches) => match run(rt, read_command(&matches)) {
-            Ok(()) => 0,
-            Err(failure) => report_failure(rt, &failure),
-        },
+        Ok(matches) => start_command(rt, read_command(&matches)),
         Err(error) => report_usage(rt, &error),
+    }
+}
+
+/// Runs a command, and returns the exit status.
+fn start_command<R: Clock + Files<File = File> + Net + Input + Print + Eprint + AllocGlobal>(
+    rt: &R,
+    asked: Asked<'_, '_>,
+) -> u8
+    requires { IsWithin asked }
+{
+    if asked.lacks_rounds() {
+        let _ = rt.eprintln("snmpmon: station wants --rounds N or --check; see snmpmon station --help");
+        return 2;
+    }
+    match run(rt, asked) {
+        Ok(()) => 0,
+        Err(failure) => report_failure(rt, &failure),
     }
 }
 
@@ -87,7 +102,7 @@ fn run<R: Clock + Files<File = File> + Net + Input + Print + Eprint + AllocGloba
         Asked::Set(words) => set(rt, words),
         Asked::Agent(words) => serve_agent(rt, words),
         Asked::Answer(words) => print_answers(rt, words),
-        Asked::Mib(path) => mib(rt, path),
+        Asked::Mib(words) => mib(rt, words),
         Asked::Station(words) => run_station(rt, words),
         Asked::Report(words) => print_saved_report(rt, words),
         Asked::SelfTest => run_self_test(rt),
@@ -141,9 +156,10 @@ fn replay_report<R: Print + Eprint + AllocGlobal>(
     print(rt, text.as_slice())
 }
 
-/// Prints the names of the module in a file.
-fn mib<R: Files + Print + AllocGlobal>(rt: &R, path: &str) -> Result<(), Failure> {
-    let text = read_text(rt, path)?;
-    let lines = list(rt.alloc(), path, &text)?;
+/// Prints the names of the module in a file, by the names of other modules too.
+fn mib<R: Files + Print + AllocGlobal>(rt: &R, words: MibArgs<'_, '_>) -> Result<(), Failure> {
+    let text = read_text(rt, words.file)?;
+    let known = names_of(rt, words.modules)?;
+    let lines = list(rt.alloc(), words.file, &text, known)?;
     print(rt, lines.as_bytes())
 }

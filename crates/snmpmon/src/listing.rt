@@ -6,12 +6,13 @@ use mon_smi::{Names, read_module};
 use std::alloc::{AllocError, Global};
 
 /// The names that the module in a text defines, with their identifiers, a line each.
-pub fn list(alloc: Global, path: &str, text: &str) -> Result<String, Failure> {
+/// The names of other modules that it uses are these.
+pub fn list(alloc: Global, path: &str, text: &str, known: Names) -> Result<String, Failure> {
     let module = match read_module(alloc, text) {
         Ok(module) => module,
         Err(fault) => return Err(no_module(alloc, path, text, fault)),
     };
-    let mut known = Names::new(alloc)?;
+    let mut known = known;
     known.add(alloc, &module)?;
     match mon_listing::list(alloc, &known, module.defs.as_slice()) {
         Ok(lines) => Ok(lines),

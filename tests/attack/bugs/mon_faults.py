@@ -26,10 +26,10 @@ BUGS = {
         "            StationFault::Keeper(fault) => Fault::Keeper(fault),\n",
         "",
     ),
-    "tells_all_as_a_want_of_memory": (
+    "tells_others_as_a_want_of_memory": (
         "src/fault.rt",
-        "            Fault::Trial(fault) => fault.innermost(),",
-        '            Fault::Trial(_) => Innermost::new("mon_rounds", 1, "OutOfMemory"),',
+        "            Fault::Other(innermost) => innermost,",
+        '            Fault::Other(_) => Innermost::new("mon_rounds", 1, "OutOfMemory"),',
     ),
     "takes_the_entry_before": (
         "src/unknown.rt",

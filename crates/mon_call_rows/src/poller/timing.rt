@@ -1,0 +1,77 @@
+//! Polls that are started and answered at once, again and again.
+
+use crate::poller::targets::{local, poller};
+use mon_row_texts::{first_line, octets};
+use mon_poller::Offered;
+use std::alloc::Global;
+
+/// What the responses brought.
+#[derive(Drop)]
+struct Tally {
+    samples: u64,
+    marks: u64,
+    refused: u64,
+}
+
+/// What the arguments ask for.
+#[derive(Clone, Copy)]
+struct Asked {
+    times: u32,
+    place: usize,
+}
+
+/// Reads the response's digits from standard input, polls the second target as often as the
+/// arguments TIMES PLACE say, and answers each poll with the response, with the request-id at the
+/// place.
+pub fn time_polls<R: Input + Print + AllocGlobal>(rt: &R, words: &[String]) -> Option<()> {
+    let asked = asked_of(words)?;
+    let mut octets = octets(rt.alloc(), first_line(rt, rt.alloc())?.trim())?;
+    let tally = answered(rt.alloc(), &mut octets, asked)?;
+    println!(rt;
+        "{} samples, marks {}, {} refused",
+        tally.samples, tally.marks, tally.refused
+    )
+    .ok()
+}
+
+/// Reads the two arguments.
+fn asked_of(words: &[String]) -> Option<Asked> {
+    Some(Asked {
+        times: words.first()?.parse().ok()?,
+        place: words.get(1)?.parse().ok()?,
+    })
+}
+
+/// Polls and answers as often as is asked.
+fn answered(alloc: Global, octets: &mut Vec<u8>, asked: Asked) -> Option<Tally> {
+    let mut polls = poller(alloc)?;
+    let mut tally = Tally {
+        samples: 0,
+        marks: 0,
+        refused: 0,
+    };
+    for _ in 0..asked.times {
+        let id = polls.start(alloc, 1).ok()?.id;
+        number(octets, asked.place, id)?;
+        match polls.response(alloc, local(16102), octets) {
+            Ok(offered) => count(&mut tally, &offered),
+            Err(_) => tally.refused = tally.refused.wrapping_add(1),
+        }
+    }
+    Some(tally)
+}
+
+/// Writes the request-id, in four octets, at its place.
+fn number(octets: &mut [u8], place: usize, id: u32) -> Option<()> {
+    for (i, octet) in id.to_be_bytes().iter().enumerate() {
+        *octets.get_mut(place.checked_add(i)?)? = *octet;
+    }
+    Some(())
+}
+
+fn count(tally: &mut Tally, offered: &Offered) {
+    for (_, sample) in offered.pairs.as_slice() {
+        tally.samples = tally.samples.wrapping_add(1);
+        tally.marks = tally.marks.wrapping_add(u64::from(sample.discontinuity()));
+    }
+}

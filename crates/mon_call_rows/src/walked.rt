@@ -1,0 +1,71 @@
+//! A walk through an agent whose names do not increase.
+
+use mon_row_texts::octets;
+use mon_app::{AppFault, Heard, SocketFault, Wire, walk};
+use mon_oid::Oid;
+use mon_smi::InNumbers;
+use std::alloc::Global;
+
+/// A wire to an agent that answers each request with one message, under the request's id.
+#[derive(Drop)]
+struct Same {
+    reply: Vec<u8>,
+}
+
+/// The place of the last octet of a request-id in a message of the community `public`.
+const ID: usize = 17;
+
+impl Wire for Same {
+    ghost use Rattle.std.specs.Prelude.{None};
+
+    ghost told = { λ _. None };
+
+    // It never fails.
+    ghost failures = { λ _. 0 };
+
+    fn send(&mut self, octets: &[u8]) -> Result<(), SocketFault> {
+        if let Some(id) = octets.get(ID)
+            && let Some(place) = self.reply.get_mut(ID)
+        {
+            *place = *id;
+        }
+        Ok(())
+    }
+
+    fn receive(&mut self, room: &mut [u8]) -> Result<Heard, SocketFault> {
+        let Some(front) = room.get_mut(..self.reply.len()) else {
+            return Ok(Heard::Quiet);
+        };
+        front.copy_from_slice(self.reply.as_slice());
+        Ok(Heard::Datagram(self.reply.len()))
+    }
+}
+
+/// Walks, without the clauses of the call.
+fn walked<W: Wire>(
+    alloc: Global,
+    wire: &mut W,
+    community: &[u8],
+    start: &Oid,
+    text: &mut String,
+) -> Result<(), AppFault> {
+    walk(alloc, wire, community, start, &InNumbers, text)
+}
+
+/// Returns what the walk of a line `NAME HEX` prints, and why it ends.
+pub fn row(alloc: Global, line: &str) -> Option<String> {
+    let (name, reply) = line.split_once(' ')?;
+    let start = Oid::parse(alloc, name).ok()?;
+    let mut wire = Same {
+        reply: octets(alloc, reply)?,
+    };
+    shown(alloc, &mut wire, &start)
+}
+
+fn shown(alloc: Global, wire: &mut Same, start: &Oid) -> Option<String> {
+    let mut text = String::new(alloc);
+    match walked(alloc, wire, b"public", start, &mut text) {
+        Ok(()) => format!(in alloc; "{text:?}").ok(),
+        Err(why) => format!(in alloc; "{text:?}, {} {}", why.number(), why.name()).ok(),
+    }
+}

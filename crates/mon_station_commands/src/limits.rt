@@ -1,0 +1,106 @@
+//! What limits a station of some settings.
+
+ghost use Rattle.std.specs.Prelude.{◌≡◌, ◌≤◌};
+ghost use Rattle.mon_station_commands.specs.Limits.{sends_to, waits};
+
+use mon_console::{Failure, print};
+use mon_disk::SLOT_SIZE;
+use mon_poller::Target;
+use mon_settings::StationSettings;
+use std::alloc::{AllocError, Global};
+
+/// How long a round may take, in milliseconds. What it takes to handle datagrams is not among it.
+#[derive(Clone, Copy)]
+struct RoundTime {
+    /// If all targets answer.
+    least: u64,
+    /// If none does.
+    most: u64,
+}
+
+/// Prints how long a round of a station of these settings may take, beside this interval in seconds
+/// (0 for none), and what else limits it. Nothing is opened.
+pub fn print_limits<R: Print + AllocGlobal>(
+    rt: &R,
+    settings: &StationSettings,
+    interval: u32,
+) -> Result<(), Failure> {
+    let text = limits(rt.alloc(), settings, interval)?;
+    print(rt, text.as_bytes())
+}
+
+/// Returns the lines that `print_limits` prints.
+fn limits(alloc: Global, settings: &StationSettings, interval: u32) -> Result<String, AllocError> {
+    let mut text = String::new(alloc);
+    put_round(&mut text, settings, interval)?;
+    put_targets(&mut text, settings.core.targets())?;
+    put_windows(&mut text, settings)?;
+    Ok(text)
+}
+
+/// Adds how long a round may take, and what to change if that is longer than the interval.
+fn put_round(
+    text: &mut String,
+    settings: &StationSettings,
+    interval: u32,
+) -> Result<(), AllocError> {
+    let time = round_time(settings);
+    let (least, most) = (time.least, time.most);
+    let wait_ms = settings.wait_ms;
+    write!(text,
+        "round: {least} ms if all targets answer, {most} ms if none does (wait_ms = {wait_ms}); at most 4096 datagrams\n"
+    )?;
+    if interval == 0 || most <= u64::from(interval) * 1000 {
+        return Ok(());
+    }
+    write!(text,
+        "interval: {interval} s are less than the longest round; fewer tries, a smaller wait_ms or a longer --interval keep rounds on time\n"
+    )
+}
+
+/// Returns how long a round may take.
+fn round_time(settings: &StationSettings) -> RoundTime {
+    let has_peers = !settings.core.peers().is_empty();
+    let sends = count_sends(settings.core.targets());
+    RoundTime {
+        least: waits(settings.wait_ms, 0, has_peers),
+        most: waits(settings.wait_ms, sends, has_peers),
+    }
+}
+
+/// Returns how many milliseconds a round waits in which so many sendings are not answered.
+fn waits(wait_ms: u32, unanswered: u32, has_peers: bool) -> u64
+    ensures { result ≡ waits wait_ms unanswered has_peers }
+{
+    u64::from(wait_ms) * (1 + u64::from(unanswered) + u64::from(has_peers))
+}
+
+/// Returns how often the polls of targets are sent if none answers, at most 4294967295 times.
+fn count_sends(targets: &[Target]) -> u32
+    ensures { sends_to targets.now ≤ 4294967295 → result ≡ sends_to targets.now }
+{
+    let mut sends: u32 = 0;
+    for target in targets {
+        sends = sends.saturating_add(u32::from(target.tries));
+    }
+    sends
+}
+
+/// Adds a line for each target: how many objects its poll asks for, and how often it is sent.
+fn put_targets(text: &mut String, targets: &[Target]) -> Result<(), AllocError> {
+    for (place, target) in targets.iter().enumerate() {
+        let (number, at) = (place + 1, target.address);
+        let (objects, tries) = (target.objects.as_slice().len(), target.tries);
+        write!(text, "target {number} at {at}: objects {objects}, tries {tries}\n")?;
+    }
+    Ok(())
+}
+
+/// Adds how much is kept in memory and in the file.
+fn put_windows(text: &mut String, settings: &StationSettings) -> Result<(), AllocError> {
+    let instances = settings.core.watch().instances();
+    let samples: usize = instances.iter().map(|it| it.window).sum();
+    let (count, file, size) = (instances.len(), &settings.file, 2 * SLOT_SIZE);
+    write!(text, "windows: instances {count}, samples at most {samples}\n")?;
+    write!(text, "file: {file}, {size} octets\n")
+}

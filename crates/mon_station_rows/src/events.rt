@@ -1,0 +1,40 @@
+//! The events that lines name.
+
+use mon_row_texts::octets;
+use crate::setting::target;
+use mon_ber::Octets;
+use mon_station::OwnedEvent;
+use std::alloc::Global;
+use std::collections::VecDeque;
+
+/// Reads the events between semicolons.
+pub fn events_of(alloc: Global, events: &str) -> Option<VecDeque<OwnedEvent>> {
+    let mut list = VecDeque::new(alloc);
+    for event in events.split("; ") {
+        list.push_back(owned(alloc, event)?).ok()?;
+    }
+    Some(list)
+}
+
+fn owned(alloc: Global, line: &str) -> Option<OwnedEvent> {
+    let (word, rest) = line.split_once(' ').unwrap_or((line, ""));
+    event(alloc, word, rest)
+}
+
+/// Reads the event that a word and the rest of its line mean.
+pub fn event(alloc: Global, word: &str, rest: &str) -> Option<OwnedEvent> {
+    Some(match word {
+        "poll" => OwnedEvent::StartPoll(rest.parse().ok()?),
+        "timeout" => OwnedEvent::Timeout(rest.parse().ok()?),
+        "share" => OwnedEvent::Share(rest.parse().ok()?),
+        "save" => OwnedEvent::Save,
+        "agent" => OwnedEvent::FromAgent(target(), datagram(alloc, rest)?),
+        "peer" => OwnedEvent::FromPeer(datagram(alloc, rest)?),
+        _ => return None,
+    })
+}
+
+fn datagram(alloc: Global, digits: &str) -> Option<Octets> {
+    let octets = octets(alloc, digits)?;
+    Octets::from_slice(alloc, &octets).ok()
+}

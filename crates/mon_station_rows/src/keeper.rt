@@ -1,0 +1,44 @@
+//! Lines of a keeper: what openings find after stops, faults and saves.
+//!
+//!     keeper save-stopped CALLS KEEP     a save that is stopped after CALLS calls of the disk, one
+//!                                        after it, and what a crash that keeps what is not synced
+//!                                        (`keep`) or loses it (`lose`) leaves
+//!     keeper opening-stopped CALLS KEEP  the same of openings: of a fresh disk, of one whose open
+//!                                        gate is not synced, and of one on which a crash left it
+//!                                        open
+//!     keeper failing-call N              an opening and a save while call N fails
+//!     keeper file NAME: SLOT SLOT SIZE   what an opening answers of a file of SIZE octets, and
+//!                                        then a save; a slot is open, GENERATION/LENGTH, or
+//!                                        shut, a dash
+//!     keeper sized N                     a save of N octets
+//!     keeper real-file BODY              what an opening of saved.mon finds, and then a save of
+//!                                        BODY
+//!     keeper found                       what an opening of saved.mon finds
+//!     keeper removed                     whether an opening of saved.mon is refused once it is
+//!                                        removed
+//!     keeper folder                      what openings answer of a folder
+
+mod files;
+mod found;
+pub mod real_file;
+mod stops;
+
+use std::fs::File;
+use std::rt::Files;
+/// Returns the answer to a line, without its first word.
+pub fn answer<R: Files<File = File> + AllocGlobal>(rt: &R, line: &str) -> Option<String> {
+    let alloc = rt.alloc();
+    let (word, rest) = line.split_once(' ').unwrap_or((line, ""));
+    match word {
+        "save-stopped" => stops::save_row(alloc, rest),
+        "opening-stopped" => stops::opening_row(alloc, rest),
+        "failing-call" => stops::failing_row(alloc, rest.parse().ok()?),
+        "file" => files::row(alloc, rest),
+        "sized" => files::sized(alloc, rest.parse().ok()?),
+        "real-file" => real_file::saved_row(rt, rest),
+        "found" => real_file::found_row(rt),
+        "removed" => real_file::removed_row(rt),
+        "folder" => real_file::folder_row(rt),
+        _ => None,
+    }
+}

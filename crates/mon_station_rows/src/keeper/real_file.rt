@@ -1,0 +1,100 @@
+//! A keeper over a file.
+
+use crate::keeper::found::{Found, saved};
+use mon_row_texts::zeros;
+use mon_disk::{BODY_SIZE, FileDisk, Keeper};
+use std::alloc::Global;
+use std::fs::{self, File};
+use std::rt::Files;
+
+/// The file of the lines.
+const PATH: &str = "saved.mon";
+
+fn open_file<R: Files<File = File> + AllocGlobal>(rt: &R, path: &str) -> Option<(Keeper<FileDisk>, Option<Vec<u8>>)> {
+    let disk = FileDisk::open_or_create(rt, path).ok()?;
+    Keeper::open(rt.alloc(), disk).ok()
+}
+
+/// Says what an opening of the file finds, and what a save of this text then answers.
+pub fn saved_row<R: Files<File = File> + AllocGlobal>(rt: &R, body: &str) -> Option<String> {
+    let (mut keeper, found) = open_file(rt, PATH)?;
+    let found = Found::of(found);
+    let answer = saved(keeper.save(rt.alloc(), body.as_bytes()));
+    format!(in rt.alloc(); "a file: {found}, then a save: {answer}").ok()
+}
+
+/// Says what an opening of the file finds.
+pub fn found_row<R: Files<File = File> + AllocGlobal>(rt: &R) -> Option<String> {
+    let found = Found::on(rt.alloc(), FileDisk::open(rt, PATH).ok()?);
+    format!(in rt.alloc(); "a file: {found}").ok()
+}
+
+/// Removes the file, and says whether an opening is then refused.
+pub fn removed_row<R: Files<File = File> + AllocGlobal>(rt: &R) -> Option<String> {
+    fs::remove_file(rt, PATH).ok()?;
+    let gone = FileDisk::open(rt, PATH).is_err();
+    format!(in rt.alloc(); "no file is refused: {gone}").ok()
+}
+
+/// Says whether a folder is refused by its path, and what an opening answers of it by a handle that
+/// only reads.
+pub fn folder_row<R: Files<File = File> + AllocGlobal>(rt: &R) -> Option<String> {
+    let refused = FileDisk::open_or_create(rt, ".").is_err();
+    let found = Found::on(rt.alloc(), FileDisk::new(File::open(rt, ".").ok()?));
+    format!(in rt.alloc(); "a folder is refused: {refused}, and its handle: {found}").ok()
+}
+
+/// Prints what an opening of a file answers.
+pub fn print_found<R: Files<File = File> + Print + AllocGlobal>(rt: &R, path: &str) -> Option<()> {
+    let found = Found::on(rt.alloc(), FileDisk::open(rt, path).ok()?);
+    println!(rt; "{found}").ok()
+}
+
+/// Makes the body of the save of this number, of 8 to 900,007 octets.
+fn numbered(alloc: Global, number: u64) -> Option<Vec<u8>> {
+    let mut body = number.to_be_bytes().to_vec(alloc).ok()?;
+    let size = 8 + (number % 900_000 * 99_991 % 900_000) as usize;
+    body.resize(size, (number % 251) as u8).ok()?;
+    Some(body)
+}
+
+/// Returns the number of the save that this body is of, 0 if there is no body.
+fn number_of(alloc: Global, body: Option<Vec<u8>>) -> Option<u64> {
+    let Some(body) = body else {
+        return Some(0);
+    };
+    let number = u64::from_be_bytes(*body.first_chunk::<8>()?);
+    let whole = numbered(alloc, number)?;
+    if body.as_slice() == whole.as_slice() {
+        Some(number)
+    } else {
+        None
+    }
+}
+
+/// Prints the number of the save that it finds, then saves the ones after it and prints the number
+/// of each that is acknowledged.
+pub fn save_on<R: Files<File = File> + Print + AllocGlobal>(rt: &R, path: &str) -> Option<()> {
+    let (mut keeper, body) = open_file(rt, path)?;
+    let found = number_of(rt.alloc(), body)?;
+    println!(rt; "{found}").ok()?;
+    for number in found.checked_add(1)?..u64::MAX {
+        keeper
+            .save(rt.alloc(), numbered(rt.alloc(), number)?.as_slice())
+            .ok()?;
+        println!(rt; "{number}").ok()?;
+    }
+    Some(())
+}
+
+/// Saves in a file as the arguments FILE OCTETS TIMES say.
+pub fn time_saves<R: Files<File = File> + AllocGlobal>(rt: &R, words: &[String]) -> Option<()> {
+    let size: usize = words.get(1)?.parse().ok()?;
+    let times: u64 = words.get(2)?.parse().ok()?;
+    let (mut keeper, _) = open_file(rt, words.first()?)?;
+    let body = zeros(rt.alloc(), size.min(BODY_SIZE)).ok()?;
+    for _ in 0..times {
+        keeper.save(rt.alloc(), body.as_slice()).ok()?;
+    }
+    Some(())
+}

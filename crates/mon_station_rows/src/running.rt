@@ -1,0 +1,215 @@
+//! A run of the station over events that a line lists.
+
+ghost use Rattle.std.specs.Prelude.{◌≡◌, IfSome};
+ghost use Rattle.mon_station_rows.specs.Listed.{RanOver};
+
+use crate::events::events_of;
+use crate::printing::{fault, sent};
+use mon_disk::{FuseDisk, MemoryDisk};
+use mon_station::{
+    Answer, Outbox, OutboxFault, Outgoing, OwnedEvent, Run, Source, SourceFault, Station,
+};
+use mon_udp::failed_after;
+use std::alloc::Global;
+use std::collections::VecDeque;
+use std::fmt::Write;
+
+/// Events from a list. The call of one number fails, and gives none.
+#[derive(Drop)]
+struct Listed {
+    events: VecDeque<OwnedEvent>,
+    calls_to_the_failing_one: u32,
+    failures: u64,
+}
+
+impl Listed {
+    ghost use Rattle.std.specs.Prelude.{None};
+    ghost use Rattle.mon_station_rows.specs.Listed.{GivesListed};
+
+    fn given(&mut self) -> Result<Option<OwnedEvent>, SourceFault>
+        ensures given { GivesListed (record { events = self.old.events.items; calls_to_fault = self.old.calls_to_the_failing_one }) None result
+            (record { events = self.new.events.items; calls_to_fault = self.new.calls_to_the_failing_one }) }
+        ensures same { self.new.failures ≡ self.old.failures }
+    {
+        if self.calls_to_the_failing_one == 1 {
+            self.calls_to_the_failing_one = 0;
+            return Err(SourceFault);
+        }
+        self.calls_to_the_failing_one = self.calls_to_the_failing_one.saturating_sub(1);
+        Ok(self.events.pop_front())
+    }
+}
+
+impl Source for Listed {
+    ghost use Rattle.mon_station_rows.specs.Listed.{GivesListed, Listing};
+
+    ghost View = { Listing };
+
+    ghost view = { λ s. record { events = s.events.items; calls_to_fault = s.calls_to_the_failing_one } };
+
+    ghost gives = { GivesListed };
+
+    ghost failures = { λ s. s.failures };
+
+    fn next(&mut self, _oldest: Option<u32>) -> Result<Option<OwnedEvent>, SourceFault> {
+        let given = self.given();
+        self.failures = failed_after(self.failures, &given);
+        given
+    }
+}
+
+/// Writes down what it is given. The call of one number fails; what it was given is lost.
+#[derive(Drop)]
+struct Noting {
+    alloc: Global,
+    text: String,
+    calls_to_the_failing_one: u32,
+    failures: u64,
+}
+
+impl Noting {
+    fn put(&mut self, out: &Outgoing) -> Result<(), OutboxFault>
+        ensures same { self.new.failures ≡ self.old.failures }
+    {
+        if self.calls_to_the_failing_one == 1 {
+            self.calls_to_the_failing_one = 0;
+            return Err(OutboxFault);
+        }
+        self.calls_to_the_failing_one = self.calls_to_the_failing_one.saturating_sub(1);
+        match sent(self.alloc, &mut self.text, out) {
+            Some(()) => Ok(()),
+            None => Err(OutboxFault),
+        }
+    }
+}
+
+impl Outbox for Noting {
+    ghost use Rattle.std.specs.Prelude.{None};
+
+    ghost handed = { λ _. None };
+
+    ghost failures = { λ o. o.failures };
+
+    fn send(&mut self, out: &Outgoing) -> Result<(), OutboxFault> {
+        let put = self.put(out);
+        self.failures = failed_after(self.failures, &put);
+        put
+    }
+}
+
+/// How many turns are taken at most, and which call of the source and which of the outbox fails; 0:
+/// none.
+#[derive(Clone, Copy)]
+struct Asked {
+    turns: u64,
+    source_call: u32,
+    outbox_call: u32,
+}
+
+/// Reads the three numbers of a line.
+fn asked_of(numbers: &str) -> Option<Asked> {
+    let (turns, calls) = numbers.split_once(' ')?;
+    let (source_call, outbox_call) = calls.split_once(' ')?;
+    Some(Asked {
+        turns: turns.parse().ok()?,
+        source_call: source_call.parse().ok()?,
+        outbox_call: outbox_call.parse().ok()?,
+    })
+}
+
+/// Runs the station over the numbers and the events of a line.
+pub fn run(
+    alloc: Global,
+    station: &mut Station<FuseDisk<MemoryDisk>>,
+    line: &str,
+) -> Option<String> {
+    let (numbers, events) = line.split_once(": ")?;
+    run_over(
+        alloc,
+        station,
+        asked_of(numbers)?,
+        events_of(alloc, events)?,
+    )
+}
+
+/// Makes what an earlier run might have left, of which nothing may be reported.
+fn used(alloc: Global) -> Option<Run> {
+    let mut answers = Vec::new(alloc);
+    answers.push(Answer::Memory).ok()?;
+    Some(Run {
+        turns: 7,
+        answers,
+        refused: 1,
+        source_faults: 5,
+        send_faults: 3,
+    })
+}
+
+fn run_over(
+    alloc: Global,
+    station: &mut Station<FuseDisk<MemoryDisk>>,
+    asked: Asked,
+    events: VecDeque<OwnedEvent>,
+) -> Option<String> {
+    let mut source = Listed {
+        events,
+        calls_to_the_failing_one: asked.source_call,
+        failures: 0,
+    };
+    let mut outbox = Noting {
+        alloc,
+        text: String::new(alloc),
+        calls_to_the_failing_one: asked.outbox_call,
+        failures: 0,
+    };
+    let run = run_listed(alloc, station, &mut source, &mut outbox, asked.turns)?;
+    shown(alloc, &run, &outbox.text)
+}
+
+/// Runs the station over the list of a source, after another run.
+fn run_listed<O: Outbox>(
+    alloc: Global,
+    station: &mut Station<FuseDisk<MemoryDisk>>,
+    source: &mut Listed,
+    outbox: &mut O,
+    turns: u64,
+) -> Option<Run>
+    ensures { IfSome result (λ run. RanOver source.old.events.items source.new.events.items (O.handed outbox.old) (O.handed outbox.new) turns run) }
+{
+    let mut run = used(alloc)?;
+    match station.run(alloc, source, outbox, turns, &mut run) {
+        Ok(()) => Some(run),
+        Err(_) => None,
+    }
+}
+
+/// Returns the counts, the answers and what was sent.
+fn shown(alloc: Global, run: &Run, handed: &str) -> Option<String> {
+    let (turns, refused, source, send) = (
+        run.turns,
+        run.refused,
+        run.source_faults,
+        run.send_faults,
+    );
+    let mut text = format!(in alloc;
+        "turns {turns} refused {refused} source {source} send {send}:"
+    ).ok()?;
+    for answer in run.answers.as_slice() {
+        put_answer(alloc, &mut text, *answer)?;
+    }
+    write!(text, " sent{handed}").ok()?;
+    Some(text)
+}
+
+fn put_answer(alloc: Global, text: &mut String, answer: Answer) -> Option<()> {
+    match answer {
+        Answer::Handled(_) => write!(text, " ok;").ok(),
+        Answer::GaveUp(target) => write!(text, " gave up {target};").ok(),
+        Answer::Memory => write!(text, " memory;").ok(),
+        Answer::Refused(why) => {
+            let why = fault(alloc, why)?;
+            write!(text, " {why};").ok()
+        }
+        Answer::Keeper(number) => write!(text, " keeper {number};").ok(),
+    }
+}
