@@ -1,18 +1,15 @@
-//! The commands: what each reads, computes and prints.
+//! Which command the arguments name, and the exit status.
 
-ghost use Rattle.std.specs.Prelude.{◌≤◌};
 ghost use Rattle.mon_cli.specs.Asked.{IsWithin};
 
-use crate::listing::list;
 use clap::error::ErrorKind;
 use mon_agent_commands::{print_answers, serve_agent};
-use mon_app::Recorded;
-use mon_cli::{Asked, MibArgs, ReplayArgs, VERSION, read, read_command};
+use mon_cli::{Asked, VERSION, read, read_command};
 use mon_client_commands::{bulk, get, next, set, walk};
-use mon_console::{Failure, Printing, names_of, print, read_input, read_text};
+use mon_console::{Failure, print};
 use mon_rehearsal_commands::{print_rehearsal, run_self_test};
-use mon_smi::Names;
 use mon_station_commands::{print_saved_report, run_station};
+use mon_text_commands::{print_names, print_recorded};
 use std::alloc::AllocError;
 use std::fs::File;
 use std::net::Net;
@@ -94,7 +91,7 @@ fn run<R: Clock + Files<File = File> + Net + Input + Print + Eprint + AllocGloba
 {
     match asked {
         Asked::Version => print(rt, VERSION.as_bytes()),
-        Asked::Replay(words) => replaying(rt, words),
+        Asked::Replay(words) => print_recorded(rt, words),
         Asked::Get(request) => get(rt, request),
         Asked::Next(request) => next(rt, request),
         Asked::Bulk(words) => bulk(rt, words),
@@ -102,64 +99,10 @@ fn run<R: Clock + Files<File = File> + Net + Input + Print + Eprint + AllocGloba
         Asked::Set(words) => set(rt, words),
         Asked::Agent(words) => serve_agent(rt, words),
         Asked::Answer(words) => print_answers(rt, words),
-        Asked::Mib(words) => mib(rt, words),
+        Asked::Mib(words) => print_names(rt, words),
         Asked::Station(words) => run_station(rt, words),
         Asked::Report(words) => print_saved_report(rt, words),
         Asked::SelfTest => run_self_test(rt),
         Asked::Rehearse(words) => print_rehearsal(rt, words),
     }
-}
-
-/// Prints the windows of the responses on standard input, or their report if asked to.
-fn replaying<R: Files + Input + Print + Eprint + AllocGlobal>(
-    rt: &R,
-    words: ReplayArgs<'_, '_>,
-) -> Result<(), Failure>
-    requires { (1 ≤ words.size) × (words.size ≤ 64) }
-{
-    let size = words.size as usize;
-    if !words.reports {
-        return replay(rt, size);
-    }
-    let printing = Printing::of(rt, words.printed, Names::new(rt.alloc())?, &[])?;
-    let input = read_input(rt)?;
-    replay_report(rt, size, &input, &printing)
-}
-
-/// Prints the windows of the responses on standard input.
-fn replay<R: Input + Print + AllocGlobal>(rt: &R, size: usize) -> Result<(), Failure>
-    requires { (1 ≤ size) × (size ≤ 64) }
-{
-    let input = read_input(rt)?;
-    let text = mon_app::replay(rt.alloc(), size, &input)?;
-    print(rt, &text)
-}
-
-/// Prints the report of the responses. Refused lines come first, with lines of text; with another format on standard error.
-fn replay_report<R: Print + Eprint + AllocGlobal>(
-    rt: &R,
-    size: usize,
-    input: &[u8],
-    printing: &Printing,
-) -> Result<(), Failure>
-    requires { (1 ≤ size) × (size ≤ 64) }
-{
-    let alloc = rt.alloc();
-    let recorded = Recorded::read(alloc, size, input)?;
-    let entries = recorded.entries(alloc)?;
-    let text = printing.text(alloc, entries.as_slice(), None)?;
-    if printing.is_text() {
-        print(rt, recorded.refused().as_bytes())?;
-    } else {
-        let _ = rt.eprint(recorded.refused());
-    }
-    print(rt, text.as_slice())
-}
-
-/// Prints the names of the module in a file, by the names of other modules too.
-fn mib<R: Files + Print + AllocGlobal>(rt: &R, words: MibArgs<'_, '_>) -> Result<(), Failure> {
-    let text = read_text(rt, words.file)?;
-    let known = names_of(rt, words.modules)?;
-    let lines = list(rt.alloc(), words.file, &text, known)?;
-    print(rt, lines.as_bytes())
 }

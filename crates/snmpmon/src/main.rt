@@ -5,7 +5,6 @@
 #![tactic(auto)]
 
 mod commands;
-mod listing;
 
 use std::process::ExitCode;
 

@@ -1,0 +1,8 @@
+//! The commands over texts alone: `replay` of recorded responses, `mib` of a module.
+#![tactic(auto)]
+
+mod listing;
+mod recorded;
+
+pub use listing::print_names;
+pub use recorded::print_recorded;
