@@ -34,10 +34,10 @@ pub enum NamesFault {
 /// A definition whose name an earlier one has.
 #[derive(Clone, Copy, Debug, PartialEq, Eq)]
 pub struct Clash {
-    /// The index of the definition among those that were to be added, from 0.
+    /// The index of the definition in its module, from 0.
     pub added: usize,
-    /// The index of the earlier definition, from 0, among the known ones with those that were to be
-    /// added after them.
+    /// The index of the earlier definition, from 0, in the known ones with those of the module after
+    /// them. From the number of the known ones on it is in the module too.
     pub earlier: usize,
 }
 
