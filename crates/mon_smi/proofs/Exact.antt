@@ -8,7 +8,7 @@ use Rattle.mon_smi.specs.Words.{IsWord}
 use Rattle.mon_smi.specs.Names.{AreDistinct, IsNamed, MeansNumbers, StandsFor, EndsUndefined, IsCircular, IsFaultOfNameText}
 use Rattle.mon_smi.specs.declared.definition.Definition.{Definition}
 use Rattle.mon_smi.specs.declared.fault.NamesFault.{NamesFault}
-use Rattle.mon_smi.specs.declared.fault.NamesFault.TheVariants.{OutOfMemory, Duplicate, Unknown, Cycle, TooDeep, BadIdentifier}
+use Rattle.mon_smi.specs.declared.fault.NamesFault.TheVariants.{OutOfMemory, Duplicate, Formless, Unknown, Cycle, TooDeep, BadIdentifier}
 use Rattle.mon_smi.proofs.Meanings.{no_dot}
 use Rattle.mon_smi.proofs.Digits.{decimal_digits}
 use Rattle.mon_smi.proofs.Unique.{stands_once, not_lost, not_circular}
@@ -111,13 +111,11 @@ no_lost one_reading defs text q w rest distinct means named wrong =
 
 pub only_memory : IsOneReading → (e : NamesFault) (defs : List Definition) (text q : List ℕ) → AreDistinct defs → MeansNumbers defs text q → IsOid q → IsFaultOfNameText e defs text → e ≡ OutOfMemory
 only_memory one_reading OutOfMemory defs text q distinct means is fault = refl
-only_memory one_reading Duplicate defs text q distinct means is fault = absurd fault
-only_memory one_reading Unknown defs text q distinct means is fault =
-    absurd (⊎_elim
-    (λ formless. ⊎_elim (λ (a1 : Spells text q). formless.0 q a1)
-    (λ (a2 : (v other known : List ℕ) × IsNamed text v other × StandsFor defs v known × (q ≡ known ++ other)). formless.1 a2.0 a2.1 a2.3) means)
-    (λ (lost : (w rest : List ℕ) × IsNamed text w rest × EndsUndefined defs w). no_lost one_reading defs text q lost.0 lost.1 distinct means lost.2 (inl lost.3))
-    fault)
+only_memory one_reading (Duplicate clash) defs text q distinct means is fault = absurd fault
+only_memory one_reading (Formless form) defs text q distinct means is fault =
+    absurd (⊎_elim (λ (a1 : Spells text q). fault.0.0 q a1)
+    (λ (a2 : (v other known : List ℕ) × IsNamed text v other × StandsFor defs v known × (q ≡ known ++ other)). fault.0.1 a2.0 a2.1 a2.3) means)
+only_memory one_reading Unknown defs text q distinct means is fault = absurd (no_lost one_reading defs text q fault.0 fault.1 distinct means fault.2 (inl fault.3))
 only_memory one_reading Cycle defs text q distinct means is fault = absurd (no_lost one_reading defs text q fault.0 fault.1 distinct means fault.2 (inr fault.3))
 only_memory one_reading TooDeep defs text q distinct means is fault =
     let same : length q ≡ length fault.0 = ap length (means_once one_reading defs text q fault.0 distinct means fault.1) in

@@ -1,14 +1,14 @@
 -- Places of definitions by their names.
 use Rattle.std.proofs.Common.{◌≡◌, ℕ, ◌+◌, ◌-◌, ◌<◌, ◌≤◌, Bool, true, false, cond, List, [], ◌∷◌, ◌++◌, length, get_or, take, drop, Option, Some, None, sym, refl, ap, ◌∙◌, subst, arith, length-append, append_assoc, take-append-drop, ⊎_elim}
 use Rattle.std.specs.Str.{bytes_eq}
-use Rattle.std.specs.Prelude.{is_some, IfSome}
+use Rattle.std.specs.Prelude.{is_some}
 use Rattle.std.specs.Map.{update}
 use Rattle.std.proofs.lemmas.List.{get_or-take, take_more, length-take}
 use Rattle.std.proofs.lemmas.Slice.Eq.{bytes_eq-Decides}
 use Rattle.mon_smi.specs.declared.definition.Definition.{Definition}
 use Rattle.mon_smi.specs.Names.{IsAt, IsUndefined, AreDistinct}
 use Rattle.mon_smi.specs.Places.{IsAgain}
-use Rattle.mon_smi.proofs.Chains.{at_front, at_back, at_end, at_split, only_one, undefined_both, clash_back, again_twice}
+use Rattle.mon_smi.proofs.Chains.{at_front, at_end, at_split, only_one, undefined_both}
 use Rattle.mon_smi.proofs.ForText.{more_distinct}
 
 -- the place of a name, where it has one
@@ -110,10 +110,6 @@ misled f defs w i found some other d one named =
     let same : one.0 ≡ i = cc in
     other d (subst (λ k. IsAt defs k d) same one.1) named
 
--- a name of distinct definitions is not among those before it
-pub new_here : (defs : List Definition) (i : ℕ) (d : Definition) → AreDistinct defs → i < length defs → d ≡ get_or defs i d → IsUndefined (take i defs) d.name
-new_here defs i d distinct lt is e one named = clash_back [] defs d i d.name (lt, is) refl (e, one, named) distinct
-
 -- what a search for the name gave decides whether it is there twice
 pub found_twice : (f : List ℕ → Option ℕ) (defs : List Definition) (i : ℕ) (d : Definition) (w : List ℕ) (r : Option ℕ) → AreTold f (take i defs) → r ≡ f w → is_some r ≡ true → i < length defs → d ≡ get_or defs i d → w ≡ d.name → IsAgain defs i d
 found_twice f defs i d w None told is some lt at named = absurd (cc)
@@ -123,13 +119,3 @@ pub found_new : (f g : List ℕ → Option ℕ) (defs : List Definition) (i : �
 found_new f g defs i d w (Some j) told distinct is none g_is lt at named = absurd (cc)
 found_new f g defs i d w None told distinct is none g_is lt at named =
     (told_more f g defs i d w told (sym is) g_is lt at named, more_distinct defs i d w lt at distinct named (untold_undefined f (take i defs) w told (sym is)))
-
--- what is twice in the back is twice in the whole
-distinct_back : (xs ys : List Definition) → AreDistinct (xs ++ ys) → AreDistinct ys
-distinct_back xs ys distinct i j d e at_d at_e same =
-    let both : length xs + i ≡ length xs + j = distinct (length xs + i) (length xs + j) d e (at_back xs ys i d at_d) (at_back xs ys j e at_e) same in
-    omega arith
-
-pub twice_behind : (known defs : List Definition) (r : Option ℕ) → is_some r ≡ true → IfSome r (λ i. (d : Definition) × IsAgain defs i d) → ¬ (AreDistinct (known ++ defs))
-twice_behind known defs None some twice distinct = absurd (cc)
-twice_behind known defs (Some i) some twice distinct = again_twice defs i twice.0 twice.1 (distinct_back known defs distinct)

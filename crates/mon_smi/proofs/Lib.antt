@@ -18,6 +18,8 @@ pub mod ForModules
 pub mod Begun
 pub mod ForText
 pub mod Indexed
+pub mod Clashes
+pub mod Missing
 pub mod Standing
 pub mod Labelled
 pub mod Named

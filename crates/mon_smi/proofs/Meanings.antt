@@ -7,7 +7,7 @@ use Rattle.mon_smi.specs.Words.{is_part, IsWord}
 use Rattle.mon_smi.specs.Names.{IsNamed, MeansNumbers, StandsFor, IsFaultOfName, IsFaultOfNameText}
 use Rattle.mon_smi.specs.declared.definition.Definition.{Definition}
 use Rattle.mon_smi.specs.declared.fault.NamesFault.{NamesFault}
-use Rattle.mon_smi.specs.declared.fault.NamesFault.TheVariants.{OutOfMemory, Duplicate, Unknown, Cycle, TooDeep, BadIdentifier}
+use Rattle.mon_smi.specs.declared.fault.NamesFault.TheVariants.{OutOfMemory, Duplicate, Formless, Unknown, Cycle, TooDeep, BadIdentifier}
 
 -- a word has no dot
 pub no_dot : (w : List ℕ) → IsWord w → (i : ℕ) → i < length w → get_or w i 0 ≡ 46 → ⊥
@@ -17,13 +17,17 @@ no_dot w word i lt is =
     (λ hyphen. let other : get_or w i 0 ≡ 45 = hyphen.0 in absurd (omega arith))
     (word.goes_on i lt)
 
+-- a text with no dot that is named is its word
+pub alone_named : (text : List ℕ) (r : Option (Bor (List ℕ) × Bor (List ℕ))) → IsSplitOnceResult 46 text r → r ≡ None → (w rest : List ℕ) → IsNamed text w rest → text ≡ w
+alone_named text r split is w rest named =
+    ⊎_elim
+    (λ (alone : (text ≡ w) × (rest ≡ [])). alone.0)
+    (λ (cut : (dotted : List ℕ) × (text ≡ w ++ 46 ∷ dotted) × Spells dotted rest). absurd (rw is at (split_after 46 text w cut.0 r split (lit< tt) cut.1 (no_dot w named.0))))
+    named.1
+
 -- a text with no dot is no word with numbers behind it
 pub alone_formless : (text : List ℕ) (r : Option (Bor (List ℕ) × Bor (List ℕ))) → IsSplitOnceResult 46 text r → r ≡ None → (IsWord text → ⊥) → (w rest : List ℕ) → IsNamed text w rest → ⊥
-alone_formless text r split is bad w rest named =
-    ⊎_elim
-    (λ (alone : (text ≡ w) × (rest ≡ [])). bad (subst IsWord (sym alone.0) named.0))
-    (λ (cut : (dotted : List ℕ) × (text ≡ w ++ 46 ∷ dotted) × Spells dotted rest). rw is at (split_after 46 text w cut.0 r split (lit< tt) cut.1 (no_dot w named.0)))
-    named.1
+alone_formless text r split is bad w rest named = bad (subst IsWord (sym (alone_named text r split is w rest named)) named.0)
 
 -- a text with a dot is named by what comes before the first one
 pub cut_named : (text : List ℕ) (r : Option (Bor (List ℕ) × Bor (List ℕ))) (x : Bor (List ℕ) × Bor (List ℕ)) → IsSplitOnceResult 46 text r → r ≡ Some x → (w rest : List ℕ) → IsNamed text w rest → (x.0.now ≡ w) × Spells x.1.now rest
@@ -55,8 +59,9 @@ is_named text r x split is word rest spelled =
 -- the fault of a name is that of the text
 pub fault_named : (e : NamesFault) (defs : List Definition) (text w rest : List ℕ) → IsNamed text w rest → IsFaultOfName e defs w rest → IsFaultOfNameText e defs text
 fault_named OutOfMemory defs text w rest named fault = tt
-fault_named Duplicate defs text w rest named fault = fault
-fault_named Unknown defs text w rest named fault = inr (w, rest, named, fault)
+fault_named (Duplicate clash) defs text w rest named fault = absurd fault
+fault_named (Formless form) defs text w rest named fault = absurd fault
+fault_named Unknown defs text w rest named fault = (w, rest, named, fault)
 fault_named Cycle defs text w rest named fault = (w, rest, named, fault)
 fault_named TooDeep defs text w rest named fault = (fault.0 ++ rest, inr (w, rest, fault.0, named, fault.1, refl), fault.2)
 fault_named BadIdentifier defs text w rest named fault = (fault.0 ++ rest, inr (w, rest, fault.0, named, fault.1, refl), fault.2, fault.3)

@@ -9,7 +9,7 @@ use Rattle.std.proofs.lemmas.Cmp.{nat_list_cmp_total}
 use Rattle.mon_oid.specs.Oid.{IsOid}
 use Rattle.mon_smi.specs.declared.definition.Definition.{Definition}
 use Rattle.mon_smi.specs.declared.fault.NamesFault.{NamesFault}
-use Rattle.mon_smi.specs.declared.fault.NamesFault.TheVariants.{OutOfMemory, Duplicate, Unknown, Cycle, TooDeep, BadIdentifier}
+use Rattle.mon_smi.specs.declared.fault.NamesFault.TheVariants.{OutOfMemory, Duplicate, Formless, Unknown, Cycle, TooDeep, BadIdentifier}
 use Rattle.mon_smi.specs.Names.{IsOneOf, AreDistinct, Leads, IsFaultOfName}
 use Rattle.mon_smi.specs.Nearest.{Covers}
 use Rattle.mon_smi.proofs.Chains.{at_split, only_one}
@@ -18,7 +18,8 @@ use Rattle.mon_smi.proofs.Unique.{stands_once, not_lost, not_circular}
 -- what has a fault covers nothing
 pub no_cover : (e : NamesFault) (defs : List Definition) (oid w : List ℕ) (m : ℕ) → AreDistinct defs → e ≢ OutOfMemory → IsFaultOfName e defs w [] → Covers defs oid w m → ⊥
 no_cover OutOfMemory defs oid w m distinct other fault covers = other refl
-no_cover Duplicate defs oid w m distinct other fault covers = fault
+no_cover (Duplicate clash) defs oid w m distinct other fault covers = fault
+no_cover (Formless form) defs oid w m distinct other fault covers = fault
 no_cover Unknown defs oid w m distinct other fault covers = not_lost defs w covers.0 distinct covers.1 fault
 no_cover Cycle defs oid w m distinct other fault covers = not_circular defs w covers.0 distinct covers.1 fault
 no_cover TooDeep defs oid w m distinct other fault covers =

@@ -156,7 +156,7 @@ apart defs None (d ∷ ds) distinct leads = absurd leads
 apart defs (Some w) (d ∷ ds) distinct leads =
     (none_alike leads.0.0 (places defs d.parent ds leads.2) (λ h. once defs w d ds distinct leads (stands defs d.parent ds leads.2 leads.0.0 h)), apart defs d.parent ds distinct leads.2)
 
-few_steps : (defs : List Definition) (w : List ℕ) (chain : List Definition) → AreDistinct defs → Leads defs (Some w) chain None → length chain ≤ length defs
+pub few_steps : (defs : List Definition) (w : List ℕ) (chain : List Definition) → AreDistinct defs → Leads defs (Some w) chain None → length chain ≤ length defs
 few_steps defs w chain distinct leads =
     let few = length-le_from_distinct_below (places defs (Some w) chain leads) (length defs) (apart defs (Some w) chain distinct leads)
     (λ p h. let (k, e, there, at) = stands defs (Some w) chain leads p h in at.0) in

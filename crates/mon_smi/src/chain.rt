@@ -1,8 +1,8 @@
 //! The chain of a word's parents.
 
 ghost use Rattle.mon_oid.specs.Oid.{IsOid};
-ghost use Rattle.std.specs.Prelude.{◌≡◌, ℕ, List, ◌≤◌, ◌++◌, map, length, Some, None, IfOk, IfErr};
-ghost use Rattle.mon_smi.specs.Names.{Leads, chain_numbers, StandsFor, IsFaultOfWord, IsFaultOfJoining, IsFaultOfName};
+ghost use Rattle.std.specs.Prelude.{◌≡◌, ℕ, List, ◌≤◌, ◌++◌, map, length, Some, None, IfOk, IfErr, IfSome, IfNone};
+ghost use Rattle.mon_smi.specs.Names.{AreDistinct, Leads, chain_numbers, StandsFor, EndsAt, EndsUndefined, IsFaultOfWord, IsFaultOfJoining, IsFaultOfName};
 ghost use Rattle.mon_smi.specs.Places.{AreFound};
 
 use crate::definition::Definition;
@@ -39,6 +39,35 @@ fn chain<'a>(
             Some(parent) => name = parent.as_str(),
             None => return Ok(chain),
         }
+    }
+}
+
+/// Returns the name that has no definition at which the chain of the word's parents ends.
+pub(crate) fn undefined_end<'a>(
+    places: &BTreeMap<String, usize>,
+    defs: &'a [Definition],
+    word: &'a str,
+) -> Option<&'a str>
+    requires distinct { AreDistinct defs.now }
+    requires found { AreFound places.now defs.now }
+    ensures some { IfSome result (λ p. EndsAt defs.now word.now p.now) }
+    ensures none { IfNone result (¬ (EndsUndefined defs.now word.now)) }
+{
+    let mut name = word;
+    // A chain that ends has each definition at most once.
+    let mut left = defs.len();
+    loop {
+        let Some(place) = position(places, defs, name) else {
+            return Some(name);
+        };
+        let Some(parent) = &defs[place].parent else {
+            return None;
+        };
+        if left == 0 {
+            return None;
+        }
+        name = parent.as_str();
+        left -= 1;
     }
 }
 

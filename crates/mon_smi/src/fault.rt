@@ -10,22 +10,49 @@ use thiserror::Error;
 pub enum NamesFault {
     /// Memory was refused.
     #[error("out of memory")]
-    OutOfMemory = 1,
+    OutOfMemory,
     /// A value's name is defined twice.
     #[error("a name is defined twice")]
-    Duplicate = 4,
-    /// The chain of parents comes to a name that is not defined, or the text is neither a name nor numbers.
+    Duplicate(Clash),
+    /// The text is neither a name nor numbers. Its number and name are those of `Unknown`.
+    #[error("{0}")]
+    Formless(FormFault),
+    /// The chain of parents comes to a name that is not defined.
     #[error("a name is not defined")]
-    Unknown = 5,
+    Unknown,
     /// The chain of parents comes to a name that it has passed.
     #[error("a name is defined by itself")]
-    Cycle = 6,
+    Cycle,
     /// More than 128 sub-identifiers.
     #[error("more than 128 sub-identifiers")]
-    TooDeep = 7,
+    TooDeep,
     /// Fewer than 2 sub-identifiers, or the first two are out of range.
     #[error("no object identifier")]
-    BadIdentifier = 8,
+    BadIdentifier,
+}
+
+/// A definition whose name an earlier one has.
+#[derive(Clone, Copy, Debug, PartialEq, Eq)]
+pub struct Clash {
+    /// The index of the definition in its module, from 0.
+    pub added: usize,
+    /// The index of the earlier definition, from 0, in the known ones with those of the module after
+    /// them. From the number of the known ones on it is in the module too.
+    pub earlier: usize,
+}
+
+/// Why a text is neither a name nor numbers, by the form that it must have.
+#[derive(Clone, Copy, Debug, PartialEq, Eq, Error)]
+pub enum FormFault {
+    /// It begins with a dot.
+    #[error("expected numbers without a dot in front, as 1.3.6.1")]
+    LeadingDot,
+    /// It has a colon, as between the name of a module and one of its names.
+    #[error("expected a name without its module, as ifInOctets.1")]
+    Colon,
+    /// Any other text.
+    #[error("expected numbers with dots between them, as 1.3.6.1, or a name, as ifInOctets.1")]
+    Other,
 }
 
 impl NamesFault {
@@ -33,7 +60,14 @@ impl NamesFault {
     pub fn number(self) -> u8
         ensures { result ≡ number_of_names self }
     {
-        self as u8
+        match self {
+            NamesFault::OutOfMemory => 1,
+            NamesFault::Duplicate(_) => 4,
+            NamesFault::Formless(_) | NamesFault::Unknown => 5,
+            NamesFault::Cycle => 6,
+            NamesFault::TooDeep => 7,
+            NamesFault::BadIdentifier => 8,
+        }
     }
 
     /// The name of the fault, as a report prints it.
@@ -42,8 +76,8 @@ impl NamesFault {
     {
         match self {
             NamesFault::OutOfMemory => "OutOfMemory",
-            NamesFault::Duplicate => "Duplicate",
-            NamesFault::Unknown => "Unknown",
+            NamesFault::Duplicate(_) => "Duplicate",
+            NamesFault::Formless(_) | NamesFault::Unknown => "Unknown",
             NamesFault::Cycle => "Cycle",
             NamesFault::TooDeep => "TooDeep",
             NamesFault::BadIdentifier => "BadIdentifier",

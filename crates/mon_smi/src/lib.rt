@@ -32,7 +32,7 @@ mod values;
 mod word;
 
 pub use definition::{Definition, Definitions, Module};
-pub use fault::NamesFault;
+pub use fault::{Clash, FormFault, NamesFault};
 pub use kind::TokenKind;
 pub use labels::Labels;
 pub use lexer::tokens;

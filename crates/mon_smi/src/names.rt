@@ -1,16 +1,16 @@
-ghost use Rattle.std.specs.Prelude.{◌≡◌, ◌++◌, ℕ, List, string_bytes, IfOk, IfErr, OnOk, OnErr, IsOkUnless};
+ghost use Rattle.std.specs.Prelude.{◌≡◌, ◌++◌, ℕ, List, string_bytes, IfOk, IfErr, IfSome, IfNone, OnOk, OnErr, IsOkUnless};
 ghost use Rattle.mon_oid.specs.Oid.{IsOid, Spells};
 ghost use Rattle.mon_smi.specs.BuiltIn.{built_in};
-ghost use Rattle.mon_smi.specs.Names.{AreDistinct, MeansNumbers, IsFaultOfAdding, IsFaultOfNameText};
+ghost use Rattle.mon_smi.specs.Names.{AreDistinct, IsNamed, MeansNumbers, EndsAt, EndsUndefined, IsFaultOfAdding, IsFaultOfNameText, form_fault};
 ghost use Rattle.mon_smi.specs.Nearest.{IsNameOf};
 ghost use Rattle.mon_smi.specs.Places.{AreFound};
 
 use crate::built_in::built_in;
-use crate::chain::identifier_of;
+use crate::chain::{identifier_of, undefined_end};
 use crate::definition::{Definition, Module};
-use crate::fault::NamesFault;
+use crate::fault::{FormFault, NamesFault};
 use crate::labels::Labels;
-use crate::places::{add_places, first_twice, is_defined};
+use crate::places::{add_places, first_clash};
 use crate::text::is_word;
 use mon_oid::{Oid, OidFault, dotted_numbers};
 use std::alloc::{AllocError, Global};
@@ -51,7 +51,8 @@ impl Names {
     }
 
     /// Adds a module's definitions: `Duplicate` where one of its value names is defined already,
-    /// or twice in the module. An `Err` changes nothing.
+    /// or twice in the module, with the places of the first such definition and of the earlier one
+    /// of its name. An `Err` changes nothing.
     pub fn add(&mut self, alloc: Global, added: &Module) -> Result<(), NamesFault>
         ensures ok { OnOk result (self.new ≡ self.old ++ added.now.defs) }
         ensures distinct { OnOk result (AreDistinct (self.old ++ added.now.defs)) }
@@ -59,10 +60,21 @@ impl Names {
         ensures fault { IfErr result (λ e. IsFaultOfAdding e self.old added.now.defs) }
     {
         let known = self.defs.as_slice();
-        let mut copies = copies(alloc, &self.places, known, added.defs.as_slice())?;
+        let defs = added.defs.as_slice();
+        if let Some(clash) = first_clash(alloc, &self.places, known, defs)? {
+            return Err(NamesFault::Duplicate(clash));
+        }
+        let mut copies = copies(alloc, defs)?;
         add_places(alloc, &mut self.places, known, copies.as_slice())?;
         self.defs.append(&mut copies)?;
         Ok(())
+    }
+
+    /// The definitions, in the order in which they were added. The built-in ones come first.
+    pub fn definitions(&self) -> &[Definition]
+        ensures { result.now ≡ self.now }
+    {
+        self.defs.as_slice()
     }
 
     /// No name is defined twice. It does nothing: the clause holds of all names, and is here for whoever needs it.
@@ -74,9 +86,10 @@ impl Names {
     }
 
     /// The identifier that a text means: numbers with dots between them, a name, or a name with
-    /// numbers after it, as `ifInOctets.1`. `Unknown` where the text has another form or the chain
-    /// of parents ends at a name that is not defined, `Cycle` where the chain comes to a name that it
-    /// has passed, `TooDeep` above 128 sub-identifiers, `BadIdentifier` where they are no identifier.
+    /// numbers after it, as `ifInOctets.1`. `Formless` where the text has another form, `Unknown`
+    /// where the chain of parents ends at a name that is not defined, `Cycle` where the chain comes to
+    /// a name that it has passed, `TooDeep` above 128 sub-identifiers, `BadIdentifier` where they are
+    /// no identifier.
     pub fn resolve(&self, alloc: Global, text: &str) -> Result<Oid, NamesFault>
         ensures found { IfOk result (λ oid. IsOid oid × MeansNumbers self.now text.now oid) }
         ensures accepted { (q : List ℕ) → MeansNumbers self.now text.now q → IsOid q → IsOkUnless result NamesFault.OutOfMemory }
@@ -86,6 +99,16 @@ impl Names {
     {
         mon_oid::laws::one_reading();
         resolve_in(alloc, &self.places, self.defs.as_slice(), text)
+    }
+
+    /// The name that is missing where `resolve` answers `Unknown`: the one at which the chain of the
+    /// parents of the text's name ends, and which has no definition. `None` if there is no such name.
+    /// Of a text that is no name it says nothing.
+    pub fn missing<'a>(&'a self, text: &'a str) -> Option<&'a str>
+        ensures some { IfSome result (λ p. (w rest : List ℕ) → IsNamed text.now w rest → EndsAt self.now w p.now) }
+        ensures none { IfNone result ((w rest : List ℕ) → IsNamed text.now w rest → ¬ (EndsUndefined self.now w)) }
+    {
+        undefined_end(&self.places, self.defs.as_slice(), name_in(text))
     }
 
     /// The name with the longest identifier that the other one begins with (of equal ones the least
@@ -139,42 +162,51 @@ fn named(
 {
     let Some((word, rest)) = text.split_once('.') else {
         if !is_word(text) {
-            return Err(NamesFault::Unknown);
+            return Err(NamesFault::Formless(form_fault(text)));
         }
         return identifier_of(alloc, places, defs, text, &[]);
     };
     if !is_word(word) {
-        return Err(NamesFault::Unknown);
+        return Err(NamesFault::Formless(form_fault(text)));
     }
     match dotted_numbers(alloc, rest) {
         Ok(rest) => identifier_of(alloc, places, defs, word, rest.as_slice()),
-        Err(OidFault::BadText) => Err(NamesFault::Unknown),
+        Err(OidFault::BadText) => Err(NamesFault::Formless(form_fault(text))),
         Err(_) => Err(NamesFault::OutOfMemory),
     }
 }
 
-/// Copies of the definitions, unless a name is defined twice.
-fn copies(
-    alloc: Global,
-    places: &BTreeMap<String, usize>,
-    known: &[Definition],
-    defs: &[Definition],
-) -> Result<Vec<Definition>, NamesFault>
-    requires distinct { AreDistinct known.now }
-    requires found { AreFound places.now known.now }
-    ensures ok { IfOk result (λ v. v.items ≡ defs.now) }
-    ensures distinct { OnOk result (AreDistinct (known.now ++ defs.now)) }
-    ensures fault { IfErr result (λ e. IsFaultOfAdding e known.now defs.now) }
+/// Returns what is wrong with the form of a text that is neither a name nor numbers.
+fn form_fault(text: &str) -> FormFault
+    ensures { result ≡ form_fault text.now }
 {
-    if first_twice(alloc, defs)?.is_some() {
-        return Err(NamesFault::Duplicate);
+    let octets = text.as_bytes();
+    if !octets.is_empty() && octets[0] == b'.' {
+        return FormFault::LeadingDot;
     }
-    let mut added = Vec::new(alloc);
+    if octets.contains(&b':') {
+        return FormFault::Colon;
+    }
+    FormFault::Other
+}
+
+/// Returns the part of a text before its first dot, or all of it if it has none.
+fn name_in(text: &str) -> &str
+    ensures { (w rest : List ℕ) → IsNamed text.now w rest → result.now ≡ w }
+{
+    match text.split_once('.') {
+        Some((word, _)) => word,
+        None => text,
+    }
+}
+
+/// Copies of the definitions.
+fn copies(alloc: Global, defs: &[Definition]) -> Result<Vec<Definition>, AllocError>
+    ensures { IfOk result (λ v. v.items ≡ defs.now) }
+{
+    let mut copies = Vec::new(alloc);
     for definition in defs {
-        if is_defined(places, known, definition.name.as_str()) {
-            return Err(NamesFault::Duplicate);
-        }
-        added.push(definition.try_clone(alloc)?)?;
+        copies.push(definition.try_clone(alloc)?)?;
     }
-    Ok(added)
+    Ok(copies)
 }

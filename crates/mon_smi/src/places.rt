@@ -1,11 +1,12 @@
 //! Where definitions are, by their names.
 
-ghost use Rattle.std.specs.Prelude.{◌≡◌, ◌++◌, IfOk, OnOk, IfSome, IfNone, true, false};
-ghost use Rattle.mon_smi.specs.Names.{IsAt, IsOneOf, IsUndefined, AreDistinct};
+ghost use Rattle.std.specs.Prelude.{◌≡◌, ◌++◌, IfOk, OnOk, IfSome, IfNone};
+ghost use Rattle.mon_smi.specs.Names.{IsAt, IsUndefined, AreDistinct, IsFirstClash};
 ghost use Rattle.mon_smi.specs.Places.{AreFound, IsAgain};
 ghost use Rattle.mon_smi.specs.declared.definition.Definition.{Definition as AnyDefinition};
 
 use crate::definition::Definition;
+use crate::fault::Clash;
 use std::alloc::{AllocError, Global};
 use std::collections::BTreeMap;
 
@@ -18,6 +19,32 @@ pub(crate) fn first_twice(alloc: Global, defs: &[Definition]) -> Result<Option<u
     for (i, definition) in defs.iter().enumerate() {
         if places.insert(definition.name.as_str(), i)?.is_some() {
             return Ok(Some(i));
+        }
+    }
+    Ok(None)
+}
+
+/// The first definition whose name is known or an earlier one of these has, with the place of the earlier one.
+pub(crate) fn first_clash(
+    alloc: Global,
+    places: &BTreeMap<String, usize>,
+    known: &[Definition],
+    defs: &[Definition],
+) -> Result<Option<Clash>, AllocError>
+    requires distinct { AreDistinct known.now }
+    requires found { AreFound places.now known.now }
+    ensures some { IfOk result (λ found. IfSome found (λ clash. IsFirstClash known.now defs.now clash)) }
+    ensures none { IfOk result (λ found. IfNone found (AreDistinct (known.now ++ defs.now))) }
+{
+    let mut passed = BTreeMap::new(alloc);
+    for (added, definition) in defs.iter().enumerate() {
+        let name = definition.name.as_str();
+        if let Some(earlier) = position(places, known, name) {
+            return Ok(Some(Clash { added, earlier }));
+        }
+        if let Some(before) = passed.insert(name, added)? {
+            let earlier = known.len() + before;
+            return Ok(Some(Clash { added, earlier }));
         }
     }
     Ok(None)
@@ -62,13 +89,4 @@ pub(crate) fn position(
         return None;
     }
     Some(*place)
-}
-
-/// Returns `true` if the name is defined.
-pub(crate) fn is_defined(places: &BTreeMap<String, usize>, defs: &[Definition], name: &str) -> bool
-    requires { AreFound places.now defs.now }
-    ensures defined { result ≡ true → (d : AnyDefinition) × IsOneOf defs.now d × (d.name ≡ name.now) }
-    ensures undefined { result ≡ false → IsUndefined defs.now name.now }
-{
-    position(places, defs, name).is_some()
 }

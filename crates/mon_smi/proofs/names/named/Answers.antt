@@ -6,20 +6,22 @@ use Rattle.mon_smi.proofs.names.named.Goals as goal
 
 pub returns-then-not-is_word-clause-fault : goal.returns-then-not-is_word-clause-fault
 returns-then-not-is_word-clause-fault c =
-    inl (c.requires.no_numbers, alone_formless c.args.text.now c.split_once.result c.split_once.ensures.cases c.in_default.is (λ word. let yes = c.is_word.ensures.1 word in absurd (cc)))
+    ((c.requires.no_numbers, alone_formless c.args.text.now c.split_once.result c.split_once.ensures.cases c.in_default.is (λ word. let yes = c.is_word.ensures.1 word in absurd (cc))), c.form_fault.ensures)
 
 pub returns-in_default-clause-fault : goal.returns-in_default-clause-fault
 returns-in_default-clause-fault c =
     faults_named c.identifier_of.result c.args.defs.now c.args.text.now c.args.text.now _ (c.is_word.ensures.0 (cc), inl (refl, refl)) c.identifier_of.ensures.fault
 
 pub returns-then-not-is_word-2-clause-fault : goal.returns-then-not-is_word-2-clause-fault
-returns-then-not-is_word-2-clause-fault c =
-    inl (
-      c.requires.no_numbers,
-      λ w rest named.
-          let is = cut_named c.args.text.now c.split_once.result _ c.split_once.ensures.cases c.in-Some.is w rest named in
-          let yes = c.is_word-2.ensures.1 (subst IsWord (sym is.0) named.0) in absurd (cc),
-    )
+returns-then-not-is_word-2-clause-fault c = (
+  (
+    c.requires.no_numbers,
+    λ w rest named.
+        let is = cut_named c.args.text.now c.split_once.result _ c.split_once.ensures.cases c.in-Some.is w rest named in
+        let yes = c.is_word-2.ensures.1 (subst IsWord (sym is.0) named.0) in absurd (cc),
+  ),
+  c.form_fault-then-not-is_word-2.ensures,
+)
 
 pub returns-in-Ok-clause-found : goal.returns-in-Ok-clause-found
 returns-in-Ok-clause-found c =
@@ -36,4 +38,4 @@ returns-in-Ok-clause-fault c =
 pub returns-in-Err-BadText-clause-fault : goal.returns-in-Err-BadText-clause-fault
 returns-in-Err-BadText-clause-fault c =
     let none = rw c.in-Err-BadText.field-0-is at c.in-Err-BadText.ensures.fault in
-    inl (c.requires.no_numbers, λ w rest named. none rest (cut_named c.args.text.now c.split_once.result _ c.split_once.ensures.cases c.in-Some.is w rest named).1)
+    ((c.requires.no_numbers, λ w rest named. none rest (cut_named c.args.text.now c.split_once.result _ c.split_once.ensures.cases c.in-Some.is w rest named).1), c.form_fault-in-Err-BadText.ensures)
