@@ -2,9 +2,9 @@
 
 use crate::rows::put;
 use crate::small_agent::agent;
-use mon_row_texts::{digits, fault, octets};
 use mon_agent::{Agent, AgentFault, Reply, Silence};
 use mon_mib::{Counter, Device, Moment, SimDevice, SysText};
+use mon_row_texts::{digits, fault, octets};
 use std::alloc::Global;
 
 /// Returns the answer to a line, without its first word.

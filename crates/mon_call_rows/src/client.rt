@@ -3,11 +3,11 @@
 use crate::memory::Memory;
 use crate::small_agent::question;
 use crate::walked;
-use mon_row_texts::{digits, fault, octets};
 use mon_app::{AppFault, Asking, Repeats, answer_text, request};
 use mon_ber::{Octets, Value};
 use mon_oid::Oid;
 use mon_pdu::write_message;
+use mon_row_texts::{digits, fault, octets};
 use mon_smi::InNumbers;
 use std::alloc::Global;
 

@@ -5,8 +5,8 @@ ghost use Rattle.mon_app.specs.AtWire.{Heard as HeardAtWire, FitsRoom, Sent, hea
 ghost use Rattle.mon_call_rows.specs.Log.{at_wire};
 
 use crate::event::Event;
-use mon_row_texts::digits;
 use mon_app::{Heard, SocketFault, SocketReason, Wire};
+use mon_row_texts::digits;
 use mon_udp::failed_after;
 use std::alloc::Global;
 

@@ -1,14 +1,14 @@
 //! The agent's map, its counters and its device, where no datagram shows them.
 
-use crate::small_agent::settings;
 use crate::counting;
 use crate::rows::put;
-use mon_row_texts::fault;
+use crate::small_agent::settings;
 use mon_ber::Octets;
 use mon_mib::{
     AdminStatus, Change, Column, Counter, Counters, Device, DeviceFault, Interface, Moment, Object,
     OperStatus, Scalar, SetFault, SetStatus, SimDevice, SysTexts, all_objects,
 };
+use mon_row_texts::fault;
 use mon_settings::AgentSettings;
 use std::alloc::Global;
 

@@ -1,7 +1,7 @@
 //! What is read of a reader to its end, and how often it is read.
 
-use mon_row_texts::{digits, fault, octets};
 use mon_app::{AppFault, Counted, Reads, read_all};
+use mon_row_texts::{digits, fault, octets};
 use std::alloc::Global;
 use std::io::{Error, ErrorKind, Read, Result as IoResult};
 

@@ -1,8 +1,8 @@
 //! A walk through an agent whose names do not increase.
 
-use mon_row_texts::octets;
 use mon_app::{AppFault, Heard, SocketFault, Wire, walk};
 use mon_oid::Oid;
+use mon_row_texts::octets;
 use mon_smi::InNumbers;
 use std::alloc::Global;
 

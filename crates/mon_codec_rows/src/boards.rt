@@ -2,10 +2,10 @@
 
 use crate::images::instances_of;
 use crate::samples::{put_inserted, sample_of, samples_of};
-use mon_row_texts::{fault, trimmed};
 use mon_alarms::Rule;
 use mon_board::{Board, Watch, WatchFault};
 use mon_report::{ReportFault, write_report};
+use mon_row_texts::{fault, trimmed};
 use std::alloc::Global;
 use std::io::{Result as IoResult, Write};
 

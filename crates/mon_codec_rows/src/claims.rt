@@ -2,8 +2,8 @@
 
 ghost use Rattle.mon_exchange.specs.Claim.{IsSendable, claim_of};
 
-use mon_row_texts::{digits, fault, octets};
 use mon_exchange::{Claim, ClaimRef, read_claim, write_claim};
+use mon_row_texts::{digits, fault, octets};
 use mon_sample::Sample;
 use std::alloc::Global;
 

@@ -1,8 +1,8 @@
 //! What claims change at a station, and what it offers then.
 
-use mon_row_texts::{fault, octets, watched};
 use mon_board::{Board, Watch};
 use mon_exchange::{Claim, Peers, Portion, portions, read_claim, serial_after};
+use mon_row_texts::{fault, octets, watched};
 use std::alloc::Global;
 
 /// The engine id of the agent.

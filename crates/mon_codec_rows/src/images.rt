@@ -1,7 +1,7 @@
 //! Images: what one is read as, and what is then written of the board.
 
-use mon_row_texts::{digits, first_line, octets, refused, watched};
 use mon_board::{Board, Watch, Watched};
+use mon_row_texts::{digits, first_line, octets, refused, watched};
 use mon_saved::{image_size, read, read_image, write_image, write_within};
 use std::alloc::Global;
 

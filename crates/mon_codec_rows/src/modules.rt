@@ -1,7 +1,7 @@
 //! Modules and names: into which tokens a text is cut, what module it is, and what names mean.
 
-use mon_row_texts::fault;
 use mon_oid::Oid;
+use mon_row_texts::fault;
 use mon_smi::{Names, TextFault, read_module, tokens};
 use std::alloc::Global;
 

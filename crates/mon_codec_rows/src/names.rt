@@ -1,7 +1,7 @@
 //! Object identifiers: what a text or numbers are read as, and how two compare.
 
-use mon_row_texts::fault;
 use mon_oid::Oid;
+use mon_row_texts::fault;
 use std::alloc::Global;
 
 /// Says how many sub-identifiers the identifier has that this text spells, its text, and whether a

@@ -1,8 +1,8 @@
 //! Samples by their records, and what a window of them keeps, counts and raises.
 
-use mon_row_texts::{digits, fault, octets};
 use mon_alarms::{AlarmState, Rule, state};
 use mon_rates::{Totals, Track};
+use mon_row_texts::{digits, fault, octets};
 use mon_sample::Sample;
 use mon_window::{Inserted, Window};
 use std::alloc::Global;

@@ -1,9 +1,9 @@
 //! Values and messages of SNMP: what octets are read as, and what is written of that.
 
-use mon_row_texts::{digits, fault, first_line, octets};
 use mon_app::{ValueKind, value_of};
 use mon_ber::{Value, read_value, size_of, write_value};
 use mon_pdu::{Body, Message, message_size, read_message, write_message};
+use mon_row_texts::{digits, fault, first_line, octets};
 use std::alloc::Global;
 
 /// Returns the value that these octets begin with, how many spell it, its size and its octets as

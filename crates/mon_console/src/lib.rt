@@ -12,6 +12,6 @@ mod settings;
 pub use failure::Failure;
 pub use files::{print, read_first, read_input, read_input_text, read_text};
 pub use mon_faults::Fault;
-pub use naming::{add_module, asked_for, names_of, no_module};
+pub use naming::{KnownNames, asked_for, known_names, name_failure, names_of, no_module};
 pub use printing::Printing;
 pub use settings::{read_station_file, settings_failure};

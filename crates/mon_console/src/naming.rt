@@ -6,34 +6,102 @@ use crate::failure::Failure;
 use crate::files::read_text;
 use mon_faults::Fault;
 use mon_oid::Oid;
-use mon_smi::{Names, NamesFault, Position, TextFault, read_module};
-use std::alloc::Global;
+use mon_smi::{Module, Names, NamesFault, Position, TextFault, read_module};
+use std::alloc::{AllocError, Global};
 use std::rt::Files;
 
-/// The built-in names, and those of the modules in files, in this order.
-pub fn names_of<R: Files + AllocGlobal>(rt: &R, files: &[&str]) -> Result<Names, Failure> {
-    let mut names = Names::new(rt.alloc())?;
-    for path in files {
-        add_module(rt, &mut names, path)?;
-    }
-    Ok(names)
+/// The built-in names and those of modules, and which module defines which.
+#[derive(Drop)]
+pub struct KnownNames {
+    names: Names,
+    /// Of each module its name, and how many definitions there are up to its end.
+    ends: Vec<(String, usize)>,
 }
 
-/// Adds the names of the module in a file.
-pub fn add_module<R: Files + AllocGlobal>(
-    rt: &R,
-    names: &mut Names,
-    path: &str,
-) -> Result<(), Failure> {
-    let alloc = rt.alloc();
-    let text = read_text(rt, path)?;
-    match read_module(alloc, &text) {
-        Ok(module) => match names.add(alloc, &module) {
-            Ok(()) => Ok(()),
-            Err(fault) => Err(Failure::at(alloc, path, Fault::Names(fault))),
-        },
-        Err(fault) => Err(no_module(alloc, path, &text, fault)),
+impl KnownNames {
+    /// The built-in names.
+    pub fn new(alloc: Global) -> Result<Self, NamesFault> {
+        Ok(KnownNames {
+            names: Names::new(alloc)?,
+            ends: Vec::new(alloc),
+        })
     }
+
+    /// The names.
+    pub fn names(&self) -> &Names {
+        &self.names
+    }
+
+    /// The names alone.
+    pub fn into_names(self) -> Names {
+        self.names
+    }
+
+    /// Adds the names of the module in a file.
+    pub fn add_file<R: Files + AllocGlobal>(&mut self, rt: &R, path: &str) -> Result<(), Failure> {
+        let alloc = rt.alloc();
+        let text = read_text(rt, path)?;
+        match read_module(alloc, &text) {
+            Ok(module) => self.add(alloc, path, &module),
+            Err(fault) => Err(no_module(alloc, path, &text, fault)),
+        }
+    }
+
+    /// Adds the names of a module that was read from this file.
+    pub fn add(&mut self, alloc: Global, path: &str, module: &Module) -> Result<(), Failure> {
+        let name = String::from_str(alloc, module.name.as_str())?;
+        match self.names.add(alloc, module) {
+            Ok(()) => {
+                self.ends.push((name, self.names.definitions().len()))?;
+                Ok(())
+            }
+            Err(fault) => Err(Failure::said(
+                Fault::Names(fault),
+                self.refusal(alloc, path, module, fault),
+            )),
+        }
+    }
+
+    /// Says why a module's names were not added.
+    fn refusal(
+        &self,
+        alloc: Global,
+        path: &str,
+        module: &Module,
+        fault: NamesFault,
+    ) -> Result<String, AllocError> {
+        let NamesFault::Duplicate(clash) = fault else {
+            return format!(in alloc; "{path}: {fault}");
+        };
+        let own = module.name.as_str();
+        let name = match module.defs.as_slice().get(clash.added) {
+            Some(definition) => definition.name.as_str(),
+            None => "a name",
+        };
+        if clash.earlier >= self.names.definitions().len() {
+            return format!(in alloc; "{path}: {own} defines {name} twice");
+        }
+        match self.ends.iter().find(|(_, end)| clash.earlier < *end) {
+            Some((other, _)) => format!(in alloc;
+                "{path}: {own} defines {name}, which {other} defines too"
+            ),
+            None => format!(in alloc; "{path}: {own} defines {name}, which is a built-in name"),
+        }
+    }
+}
+
+/// The built-in names, and those of the modules in files, in this order.
+pub fn known_names<R: Files + AllocGlobal>(rt: &R, files: &[&str]) -> Result<KnownNames, Failure> {
+    let mut known = KnownNames::new(rt.alloc())?;
+    for path in files {
+        known.add_file(rt, path)?;
+    }
+    Ok(known)
+}
+
+/// The same names, without which module defines which.
+pub fn names_of<R: Files + AllocGlobal>(rt: &R, files: &[&str]) -> Result<Names, Failure> {
+    Ok(known_names(rt, files)?.into_names())
 }
 
 /// Why a file holds no module: where in it, and by which word.
@@ -59,16 +127,24 @@ pub fn no_module(alloc: Global, path: &str, text: &str, fault: TextFault) -> Fai
 pub fn asked_for(alloc: Global, names: &Names, word: &str) -> Result<Oid, Failure> {
     match names.resolve(alloc, word) {
         Ok(oid) => Ok(oid),
-        Err(NamesFault::Unknown) => Err(name_failure(alloc, word)),
-        Err(fault) => Err(Failure::at(alloc, word, Fault::Names(fault))),
+        Err(fault) => Err(name_failure(alloc, names, word, fault)),
     }
 }
 
-/// A word whose name is not defined.
-fn name_failure(alloc: Global, word: &str) -> Failure {
-    let fault = NamesFault::Unknown;
-    Failure::said(
-        Fault::Names(fault),
-        format!(in alloc; "{word}: {fault}; --module FILE gives the names of a module"),
-    )
+/// Why a word means no identifier by these names.
+pub fn name_failure(alloc: Global, names: &Names, word: &str, fault: NamesFault) -> Failure
+    ensures { result.fault ≡ Fault.Names fault }
+{
+    match fault {
+        NamesFault::Unknown => {
+            let missing = names.missing(word).unwrap_or(word);
+            Failure::said(
+                Fault::Names(fault),
+                format!(in alloc;
+                    "{word}: {missing} is not defined; --module FILE gives the names of a module"
+                ),
+            )
+        }
+        _ => Failure::at(alloc, word, Fault::Names(fault)),
+    }
 }

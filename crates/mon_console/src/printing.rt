@@ -2,7 +2,7 @@
 
 use crate::failure::Failure;
 use crate::files::replace_file;
-use crate::naming::add_module;
+use crate::naming::KnownNames;
 use mon_board::Board;
 use mon_cli::Printed;
 use mon_formats::{Figures, Format, format_report};
@@ -25,18 +25,18 @@ impl Printing {
     pub fn of<R: Files + AllocGlobal>(
         rt: &R,
         printed: Printed<'_, '_>,
-        names: Names,
+        known: KnownNames,
         files: &[String],
     ) -> Result<Self, Failure> {
-        let mut names = names;
+        let mut known = known;
         for path in printed.named.modules {
             if !is_among(files, path) {
-                add_module(rt, &mut names, path)?;
+                known.add_file(rt, path)?;
             }
         }
         Ok(Printing {
             format: printed.format,
-            names: printed.named.shown.then_some(names),
+            names: printed.named.shown.then_some(known.into_names()),
         })
     }
 

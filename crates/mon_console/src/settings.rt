@@ -4,12 +4,11 @@ ghost use Rattle.std.specs.Prelude.{◌≡◌};
 
 use crate::failure::Failure;
 use crate::files::read_text;
-use crate::naming::add_module;
+use crate::naming::KnownNames;
 use crate::printing::Printing;
 use mon_cli::Printed;
 use mon_faults::{Fault, explain};
 use mon_settings::{SettingsFault, SettingsKind, StationSettings, module_files, read_station};
-use mon_smi::Names;
 use std::alloc::{AllocError, Global};
 use std::rt::Files;
 
@@ -32,13 +31,13 @@ pub fn read_station_file<R: Files + AllocGlobal>(
             fault,
         )),
     };
-    let mut names = Names::new(alloc)?;
+    let mut known = KnownNames::new(alloc)?;
     for file in files.as_slice() {
-        add_module(rt, &mut names, file)?;
+        known.add_file(rt, file)?;
     }
-    match read_station(alloc, &text, &names) {
+    match read_station(alloc, &text, known.names()) {
         Ok(settings) => {
-            let printing = Printing::of(rt, printed, names, files.as_slice())?;
+            let printing = Printing::of(rt, printed, known, files.as_slice())?;
             Ok((settings, printing))
         }
         Err(fault) => Err(settings_failure(alloc, SettingsKind::Station, path, &text, fault)),

@@ -51,7 +51,10 @@ fn rehearsal_failure(alloc: Global, fault: RehearsalFault) -> Failure
     ensures number { (innermost_of result.fault).number ≡ (rehearsal.innermost_of fault).number }
     ensures name { (innermost_of result.fault).name ≡ (rehearsal.innermost_of fault).name }
 {
-    Failure::said(Fault::Other(fault.innermost()), format!(in alloc; "{fault}"))
+    Failure::said(
+        Fault::Other(fault.innermost()),
+        format!(in alloc; "{fault}"),
+    )
 }
 
 /// Why the trial did not end well.
@@ -60,5 +63,8 @@ fn trial_failure(alloc: Global, fault: TrialFault) -> Failure
     ensures number { (innermost_of result.fault).number ≡ (trial.innermost_of fault).number }
     ensures name { (innermost_of result.fault).name ≡ (trial.innermost_of fault).name }
 {
-    Failure::said(Fault::Other(fault.innermost()), format!(in alloc; "{fault}"))
+    Failure::said(
+        Fault::Other(fault.innermost()),
+        format!(in alloc; "{fault}"),
+    )
 }

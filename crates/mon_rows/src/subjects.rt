@@ -63,7 +63,9 @@ impl Subjects {
             "poller" => answer_poll(alloc, &mut self.polls, rest),
             "keeper" => answer_keeper(rt, rest),
             "note" | "known" | "offer" => self.exchange.answer(alloc, word, rest),
-            "agent" | "client" | "mib" | "reader" | "smi" => mon_call_rows::answer(alloc, word, rest),
+            "agent" | "client" | "mib" | "reader" | "smi" => mon_call_rows::answer(
+                alloc, word, rest,
+            ),
             _ => mon_codec_rows::answer(alloc, word, rest),
         }
     }

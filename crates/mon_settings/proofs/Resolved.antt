@@ -5,7 +5,7 @@ use Rattle.mon_oid.specs.Oid.{IsOid}
 use Rattle.mon_smi.specs.Names.{MeansNumbers}
 use Rattle.mon_smi.specs.declared.definition.Definition.{Definition}
 use Rattle.mon_smi.specs.declared.fault.NamesFault.{NamesFault}
-use Rattle.mon_smi.specs.declared.fault.NamesFault.TheVariants.{OutOfMemory, Duplicate, Unknown, Cycle, TooDeep, BadIdentifier}
+use Rattle.mon_smi.specs.declared.fault.NamesFault.TheVariants.{OutOfMemory, Duplicate, Formless, Unknown, Cycle, TooDeep, BadIdentifier}
 use Rattle.mon_settings.specs.declared.fault.SettingsFault.{SettingsFault}
 use Rattle.mon_settings.specs.declared.fault.SettingsFault.TheVariants as fault
 use Rattle.mon_settings.specs.declared.key.Key.{Key}
@@ -28,7 +28,8 @@ module _ (find : List ℕ → Option (List ℕ)) (k : Key) (defs : List Definiti
       → ((q : List ℕ) → MeansNumbers defs text q → IsOid q → IsOkUnless (let r : Result (List ℕ) NamesFault = Err e in r) OutOfMemory)
       → (unresolved k e ≡ fault.OutOfMemory) ⊎ ((let r : Result (List ℕ) SettingsFault = or_unknown k (find text) in r) ≡ Err (unresolved k e))
   unresolved_is OutOfMemory accepted = inl refl
-  unresolved_is Duplicate accepted = inr (unknown Duplicate (λ h. absurd cc) accepted)
+  unresolved_is (Duplicate clash) accepted = inr (unknown (Duplicate clash) (λ h. absurd cc) accepted)
+  unresolved_is (Formless form) accepted = inr (unknown (Formless form) (λ h. absurd cc) accepted)
   unresolved_is Unknown accepted = inr (unknown Unknown (λ h. absurd cc) accepted)
   unresolved_is Cycle accepted = inr (unknown Cycle (λ h. absurd cc) accepted)
   unresolved_is TooDeep accepted = inr (unknown TooDeep (λ h. absurd cc) accepted)

@@ -67,7 +67,8 @@ or_unknown k (Some a) = Ok a
 -- what a name at a key that does not resolve is to the settings
 abbrev pub unresolved : Key → NamesFault → SettingsFault
 unresolved k names.OutOfMemory = fault.OutOfMemory
-unresolved k names.Duplicate = fault.UnknownObject (at k)
+unresolved k (names.Duplicate clash) = fault.UnknownObject (at k)
+unresolved k (names.Formless form) = fault.UnknownObject (at k)
 unresolved k names.Unknown = fault.UnknownObject (at k)
 unresolved k names.Cycle = fault.UnknownObject (at k)
 unresolved k names.TooDeep = fault.UnknownObject (at k)

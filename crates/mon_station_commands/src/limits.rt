@@ -47,13 +47,15 @@ fn put_round(
     let time = round_time(settings);
     let (least, most) = (time.least, time.most);
     let wait_ms = settings.wait_ms;
-    write!(text,
+    write!(
+        text,
         "round: {least} ms if all targets answer, {most} ms if none does (wait_ms = {wait_ms}); at most 4096 datagrams\n"
     )?;
     if interval == 0 || most <= u64::from(interval) * 1000 {
         return Ok(());
     }
-    write!(text,
+    write!(
+        text,
         "interval: {interval} s are less than the longest round; fewer tries, a smaller wait_ms or a longer --interval keep rounds on time\n"
     )
 }
@@ -91,7 +93,10 @@ fn put_targets(text: &mut String, targets: &[Target]) -> Result<(), AllocError> 
     for (place, target) in targets.iter().enumerate() {
         let (number, at) = (place + 1, target.address);
         let (objects, tries) = (target.objects.as_slice().len(), target.tries);
-        write!(text, "target {number} at {at}: objects {objects}, tries {tries}\n")?;
+        write!(
+            text,
+            "target {number} at {at}: objects {objects}, tries {tries}\n"
+        )?;
     }
     Ok(())
 }
@@ -101,6 +106,9 @@ fn put_windows(text: &mut String, settings: &StationSettings) -> Result<(), Allo
     let instances = settings.core.watch().instances();
     let samples: usize = instances.iter().map(|it| it.window).sum();
     let (count, file, size) = (instances.len(), &settings.file, 2 * SLOT_SIZE);
-    write!(text, "windows: instances {count}, samples at most {samples}\n")?;
+    write!(
+        text,
+        "windows: instances {count}, samples at most {samples}\n"
+    )?;
     write!(text, "file: {file}, {size} octets\n")
 }

@@ -1,12 +1,12 @@
 //! What each line asks of the station.
 
-use mon_row_texts::report;
 use crate::events::event;
 use crate::interrupting::interrupted;
 use crate::printing::{fault, told};
 use crate::running::run;
 use crate::setting::core;
 use mon_disk::{FuseDisk, MemoryDisk};
+use mon_row_texts::report;
 use mon_station::{Event, LentEvent, Station};
 use std::alloc::Global;
 

@@ -1,8 +1,8 @@
 //! The events that lines name.
 
-use mon_row_texts::octets;
 use crate::setting::target;
 use mon_ber::Octets;
+use mon_row_texts::octets;
 use mon_station::OwnedEvent;
 use std::alloc::Global;
 use std::collections::VecDeque;

@@ -1,8 +1,8 @@
 //! A writer that is interrupted.
 
-use mon_row_texts::trimmed;
 use mon_board::Board;
 use mon_report::write_report;
+use mon_row_texts::trimmed;
 use std::alloc::Global;
 use std::io::{Error, ErrorKind, Result as IoResult, Write};
 

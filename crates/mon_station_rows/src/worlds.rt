@@ -1,7 +1,7 @@
 //! Worlds of stations, and steps that are run in one.
 
-use mon_row_texts::refused;
 use crate::setting::core;
+use mon_row_texts::refused;
 use mon_world::{Step, World};
 use std::alloc::Global;
 

@@ -4,8 +4,7 @@ ghost use Rattle.std.specs.Prelude.{◌≤◌};
 
 use mon_app::Recorded;
 use mon_cli::ReplayArgs;
-use mon_console::{Failure, Printing, print, read_input};
-use mon_smi::Names;
+use mon_console::{Failure, KnownNames, Printing, print, read_input};
 use std::rt::Files;
 
 /// Prints the windows of the responses on standard input, or their report if asked to.
@@ -19,7 +18,7 @@ pub fn print_recorded<R: Files + Input + Print + Eprint + AllocGlobal>(
     if !words.reports {
         return replay(rt, size);
     }
-    let printing = Printing::of(rt, words.printed, Names::new(rt.alloc())?, &[])?;
+    let printing = Printing::of(rt, words.printed, KnownNames::new(rt.alloc())?, &[])?;
     let input = read_input(rt)?;
     replay_report(rt, size, &input, &printing)
 }

@@ -44,7 +44,9 @@ fn start_command<R: Clock + Files<File = File> + Net + Input + Print + Eprint + 
     requires { IsWithin asked }
 {
     if asked.lacks_rounds() {
-        let _ = rt.eprintln("snmpmon: station wants --rounds N or --check; see snmpmon station --help");
+        let _ = rt.eprintln(
+            "snmpmon: station wants --rounds N or --check; see snmpmon station --help",
+        );
         return 2;
     }
     match run(rt, asked) {

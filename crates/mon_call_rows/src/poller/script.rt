@@ -1,7 +1,7 @@
 //! What each line asks of the poller, and what is answered.
 
-use mon_row_texts::{digits, octets, refused};
 use mon_poller::{Offered, Poller, ResponseFault, TimedOut};
+use mon_row_texts::{digits, octets, refused};
 use mon_udp::Addr;
 use std::alloc::Global;
 use std::fmt::Write;

@@ -1,8 +1,8 @@
 //! Polls that are started and answered at once, again and again.
 
 use crate::poller::targets::{local, poller};
-use mon_row_texts::{first_line, octets};
 use mon_poller::Offered;
+use mon_row_texts::{first_line, octets};
 use std::alloc::Global;
 
 /// What the responses brought.

@@ -1,8 +1,8 @@
 //! Files of two slots, and saves about the greatest length.
 
 use crate::keeper::found::{Found, saved};
-use mon_row_texts::zeros;
 use mon_disk::{Disk, Keeper, MemoryDisk, NotOpened, SLOT_SIZE};
+use mon_row_texts::zeros;
 use std::alloc::{AllocError, Global};
 
 /// What a slot begins with.

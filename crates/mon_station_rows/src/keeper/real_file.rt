@@ -1,8 +1,8 @@
 //! A keeper over a file.
 
 use crate::keeper::found::{Found, saved};
-use mon_row_texts::zeros;
 use mon_disk::{BODY_SIZE, FileDisk, Keeper};
+use mon_row_texts::zeros;
 use std::alloc::Global;
 use std::fs::{self, File};
 use std::rt::Files;
@@ -10,7 +10,10 @@ use std::rt::Files;
 /// The file of the lines.
 const PATH: &str = "saved.mon";
 
-fn open_file<R: Files<File = File> + AllocGlobal>(rt: &R, path: &str) -> Option<(Keeper<FileDisk>, Option<Vec<u8>>)> {
+fn open_file<R: Files<File = File> + AllocGlobal>(
+    rt: &R,
+    path: &str,
+) -> Option<(Keeper<FileDisk>, Option<Vec<u8>>)> {
     let disk = FileDisk::open_or_create(rt, path).ok()?;
     Keeper::open(rt.alloc(), disk).ok()
 }
