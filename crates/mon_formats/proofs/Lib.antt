@@ -1,6 +1,7 @@
 pub mod Aligned
 pub mod Depths
 pub mod Entries
+pub mod Fresh
 pub mod Labels
 pub mod NoFloats
 pub mod Tables

@@ -1,6 +1,6 @@
 -- A report as Prometheus reads it: the text exposition format, version 0.0.4. Each metric has a line `# HELP`, a line `# TYPE`, and then
 -- its lines together.
-use Rattle.std.specs.Prelude.{ℕ, ℤ, List, [], ◌∷◌, ◌++◌, Option, Some, None, codes, decimal, length, ◌==◌, if◌then◌else◌}
+use Rattle.std.specs.Prelude.{ℕ, ℤ, Bool, true, false, List, [], ◌∷◌, ◌++◌, Option, Some, None, codes, decimal, length, nat_lt, ◌==◌, if◌then◌else◌, String, string_bytes}
 use Rattle.std.specs.Fmt.{signed_decimal}
 use Rattle.std.specs.List.{flat_map}
 use Rattle.std.specs.Option.{option_map}
@@ -13,10 +13,13 @@ use Rattle.mon_alarms.specs.declared.alarm.AlarmState.{AlarmState}
 use Rattle.mon_alarms.specs.declared.alarm.AlarmState.TheVariants.{Clear, Raised}
 use Rattle.mon_report.specs.Report.{Entry, rate_text}
 use Rattle.mon_formats.specs.declared.figures.Figures.{Figures}
+use Rattle.mon_formats.specs.declared.figures.TargetFigures.{TargetFigures}
 use Rattle.mon_formats.specs.declared.prometheus.metric.Metric.{Metric}
 use Rattle.mon_formats.specs.declared.prometheus.metric.Metric.TheVariants.{Counted, Number, Samples, Rate, Alarm}
 use Rattle.mon_formats.specs.declared.prometheus.station.StationMetric.{StationMetric}
-use Rattle.mon_formats.specs.declared.prometheus.station.StationMetric.TheVariants.{Incarnation, Taken, GivenUp, Debt}
+use Rattle.mon_formats.specs.declared.prometheus.station.StationMetric.TheVariants.{Incarnation, Taken, GivenUp, Debt, FailedSaves, Strangers, Duration, Age}
+use Rattle.mon_formats.specs.declared.prometheus.target.TargetMetric.{TargetMetric}
+use Rattle.mon_formats.specs.declared.prometheus.target.TargetMetric.TheVariants.{Up, Rounds, Seconds, PollsGivenUp, Refusal}
 use Rattle.mon_formats.specs.Cells.{newest_of, value_of, rate_of}
 
 -- a character of a label's value: a backslash, a quote and a line feed have a backslash before them
@@ -134,11 +137,11 @@ entry_lines metric shown e = lines_of metric (instance_labels shown e) e
 unfoldable pub metric_text : Metric → (List ℕ → List ℕ) → List Entry → List ℕ
 metric_text metric shown entries = head_text (name_of metric) (help_of metric) (type_of metric) ++ flat_map (entry_lines metric shown) entries
 
--- all lines of the instances, metric by metric
-unfoldable pub instances_text : (List ℕ → List ℕ) → List Entry → List ℕ
-instances_text shown entries =
-    metric_text Counted shown entries ++ metric_text Number shown entries ++ metric_text Samples shown entries ++ metric_text Rate shown entries
-    ++ metric_text Alarm shown entries
+-- all lines of the instances, metric by metric: of each how many samples it has, and the values, rates and alarms of some
+unfoldable pub instances_text : (List ℕ → List ℕ) → List Entry → List Entry → List ℕ
+instances_text shown entries some =
+    metric_text Counted shown some ++ metric_text Number shown some ++ metric_text Samples shown entries ++ metric_text Rate shown some
+    ++ metric_text Alarm shown some
 
 -- what a metric of the station itself is called
 abbrev pub station_name : StationMetric → List ℕ
@@ -146,6 +149,10 @@ station_name Incarnation = codes "snmpmon_incarnation"
 station_name Taken = codes "snmpmon_samples_taken_total"
 station_name GivenUp = codes "snmpmon_polls_given_up_total"
 station_name Debt = codes "snmpmon_debt"
+station_name FailedSaves = codes "snmpmon_saves_failed_total"
+station_name Strangers = codes "snmpmon_strangers_total"
+station_name Duration = codes "snmpmon_round_duration_seconds"
+station_name Age = codes "snmpmon_sample_age_rounds"
 
 -- what it is, in a sentence
 abbrev pub station_help : StationMetric → List ℕ
@@ -153,6 +160,10 @@ station_help Incarnation = codes "How often the station was started over its fil
 station_help Taken = codes "Samples that the station took since it began."
 station_help GivenUp = codes "Polls that the station gave up since it began."
 station_help Debt = codes "Samples that the station owes a peer."
+station_help FailedSaves = codes "Saves that failed since the station began."
+station_help Strangers = codes "Datagrams since the station began from an address of no target and no peer."
+station_help Duration = codes "How long the last round took."
+station_help Age = codes "Rounds since an instance had a new sample, or since the station began."
 
 -- its type
 abbrev pub station_type : StationMetric → List ℕ
@@ -160,6 +171,10 @@ station_type Incarnation = codes "gauge"
 station_type Taken = codes "counter"
 station_type GivenUp = codes "counter"
 station_type Debt = codes "gauge"
+station_type FailedSaves = codes "counter"
+station_type Strangers = codes "counter"
+station_type Duration = codes "gauge"
+station_type Age = codes "gauge"
 
 -- the first two lines of a metric of the station
 abbrev pub station_head : StationMetric → List ℕ
@@ -169,6 +184,10 @@ station_head metric = head_text (station_name metric) (station_help metric) (sta
 unfoldable pub plain_metric : StationMetric → ℕ → List ℕ
 plain_metric metric value = station_head metric ++ station_name metric ++ codes " " ++ decimal value ++ codes "\n"
 
+-- how long the last round took: milliseconds, written as seconds with three digits after the point
+unfoldable pub duration_text : ℕ → List ℕ
+duration_text milliseconds = station_head Duration ++ station_name Duration ++ codes " " ++ rate_text (Some milliseconds) ++ codes "\n"
+
 -- how many samples the station owes a peer, by the peer's number
 abbrev pub debt_line : ℕ × ℕ → List ℕ
 debt_line d = metric_line (station_name Debt) (label_text (codes "peer") (decimal d.0)) (decimal d.1)
@@ -177,17 +196,125 @@ debt_line d = metric_line (station_name Debt) (label_text (codes "peer") (decima
 unfoldable pub debts_text : List (ℕ × ℕ) → List ℕ
 debts_text debts = station_head Debt ++ flat_map debt_line debts
 
--- what a station says of itself: its incarnation, how many samples it took and how many polls it
--- gave up since its start, and by the number of each peer how many samples it owes that peer
+-- ---- targets
+-- what a metric of a target is called
+abbrev pub target_name : TargetMetric → List ℕ
+target_name Up = codes "snmpmon_target_up"
+target_name Rounds = codes "snmpmon_target_answer_age_rounds"
+target_name Seconds = codes "snmpmon_target_answer_age_seconds"
+target_name PollsGivenUp = codes "snmpmon_target_polls_given_up_total"
+target_name Refusal = codes "snmpmon_target_refusal_info"
+
+-- what it is, in a sentence
+abbrev pub target_help : TargetMetric → List ℕ
+target_help Up = codes "1 where the last poll of a target was answered."
+target_help Rounds = codes "Rounds since a target answered, or since the station began."
+target_help Seconds = codes "Seconds since a target answered, or since the station began."
+target_help PollsGivenUp = codes "Polls of a target that the station gave up since it began."
+target_help Refusal = codes "Why the last response of a target was refused, until it answers."
+
+-- its type
+abbrev pub target_type : TargetMetric → List ℕ
+target_type Up = codes "gauge"
+target_type Rounds = codes "gauge"
+target_type Seconds = codes "gauge"
+target_type PollsGivenUp = codes "counter"
+target_type Refusal = codes "gauge"
+
+-- the first two lines of a metric of targets
+abbrev pub target_head : TargetMetric → List ℕ
+target_head metric = head_text (target_name metric) (target_help metric) (target_type metric)
+
+-- the labels of a target: its number, where its agent is reached, and its engine id in hex digits
+unfoldable pub target_labels : TargetFigures → List ℕ
+target_labels t =
+    label_text (codes "target") (decimal t.number) ++ codes "," ++ label_text (codes "address") (string_bytes t.address)
+    ++ codes "," ++ label_text (codes "engine") (encode_lower t.engine.items)
+
+-- 1 for true, 0 for false
+abbrev pub one_if : Bool → ℕ
+one_if true = 1
+one_if false = 0
+
+-- what a metric says of a target
+abbrev pub target_value : TargetMetric → TargetFigures → ℕ
+target_value Up t = one_if t.up
+target_value Rounds t = t.rounds
+target_value Seconds t = t.seconds
+target_value PollsGivenUp t = t.given_up
+target_value Refusal t = 1
+
+-- the line of a metric for a target
+abbrev pub target_line : TargetMetric → TargetFigures → List ℕ
+target_line metric t = metric_line (target_name metric) (target_labels t) (decimal (target_value metric t))
+
+-- a metric with a line for each target
+unfoldable pub target_metric : TargetMetric → List TargetFigures → List ℕ
+target_metric metric targets = target_head metric ++ flat_map (target_line metric) targets
+
+-- why a target's last response was refused, as one more label of a line
+unfoldable pub reason_line : {A : Type 0} → TargetFigures → String A → List ℕ
+reason_line t reason = metric_line (target_name Refusal) (target_labels t ++ codes "," ++ label_text (codes "reason") (string_bytes reason)) (codes "1")
+
+-- that line, where there is a reason
+abbrev pub reason_if : {A : Type 0} → TargetFigures → Option (String A) → List ℕ
+reason_if t None = []
+reason_if t (Some reason) = reason_line t reason
+
+-- the refusals of all targets that have one
+unfoldable pub refusals_text : List TargetFigures → List ℕ
+refusals_text targets = target_head Refusal ++ flat_map (λ t. reason_if t t.refusal) targets
+
+-- what a station says of its targets, metric by metric
+unfoldable pub targets_text : List TargetFigures → List ℕ
+targets_text targets =
+    target_metric Up targets ++ target_metric Rounds targets ++ target_metric Seconds targets ++ target_metric PollsGivenUp targets ++ refusals_text targets
+
+-- what a station says of itself since its start: its incarnation, how many samples it took and how many polls it gave up, by the number of
+-- each peer how many samples it owes that peer, how many saves failed, how many datagrams strangers sent, how long the last round took, and
+-- what it says of each target
 unfoldable pub station_text : Figures → List ℕ
 station_text f =
     plain_metric Incarnation f.incarnation ++ plain_metric Taken f.taken ++ plain_metric GivenUp f.given_up ++ debts_text f.debts.items
+    ++ plain_metric FailedSaves f.failed_saves ++ plain_metric Strangers f.strangers ++ duration_text f.round_ms ++ targets_text f.targets.items
+
+-- ---- ages of instances
+-- the line of an instance that had no new sample in this many rounds
+abbrev pub age_line : (List ℕ → List ℕ) → Entry → ℕ → List ℕ
+age_line shown e age = metric_line (station_name Age) (instance_labels shown e) (decimal age)
+
+-- the lines of instances with these ages, for as many as have one
+abbrev pub age_lines : (List ℕ → List ℕ) → List ℕ → List Entry → List ℕ
+age_lines shown [] es = []
+age_lines shown (age ∷ ages) [] = []
+age_lines shown (age ∷ ages) (e ∷ es) = age_line shown e age ++ age_lines shown ages es
+
+-- the ages of all instances
+unfoldable pub ages_text : (List ℕ → List ℕ) → List ℕ → List Entry → List ℕ
+ages_text shown ages entries = station_head Age ++ age_lines shown ages entries
+
+-- whether an instance of this age is not stale: its age is below the limit, or it has none
+abbrev pub is_fresh : ℕ → Option ℕ → Bool
+is_fresh limit None = true
+is_fresh limit (Some age) = nat_lt age limit
+
+-- the instances that are not stale, by their ages
+abbrev pub fresh : ℕ → List ℕ → List Entry → List Entry
+fresh limit [] es = es
+fresh limit (age ∷ ages) [] = []
+fresh limit (age ∷ ages) (e ∷ es) = if is_fresh limit (Some age) then e ∷ fresh limit ages es else fresh limit ages es
+
+-- the instances whose values are reported: of a running station those that are fresh, else all
+abbrev pub fresh_by : Option Figures → List Entry → List Entry
+fresh_by None entries = entries
+fresh_by (Some f) entries = fresh f.stale_after f.ages.items entries
 
 -- nothing if there is no station
-abbrev pub station_text_if : Option Figures → List ℕ
-station_text_if None = []
-station_text_if (Some f) = station_text f
+abbrev pub station_text_if : (List ℕ → List ℕ) → List Entry → Option Figures → List ℕ
+station_text_if shown entries None = []
+station_text_if shown entries (Some f) = station_text f ++ ages_text shown f.ages.items entries
 
--- the instances, metric by metric, and then the station, where there is one
+-- The instances, metric by metric, and then the station, where there is one. Values, rates and alarms are those of fresh instances: so
+-- Prometheus marks what is left out as stale by itself.
 unfoldable pub prometheus_report : (List ℕ → List ℕ) → List Entry → Option Figures → List ℕ
-prometheus_report shown entries station = instances_text shown entries ++ station_text_if station
+prometheus_report shown entries station = instances_text shown entries (fresh_by station entries) ++ station_text_if shown entries station

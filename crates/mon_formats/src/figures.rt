@@ -11,4 +11,37 @@ pub struct Figures {
     pub given_up: u64,
     /// By the station number of each peer how many samples it owes that peer.
     pub debts: Vec<(u32, u32)>,
+    /// How many of its saves failed since its start.
+    pub failed_saves: u64,
+    /// How many datagrams came since its start from an address of no target and no peer.
+    pub strangers: u64,
+    /// How long its last round took, in milliseconds.
+    pub round_ms: u64,
+    /// What it says of each target, in their order.
+    pub targets: Vec<TargetFigures>,
+    /// Of each instance, in their order, in how many rounds it had no new sample.
+    pub ages: Vec<u32>,
+    /// From which age on an instance is stale: Prometheus' text leaves it out.
+    pub stale_after: u32,
+}
+
+/// What a station says of a target.
+#[derive(Debug, Drop)]
+pub struct TargetFigures {
+    /// The target's number, from 1.
+    pub number: u32,
+    /// Where its agent is reached, as `a.b.c.d:port`.
+    pub address: String,
+    /// The octets of the engine id that its responses must name.
+    pub engine: Vec<u8>,
+    /// Says whether its last poll was answered.
+    pub up: bool,
+    /// In how many rounds it did not answer since its last answer, or since the station's start.
+    pub rounds: u32,
+    /// How many seconds ago that was.
+    pub seconds: u64,
+    /// How many of its polls were given up since the station's start.
+    pub given_up: u64,
+    /// Why its last response was refused, if one was and no response was taken since.
+    pub refusal: Option<String>,
 }

@@ -1,13 +1,14 @@
 //! A report as Prometheus reads it.
 
-ghost use Rattle.std.specs.Prelude.{◌≡◌, ◌++◌, IfOk, OnOk, option_map};
+ghost use Rattle.std.specs.Prelude.{◌≡◌, ◌++◌, [], IfOk, OnOk, Some, option_map, slice_get};
 ghost use Rattle.std.specs.Fmt.{signed_decimal};
 ghost use Rattle.std.specs.List.{flat_map};
 ghost use Rattle.mon_formats.specs.Cells.{newest_of, value_of, rate_of};
-ghost use Rattle.mon_formats.specs.Prometheus.{prometheus_report, instances_text, metric_text, entry_lines, lines_of, counted_line, number_line, samples_line, rate_line, alarm_line, alarm_labels, instance_labels, state_digit, name_of, metric_line, threshold_text};
+ghost use Rattle.mon_formats.specs.Prometheus.{prometheus_report, ages_text, age_line, fresh, is_fresh, instances_text, metric_text, entry_lines, lines_of, counted_line, number_line, samples_line, rate_line, alarm_line, alarm_labels, instance_labels, state_digit, name_of, metric_line, threshold_text};
 
 mod metric;
 mod station;
+mod target;
 mod text;
 
 use crate::figures::Figures;
@@ -18,12 +19,41 @@ use mon_rates::is_counter;
 use mon_report::{Entry, write_rate};
 use mon_sample::Sample;
 use mon_smi::NameTexts;
-use station::put_station;
+use station::{StationMetric, put_station};
 use std::alloc::{AllocError, Global};
 use text::{put_head, put_label, put_line};
 
+/// Instances, and of a running station in how many rounds each had no new sample.
+#[derive(Clone, Copy)]
+struct Listing<'a, 'e> {
+    entries: &'a [Entry<'e>],
+    /// Empty if there is no station.
+    ages: &'a [u32],
+    /// From which age on an instance is stale.
+    limit: u32,
+}
+
+impl<'a, 'e> Listing<'a, 'e> {
+    /// The same instances, of which none is stale.
+    fn all(self) -> Self
+        ensures entries { result.entries.now ≡ self.entry.entries.now }
+        ensures ages { result.ages.now ≡ [] }
+    {
+        Listing { ages: &[], ..self }
+    }
+
+    /// Returns `true` if the instance at this place is not stale.
+    fn is_fresh(self, place: usize) -> bool
+        ensures { result ≡ is_fresh self.entry.limit (slice_get self.entry.ages.now place) }
+    {
+        match self.ages.get(place) {
+            None => true,
+            Some(age) => *age < self.limit,
+        }
+    }
+}
+
 /// The report in Prometheus' text exposition format.
-#[tactic(auto, unfolding(crate::specs::Prometheus::prometheus_report))]
 pub(crate) fn prometheus_report<S: NameTexts>(
     alloc: Global,
     names: &S,
@@ -33,11 +63,57 @@ pub(crate) fn prometheus_report<S: NameTexts>(
     ensures { IfOk result (λ text. text.items ≡ prometheus_report (S.shown names.now) entries.now (option_map (λ f. f.now) station.entry)) }
 {
     let mut text = Vec::new(alloc);
-    put_instances(alloc, &mut text, names, entries)?;
-    if let Some(figures) = station {
-        put_station(alloc, &mut text, figures)?;
-    }
+    put_report(alloc, &mut text, names, entries, station)?;
     Ok(text)
+}
+
+/// Adds the report.
+#[tactic(auto, unfolding(crate::specs::Prometheus::prometheus_report))]
+fn put_report<S: NameTexts>(
+    alloc: Global,
+    text: &mut Vec<u8>,
+    names: &S,
+    entries: &[Entry],
+    station: Option<&Figures>,
+) -> Result<(), AllocError>
+    ensures { OnOk result (text.new.items ≡ text.old.items ++ prometheus_report (S.shown names.now) entries.now (option_map (λ f. f.now) station.entry)) }
+{
+    match station {
+        None => put_instances(
+            alloc,
+            text,
+            names,
+            Listing {
+                entries,
+                ages: &[],
+                limit: 0,
+            },
+        ),
+        Some(figures) => put_running(alloc, text, names, entries, figures),
+    }
+}
+
+/// Adds the report of a running station.
+#[tactic(auto, unfolding(crate::specs::Prometheus::prometheus_report))]
+fn put_running<S: NameTexts>(
+    alloc: Global,
+    text: &mut Vec<u8>,
+    names: &S,
+    entries: &[Entry],
+    figures: &Figures,
+) -> Result<(), AllocError>
+    ensures { OnOk result (text.new.items ≡ text.old.items ++ prometheus_report (S.shown names.now) entries.now (Some figures.now)) }
+{
+    let ages = figures.ages.as_slice();
+    let limit = figures.stale_after;
+    let listing = Listing {
+        entries,
+        ages,
+        limit,
+    };
+    put_instances(alloc, text, names, listing)?;
+    put_station(alloc, text, figures)?;
+    put_ages(alloc, text, names, entries, ages)
 }
 
 /// Adds what the report says of the instances, metric by metric.
@@ -46,33 +122,71 @@ fn put_instances<S: NameTexts>(
     alloc: Global,
     text: &mut Vec<u8>,
     names: &S,
-    entries: &[Entry],
+    listing: Listing,
 ) -> Result<(), AllocError>
-    ensures { OnOk result (text.new.items ≡ text.old.items ++ instances_text (S.shown names.now) entries.now) }
+    ensures { OnOk result (text.new.items ≡ text.old.items ++ instances_text (S.shown names.now) listing.entry.entries.now (fresh listing.entry.limit listing.entry.ages.now listing.entry.entries.now)) }
 {
-    put_metric(alloc, text, names, entries, Metric::Counted)?;
-    put_metric(alloc, text, names, entries, Metric::Number)?;
-    put_metric(alloc, text, names, entries, Metric::Samples)?;
-    put_metric(alloc, text, names, entries, Metric::Rate)?;
-    put_metric(alloc, text, names, entries, Metric::Alarm)
+    put_metric(alloc, text, names, listing, Metric::Counted)?;
+    put_metric(alloc, text, names, listing, Metric::Number)?;
+    put_metric(alloc, text, names, listing.all(), Metric::Samples)?;
+    put_metric(alloc, text, names, listing, Metric::Rate)?;
+    put_metric(alloc, text, names, listing, Metric::Alarm)
 }
 
-/// Adds a metric: what it is, and its lines.
+/// Adds a metric: what it is, and its lines of the instances that are not stale.
 #[tactic(auto, unfolding(crate::specs::Prometheus::metric_text))]
 fn put_metric<S: NameTexts>(
     alloc: Global,
     text: &mut Vec<u8>,
     names: &S,
-    entries: &[Entry],
+    listing: Listing,
     metric: Metric,
 ) -> Result<(), AllocError>
-    ensures { OnOk result (text.new.items ≡ text.old.items ++ metric_text metric (S.shown names.now) entries.now) }
+    ensures { OnOk result (text.new.items ≡ text.old.items ++ metric_text metric (S.shown names.now) (fresh listing.entry.limit listing.entry.ages.now listing.entry.entries.now)) }
 {
     put_head(text, metric.name(), metric.help(), metric.kind())?;
-    for entry in entries {
-        put_entry(alloc, text, names, entry, metric)?;
+    for place in 0..listing.entries.len() {
+        if listing.is_fresh(place) {
+            put_entry(alloc, text, names, &listing.entries[place], metric)?;
+        }
     }
     Ok(())
+}
+
+/// Adds in how many rounds each of these instances had no new sample, for as many as have an age.
+#[tactic(auto, unfolding(crate::specs::Prometheus::ages_text))]
+fn put_ages<S: NameTexts>(
+    alloc: Global,
+    text: &mut Vec<u8>,
+    names: &S,
+    entries: &[Entry],
+    ages: &[u32],
+) -> Result<(), AllocError>
+    ensures { OnOk result (text.new.items ≡ text.old.items ++ ages_text (S.shown names.now) ages.now entries.now) }
+{
+    let metric = StationMetric::Age;
+    put_head(text, metric.name(), metric.help(), metric.kind())?;
+    for place in 0..entries.len().min(ages.len()) {
+        put_age(alloc, text, names, &entries[place], ages[place])?;
+    }
+    Ok(())
+}
+
+/// Adds the line of an instance that had no new sample in this many rounds.
+fn put_age<S: NameTexts>(
+    alloc: Global,
+    text: &mut Vec<u8>,
+    names: &S,
+    entry: &Entry,
+    age: u32,
+) -> Result<(), AllocError>
+    ensures { OnOk result (text.new.items ≡ text.old.items ++ age_line (S.shown names.now) entry.now age) }
+{
+    let labels = labels_of(alloc, names, entry)?;
+    let mut buffer = Buffer::new();
+    let number = buffer.format(age);
+    let name = StationMetric::Age.name();
+    put_line(text, name, labels.as_slice(), number.as_bytes())
 }
 
 /// Adds the lines of a metric for one instance.

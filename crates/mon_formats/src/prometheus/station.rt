@@ -1,16 +1,18 @@
 //! What a station says of itself.
 
 ghost use Rattle.std.specs.Prelude.{◌≡◌, ◌++◌, OnOk};
-ghost use Rattle.mon_formats.specs.Prometheus.{station_name, station_help, station_type, station_text, plain_metric, debts_text, debt_line};
+ghost use Rattle.mon_formats.specs.Prometheus.{station_name, station_help, station_type, station_text, plain_metric, debts_text, debt_line, duration_text};
 
 use crate::figures::Figures;
+use crate::prometheus::target::put_targets;
 use crate::prometheus::text::{put_head, put_label, put_line};
 use itoa::Buffer;
+use mon_report::write_rate;
 use std::alloc::{AllocError, Global};
 
 /// A metric of the station itself.
 #[derive(Clone, Copy, Debug, PartialEq, Eq)]
-enum StationMetric {
+pub(crate) enum StationMetric {
     /// How often the station was started over its file.
     Incarnation,
     /// How many samples it took.
@@ -19,11 +21,19 @@ enum StationMetric {
     GivenUp,
     /// How many samples it owes a peer.
     Debt,
+    /// How many of its saves failed.
+    FailedSaves,
+    /// How many datagrams came from an address of no target and no peer.
+    Strangers,
+    /// How long its last round took.
+    Duration,
+    /// In how many rounds an instance had no new sample.
+    Age,
 }
 
 impl StationMetric {
     /// The name, as Prometheus has it.
-    fn name(self) -> &'static str
+    pub(crate) fn name(self) -> &'static str
         ensures { result.now ≡ station_name self }
     {
         match self {
@@ -31,11 +41,15 @@ impl StationMetric {
             StationMetric::Taken => "snmpmon_samples_taken_total",
             StationMetric::GivenUp => "snmpmon_polls_given_up_total",
             StationMetric::Debt => "snmpmon_debt",
+            StationMetric::FailedSaves => "snmpmon_saves_failed_total",
+            StationMetric::Strangers => "snmpmon_strangers_total",
+            StationMetric::Duration => "snmpmon_round_duration_seconds",
+            StationMetric::Age => "snmpmon_sample_age_rounds",
         }
     }
 
     /// What it is, in a sentence.
-    fn help(self) -> &'static str
+    pub(crate) fn help(self) -> &'static str
         ensures { result.now ≡ station_help self }
     {
         match self {
@@ -43,16 +57,28 @@ impl StationMetric {
             StationMetric::Taken => "Samples that the station took since it began.",
             StationMetric::GivenUp => "Polls that the station gave up since it began.",
             StationMetric::Debt => "Samples that the station owes a peer.",
+            StationMetric::FailedSaves => "Saves that failed since the station began.",
+            StationMetric::Strangers =>
+                "Datagrams since the station began from an address of no target and no peer.",
+            StationMetric::Duration => "How long the last round took.",
+            StationMetric::Age =>
+                "Rounds since an instance had a new sample, or since the station began.",
         }
     }
 
     /// Its type, as Prometheus has it.
-    fn kind(self) -> &'static str
+    pub(crate) fn kind(self) -> &'static str
         ensures { result.now ≡ station_type self }
     {
         match self {
-            StationMetric::Taken | StationMetric::GivenUp => "counter",
-            StationMetric::Incarnation | StationMetric::Debt => "gauge",
+            StationMetric::Taken
+            | StationMetric::GivenUp
+            | StationMetric::FailedSaves
+            | StationMetric::Strangers => "counter",
+            StationMetric::Incarnation
+            | StationMetric::Debt
+            | StationMetric::Duration
+            | StationMetric::Age => "gauge",
         }
     }
 }
@@ -73,7 +99,11 @@ pub(crate) fn put_station(
     )?;
     put_plain(text, StationMetric::Taken, figures.taken)?;
     put_plain(text, StationMetric::GivenUp, figures.given_up)?;
-    put_debts(alloc, text, figures.debts.as_slice())
+    put_debts(alloc, text, figures.debts.as_slice())?;
+    put_plain(text, StationMetric::FailedSaves, figures.failed_saves)?;
+    put_plain(text, StationMetric::Strangers, figures.strangers)?;
+    put_duration(alloc, text, figures.round_ms)?;
+    put_targets(alloc, text, figures.targets.as_slice())
 }
 
 /// Adds a metric of one line without labels.
@@ -86,6 +116,23 @@ fn put_plain(text: &mut Vec<u8>, metric: StationMetric, value: u64) -> Result<()
     text.extend_from_slice(metric.name().as_bytes())?;
     text.extend_from_slice(b" ")?;
     text.extend_from_slice(buffer.format(value).as_bytes())?;
+    text.extend_from_slice(b"\n")
+}
+
+/// Adds how long the last round took, which is given in milliseconds.
+#[tactic(auto, unfolding(crate::specs::Prometheus::duration_text))]
+fn put_duration(alloc: Global, text: &mut Vec<u8>, milliseconds: u64) -> Result<(), AllocError>
+    ensures { OnOk result (text.new.items ≡ text.old.items ++ duration_text milliseconds) }
+{
+    let metric = StationMetric::Duration;
+    let mut seconds = Vec::new(alloc);
+    if !write_rate(&mut seconds, true, u128::from(milliseconds)) {
+        return Err(AllocError);
+    }
+    put_head(text, metric.name(), metric.help(), metric.kind())?;
+    text.extend_from_slice(metric.name().as_bytes())?;
+    text.extend_from_slice(b" ")?;
+    text.extend_from_slice(seconds.as_slice())?;
     text.extend_from_slice(b"\n")
 }
 

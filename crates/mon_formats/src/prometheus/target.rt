@@ -1,0 +1,198 @@
+//! What a station says of its targets.
+
+ghost use Rattle.std.specs.Prelude.{◌≡◌, ◌++◌, OnOk, IfOk, string_bytes};
+ghost use Rattle.mon_formats.specs.Prometheus.{one_if, reason_if, reason_line, refusals_text, target_help, target_labels, target_line, target_metric, target_name, target_type, target_value, targets_text};
+
+use crate::figures::TargetFigures;
+use crate::prometheus::text::{put_head, put_label, put_line};
+use itoa::Buffer;
+use std::alloc::{AllocError, Global};
+
+/// A metric of a target.
+#[derive(Clone, Copy, Debug, PartialEq, Eq)]
+enum TargetMetric {
+    /// Says whether its last poll was answered.
+    Up,
+    /// How many rounds ago it answered.
+    Rounds,
+    /// How many seconds ago it answered.
+    Seconds,
+    /// How many of its polls were given up.
+    PollsGivenUp,
+    /// Why its last response was refused.
+    Refusal,
+}
+
+impl TargetMetric {
+    /// The name, as Prometheus has it.
+    fn name(self) -> &'static str
+        ensures { result.now ≡ target_name self }
+    {
+        match self {
+            TargetMetric::Up => "snmpmon_target_up",
+            TargetMetric::Rounds => "snmpmon_target_answer_age_rounds",
+            TargetMetric::Seconds => "snmpmon_target_answer_age_seconds",
+            TargetMetric::PollsGivenUp => "snmpmon_target_polls_given_up_total",
+            TargetMetric::Refusal => "snmpmon_target_refusal_info",
+        }
+    }
+
+    /// What it is, in a sentence.
+    fn help(self) -> &'static str
+        ensures { result.now ≡ target_help self }
+    {
+        match self {
+            TargetMetric::Up => "1 where the last poll of a target was answered.",
+            TargetMetric::Rounds => "Rounds since a target answered, or since the station began.",
+            TargetMetric::Seconds => "Seconds since a target answered, or since the station began.",
+            TargetMetric::PollsGivenUp =>
+                "Polls of a target that the station gave up since it began.",
+            TargetMetric::Refusal =>
+                "Why the last response of a target was refused, until it answers.",
+        }
+    }
+
+    /// Its type, as Prometheus has it.
+    fn kind(self) -> &'static str
+        ensures { result.now ≡ target_type self }
+    {
+        match self {
+            TargetMetric::PollsGivenUp => "counter",
+            TargetMetric::Up
+            | TargetMetric::Rounds
+            | TargetMetric::Seconds
+            | TargetMetric::Refusal => "gauge",
+        }
+    }
+
+    /// What it says of a target.
+    fn value(self, target: &TargetFigures) -> u64
+        ensures { result ≡ target_value self target.now }
+    {
+        match self {
+            TargetMetric::Up => one_if(target.up),
+            TargetMetric::Rounds => u64::from(target.rounds),
+            TargetMetric::Seconds => target.seconds,
+            TargetMetric::PollsGivenUp => target.given_up,
+            TargetMetric::Refusal => 1,
+        }
+    }
+}
+
+/// 1 for `true`, 0 for `false`.
+fn one_if(is_so: bool) -> u64
+    ensures { result ≡ one_if is_so }
+{
+    if is_so { 1 } else { 0 }
+}
+
+/// Adds what a station says of its targets, metric by metric.
+#[tactic(auto, unfolding(crate::specs::Prometheus::targets_text))]
+pub(crate) fn put_targets(
+    alloc: Global,
+    text: &mut Vec<u8>,
+    targets: &[TargetFigures],
+) -> Result<(), AllocError>
+    ensures { OnOk result (text.new.items ≡ text.old.items ++ targets_text targets.now) }
+{
+    put_target_metric(alloc, text, targets, TargetMetric::Up)?;
+    put_target_metric(alloc, text, targets, TargetMetric::Rounds)?;
+    put_target_metric(alloc, text, targets, TargetMetric::Seconds)?;
+    put_target_metric(alloc, text, targets, TargetMetric::PollsGivenUp)?;
+    put_refusals(alloc, text, targets)
+}
+
+/// Adds a metric with a line for each target.
+#[tactic(auto, unfolding(crate::specs::Prometheus::target_metric))]
+fn put_target_metric(
+    alloc: Global,
+    text: &mut Vec<u8>,
+    targets: &[TargetFigures],
+    metric: TargetMetric,
+) -> Result<(), AllocError>
+    ensures { OnOk result (text.new.items ≡ text.old.items ++ target_metric metric targets.now) }
+{
+    put_head(text, metric.name(), metric.help(), metric.kind())?;
+    for target in targets {
+        put_target(alloc, text, target, metric)?;
+    }
+    Ok(())
+}
+
+/// Adds the line of a metric for a target.
+fn put_target(
+    alloc: Global,
+    text: &mut Vec<u8>,
+    target: &TargetFigures,
+    metric: TargetMetric,
+) -> Result<(), AllocError>
+    ensures { OnOk result (text.new.items ≡ text.old.items ++ target_line metric target.now) }
+{
+    let labels = target_labels(alloc, target)?;
+    let mut buffer = Buffer::new();
+    let number = buffer.format(metric.value(target));
+    put_line(text, metric.name(), labels.as_slice(), number.as_bytes())
+}
+
+/// The labels of a target: its number, its address, and its engine id in hex digits.
+#[tactic(auto, unfolding(crate::specs::Prometheus::target_labels))]
+fn target_labels(alloc: Global, target: &TargetFigures) -> Result<Vec<u8>, AllocError>
+    ensures { IfOk result (λ labels. labels.items ≡ target_labels target.now) }
+{
+    let engine = hex::encode(alloc, target.engine.as_slice())?;
+    let mut digits = Buffer::new();
+    let mut labels = Vec::new(alloc);
+    put_label(
+        &mut labels,
+        "target",
+        digits.format(target.number).as_bytes(),
+    )?;
+    labels.extend_from_slice(b",")?;
+    put_label(&mut labels, "address", target.address.as_bytes())?;
+    labels.extend_from_slice(b",")?;
+    put_label(&mut labels, "engine", engine.as_bytes())?;
+    Ok(labels)
+}
+
+/// Adds of each target that has a refused response a line with the reason.
+#[tactic(auto, unfolding(crate::specs::Prometheus::refusals_text))]
+fn put_refusals(
+    alloc: Global,
+    text: &mut Vec<u8>,
+    targets: &[TargetFigures],
+) -> Result<(), AllocError>
+    ensures { OnOk result (text.new.items ≡ text.old.items ++ refusals_text targets.now) }
+{
+    let metric = TargetMetric::Refusal;
+    put_head(text, metric.name(), metric.help(), metric.kind())?;
+    for target in targets {
+        put_refusal(alloc, text, target)?;
+    }
+    Ok(())
+}
+
+/// Adds the line of a target's refused response, if there is one.
+fn put_refusal(alloc: Global, text: &mut Vec<u8>, target: &TargetFigures) -> Result<(), AllocError>
+    ensures { OnOk result (text.new.items ≡ text.old.items ++ reason_if target.now target.now.refusal) }
+{
+    match &target.refusal {
+        None => Ok(()),
+        Some(reason) => put_reason(alloc, text, target, reason),
+    }
+}
+
+/// Adds the line of a target whose last response was refused for this reason.
+#[tactic(auto, unfolding(crate::specs::Prometheus::reason_line))]
+fn put_reason(
+    alloc: Global,
+    text: &mut Vec<u8>,
+    target: &TargetFigures,
+    reason: &String,
+) -> Result<(), AllocError>
+    ensures { OnOk result (text.new.items ≡ text.old.items ++ reason_line target.now reason.now) }
+{
+    let mut labels = target_labels(alloc, target)?;
+    labels.extend_from_slice(b",")?;
+    put_label(&mut labels, "reason", reason.as_bytes())?;
+    put_line(text, TargetMetric::Refusal.name(), labels.as_slice(), b"1")
+}
