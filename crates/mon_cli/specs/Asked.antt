@@ -132,6 +132,7 @@ abbrev pub IsStation : List Row → StationArgs → Type 0
 IsStation rows w = IsSettings rows w.settings
     × (w.checks ≡ is_on (codes "check") rows)
     × IsTiming rows w.timing
+    × IsNumberOr 32 3 (one_of (codes "stale-after") rows) w.stale_after
     × (option_map (λ o. o.now) w.out ≡ first_of (codes "out") rows)
     × IsPrinted rows w.printed
 
@@ -213,7 +214,7 @@ IsWithin (asked.Bulk w) = IsSignedIn (value_of commands.Bulk (codes "non-repeate
 IsWithin (asked.Agent w) = IfSome w.boots (IsSignedIn (value_of commands.Agent (codes "boots"))) × IsIn (value_of commands.Agent (codes "count")) w.count
 IsWithin (asked.Answer w) = IfSome w.boots (IsSignedIn (value_of commands.Answer (codes "boots")))
     × IsIn (value_of commands.Answer (codes "at")) w.scene.at × IsIn (value_of commands.Answer (codes "times")) w.scene.times
-IsWithin (asked.Station w) = IsTimingIn w.timing
+IsWithin (asked.Station w) = IsTimingIn w.timing × IsIn (value_of commands.Station (codes "stale-after")) w.stale_after
 IsWithin (asked.Rehearse w) = IsIn (value_of commands.Rehearse (codes "K")) w.stations
 IsWithin _ = ⊤
 

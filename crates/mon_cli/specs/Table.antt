@@ -94,6 +94,7 @@ arguments commands.Station = settings
     ∷ option (codes "interval") (up_to 1 86400)
     ∷ option (codes "phase") (up_to 0 86399)
     ∷ option (codes "report-every") (up_to 1 1000000)
+    ∷ option (codes "stale-after") (up_to 1 1000000)
     ∷ option (codes "out") Text
     ∷ printed
 arguments commands.Report = settings ∷ printed

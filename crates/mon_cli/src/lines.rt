@@ -320,6 +320,15 @@ const REPORT_EVERY: Line = Line {
     help: "The report is printed after every so many rounds too, 1 to 1000000",
 };
 
+const STALE_AFTER: Line = Line {
+    id: "stale-after",
+    form: Form::Long,
+    takes: Takes::One(Value::Number(1, 1_000_000)),
+    needed: false,
+    shown: "stale-after",
+    help: "With --format prometheus an instance without a new sample in so many rounds has no value, rate and alarm, 1 to 1000000; 3 if not given",
+};
+
 const OUT: Line = Line {
     id: "out",
     form: Form::Long,
@@ -365,13 +374,14 @@ static ANSWER: [Line; 7] = [AGENT_SETTINGS, BOOTS, AT, FUSES, TIMES, MODULE, NAM
 
 static MIB: [Line; 2] = [FILE, MODULE];
 
-static STATION: [Line; 11] = [
+static STATION: [Line; 12] = [
     SETTINGS,
     ROUNDS,
     CHECK,
     INTERVAL,
     PHASE,
     REPORT_EVERY,
+    STALE_AFTER,
     OUT,
     FORMAT,
     COLUMNS,

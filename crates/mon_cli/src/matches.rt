@@ -20,6 +20,9 @@ use mon_formats::Format;
 /// How many samples a window keeps if the arguments do not say.
 const USUAL_SIZE: u32 = 8;
 
+/// After how many rounds without a new sample an instance is stale if the arguments do not say.
+const USUAL_ROUNDS: u32 = 3;
+
 /// The text of an argument, if it has one.
 fn find_value<'a>(matches: &ArgMatches<'a>, id: &str) -> Option<&'a str>
     ensures { option_map (λ t. t.now) result ≡ first_of id.now (rows_of (found_of matches.now)) }
@@ -176,12 +179,15 @@ fn answer<'m, 'a>(matches: &'m ArgMatches<'a>) -> AnswerArgs<'m, 'a>
 
 /// Returns the station to run.
 fn station<'m, 'a>(matches: &'m ArgMatches<'a>) -> StationArgs<'m, 'a>
-    ensures { IsStation (rows_of (found_of matches.now)) result }
+    requires { AreAllowed (arguments commands.Station) (rows_of (found_of matches.now)) }
+    ensures says { IsStation (rows_of (found_of matches.now)) result }
+    ensures within { IsWithin (asked.Station result) }
 {
     StationArgs {
         settings: text(matches, "SETTINGS"),
         checks: is_on(matches, "check"),
         timing: timing(matches),
+        stale_after: number_or(matches, "stale-after", USUAL_ROUNDS),
         out: find_value(matches, "out"),
         printed: read_printed(matches),
     }

@@ -117,6 +117,8 @@ pub struct StationArgs<'m, 'a> {
     /// `true` if only its limits are printed.
     pub checks: bool,
     pub timing: Timing,
+    /// From how many rounds without a new sample on Prometheus' format leaves an instance out.
+    pub stale_after: u32,
     /// The file that each round's report is written to.
     pub out: Option<&'a str>,
     pub printed: Printed<'m, 'a>,

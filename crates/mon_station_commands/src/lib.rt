@@ -1,8 +1,14 @@
 //! The commands of stations: running one, what limits it, and the report of its file.
 #![tactic(auto)]
 
+mod figures;
 mod limits;
+mod live;
+mod opening;
+mod pace;
+mod printing;
 mod station;
 mod telling;
 
-pub use station::{print_saved_report, run_station};
+pub use opening::print_saved_report;
+pub use station::run_station;

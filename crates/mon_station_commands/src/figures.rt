@@ -1,0 +1,93 @@
+//! What a running station says of itself.
+
+ghost use Rattle.std.specs.Prelude.{◌≡◌, ◌+◌, IfOk, map};
+ghost use Rattle.mon_rounds.specs.Freshness.{seconds_since};
+
+use crate::live::Live;
+use mon_formats::{Figures, TargetFigures};
+use mon_rounds::{InstanceAge, Receiver, TargetAge, debts_of};
+use mon_station::{Outbox, StationFault};
+use std::alloc::{AllocError, Global};
+
+/// What a station says of itself.
+pub(crate) fn make_figures<S: Receiver + Drop, O: Outbox + Drop>(
+    alloc: Global,
+    live: &Live<S, O>,
+) -> Result<Figures, AllocError> {
+    let fresh = &live.freshness;
+    let engines = live.transport.engines.as_slice();
+    Ok(Figures {
+        incarnation: live.station.incarnation(),
+        taken: live.course.taken(),
+        given_up: live.course.given_up(),
+        debts: debts_of(alloc, &live.station, live.transport.peers.as_slice())?,
+        failed_saves: fresh.failed_saves(),
+        strangers: fresh.strangers(),
+        round_ms: fresh.round_ms(),
+        targets: target_figures(alloc, fresh.targets(), engines, live.ended)?,
+        ages: ages_of(alloc, fresh.instances())?,
+        stale_after: live.reports.stale_after,
+    })
+}
+
+/// What is said of each target at this time, in milliseconds since the station's start.
+fn target_figures(
+    alloc: Global,
+    targets: &[TargetAge],
+    engines: &[Vec<u8>],
+    now: u64,
+) -> Result<Vec<TargetFigures>, AllocError> {
+    let mut figures = Vec::with_capacity(alloc, targets.len())?;
+    for (target, engine) in targets.iter().zip(engines) {
+        figures.push(one_target(alloc, target, engine.as_slice(), now)?)?;
+    }
+    Ok(figures)
+}
+
+/// What is said of a target.
+fn one_target(
+    alloc: Global,
+    target: &TargetAge,
+    engine: &[u8],
+    now: u64,
+) -> Result<TargetFigures, AllocError>
+    ensures number { IfOk result (λ t. t.number ≡ target.now.number + 1) }
+    ensures engine { IfOk result (λ t. t.engine.items ≡ engine.now) }
+    ensures up { IfOk result (λ t. t.up ≡ target.now.up) }
+    ensures rounds { IfOk result (λ t. t.rounds ≡ target.now.rounds) }
+    ensures seconds { IfOk result (λ t. t.seconds ≡ seconds_since now target.now) }
+    ensures given_up { IfOk result (λ t. t.given_up ≡ target.now.given_up) }
+{
+    Ok(TargetFigures {
+        number: u32::from(target.number) + 1,
+        address: format!(in alloc; "{}", target.address)?,
+        engine: Vec::from_slice(alloc, engine)?,
+        up: target.up,
+        rounds: target.rounds,
+        seconds: target.seconds(now),
+        given_up: target.given_up,
+        refusal: refusal_text(alloc, target.refusal)?,
+    })
+}
+
+/// Why a response was refused, in words.
+fn refusal_text(
+    alloc: Global,
+    refusal: Option<StationFault>,
+) -> Result<Option<String>, AllocError> {
+    match refusal {
+        Some(fault) => Ok(Some(format!(in alloc; "{fault}")?)),
+        None => Ok(None),
+    }
+}
+
+/// In how many rounds each instance had no new sample.
+fn ages_of(alloc: Global, instances: &[InstanceAge]) -> Result<Vec<u32>, AllocError>
+    ensures { IfOk result (λ v. v.items ≡ map (λ (i : InstanceAge). i.rounds) instances.now) }
+{
+    let mut ages = Vec::with_capacity(alloc, instances.len())?;
+    for instance in instances {
+        ages.push(instance.rounds)?;
+    }
+    Ok(ages)
+}

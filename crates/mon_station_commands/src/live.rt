@@ -1,0 +1,247 @@
+//! A running station: what it works with, and a round of it.
+
+ghost use Rattle.std.specs.Prelude.{◌≡◌, ◌≤◌};
+ghost use Rattle.mon_disk.specs.Fault.{number_of};
+
+use crate::opening::{file_failure, or_socket_failure};
+use crate::pace::{now, passed};
+use crate::telling::tell_notices;
+use mon_console::{Failure, Printing};
+use mon_disk::{FileDisk, KeeperFault};
+use mon_poller::Target;
+use mon_rounds::{
+    Addresses, Course, Freshness, Notice, Receiver, RoundReport, Rounds, SocketOutbox,
+    SocketReceiver, Span, Spell,
+};
+use mon_settings::StationSettings;
+use mon_station::{Outbox, Run, Station};
+use mon_udp::Socket;
+use std::alloc::{AllocError, Global};
+use std::net::SocketAddr;
+use std::rt::Clock;
+use std::time::Instant;
+
+/// What a running station works with.
+#[derive(Drop)]
+pub(crate) struct Live<S: Receiver + Drop, O: Outbox + Drop> {
+    pub(crate) station: Station<FileDisk>,
+    pub(crate) transport: Transport<S, O>,
+    /// What the last round, or the time after it, did.
+    pub(crate) run: Run,
+    pub(crate) course: Course,
+    pub(crate) freshness: Freshness,
+    pub(crate) reports: Reports,
+    /// The path of the station's file.
+    pub(crate) file: String,
+    /// When it was started.
+    pub(crate) origin: Instant,
+    /// When the last round, or the time after it, ended, in milliseconds since then.
+    pub(crate) ended: u64,
+    /// Why the last round's save failed, if it did.
+    pub(crate) unsaved: Option<KeeperFault>,
+    /// Why a report that could not be printed between two rounds could not.
+    pub(crate) unprinted: Option<Failure>,
+}
+
+/// What a station receives and sends by, and where its targets and peers are reached.
+#[derive(Drop)]
+pub(crate) struct Transport<S: Receiver + Drop, O: Outbox + Drop> {
+    pub(crate) rounds: Rounds<S>,
+    pub(crate) outbox: O,
+    pub(crate) addresses: Addresses,
+    /// The station's own number.
+    pub(crate) number: u32,
+    pub(crate) peers: Vec<u32>,
+    /// The engine ids of its targets, in their order.
+    pub(crate) engines: Vec<Vec<u8>>,
+}
+
+/// How a station's reports are printed, the file that each round's report is written to, and from how
+/// many rounds without a new sample on an instance is stale.
+#[derive(Drop)]
+pub(crate) struct Reports {
+    pub(crate) printing: Printing,
+    pub(crate) out: Option<String>,
+    pub(crate) stale_after: u32,
+}
+
+/// Where a station keeps its windows and is reached.
+#[derive(Drop)]
+pub(crate) struct Place {
+    pub(crate) disk: FileDisk,
+    pub(crate) at: SocketAddr,
+}
+
+/// Makes what the station of the settings receives and sends by, over this socket.
+pub(crate) fn open_transport<'a, R: Clock + AllocGlobal>(
+    rt: &'a R,
+    settings: &StationSettings,
+    socket: &'a Socket,
+) -> Result<Transport<SocketReceiver<'a, R>, SocketOutbox<'a>>, Failure> {
+    let alloc = rt.alloc();
+    let receiver = or_socket_failure(
+        alloc,
+        settings.listen,
+        SocketReceiver::new(rt, alloc, socket),
+    )?;
+    let outbox = SocketOutbox::new(socket, addresses_of(alloc, settings)?);
+    Ok(make_transport(alloc, settings, receiver, outbox)?)
+}
+
+/// Returns the addresses of the settings' targets and peers.
+fn addresses_of(alloc: Global, settings: &StationSettings) -> Result<Addresses, AllocError> {
+    Addresses::of(alloc, &settings.core, settings.peer_addresses.as_slice())
+}
+
+/// Makes what the station of the settings receives and sends by.
+pub(crate) fn make_transport<S: Receiver + Drop, O: Outbox + Drop>(
+    alloc: Global,
+    settings: &StationSettings,
+    receiver: S,
+    outbox: O,
+) -> Result<Transport<S, O>, AllocError> {
+    let addresses = addresses_of(alloc, settings)?;
+    let rounds = Rounds::new(
+        alloc,
+        addresses_of(alloc, settings)?,
+        settings.wait_ms,
+        receiver,
+    )?;
+    let peers = Vec::from_slice(alloc, settings.core.peers())?;
+    let engines = engines_of(alloc, settings.core.targets())?;
+    Ok(Transport {
+        rounds,
+        outbox,
+        addresses,
+        number: settings.core.station(),
+        peers,
+        engines,
+    })
+}
+
+/// Returns the engine ids of targets.
+fn engines_of(alloc: Global, targets: &[Target]) -> Result<Vec<Vec<u8>>, AllocError> {
+    let mut engines = Vec::with_capacity(alloc, targets.len())?;
+    for target in targets {
+        engines.push(Vec::from_slice(alloc, target.engine.as_slice())?)?;
+    }
+    Ok(engines)
+}
+
+/// Opens the station, and prints where it is.
+pub(crate) fn start_station<R: Clock + Eprint + AllocGlobal, S: Receiver + Drop, O: Outbox + Drop>(
+    rt: &R,
+    settings: StationSettings,
+    place: Place,
+    transport: Transport<S, O>,
+    reports: Reports,
+) -> Result<Live<S, O>, Failure> {
+    let alloc = rt.alloc();
+    let origin = now(rt)?;
+    let StationSettings { core, file, .. } = settings;
+    let (number, targets, peers) = (core.station(), core.targets().len(), core.peers().len());
+    let Place { disk, at } = place;
+    let station = match Station::open(alloc, core, disk) {
+        Ok(station) => station,
+        Err((fault, _)) => return Err(file_failure(alloc, &file, fault)),
+    };
+    let incarnation = station.incarnation();
+    let _ = eprintln!(rt;
+        "snmpmon: station {number} at {at}, incarnation {incarnation}, file {file}, targets: {targets}, peers: {peers}"
+    );
+    let course = Course::new(alloc, station.board())?;
+    let freshness = Freshness::new(alloc, &transport.addresses, station.board())?;
+    Ok(Live {
+        station,
+        transport,
+        run: Run::new(alloc),
+        course,
+        freshness,
+        reports,
+        file,
+        origin,
+        ended: 0,
+        unsaved: None,
+        unprinted: None,
+    })
+}
+
+/// Runs a round or the time after it, and prints its notices. If memory runs out that is reported,
+/// and the station goes on.
+pub(crate) fn run_span<R: Clock + Eprint + AllocGlobal, S: Receiver + Drop, O: Outbox + Drop>(
+    rt: &R,
+    live: &mut Live<S, O>,
+    number: u32,
+    span: Span,
+) -> Result<(), Failure> {
+    let began = passed(rt, live.origin)?;
+    let ran = live.transport.rounds.run(
+        rt.alloc(),
+        &mut live.station,
+        &mut live.transport.outbox,
+        span,
+        &mut live.run,
+    );
+    live.ended = passed(rt, live.origin)?;
+    let spell = Spell {
+        span,
+        ended: live.ended,
+        took: live.ended.saturating_sub(began),
+    };
+    let told = match ran {
+        Ok(()) => report_round(rt, live, number, spell),
+        Err(fault) => Err(Failure::from(fault)),
+    };
+    if let Err(failure) = told {
+        failure.tell(rt);
+    }
+    Ok(())
+}
+
+/// Adds what a round did to what is known of the station, and prints what is to be said of it.
+fn report_round<R: Eprint + AllocGlobal, S: Receiver + Drop, O: Outbox + Drop>(
+    rt: &R,
+    live: &mut Live<S, O>,
+    number: u32,
+    spell: Spell,
+) -> Result<(), Failure> {
+    let alloc = rt.alloc();
+    let report = RoundReport::of(alloc, live.transport.rounds.round(), &live.run)?;
+    live.course.add(&report);
+    live.freshness.add(spell, &report, live.station.board());
+    if spell.span == Span::Round {
+        live.unsaved = save_fault(&report);
+    }
+    tell_notices(rt, number, &live.transport.addresses, &report);
+    for line in live
+        .course
+        .take_changes(alloc, live.station.board())?
+        .as_slice()
+    {
+        let _ = eprintln!(rt; "snmpmon: {line}");
+    }
+    Ok(())
+}
+
+/// Returns why the last save that a report tells of failed, if it did.
+fn save_fault(report: &RoundReport) -> Option<KeeperFault> {
+    match report.notices.as_slice().last() {
+        Some(Notice::NotSaved(number)) => Some(keeper_fault(*number)),
+        _ => None,
+    }
+}
+
+/// Returns the keeper's fault of this number.
+fn keeper_fault(number: u8) -> KeeperFault
+    ensures { 1 ≤ number → number ≤ 6 → number_of result ≡ number }
+{
+    match number {
+        1 => KeeperFault::OutOfMemory,
+        2 => KeeperFault::DiskFault,
+        3 => KeeperFault::NoMoreGenerations,
+        4 => KeeperFault::TooLarge,
+        5 => KeeperFault::Damaged,
+        6 => KeeperFault::Reopen,
+        _ => KeeperFault::DiskFault,
+    }
+}

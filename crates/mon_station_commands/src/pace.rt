@@ -1,0 +1,136 @@
+//! When a station's rounds begin.
+
+use crate::live::{Live, Transport, run_span};
+use mon_cli::Timing;
+use mon_console::Failure;
+use mon_rounds::{Receiver, Span, left_of, milliseconds, next_start, phase_of};
+use mon_station::Outbox;
+use std::rt::Clock;
+use std::time::{Duration, Instant, SystemTime, UNIX_EPOCH};
+
+/// When rounds begin, in milliseconds since the station was started: at the first start and whole
+/// intervals after it.
+#[derive(Clone, Copy)]
+pub(crate) struct Pace {
+    first: u64,
+    interval: u64,
+    /// When the last round was due.
+    due: u64,
+}
+
+/// How often a station goes on receiving between two rounds, at most.
+const MOST_RESTS: u32 = u32::MAX;
+
+/// Returns when the rounds begin, the first one now. With a phase it waits for that by the wall clock;
+/// so does a station with peers for its share of the interval, so that they poll one after another.
+/// Until then it answers its peers.
+pub(crate) fn start_pace<R: Clock + Eprint + AllocGlobal, S: Receiver + Drop, O: Outbox + Drop>(
+    rt: &R,
+    live: &mut Live<S, O>,
+    timing: Timing,
+) -> Result<Pace, Failure> {
+    let interval = u64::from(timing.interval) * 1000;
+    let left = match phase(&live.transport, timing) {
+        Some(phase) => {
+            let time = wall_time(rt)?;
+            next_start(time, interval, phase).saturating_sub(time)
+        }
+        None => 0,
+    };
+    let first = passed(rt, live.origin)?.saturating_add(left);
+    let pace = Pace {
+        first,
+        interval,
+        due: first,
+    };
+    if left > 0 {
+        let (seconds, tenths) = (left / 1000, left % 1000 / 100);
+        let _ = eprintln!(rt; "snmpmon: the first round begins in {seconds}.{tenths} s");
+        pause(rt, live, 1, pace)?;
+    }
+    Ok(pace)
+}
+
+/// Returns how many milliseconds after whole intervals of the wall clock rounds begin, if they keep to
+/// it: as the arguments say, or else by the station's number among its peers. (It has 15 at most.)
+fn phase<S: Receiver + Drop, O: Outbox + Drop>(
+    transport: &Transport<S, O>,
+    timing: Timing,
+) -> Option<u64> {
+    let peers = transport.peers.as_slice();
+    if timing.interval == 0 {
+        return None;
+    }
+    match timing.phase {
+        Some(phase) => Some(u64::from(phase % timing.interval) * 1000),
+        None if peers.is_empty() || peers.len() > 15 => None,
+        None => Some(phase_of(transport.number, peers, u64::from(timing.interval) * 1000)),
+    }
+}
+
+/// Hands the station what comes until the round after this one begins. Returns when that was due.
+pub(crate) fn wait_for_next<R: Clock + Eprint + AllocGlobal, S: Receiver + Drop, O: Outbox + Drop>(
+    rt: &R,
+    live: &mut Live<S, O>,
+    number: u32,
+    pace: Pace,
+) -> Result<Pace, Failure> {
+    if pace.interval == 0 {
+        return Ok(pace);
+    }
+    let passed = passed(rt, live.origin)?;
+    tell_outrun(rt, number, pace, passed);
+    let due = next_start(passed.max(pace.due), pace.interval, pace.first);
+    let pace = Pace { due, ..pace };
+    pause(rt, live, number, pace)?;
+    Ok(pace)
+}
+
+/// Reports a round that took longer than the interval.
+fn tell_outrun<R: Eprint>(rt: &R, number: u32, pace: Pace, passed: u64) {
+    let took = passed.saturating_sub(pace.due);
+    if took > pace.interval {
+        let (seconds, tenths) = (took / 1000, took % 1000 / 100);
+        let interval = pace.interval / 1000;
+        let _ = eprintln!(rt; "snmpmon: round {number} took {seconds}.{tenths} s of {interval} s");
+    }
+}
+
+/// Hands the station what comes until the next round is due.
+fn pause<R: Clock + Eprint + AllocGlobal, S: Receiver + Drop, O: Outbox + Drop>(
+    rt: &R,
+    live: &mut Live<S, O>,
+    number: u32,
+    pace: Pace,
+) -> Result<(), Failure> {
+    let due = Duration::from_millis(pace.due);
+    for _ in 0..MOST_RESTS {
+        let left = left_of(due, now(rt)?.duration_since(live.origin));
+        if left == 0 {
+            return Ok(());
+        }
+        run_span(rt, live, number, Span::Between(left))?;
+    }
+    Ok(())
+}
+
+/// The milliseconds since the station was started.
+pub(crate) fn passed<R: Clock + AllocGlobal>(rt: &R, origin: Instant) -> Result<u64, Failure> {
+    Ok(milliseconds(now(rt)?.duration_since(origin)))
+}
+
+/// The time.
+pub(crate) fn now<R: Clock + AllocGlobal>(rt: &R) -> Result<Instant, Failure> {
+    match Instant::now(rt) {
+        Ok(now) => Ok(now),
+        Err(error) => Err(Failure::stream(rt.alloc(), "the clock", error)),
+    }
+}
+
+/// The milliseconds since 1970 by the wall clock.
+fn wall_time<R: Clock + AllocGlobal>(rt: &R) -> Result<u64, Failure> {
+    match SystemTime::now(rt) {
+        Ok(now) => Ok(milliseconds(now.duration_since(UNIX_EPOCH).unwrap_or(Duration::ZERO))),
+        Err(error) => Err(Failure::stream(rt.alloc(), "the clock", error)),
+    }
+}
