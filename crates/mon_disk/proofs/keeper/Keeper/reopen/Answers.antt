@@ -38,9 +38,11 @@ returns-in_err-shut g c =
     let k = c.args.self.now in
     let new = c.shut.new.disk in
     let spoiled : k.spoiled ≡ true = search rules in
-    record { reopen = fails k _ c.spare_slot.result c.spare_slot.ensures refl spoiled c.shut.ensures.honest.0 c.shut.ensures.honest.1
-        (λ after t f le left. g.met.D.Disk.counts_now new t f after le left) (λ after. g.met.D.Disk.seen_now new after) (λ h. c.shut.ensures.any_moment h) c.shut.ensures.cause.no_less
-        spoiled (c.in_err-shut.ensures.cause.told refl) c.from_residual.result (search rules) }
+    record {
+      reopen = fails k _ c.spare_slot.result c.spare_slot.ensures refl spoiled c.shut.ensures.honest.0 c.shut.ensures.honest.1
+          (λ after t f le left. g.met.D.Disk.counts_now new t f after le left) (λ after. g.met.D.Disk.seen_now new after) (λ h. c.shut.ensures.any_moment h) c.shut.ensures.cause.no_less
+          spoiled (c.in_err-shut.ensures.cause.told refl) c.from_residual.result (search rules);
+    }
 
 pub returns : goal.returns
 returns g c =
@@ -50,5 +52,7 @@ returns g c =
     let spoiled : k.spoiled ≡ true = search rules in
     let kept : D.is_honest k.device → IsKept SLOT_SIZE k.newest (D.seen new) (D.may_leave new) = λ h.
     shut_kept k.newest c.spare_slot.result c.spare_slot.ensures (D.seen k.device) (D.seen new) (D.may_leave k.device) (D.may_leave new) (k.held h) (c.in_ok-shut.ensures.closed h) (c.in_ok-shut.ensures.durable h) in
-    record { reopen = mends k _ c.spare_slot.result c.spare_slot.ensures refl spoiled c.shut.ensures.honest.0 c.shut.ensures.honest.1
-        (λ after t f le left. g.met.D.Disk.counts_now new t f after le left) (λ after. g.met.D.Disk.seen_now new after) (λ h. c.shut.ensures.any_moment h) c.shut.ensures.cause.no_less refl kept }
+    record {
+      reopen = mends k _ c.spare_slot.result c.spare_slot.ensures refl spoiled c.shut.ensures.honest.0 c.shut.ensures.honest.1
+          (λ after t f le left. g.met.D.Disk.counts_now new t f after le left) (λ after. g.met.D.Disk.seen_now new after) (λ h. c.shut.ensures.any_moment h) c.shut.ensures.cause.no_less refl kept;
+    }
