@@ -36,6 +36,9 @@ module _ {X T : Type 0} {G : Ghosts X} (calls : ℕ) (body : List ℕ) (k : Keep
     spoiled = λ disk. absurd (other (let same : e ≡ DiskFault = cc in same));
     same = λ _. refl;
     generation = λ all. tt;
+    last = λ h all. tt;
+    last_before = λ h less. tt;
+    last_err = λ h. refl;
     fits = tt;
     honest = ((λ h. h), (λ h. h));
     count = omega arith;

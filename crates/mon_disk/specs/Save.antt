@@ -5,7 +5,7 @@ use Rattle.mon_disk.specs.Fault.{HasDiskCause}
 use Rattle.mon_disk.specs.File.{found}
 use Rattle.mon_disk.specs.History.{FindsRunning, Happens, acknowledged, unacknowledged}
 use Rattle.mon_disk.specs.Keeper.{FindsBody, IsWhole, found_generation, next_saved, shown_from}
-use Rattle.mon_disk.specs.Kept.{device_of, is_spoiled, last_generation}
+use Rattle.mon_disk.specs.Kept.{device_of, is_spoiled, last_body, last_generation}
 use Rattle.mon_disk.specs.declared.disk.Disk.{Ghosts}
 use Rattle.mon_disk.specs.declared.fault.KeeperFault.{KeeperFault}
 use Rattle.mon_disk.specs.declared.fault.KeeperFault.TheVariants.{DiskFault, NoMoreGenerations, TooLarge, Reopen}
@@ -40,12 +40,16 @@ pub record IsSave {X T : Type 0} {G : Ghosts X} (calls : ℕ) (body : List ℕ) 
   pub on_disk : G.is_honest (device_of old) → IsSaveOf G calls body (device_of old) (device_of new) result
   -- without a call the disk stays as it was
   pub none : calls ≡ 0 → device_of new ≡ device_of old
-  -- The keeper goes on after all six calls, and must be opened again after fewer or a disk fault.
+  -- The keeper goes on after all six calls, and must be reopened after fewer or a disk fault.
   -- Another fault changes nothing.
   pub fresh : OnOk result (is_spoiled new ≡ nat_lt calls 6)
   pub spoiled : result ≡ Err DiskFault → is_spoiled new ≡ true
   pub same : IfErr result (λ e. (e ≡ DiskFault → ⊥) → new ≡ old)
   pub generation : 6 ≤ calls → OnOk result (last_generation new ≡ last_generation old + 1)
+  -- after all six it knows this body as the last, else the one before
+  pub last : G.is_honest (device_of old) → 6 ≤ calls → OnOk result (last_body new ≡ Some body)
+  pub last_before : G.is_honest (device_of old) → calls < 6 → OnOk result (last_body new ≡ last_body old)
+  pub last_err : G.is_honest (device_of old) → OnErr result (last_body new ≡ last_body old)
   pub fits : OnOk result (length body + 17 ≤ SLOT_SIZE)
   -- a disk stays honest, and its fault is returned only if it was counted
   pub honest : G.is_honest (device_of old) ↔ G.is_honest (device_of new)

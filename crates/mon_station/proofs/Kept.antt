@@ -11,13 +11,14 @@ use Rattle.mon_disk.specs.Fault.{HasDiskCause, is_of_opening}
 use Rattle.mon_disk.specs.File.{found}
 use Rattle.mon_disk.specs.Keeper.{FindsAs, FindsBody, IsOpening, found_body, found_generation, is_undamaged}
 use Rattle.mon_disk.specs.declared.file.TheConstants.{SLOT_SIZE}
-use Rattle.mon_disk.proofs.Promised.{as_before, as_found, at_end, at_rest, both_as, chained, weaker}
+use Rattle.mon_disk.proofs.Promised.{as_before, as_found, as_then, at_end, at_rest, both_as, chained, weaker}
 use Rattle.mon_saved.specs.Image.{SpellsImage}
 use Rattle.mon_saved.specs.Written.{image_of}
 use Rattle.mon_station.specs.declared.fault.StationFault.{StationFault}
 use Rattle.mon_station.specs.declared.fault.StationFault.TheVariants as station
 use Rattle.mon_station.specs.Fault.{keeper_refusal}
-use Rattle.mon_station.specs.Saved.{FindsBegun, FindsRunning, FindsState, IsBeginning, IsBegun, IsCausedBy, IsFaultOfBody, IsFaultOfFile, IsFirstSaveFault, IsForItsBody, IsOpeningFault, IsSaveFault, saved_octets}
+use Rattle.mon_station.specs.Mended.{IsMendedFault}
+use Rattle.mon_station.specs.Saved.{FindsBegun, FindsRunning, FindsState, IsBeginning, IsBegun, IsCausedBy, IsFaultOfBody, IsFaultOfFile, IsFirstSaveFault, IsForItsBody, IsOpeningFault, IsSaveFault, OrLast, saved_octets}
 use Rattle.mon_station.specs.State.{State}
 use Rattle.mon_station.specs.Verdict.{Setting}
 
@@ -35,9 +36,21 @@ pub finds_either : (outcomes : List ℕ → Type 0) (s : State) (body octets : L
 finds_either outcomes s body octets is written spells c either = ⊎_elim (λ same. inl same) (λ finds. inr (finds_state s body octets c is written spells finds)) either
 
 -- no call at all
-pub rests : {D : Type 0} (may_leave : D → List ℕ → Type 0) (moment : D → ℕ) (left_since : D → ℕ → List ℕ → Type 0) (d : D) (s : State) → ((c : List ℕ) → left_since d (moment d) c → may_leave d c)
-    → LeavesSince moment left_since d d (FindsRunning (may_leave d) s)
-rests may_leave moment left_since d s only_now = weaker moment left_since may_leave d d (FindsAs (may_leave d)) (FindsRunning (may_leave d) s) (λ c same. inl same) (at_rest moment left_since may_leave d only_now)
+pub rests : {D : Type 0} (may_leave : D → List ℕ → Type 0) (moment : D → ℕ) (left_since : D → ℕ → List ℕ → Type 0) (d : D) (last : Option (List ℕ)) (s : State) → ((c : List ℕ) → left_since d (moment d) c → may_leave d c)
+    → LeavesSince moment left_since d d (FindsRunning (OrLast (may_leave d) last) s)
+rests may_leave moment left_since d last s only_now =
+    weaker moment left_since may_leave d d (FindsAs (may_leave d)) (FindsRunning (OrLast (may_leave d) last) s) (λ c same. inl (same.0, inl same.1, same.2)) (at_rest moment left_since may_leave d only_now)
+
+-- where a crash leaves the last save, a keeper goes back to nothing else
+pub only_left : (outcomes : List ℕ → Type 0) (last : Option (List ℕ)) (s : State) (here : List ℕ) → outcomes here → Leaves outcomes (FindsBody last) → (c : List ℕ) → FindsRunning (OrLast outcomes last) s c
+    → FindsRunning outcomes s c
+only_left outcomes last s here now kept c either = ⊎_elim
+    (λ found. inl (⊎_elim
+    (λ left. (found.0, left, found.2))
+    (λ finds. (here, now, as_then c found.0 here found.2 (both_as last found.0 here finds (kept here now))))
+    found.1))
+    (λ finds. inr finds)
+    either
 
 -- ---- faults
 -- what the first save refuses, an opening does
@@ -71,20 +84,20 @@ save_opening generation (station.Image f) h = absurd h
 save_opening generation station.NoMoreIncarnations h = absurd h
 
 -- a save's fault at a keeper that was opened just now
-pub first_save : (generation : ℕ) (fault : StationFault) → IsSaveFault fault → (fault ≡ station.Keeper keeper.Reopen → ⊥) → (fault ≡ station.Keeper keeper.NoMoreGenerations → generation ≡ 2 ^ 64 - 1)
+pub first_save : (generation : ℕ) (fault : StationFault) → IsSaveFault fault → (fault ≡ station.Keeper keeper.NoMoreGenerations → generation ≡ 2 ^ 64 - 1)
     → IsFirstSaveFault generation fault
-first_save generation station.OutOfMemory h fresh last = tt
-first_save generation (station.Keeper keeper.OutOfMemory) h fresh last = absurd h
-first_save generation (station.Keeper keeper.DiskFault) h fresh last = tt
-first_save generation (station.Keeper keeper.NoMoreGenerations) h fresh last = last refl
-first_save generation (station.Keeper keeper.TooLarge) h fresh last = absurd h
-first_save generation (station.Keeper keeper.Damaged) h fresh last = absurd h
-first_save generation (station.Keeper keeper.Reopen) h fresh last = absurd (fresh refl)
-first_save generation (station.Poll f) h fresh last = absurd h
-first_save generation (station.Response f) h fresh last = absurd h
-first_save generation (station.Exchange f) h fresh last = absurd h
-first_save generation (station.Image f) h fresh last = absurd h
-first_save generation station.NoMoreIncarnations h fresh last = absurd h
+first_save generation station.OutOfMemory h last = tt
+first_save generation (station.Keeper keeper.OutOfMemory) h last = absurd h
+first_save generation (station.Keeper keeper.DiskFault) h last = tt
+first_save generation (station.Keeper keeper.NoMoreGenerations) h last = last refl
+first_save generation (station.Keeper keeper.TooLarge) h last = absurd h
+first_save generation (station.Keeper keeper.Damaged) h last = absurd h
+first_save generation (station.Keeper keeper.Reopen) h last = absurd h
+first_save generation (station.Poll f) h last = absurd h
+first_save generation (station.Response f) h last = absurd h
+first_save generation (station.Exchange f) h last = absurd h
+first_save generation (station.Image f) h last = absurd h
+first_save generation station.NoMoreIncarnations h last = absurd h
 
 -- a body's fault is one of an opening's
 pub body_opening : (watch : Watch) (body : Option (List ℕ)) (fault : StationFault) → IsFaultOfBody watch body fault → IsOpeningFault fault
@@ -123,13 +136,13 @@ keeper_opening keeper.Damaged of = (tt, λ b. b)
 keeper_opening keeper.Reopen of = absurd (let no : false ≡ true = of in cc)
 
 -- of a save of what fits, as the station's
-pub keeper_of_save : (f : KeeperFault) → (f ≡ keeper.Damaged → ⊥) → (f ≡ keeper.TooLarge → ⊥) → IsSaveFault (keeper_refusal f)
-keeper_of_save keeper.OutOfMemory sound fits = tt
-keeper_of_save keeper.DiskFault sound fits = tt
-keeper_of_save keeper.NoMoreGenerations sound fits = tt
-keeper_of_save keeper.TooLarge sound fits = absurd (fits refl)
-keeper_of_save keeper.Damaged sound fits = absurd (sound refl)
-keeper_of_save keeper.Reopen sound fits = tt
+pub keeper_of_save : (f : KeeperFault) → IsMendedFault f → IsSaveFault (keeper_refusal f)
+keeper_of_save keeper.OutOfMemory is = tt
+keeper_of_save keeper.DiskFault is = tt
+keeper_of_save keeper.NoMoreGenerations is = tt
+keeper_of_save keeper.TooLarge is = absurd is
+keeper_of_save keeper.Damaged is = absurd is
+keeper_of_save keeper.Reopen is = absurd is
 
 -- the station's fault is the keeper's of this kind
 pub was_keeper : (f g : KeeperFault) → keeper_refusal f ≡ station.Keeper g → f ≡ g
@@ -168,7 +181,7 @@ body_cause watch body before now (station.Image f) le h = le
 body_cause watch body before now station.NoMoreIncarnations le h = le
 
 -- a cause after calls that were answered Ok
-disk_cause : (before mid now : ℕ) (fault : KeeperFault) → before ≤ mid → HasDiskCause mid now fault → HasDiskCause before now fault
+pub disk_cause : (before mid now : ℕ) (fault : KeeperFault) → before ≤ mid → HasDiskCause mid now fault → HasDiskCause before now fault
 disk_cause before mid now fault le h = record {
   no_less = omega (arith, le, h.no_less);
   told = λ is. ⊎_elim (λ (rose : mid < now). inl (omega (arith, le, rose))) (λ (full : mid ≡ 2 ^ 64 - 1). at_full full (cases_lt before mid)) (h.told is);

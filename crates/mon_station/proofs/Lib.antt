@@ -3,6 +3,7 @@ mod Faults
 mod Few
 mod Handled
 mod Kept
+mod Mended
 mod Offered
 mod Past
 mod Quiet

@@ -5,7 +5,7 @@ use Rattle.std.specs.FinMap as map
 use Rattle.mon_disk.specs.declared.disk.Disk.{Ghosts}
 use Rattle.mon_disk.specs.declared.fault.KeeperFault.TheVariants as keeper
 use Rattle.mon_disk.specs.Disk.{Leaves, LeavesSince}
-use Rattle.mon_disk.specs.Keeper.{FindsAs, IsAs}
+use Rattle.mon_disk.specs.Keeper.{FindsAs, FindsBody, IsAs}
 use Rattle.mon_disk.proofs.Promised.{as_body_of, as_then, at_rest, chained, itself, weaker}
 use Rattle.mon_udp.specs.Counts.{failed_after, next_count}
 use Rattle.mon_udp.specs.Told.{extended}
@@ -22,8 +22,8 @@ use Rattle.mon_station.specs.Lived.{HandledIn, IsLived, last_state}
 use Rattle.mon_station.specs.ReadEvent.{ReadEvent, ReadsAs, owned, OwnedEvent, LentEvent, StartPoll, Timeout, FromAgent, FromPeer, Share, Save}
 use Rattle.mon_station.specs.Ran as ran
 use Rattle.mon_station.specs.Ran.{AreAsked, AreCalls, Call, Did, FindsAfter, FindsAmid, FindsDuring, FindsLast, FindsSaved, Gave, HasFailed, IsKnown, IsMet, IsOldest, IsTurn, LiveOn, Ran, Tells, Turn, answers_of, entries_by, entry_of, failed_in, failed_of, failures_after, faults_in, go_on, goes_on, result_of, sent_of, shown, state_after, turn_in, turns_of, view_after}
-use Rattle.mon_station.specs.Saved.{FindsRunning, FindsState}
-use Rattle.mon_station.specs.Seen.{Seen}
+use Rattle.mon_station.specs.Saved.{FindsRunning, FindsState, IsSavedAs, OrLast}
+use Rattle.mon_station.specs.Seen.{Seen, met}
 use Rattle.mon_station.specs.State.{State, IsHandled}
 use Rattle.mon_station.specs.Taken.{Entry, Answered}
 use Rattle.mon_station.specs.Told.{IsAnswered}
@@ -42,6 +42,9 @@ extended_twice None xs ys = refl
 extended_twice (Some all) xs ys = ap Some (append_assoc all xs ys)
 
 -- ---- what an opening finds
+or_last : (outcomes : List ℕ → Type 0) (last : Option (List ℕ)) (c : List ℕ) → FindsAs outcomes c → FindsAs (OrLast outcomes last) c
+or_last outcomes last c found = (found.0, inl found.1, found.2)
+
 -- of files that are as each other
 as_state : (s : State) (a b : List ℕ) → IsAs a b → FindsState s b → FindsState s a
 as_state s a b same finds = record { body = as_body_of _ a b same finds.body; spells = finds.spells }
@@ -200,18 +203,18 @@ module _ {V X : Type 0} (G : Ghosts X) (Gives : V → Option ℕ → Result (Opt
         view = last.view;
         handed = last.handed ∙ ap (λ (h : Option (List Outgoing)). extended h more) so_far.handed ∙ extended_twice a.handed (sent_of turns) more ∙ ap (extended a.handed) (sent_on call.gave turns);
         honest = λ h. last.honest (so_far.honest h);
-        file = λ h c left. last_on a.state b.state (G.may_leave a.disk) (G.may_leave b.disk) turns so_far.state (so_far.file h) call.gave c (last.file (so_far.honest h) c left);
+        file = λ h c left. last_on a.state b.state (met a) (met b) turns so_far.state (so_far.file h) call.gave c (last.file (so_far.honest h) c left);
         any_moment = λ h. chained G.moment G.left_since G.may_leave a.disk b.disk c.disk _
-            (weaker G.moment G.left_since G.may_leave a.disk b.disk _ _ (amid_more a.state (G.may_leave a.disk) turns call.gave) (so_far.any_moment h))
-            (weaker G.moment G.left_since G.may_leave b.disk c.disk _ _ (amid_on a.state b.state (G.may_leave a.disk) (G.may_leave b.disk) turns so_far.state (so_far.file h) call.gave) (last.any_moment (so_far.honest h)));
+            (weaker G.moment G.left_since G.may_leave a.disk b.disk _ _ (amid_more a.state (met a) turns call.gave) (so_far.any_moment h))
+            (weaker G.moment G.left_since G.may_leave b.disk c.disk _ _ (amid_on a.state b.state (met a) (met b) turns so_far.state (so_far.file h) call.gave) (last.any_moment (so_far.honest h)));
       }
 
   -- a call that gave an event
-  pub did_event : (before after : State) (v w : V) (handed0 handed1 : Option (List Outgoing)) (old new : X) (oldest : Option ℕ) (event : OwnedEvent) (answer : Answer)
-      → (t : Turned {G = G} (record { state = before; view = tt {0}; handed = handed0; disk = old }) (record { state = after; view = tt {0}; handed = handed1; disk = new }) event answer)
+  pub did_event : (before after : State) (v w : V) (handed0 handed1 : Option (List Outgoing)) (old new : X) (last0 last1 : Option (List ℕ)) (oldest : Option ℕ) (event : OwnedEvent) (answer : Answer)
+      → (t : Turned {G = G} (record { state = before; view = tt {0}; handed = handed0; disk = old; last = last0 }) (record { state = after; view = tt {0}; handed = handed1; disk = new; last = last1 }) event answer)
       → IsOldest before.poller.polls.open_polls oldest → Gives v oldest (Ok (Some event)) w
-      → Did {G = G} Gives (record { state = before; view = v; handed = handed0; disk = old }) (record { state = after; view = w; handed = handed1; disk = new }) (record { oldest = oldest; gave = ran.Event t.turn; view = w } ∷ [])
-  did_event before after v w handed0 handed1 old new oldest event answer t least gives = record {
+      → Did {G = G} Gives (record { state = before; view = v; handed = handed0; disk = old; last = last0 }) (record { state = after; view = w; handed = handed1; disk = new; last = last1 }) (record { oldest = oldest; gave = ran.Event t.turn; view = w } ∷ [])
+  did_event before after v w handed0 handed1 old new last0 last1 oldest event answer t least gives = record {
     are = (record { oldest = least; gives = subst (λ (e : OwnedEvent). Gives v oldest (Ok (Some e)) w) (sym t.event_is) gives; met = t.is }, refl, tt);
     state = t.state;
     view = refl;
@@ -223,8 +226,8 @@ module _ {V X : Type 0} (G : Ghosts X) (Gives : V → Option ℕ → Result (Opt
 
   -- a call that gave none
   module _ (only_now : (disk : X) (c : List ℕ) → G.is_honest disk → G.left_since disk (G.moment disk) c → G.may_leave disk c) where
-    rests : (s : State) (disk : X) → G.is_honest disk → LeavesSince G.moment G.left_since disk disk (FindsAmid s (G.may_leave disk) [])
-    rests s disk h = at_rest G.moment G.left_since G.may_leave disk (λ c left. only_now disk c h left)
+    rests : (s : State) (disk : X) (last : Option (List ℕ)) → G.is_honest disk → LeavesSince G.moment G.left_since disk disk (FindsAmid s (OrLast (G.may_leave disk) last) [])
+    rests s disk last h = weaker G.moment G.left_since G.may_leave disk disk _ _ (or_last (G.may_leave disk) last) (at_rest G.moment G.left_since G.may_leave disk (λ c left. only_now disk c h left))
 
     pub did_nothing : (s : Seen V G) → Did Gives s s []
     did_nothing s = record {
@@ -233,14 +236,14 @@ module _ {V X : Type 0} (G : Ghosts X) (Gives : V → Option ℕ → Result (Opt
       view = refl;
       handed = extended_none s.handed;
       honest = λ h. h;
-      file = λ h c l. itself (G.may_leave s.disk) c l;
-      any_moment = rests s.state s.disk;
+      file = λ h c l. itself (met s) c l;
+      any_moment = rests s.state s.disk s.last;
     }
 
-    pub did_none : (state : State) (v w : V) (handed : Option (List Outgoing)) (disk : X) (oldest : Option ℕ) (gave : Gave) → turn_in gave ≡ [] → IsMet state gave
+    pub did_none : (state : State) (v w : V) (handed : Option (List Outgoing)) (disk : X) (last : Option (List ℕ)) (oldest : Option ℕ) (gave : Gave) → turn_in gave ≡ [] → IsMet state gave
         → IsOldest state.poller.polls.open_polls oldest → Gives v oldest (result_of gave) w
-        → Did {G = G} Gives (record { state = state; view = v; handed = handed; disk = disk }) (record { state = state; view = w; handed = handed; disk = disk }) (record { oldest = oldest; gave = gave; view = w } ∷ [])
-    did_none state v w handed disk oldest gave none met least gives =
+        → Did {G = G} Gives (record { state = state; view = v; handed = handed; disk = disk; last = last }) (record { state = state; view = w; handed = handed; disk = disk; last = last }) (record { oldest = oldest; gave = gave; view = w } ∷ [])
+    did_none state v w handed disk last oldest gave none met least gives =
         let no_turn : turn_in gave ++ [] ≡ [] = ap (λ (ts : List Turn). ts ++ []) none in
         record {
           are = (record { oldest = least; gives = gives; met = met }, refl, tt);
@@ -248,8 +251,8 @@ module _ {V X : Type 0} (G : Ghosts X) (Gives : V → Option ℕ → Result (Opt
           view = refl;
           handed = extended_none handed ∙ sym (ap (λ (ts : List Turn). extended handed (sent_of ts)) no_turn);
           honest = λ h. h;
-          file = λ h. subst (λ (ts : List Turn). Leaves (G.may_leave disk) (FindsLast state (G.may_leave disk) ts)) (sym no_turn) (λ c l. itself (G.may_leave disk) c l);
-          any_moment = λ h. subst (λ (ts : List Turn). LeavesSince G.moment G.left_since disk disk (FindsAmid state (G.may_leave disk) ts)) (sym no_turn) (rests state disk h);
+          file = λ h. subst (λ (ts : List Turn). Leaves (OrLast (G.may_leave disk) last) (FindsLast state (OrLast (G.may_leave disk) last) ts)) (sym no_turn) (λ c l. itself (OrLast (G.may_leave disk) last) c l);
+          any_moment = λ h. subst (λ (ts : List Turn). LeavesSince G.moment G.left_since disk disk (FindsAmid state (OrLast (G.may_leave disk) last) ts)) (sym no_turn) (rests state disk last h);
         }
 
     pub so_far_none : (s : Seen V G) (run : Run) → ran.IsEmpty run → RanSoFar Gives s s run true
@@ -310,12 +313,12 @@ known_fault s event station.NoMoreIncarnations h = let r = h (λ e. cc) in (Some
 no_fault : {f : StationFault} → None ≡ Some f → ⊥
 no_fault e = cc
 
-module _ {X : Type 0} (G : Ghosts X) (before after : State) (event : OwnedEvent) (old new : X) (still : G.is_honest old → G.is_honest new) where
+module _ {X : Type 0} (G : Ghosts X) (before after : State) (event : OwnedEvent) (old new : X) (last0 last1 : Option (List ℕ)) (still : G.is_honest old → G.is_honest new) where
   pub turned_told : (told : Told) (handed0 handed1 : Option (List Outgoing)) (answer : Answer) → ((e : ReadEvent) → ReadsAs before.board.watch event e → IsAnswered before after e (Ok told))
       → (e : ReadEvent) × ReadsAs before.board.watch event e → handed1 ≡ extended handed0 told.sends.items → answer ≡ shown None told.taken told.given_up
-      → (G.is_honest old → Leaves (G.may_leave new) (λ c. FindsAfter before event None (FindsAs (G.may_leave old) c) c))
-      → (G.is_honest old → LeavesSince G.moment G.left_since old new (λ c. FindsAs (G.may_leave old) c ⊎ FindsDuring before event (FindsAs (G.may_leave old) c) c))
-      → Turned {G = G} (record { state = before; view = tt {0}; handed = handed0; disk = old }) (record { state = after; view = tt {0}; handed = handed1; disk = new }) event answer
+      → (G.is_honest old → Leaves (OrLast (G.may_leave new) last1) (λ c. FindsAfter before event None (FindsAs (OrLast (G.may_leave old) last0) c) c))
+      → (G.is_honest old → LeavesSince G.moment G.left_since old new (λ c. FindsAs (OrLast (G.may_leave old) last0) c ⊎ FindsDuring before event (FindsAs (OrLast (G.may_leave old) last0) c) c))
+      → Turned {G = G} (record { state = before; view = tt {0}; handed = handed0; disk = old; last = last0 }) (record { state = after; view = tt {0}; handed = handed1; disk = new; last = last1 }) event answer
   turned_told told handed0 handed1 answer h read handed is file amid = record {
     turn = record { event = event; reading = Some read.0; answer = None; taken = told.taken; given_up = told.given_up; sent = told.sends.items; after = after };
     event_is = refl;
@@ -334,9 +337,9 @@ module _ {X : Type 0} (G : Ghosts X) (before after : State) (event : OwnedEvent)
 
   pub turned_fault : (fault : StationFault) (handed : Option (List Outgoing)) (answer : Answer) → ((e : ReadEvent) → ReadsAs before.board.watch event e → IsAnswered before after e (Err fault))
       → ((fault ≡ station.OutOfMemory → ⊥) → (e : ReadEvent) × ReadsAs before.board.watch event e) → (fault ≡ station.OutOfMemory → after ≡ before) → answer ≡ shown (Some fault) [] None
-      → (G.is_honest old → Leaves (G.may_leave new) (λ c. FindsAfter before event (Some fault) (FindsAs (G.may_leave old) c) c))
-      → (G.is_honest old → LeavesSince G.moment G.left_since old new (λ c. FindsAs (G.may_leave old) c ⊎ FindsDuring before event (FindsAs (G.may_leave old) c) c))
-      → Turned {G = G} (record { state = before; view = tt {0}; handed = handed; disk = old }) (record { state = after; view = tt {0}; handed = handed; disk = new }) event answer
+      → (G.is_honest old → Leaves (OrLast (G.may_leave new) last1) (λ c. FindsAfter before event (Some fault) (FindsAs (OrLast (G.may_leave old) last0) c) c))
+      → (G.is_honest old → LeavesSince G.moment G.left_since old new (λ c. FindsAs (OrLast (G.may_leave old) last0) c ⊎ FindsDuring before event (FindsAs (OrLast (G.may_leave old) last0) c) c))
+      → Turned {G = G} (record { state = before; view = tt {0}; handed = handed; disk = old; last = last0 }) (record { state = after; view = tt {0}; handed = handed; disk = new; last = last1 }) event answer
   turned_fault fault handed answer h read stays is file amid =
       let known = known_fault before event fault read in
       record {
@@ -356,16 +359,16 @@ module _ {X : Type 0} (G : Ghosts X) (before after : State) (event : OwnedEvent)
       }
 
 -- what a crash amid an event leaves
-module _ {X : Type 0} (G : Ghosts X) (s : State) (old new : X) (only_now : (disk : X) (c : List ℕ) → G.is_honest disk → G.left_since disk (G.moment disk) c → G.may_leave disk c) (honest : G.is_honest old) where
+module _ {X : Type 0} (G : Ghosts X) (s : State) (old new : X) (last : Option (List ℕ)) (only_now : (disk : X) (c : List ℕ) → G.is_honest disk → G.left_since disk (G.moment disk) c → G.may_leave disk c) (honest : G.is_honest old) where
   abbrev Amid : OwnedEvent → Type 0
-  Amid event = LeavesSince G.moment G.left_since old new (λ c. FindsAs (G.may_leave old) c ⊎ FindsDuring s event (FindsAs (G.may_leave old) c) c)
+  Amid event = LeavesSince G.moment G.left_since old new (λ c. FindsAs (OrLast (G.may_leave old) last) c ⊎ FindsDuring s event (FindsAs (OrLast (G.may_leave old) last) c) c)
 
   rested : (event : OwnedEvent) → new ≡ old → Amid event
   rested event same =
-      subst (λ (d : X). LeavesSince G.moment G.left_since old d (λ c. FindsAs (G.may_leave old) c ⊎ FindsDuring s event (FindsAs (G.may_leave old) c) c)) (sym same)
-      (weaker G.moment G.left_since G.may_leave old old _ _ (λ c found. inl found) (at_rest G.moment G.left_since G.may_leave old (λ c left. only_now old c honest left)))
+      subst (λ (d : X). LeavesSince G.moment G.left_since old d (λ c. FindsAs (OrLast (G.may_leave old) last) c ⊎ FindsDuring s event (FindsAs (OrLast (G.may_leave old) last) c) c)) (sym same)
+      (weaker G.moment G.left_since G.may_leave old old _ _ (λ c found. inl (or_last (G.may_leave old) last c found)) (at_rest G.moment G.left_since G.may_leave old (λ c left. only_now old c honest left)))
 
-  pub amid : (event : OwnedEvent) → ((event ≡ Save → ⊥) → new ≡ old) → LeavesSince G.moment G.left_since old new (FindsRunning (G.may_leave old) s) → Amid event
+  pub amid : (event : OwnedEvent) → ((event ≡ Save → ⊥) → new ≡ old) → LeavesSince G.moment G.left_since old new (FindsRunning (OrLast (G.may_leave old) last) s) → Amid event
   amid (StartPoll t) same running = rested (StartPoll t) (same (λ e. cc))
   amid (Timeout id) same running = rested (Timeout id) (same (λ e. cc))
   amid (FromAgent a o) same running = rested (FromAgent a o) (same (λ e. cc))
@@ -408,6 +411,16 @@ module _ {D : Type 0} (left : D → List ℕ → Type 0) (s : State) (old new : 
   file_fault (FromPeer o) fault same unsaved running = stays (same (λ e. cc))
   file_fault (Share y) fault same unsaved running = stays (same (λ e. cc))
   file_fault Save fault same unsaved running = save_fault fault unsaved running
+
+-- with what the keeper knows as the last
+pub saved_or_last : (outcomes : List ℕ → Type 0) (last : Option (List ℕ)) (s : State) → Leaves outcomes (FindsState s) → IsSavedAs s last → Leaves (OrLast outcomes last) (FindsState s)
+saved_or_last outcomes last s found is c either = ⊎_elim (λ left. found c left) (λ finds. record { body = subst (λ (b : Option (List ℕ)). FindsBody b c) is.octets finds; spells = is.spells }) either
+
+pub running_or_last : (left : List ℕ → Type 0) (outcomes : List ℕ → Type 0) (last0 last1 : Option (List ℕ)) (s : State) → last1 ≡ last0 → Leaves left (FindsRunning (OrLast outcomes last0) s) → Leaves (OrLast left last1) (FindsRunning (OrLast outcomes last0) s)
+running_or_last left outcomes last0 last1 s same found c either = ⊎_elim
+    (λ here. found c here)
+    (λ finds. inl (itself (OrLast outcomes last0) c (inr (subst (λ (b : Option (List ℕ)). FindsBody b c) same finds))))
+    either
 
 -- a borrowed event is a save where the event is one
 pub not_save : (e : LentEvent) → (owned e ≡ Save → ⊥) → e ≡ Save → ⊥

@@ -24,7 +24,7 @@ use Rattle.mon_station.specs.Lived.{HandledIn}
 use Rattle.mon_station.specs.ReadEvent.{ReadEvent, StartPoll, Timeout, FromAgent, FromPeer, Share, Save}
 use Rattle.mon_station.specs.Saved.{FindsBegun, FindsRunning, IsBegun, saved_octets}
 use Rattle.mon_station.specs.State.{State, IsHandled, setting_of}
-use Rattle.mon_station.specs.Stops.{FindsOneOf, FindsRunningIn, FindsSave, FoundAfter, GoesOn, Happening, IsDiskAfterIn, IsHistory, IsRaised, IsRunning, MayFind, Opened, Unopened, Handled, StoppedOpening, Stopped, begun_in, last_disk, running}
+use Rattle.mon_station.specs.Stops.{FindsOneOf, FindsRunningIn, FindsSave, FoundAfter, GoesOn, Happening, IsDiskAfterIn, IsHistory, IsRaised, IsRunning, MayFind, OrSaved, Opened, Unopened, Handled, StoppedOpening, Stopped, begun_in, last_disk, last_saved, running, saved_after}
 use Rattle.mon_station.specs.Verdict.{Setting, added}
 
 -- ---- the incarnation of an image is in its octets, whatever the instances are
@@ -116,6 +116,29 @@ running_either May outcomes None has file finds = either_of May (IsRunning None)
 running_either May outcomes (Some s) has file finds =
     ⊎_elim (λ old. either_of May (IsRunning (Some s)) file (as_one_of May outcomes has file old)) (λ new. (Some s, inr (s, refl, refl), new)) finds
 
+-- the state that was saved last is among what may be found
+or_saved : (May : Option State → Type 0) (outcomes : List ℕ → Type 0) (saved : Option State) → ((s : State) → saved ≡ Some s → May (Some s)) → Leaves outcomes (FindsOneOf May) → Leaves (OrSaved outcomes saved) (FindsOneOf May)
+or_saved May outcomes None may has file one = has file one
+or_saved May outcomes (Some s) may has file one = ⊎_elim (λ left. has file left) (λ finds. (Some s, may s refl, finds)) one
+
+still_saved : {D : Type 0} (seen : D → List ℕ) (first : D) (e : ReadEvent) (answer : Option StationFault) (past : List (Happening × D)) → ((s : State) → last_saved past ≡ Some s → MayFind seen first past (Some s))
+    → (s : State) → saved_after e answer (running past) (last_saved past) ≡ Some s → FoundAfter e answer (running past) (MayFind seen first past) (Some s)
+still_saved seen first Save None past may s is = (s, is, refl)
+still_saved seen first Save (Some f) past may s is = inl (may s is)
+still_saved seen first (StartPoll target) answer past may s is = may s is
+still_saved seen first (Timeout id) answer past may s is = may s is
+still_saved seen first (FromAgent from read) answer past may s is = may s is
+still_saved seen first (FromPeer said) answer past may s is = may s is
+still_saved seen first (Share peer) answer past may s is = may s is
+
+saved_may : {D : Type 0} (seen : D → List ℕ) (first : D) (past : List (Happening × D)) (s : State) → last_saved past ≡ Some s → MayFind seen first past (Some s)
+saved_may seen first [] s is = absurd cc
+saved_may seen first ((Opened w t, disk) ∷ past) s is = sym is
+saved_may seen first ((Unopened w, disk) ∷ past) s is = absurd cc
+saved_may seen first ((Handled e answer t, disk) ∷ past) s is = still_saved seen first e answer past (saved_may seen first past) s is
+saved_may seen first ((StoppedOpening w, disk) ∷ past) s is = absurd cc
+saved_may seen first ((Stopped, disk) ∷ past) s is = absurd cc
+
 module _ (read_back : (watch : Watch) (board again : Board) (incarnation read : ℕ) → ((i : ℕ) → IsWhole board.watch (window_of board) i)
     → instances_of watch.instances ≡ instances_of board.watch.instances
     → SpellsImage (written_image board incarnation) (instances_of board.watch.instances) (image_of board incarnation)
@@ -192,17 +215,18 @@ module _ (read_back : (watch : Watch) (board again : Board) (incarnation read : 
     still : (May : Option State → Type 0) (old new : D) → new ≡ old → Leaves (may_leave old) (FindsOneOf May) → Leaves (may_leave new) (FindsOneOf May)
     still May old new same has = subst (λ disk. Leaves (may_leave disk) (FindsOneOf May)) (sym same) has
 
-    handled_left : (May : Option State → Type 0) (life : Option State) (e : ReadEvent) (answer : Option StationFault) (old new : D) → is_honest new → Leaves (may_leave old) (FindsOneOf May)
-        → IsDiskAfterIn seen may_leave moment left_since life e answer old new → Leaves (may_leave new) (FindsOneOf (FoundAfter e answer life May))
-    handled_left May None e answer old new sound has is = absurd is
-    handled_left May (Some s) Save None old new sound has is = λ file left. (Some s, (s, refl, refl), is file left)
-    handled_left May (Some s) Save (Some f) old new sound has is = λ file left.
-        running_either May (may_leave old) (Some s) has file (at_end moment left_since may_leave old new (FindsRunning (may_leave old) s) (λ t c. counts new t c sound) is file left)
-    handled_left May (Some s) (StartPoll target) answer old new sound has is = still May old new is has
-    handled_left May (Some s) (Timeout id) answer old new sound has is = still May old new is has
-    handled_left May (Some s) (FromAgent from read) answer old new sound has is = still May old new is has
-    handled_left May (Some s) (FromPeer said) answer old new sound has is = still May old new is has
-    handled_left May (Some s) (Share peer) answer old new sound has is = still May old new is has
+    handled_left : (May : Option State → Type 0) (saved life : Option State) → ((s : State) → saved ≡ Some s → May (Some s)) → (e : ReadEvent) (answer : Option StationFault) (old new : D) → is_honest new → Leaves (may_leave old) (FindsOneOf May)
+        → IsDiskAfterIn seen may_leave moment left_since saved life e answer old new → Leaves (may_leave new) (FindsOneOf (FoundAfter e answer life May))
+    handled_left May saved None may e answer old new sound has is = absurd is
+    handled_left May saved (Some s) may Save None old new sound has is = λ file left. (Some s, (s, refl, refl), is file left)
+    handled_left May saved (Some s) may Save (Some f) old new sound has is = λ file left.
+        running_either May (OrSaved (may_leave old) saved) (Some s) (or_saved May (may_leave old) saved may has) file
+        (at_end moment left_since may_leave old new (FindsRunning (OrSaved (may_leave old) saved) s) (λ t c. counts new t c sound) is file left)
+    handled_left May saved (Some s) may (StartPoll target) answer old new sound has is = still May old new is has
+    handled_left May saved (Some s) may (Timeout id) answer old new sound has is = still May old new is has
+    handled_left May saved (Some s) may (FromAgent from read) answer old new sound has is = still May old new is has
+    handled_left May saved (Some s) may (FromPeer said) answer old new sound has is = still May old new is has
+    handled_left May saved (Some s) may (Share peer) answer old new sound has is = still May old new is has
 
     handled_runs : (lives : List State) (life : Option State) (e : ReadEvent) (answer : Option StationFault) (s : State) → RunsLate lives life → HandledIn life e answer s → IsAsLate lives s
     handled_runs lives None e answer s late h = absurd h
@@ -238,7 +262,7 @@ module _ (read_back : (watch : Watch) (board again : Board) (incarnation read : 
         let sound = sound_after past is.2 in
         record {
           honest_now = is.0;
-          left = handled_left (MayFind seen first past) (running past) e answer (last_disk first past) new is.0 sound.left is.1.1;
+          left = handled_left (MayFind seen first past) (last_saved past) (running past) (saved_may seen first past) e answer (last_disk first past) new is.0 sound.left is.1.1;
           bound = handled_bound past e answer sound;
           runs = handled_runs (begun_in past) (running past) e answer s sound.runs is.1.0;
         }
@@ -258,7 +282,8 @@ module _ (read_back : (watch : Watch) (board again : Board) (incarnation read : 
         record {
           honest_now = is.0;
           left = λ file left. subst (FindsOneOf (MayFind seen first ((Stopped, new) ∷ past))) (sym (is.1.only file left))
-              (running_either (MayFind seen first past) (may_leave old) (running past) sound.left is.1.file (is.1.any_moment.each is.1.file is.1.left));
+              (running_either (MayFind seen first past) (OrSaved (may_leave old) (last_saved past)) (running past) (or_saved (MayFind seen first past) (may_leave old) (last_saved past) (saved_may seen first past) sound.left)
+              is.1.file (is.1.any_moment.each is.1.file is.1.left));
           bound = running_or past sound;
           runs = tt;
         }

@@ -1,6 +1,7 @@
 pub mod Fault
 pub mod Found
 pub mod Lived
+pub mod Mended
 pub mod Opened
 pub mod Ran
 pub mod ReadEvent

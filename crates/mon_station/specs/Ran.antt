@@ -20,7 +20,7 @@ use Rattle.mon_station.specs.declared.running.SourceFault.{SourceFault}
 use Rattle.mon_station.specs.Lived.{IsLived, last_state}
 use Rattle.mon_station.specs.ReadEvent.{ReadEvent, ReadsAs, OwnedEvent, Save}
 use Rattle.mon_station.specs.Saved.{FindsState}
-use Rattle.mon_station.specs.Seen.{Seen}
+use Rattle.mon_station.specs.Seen.{Seen, met}
 use Rattle.mon_station.specs.State.{State, IsHandled, setting_of}
 use Rattle.mon_station.specs.Taken.{Entry, Answered}
 use Rattle.mon_station.specs.Told.{gave_up_in, sends}
@@ -249,16 +249,16 @@ LiveOn before after more = (past : List (Entry × State)) → IsLived past → l
 
 -- ---- runs
 -- What calls did, from one sight of a station to another. They left the state, the view and what
--- the outbox was given; an honest disk stays so; a crash after them leaves the last save, and a
--- crash in the middle of them what was saved then.
+-- the outbox was given; an honest disk stays so; a crash after them leaves the last save, which the
+-- keeper knows too, and a crash in the middle of them what was saved then.
 pub record Did {V X : Type 0} {G : Ghosts X} (Gives : V → Option ℕ → Result (Option OwnedEvent) SourceFault → V → Type 0) (before after : Seen V G) (calls : List (Call V)) : Type 0 where
   pub are : AreCalls Gives before.view before.state calls
   pub state : after.state ≡ state_after before.state (turns_of calls)
   pub view : after.view ≡ view_after before.view calls
   pub handed : after.handed ≡ extended before.handed (sent_of (turns_of calls))
   pub honest : G.is_honest before.disk → G.is_honest after.disk
-  pub file : G.is_honest before.disk → Leaves (G.may_leave after.disk) (FindsLast before.state (G.may_leave before.disk) (turns_of calls))
-  pub any_moment : G.is_honest before.disk → LeavesSince G.moment G.left_since before.disk after.disk (FindsAmid before.state (G.may_leave before.disk) (turns_of calls))
+  pub file : G.is_honest before.disk → Leaves (met after) (FindsLast before.state (met before) (turns_of calls))
+  pub any_moment : G.is_honest before.disk → LeavesSince G.moment G.left_since before.disk after.disk (FindsAmid before.state (met before) (turns_of calls))
 
 -- what is said of calls: how many they were, how their events were answered, in order, and how
 -- often the source failed

@@ -8,6 +8,9 @@ use Rattle.mon_disk.specs.declared.fault.KeeperFault.TheVariants as keeper
 use Rattle.mon_disk.specs.Disk.{Leaves, LeavesSince}
 use Rattle.mon_disk.specs.Fault.{HasDiskCause}
 use Rattle.mon_disk.specs.File.{found}
+use Rattle.mon_disk.specs.Kept.{device_of, last_body}
+use Rattle.mon_disk.specs.declared.disk.Disk.{Ghosts}
+use Rattle.mon_disk.specs.declared.keeper.Keeper.{Keeper}
 use Rattle.mon_disk.specs.Keeper.{FindsAs, FindsBody, IsAs, found_body, found_generation, is_undamaged}
 use Rattle.mon_disk.specs.declared.file.TheConstants.{SLOT_SIZE}
 use Rattle.mon_poller.specs.Polls.{no_polls}
@@ -33,6 +36,20 @@ pub record FindsState (s : State) (file : List ℕ) : Type 0 where
 -- an opening of this file meets what an opening of one of these would, or finds this state
 abbrev pub FindsRunning : (List ℕ → Type 0) → State → List ℕ → Type 0
 FindsRunning outcomes s file = FindsAs outcomes file ⊎ FindsState s file
+
+-- this body is the image of this state, which it spells
+pub record IsSavedAs (s : State) (body : Option (List ℕ)) : Type 0 where
+  pub octets : body ≡ Some (saved_octets s)
+  pub spells : SpellsImage (saved_octets s) (instances_of s.board.watch.instances) (image_of s.board s.incarnation)
+
+-- one of these files, or one in which an opening finds this body
+abbrev pub OrLast : (List ℕ → Type 0) → Option (List ℕ) → List ℕ → Type 0
+OrLast outcomes last file = outcomes file ⊎ FindsBody last file
+
+-- What a crash may leave of a keeper's disk, or a file in which its last save is found: a keeper whose disk failed goes back to that at the next save. Until it fails, these are
+-- the files that a crash may leave, for in each of them the last save is found.
+abbrev pub may_meet : {X : Type 0} {G : Ghosts X} → Keeper X G → List ℕ → Type 0
+may_meet {G = G} k = OrLast (G.may_leave (device_of k)) (last_body k)
 
 -- ---- the life that an opening begins
 -- the windows and the incarnation of a life that begins from this body: where none is found, empty windows and 1; else those of the image, and the next
@@ -96,17 +113,15 @@ IsForItsBody (fault.Image f) = Unit {0}
 IsForItsBody fault.NoMoreIncarnations = Unit {0}
 IsForItsBody other = ⊥
 
--- A save is refused if memory runs out, or by the keeper: if the disk failed in it or in an earlier
--- one, or at the greatest generation. An image always fits.
+-- A save is refused if memory runs out, or by the keeper: if the disk failed in it, or at the greatest generation. An image always fits, and a keeper whose disk failed in an
+-- earlier save is reopened first.
 abbrev pub IsSaveFault : StationFault → Type 0
 IsSaveFault fault.OutOfMemory = Unit {0}
 IsSaveFault (fault.Keeper keeper.DiskFault) = Unit {0}
 IsSaveFault (fault.Keeper keeper.NoMoreGenerations) = Unit {0}
-IsSaveFault (fault.Keeper keeper.Reopen) = Unit {0}
 IsSaveFault other = ⊥
 
--- Why a save is refused at a keeper that was just opened, and knew of this generation: the disk
--- failed in no earlier save.
+-- why a save is refused at a keeper that was just opened, and knew of this generation
 abbrev pub IsFirstSaveFault : ℕ → StationFault → Type 0
 IsFirstSaveFault generation fault.OutOfMemory = Unit {0}
 IsFirstSaveFault generation (fault.Keeper keeper.DiskFault) = Unit {0}

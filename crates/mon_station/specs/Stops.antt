@@ -28,6 +28,11 @@ abbrev pub FindsSave : Option State → List ℕ → Type 0
 FindsSave None file = FindsBody None file
 FindsSave (Some s) file = FindsState s file
 
+-- one of these files, or one in which the saved state is found, if one is known
+abbrev pub OrSaved : (List ℕ → Type 0) → Option State → List ℕ → Type 0
+OrSaved outcomes None file = outcomes file
+OrSaved outcomes (Some s) file = outcomes file ⊎ FindsState s file
+
 -- an opening of this file meets what an opening of one of these would, or finds the state of the life that was running, if there was one
 abbrev pub FindsRunningIn : (List ℕ → Type 0) → Option State → List ℕ → Type 0
 FindsRunningIn outcomes None file = FindsAs outcomes file
@@ -49,29 +54,29 @@ module _ {D : Type 0} (seen : D → List ℕ) (may_leave : D → List ℕ → Ty
     pub begun : IsBegun w (found_body (seen old)) s
     pub kept : Leaves (may_leave new) (FindsState s)
 
-  -- the disk after an event that a life in this state answered so: after a save a crash leaves files in which the state is found; after one that failed perhaps; no other
-  -- event touches it
-  abbrev pub IsDiskAfter : State → ReadEvent → Option StationFault → D → D → Type 0
-  IsDiskAfter s Save None old new = Leaves (may_leave new) (FindsState s)
-  IsDiskAfter s Save (Some f) old new = LeavesSince moment left_since old new (FindsRunning (may_leave old) s)
-  IsDiskAfter s (StartPoll target) answer old new = new ≡ old
-  IsDiskAfter s (Timeout id) answer old new = new ≡ old
-  IsDiskAfter s (FromAgent from read) answer old new = new ≡ old
-  IsDiskAfter s (FromPeer said) answer old new = new ≡ old
-  IsDiskAfter s (Share peer) answer old new = new ≡ old
+  -- the disk after an event that a life in this state answered so, whose state was saved last: after a save a crash leaves files in which the state is found; after one that
+  -- failed perhaps, or the one that was saved last, to which a keeper goes back whose disk failed; no other event touches it
+  abbrev pub IsDiskAfter : Option State → State → ReadEvent → Option StationFault → D → D → Type 0
+  IsDiskAfter saved s Save None old new = Leaves (may_leave new) (FindsState s)
+  IsDiskAfter saved s Save (Some f) old new = LeavesSince moment left_since old new (FindsRunning (OrSaved (may_leave old) saved) s)
+  IsDiskAfter saved s (StartPoll target) answer old new = new ≡ old
+  IsDiskAfter saved s (Timeout id) answer old new = new ≡ old
+  IsDiskAfter saved s (FromAgent from read) answer old new = new ≡ old
+  IsDiskAfter saved s (FromPeer said) answer old new = new ≡ old
+  IsDiskAfter saved s (Share peer) answer old new = new ≡ old
 
   -- the states that may be found, and that of the life that is running, if one is
-  abbrev pub IsDiskAfterIn : Option State → ReadEvent → Option StationFault → D → D → Type 0
-  IsDiskAfterIn None e answer old new = ⊥
-  IsDiskAfterIn (Some s) e answer old new = IsDiskAfter s e answer old new
+  abbrev pub IsDiskAfterIn : Option State → Option State → ReadEvent → Option StationFault → D → D → Type 0
+  IsDiskAfterIn saved None e answer old new = ⊥
+  IsDiskAfterIn saved (Some s) e answer old new = IsDiskAfter saved s e answer old new
 
-  -- it happens where this life is running, if one is, from the disk before it to the disk after it
-  abbrev pub Happens : Option State → Happening → D → D → Type 0
-  Happens running (Opened w s) old new = IsOpened w s old new
-  Happens running (Unopened w) old new = IsBeginning w seen may_leave moment left_since old new
-  Happens running (Handled e answer s) old new = HandledIn running e answer s × IsDiskAfterIn running e answer old new
-  Happens running (StoppedOpening w) old new = IsStopped (λ c. FindsAs (may_leave old) c ⊎ FindsBegun w (found_body (seen old)) c) old new
-  Happens running Stopped old new = IsStopped (FindsRunningIn (may_leave old) running) old new
+  -- it happens where this life is running, if one is, and this state of it was saved last, from the disk before it to the disk after it
+  abbrev pub Happens : (running saved : Option State) → Happening → D → D → Type 0
+  Happens running saved (Opened w s) old new = IsOpened w s old new
+  Happens running saved (Unopened w) old new = IsBeginning w seen may_leave moment left_since old new
+  Happens running saved (Handled e answer s) old new = HandledIn running e answer s × IsDiskAfterIn saved running e answer old new
+  Happens running saved (StoppedOpening w) old new = IsStopped (λ c. FindsAs (may_leave old) c ⊎ FindsBegun w (found_body (seen old)) c) old new
+  Happens running saved Stopped old new = IsStopped (FindsRunningIn (OrSaved (may_leave old) saved) running) old new
 
 -- ---- histories, each happening with the disk that it left
 -- the state of the life that is running after it, if one is
@@ -82,6 +87,25 @@ running ((Unopened w, disk) ∷ past) = None
 running ((Handled e answer s, disk) ∷ past) = Some s
 running ((StoppedOpening w, disk) ∷ past) = None
 running ((Stopped, disk) ∷ past) = None
+
+-- the state of the running life that is the last saved after an event with this answer
+abbrev pub saved_after : ReadEvent → Option StationFault → (running saved : Option State) → Option State
+saved_after Save None running saved = running
+saved_after Save (Some f) running saved = saved
+saved_after (StartPoll target) answer running saved = saved
+saved_after (Timeout id) answer running saved = saved
+saved_after (FromAgent from read) answer running saved = saved
+saved_after (FromPeer said) answer running saved = saved
+saved_after (Share peer) answer running saved = saved
+
+-- the state of that life that was saved last: that of its opening, or of the last save that was answered without a fault
+abbrev pub last_saved : {D : Type 0} → List (Happening × D) → Option State
+last_saved [] = None
+last_saved ((Opened w s, disk) ∷ past) = Some s
+last_saved ((Unopened w, disk) ∷ past) = None
+last_saved ((Handled e answer s, disk) ∷ past) = saved_after e answer (running past) (last_saved past)
+last_saved ((StoppedOpening w, disk) ∷ past) = None
+last_saved ((Stopped, disk) ∷ past) = None
 
 -- the disk after it
 abbrev pub last_disk : {D : Type 0} → D → List (Happening × D) → D
@@ -101,7 +125,7 @@ module _ {D : Type 0} (is_honest : D → Type 0) (seen : D → List ℕ) (may_le
   -- each happening follows from the one before it, on honest disks
   abbrev pub IsHistory : D → List (Happening × D) → Type 0
   IsHistory first [] = Unit {0}
-  IsHistory first ((h, new) ∷ past) = is_honest new × Happens seen may_leave moment left_since (running past) h (last_disk first past) new × IsHistory first past
+  IsHistory first ((h, new) ∷ past) = is_honest new × Happens seen may_leave moment left_since (running past) (last_saved past) h (last_disk first past) new × IsHistory first past
 
 -- ---- what an opening may find
 -- it is the life that is running

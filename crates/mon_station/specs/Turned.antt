@@ -8,7 +8,7 @@ use Rattle.mon_station.specs.declared.running.Answer.{Answer}
 use Rattle.mon_station.specs.declared.running.Run.{Run}
 use Rattle.mon_station.specs.declared.running.SourceFault.{SourceFault}
 use Rattle.mon_station.specs.Ran.{Call, Did, FindsAmid, FindsLast, Gave, IsTurn, Tells, Turn, answers_of, failed_in, faults_in, go_on, goes_on, shown, turn_in}
-use Rattle.mon_station.specs.Seen.{Seen}
+use Rattle.mon_station.specs.Seen.{Seen, met}
 
 -- one event: its turn, its answer as it is shown, and what is left of the station, its outbox and its disk
 pub record Turned {V X : Type 0} {G : Ghosts X} (before after : Seen V G) (event : OwnedEvent) (answer : Answer) : Type 0 where
@@ -19,8 +19,8 @@ pub record Turned {V X : Type 0} {G : Ghosts X} (before after : Seen V G) (event
   pub handed : after.handed ≡ extended before.handed turn.sent
   pub shown_is : answer ≡ shown turn.answer turn.taken turn.given_up
   pub honest : G.is_honest before.disk → G.is_honest after.disk
-  pub file : G.is_honest before.disk → Leaves (G.may_leave after.disk) (FindsLast before.state (G.may_leave before.disk) (turn ∷ []))
-  pub any_moment : G.is_honest before.disk → LeavesSince G.moment G.left_since before.disk after.disk (FindsAmid before.state (G.may_leave before.disk) (turn ∷ []))
+  pub file : G.is_honest before.disk → Leaves (met after) (FindsLast before.state (met before) (turn ∷ []))
+  pub any_moment : G.is_honest before.disk → LeavesSince G.moment G.left_since before.disk after.disk (FindsAmid before.state (met before) (turn ∷ []))
 
 -- what is counted of what a call gave
 pub record IsCounted (old new : Run) (gave : Gave) : Type 0 where

@@ -8,6 +8,7 @@ mod event;
 mod fault;
 pub mod laws;
 mod life;
+mod mending;
 mod opening;
 mod running;
 mod saved;

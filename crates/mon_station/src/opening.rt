@@ -20,8 +20,8 @@ use mon_saved::read_image;
 use std::alloc::Global;
 
 impl<D: Disk + Drop> Station<D> {
-    ghost use Rattle.mon_disk.specs.Kept.{device_of, is_spoiled, last_generation};
-    ghost use Rattle.mon_station.specs.Saved.{FindsRunning, FindsState, IsBeginning, IsCausedBy, IsFaultOfFile, IsFirstSaveFault, IsForItsBody, IsOpeningFault};
+    ghost use Rattle.mon_disk.specs.Kept.{device_of, is_spoiled, last_body, last_generation};
+    ghost use Rattle.mon_station.specs.Saved.{FindsRunning, FindsState, IsBeginning, IsCausedBy, IsFaultOfFile, IsFirstSaveFault, IsForItsBody, IsOpeningFault, IsSavedAs};
     ghost use Rattle.mon_board.specs.Instance.{instances_of};
     ghost use Rattle.mon_station.specs.Lived.{IsLived, IsOrigin, saved_states};
     ghost use Rattle.mon_station.specs.State.{State, setting_of};
@@ -39,12 +39,14 @@ impl<D: Disk + Drop> Station<D> {
         ensures opened { D.is_honest disk → IfOk result (λ s. IsBegun (setting_in core) (found_body (D.seen disk)) (state_of s.life)) }
         // From then on a crash leaves a file in which an opening finds these windows and this incarnation.
         ensures kept { D.is_honest disk → IfOk result (λ s. Leaves (D.may_leave (device_of s.keeper)) (FindsState (state_of s.life))) }
+        // The keeper knows it as the last save.
+        ensures last { D.is_honest disk → IfOk result (λ s. IsSavedAs (state_of s.life) (last_body s.keeper)) }
         // A lived history goes on, from where the body that is found was written.
         ensures lived { D.is_honest disk → IfOk result (λ s. (past : List (Entry × State)) (origin : Origin) → IsLived past
             → IsOrigin (saved_states past) (found_body (D.seen disk)) (instances_of core.watch.instances) origin → IsLived ((Restart origin (setting_in core), state_of s.life) ∷ past)) }
         // It is a step of the law of stops.
-        ensures happens { D.is_honest disk → (running : Option State) → IfOk result (λ s. Happens D.seen D.may_leave D.moment D.left_since running (Opened (setting_in core) (state_of s.life)) disk (device_of s.keeper)) }
-        ensures happens_err { D.is_honest disk → (running : Option State) → IfErr result (λ e. Happens D.seen D.may_leave D.moment D.left_since running (Unopened (setting_in core)) disk e.1) }
+        ensures happens { D.is_honest disk → (running saved : Option State) → IfOk result (λ s. Happens D.seen D.may_leave D.moment D.left_since running saved (Opened (setting_in core) (state_of s.life)) disk (device_of s.keeper)) }
+        ensures happens_err { D.is_honest disk → (running saved : Option State) → IfErr result (λ e. Happens D.seen D.may_leave D.moment D.left_since running saved (Unopened (setting_in core)) disk e.1) }
         // In the middle of it a crash leaves what was there, or the raised incarnation; and no
         // older one later.
         ensures beginning { D.is_honest disk → IfOk result (λ s. IsBeginning (setting_in core) D.seen D.may_leave D.moment D.left_since disk (device_of s.keeper)) }
@@ -72,8 +74,10 @@ impl<D: Disk + Drop> Station<D> {
     /// A station of this life, which is saved first.
     fn settle(alloc: Global, life: Life, keeper: Keeper<D>) -> Result<Self, (StationFault, D)>
         requires fresh { is_spoiled keeper ≡ false }
+        requires kept { D.is_honest (device_of keeper) → Leaves (D.may_leave (device_of keeper)) (FindsBody (last_body keeper)) }
         ensures life { IfOk result (λ s. s.life ≡ life) }
         ensures kept { D.is_honest (device_of keeper) → IfOk result (λ s. Leaves (D.may_leave (device_of s.keeper)) (FindsState (state_of life))) }
+        ensures last { D.is_honest (device_of keeper) → IfOk result (λ s. IsSavedAs (state_of life) (last_body s.keeper)) }
         ensures any_moment { D.is_honest (device_of keeper) → IfOk result (λ s. LeavesSince D.moment D.left_since (device_of keeper) (device_of s.keeper)
             (FindsRunning (D.may_leave (device_of keeper)) (state_of life))) }
         ensures any_moment_err { D.is_honest (device_of keeper) → IfErr result (λ e. LeavesSince D.moment D.left_since (device_of keeper) e.1

@@ -10,6 +10,7 @@ ghost use Rattle.mon_disk.specs.Disk.{Leaves, LeavesSince};
 use crate::event::{Event, LentEvent, OwnedEvent, Told};
 use crate::fault::StationFault;
 use crate::life::{Life, told_none};
+use crate::mending::save_again;
 use mon_board::Board;
 use mon_disk::{Disk, FuseDisk, Keeper, KeeperFault};
 use std::alloc::Global;
@@ -26,10 +27,10 @@ pub struct Station<D: Disk + Drop> {
 }
 
 impl<D: Disk + Drop> Station<D> {
-    ghost use Rattle.mon_disk.specs.Kept.{device_of, is_spoiled, last_generation};
+    ghost use Rattle.mon_disk.specs.Kept.{device_of, is_spoiled, last_body, last_generation};
     ghost use Rattle.mon_station.specs.ReadEvent.{ReadEvent, ReadsAs, owned};
     ghost use Rattle.mon_station.specs.ReadEvent as read;
-    ghost use Rattle.mon_station.specs.Saved.{FindsRunning, FindsState, IsCausedBy, IsOfKeeper, IsSaveFault};
+    ghost use Rattle.mon_station.specs.Saved.{FindsRunning, FindsState, IsCausedBy, IsOfKeeper, IsSaveFault, IsSavedAs, may_meet};
     ghost use Rattle.mon_station.specs.State.{known_of, owed_count, setting_of, state_of};
     ghost use Rattle.mon_station.specs.Verdict.{slot_of};
     ghost use Rattle.mon_station.specs.Told.{IsAnswered};
@@ -45,7 +46,8 @@ impl<D: Disk + Drop> Station<D> {
     /// # Errors
     /// `OutOfMemory`, which changes nothing; the refusal of a poll, a response, a claim or a share;
     /// at a save the keeper's fault. A refusal changes nothing, except that a response may end its
-    /// poll, and a save that met `DiskFault` may have been saved or not.
+    /// poll, and a save that met `DiskFault` may have been saved or not; the next save mends the file
+    /// first.
     pub fn step(&mut self, alloc: Global, event: LentEvent<'_>) -> Result<Told, StationFault>
         // However the event's datagram reads: the answer is the verdict, and this is what it
         // leaves, sends and reports.
@@ -67,8 +69,8 @@ impl<D: Disk + Drop> Station<D> {
         ensures lived { (past : List (Entry × State)) → IsLived past → last_state past ≡ Some (state_of self.old.life)
             → (e : ReadEvent) → ReadsAs self.old.life.board.watch (owned event.entry) e → IsLived ((Answered e (answer_in result), state_of self.new.life) ∷ past) }
         // It is a step of the law of stops.
-        ensures happens { D.is_honest (device_of self.old.keeper) → (e : ReadEvent) → ReadsAs self.old.life.board.watch (owned event.entry) e
-            → Happens D.seen D.may_leave D.moment D.left_since (Some (state_of self.old.life)) (Handled e (answer_in result) (state_of self.new.life)) (device_of self.old.keeper) (device_of self.new.keeper) }
+        ensures happens { D.is_honest (device_of self.old.keeper) → (saved : State) → IsSavedAs saved (last_body self.old.keeper) → (e : ReadEvent) → ReadsAs self.old.life.board.watch (owned event.entry) e
+            → Happens D.seen D.may_leave D.moment D.left_since (Some (state_of self.old.life)) (Some saved) (Handled e (answer_in result) (state_of self.new.life)) (device_of self.old.keeper) (device_of self.new.keeper) }
 
         // A save changes nothing in memory.
         ensures same { event.entry ≡ Event.Save → self.new.life ≡ self.old.life }
@@ -77,10 +79,13 @@ impl<D: Disk + Drop> Station<D> {
         ensures disk { (event.entry ≡ Event.Save → ⊥) → self.new.keeper ≡ self.old.keeper }
         ensures saved { D.is_honest (device_of self.old.keeper) → event.entry ≡ Event.Save → OnOk result (Leaves (D.may_leave (device_of self.new.keeper)) (FindsState (state_of self.old.life))) }
         ensures unsaved { IfErr result (λ f. (f ≡ StationFault.Keeper KeeperFault.DiskFault → ⊥) → self.new.keeper ≡ self.old.keeper) }
+        // The keeper then knows this state as the last saved, else the one before.
+        ensures last { D.is_honest (device_of self.old.keeper) → event.entry ≡ Event.Save → OnOk result (IsSavedAs (state_of self.old.life) (last_body self.new.keeper)) }
+        ensures last_err { D.is_honest (device_of self.old.keeper) → OnErr result (last_body self.new.keeper ≡ last_body self.old.keeper) }
         // A crash in the middle leaves a file in which an opening meets what it might have met
-        // before, or finds this save.
+        // before, or finds the last save again, or this one.
         ensures any_moment { D.is_honest (device_of self.old.keeper) → LeavesSince D.moment D.left_since (device_of self.old.keeper) (device_of self.new.keeper)
-            (FindsRunning (D.may_leave (device_of self.old.keeper)) (state_of self.old.life)) }
+            (FindsRunning (may_meet self.old.keeper) (state_of self.old.life)) }
         ensures honest { D.is_honest (device_of self.old.keeper) → D.is_honest (device_of self.new.keeper) }
 
         // A keeper's fault is a save's, and each has its cause.
@@ -88,7 +93,6 @@ impl<D: Disk + Drop> Station<D> {
         ensures save_fault { event.entry ≡ Event.Save → IfErr result IsSaveFault }
         ensures count { D.faults (device_of self.old.keeper) ≤ D.faults (device_of self.new.keeper) }
         ensures cause { IfErr result (IsCausedBy (D.faults (device_of self.old.keeper)) (D.faults (device_of self.new.keeper))) }
-        ensures reopen { event.entry ≡ Event.Save → result ≡ Err (StationFault.Keeper KeeperFault.Reopen) → is_spoiled self.old.keeper ≡ true }
         ensures no_more { event.entry ≡ Event.Save → result ≡ Err (StationFault.Keeper KeeperFault.NoMoreGenerations) → last_generation self.old.keeper ≡ 2 ^ 64 - 1 }
         ensures no_more_found { D.is_honest (device_of self.old.keeper) → event.entry ≡ Event.Save → result ≡ Err (StationFault.Keeper KeeperFault.NoMoreGenerations) → found_generation (found SLOT_SIZE (D.seen (device_of self.old.keeper))) ≡ 2 ^ 64 - 1 }
         ensures spoiled { event.entry ≡ Event.Save → result ≡ Err (StationFault.Keeper KeeperFault.DiskFault) → is_spoiled self.new.keeper ≡ true }
@@ -103,27 +107,29 @@ impl<D: Disk + Drop> Station<D> {
         }
     }
 
-    /// Saves the windows and the incarnation.
+    /// Saves the windows and the incarnation. A keeper whose disk failed in an earlier save is
+    /// reopened first.
     pub(crate) fn save(&mut self, alloc: Global) -> Result<Told, StationFault>
         ensures same { self.new.life ≡ self.old.life }
         ensures answered { IsAnswered (state_of self.old.life) (state_of self.new.life) read.Save result }
         ensures saved { D.is_honest (device_of self.old.keeper) → OnOk result (Leaves (D.may_leave (device_of self.new.keeper)) (FindsState (state_of self.old.life))) }
+        ensures last { D.is_honest (device_of self.old.keeper) → OnOk result (IsSavedAs (state_of self.old.life) (last_body self.new.keeper)) }
+        ensures last_err { D.is_honest (device_of self.old.keeper) → OnErr result (last_body self.new.keeper ≡ last_body self.old.keeper) }
         ensures any_moment { D.is_honest (device_of self.old.keeper) → LeavesSince D.moment D.left_since (device_of self.old.keeper) (device_of self.new.keeper)
-            (FindsRunning (D.may_leave (device_of self.old.keeper)) (state_of self.old.life)) }
+            (FindsRunning (may_meet self.old.keeper) (state_of self.old.life)) }
         ensures unsaved { IfErr result (λ f. (f ≡ StationFault.Keeper KeeperFault.DiskFault → ⊥) → self.new.keeper ≡ self.old.keeper) }
         ensures fault { IfErr result IsSaveFault }
         ensures honest { D.is_honest (device_of self.old.keeper) → D.is_honest (device_of self.new.keeper) }
         ensures fresh { OnOk result (is_spoiled self.new.keeper ≡ false) }
         ensures count { D.faults (device_of self.old.keeper) ≤ D.faults (device_of self.new.keeper) }
         ensures cause { IfErr result (IsCausedBy (D.faults (device_of self.old.keeper)) (D.faults (device_of self.new.keeper))) }
-        ensures reopen { result ≡ Err (StationFault.Keeper KeeperFault.Reopen) → is_spoiled self.old.keeper ≡ true }
         ensures no_more { result ≡ Err (StationFault.Keeper KeeperFault.NoMoreGenerations) → last_generation self.old.keeper ≡ 2 ^ 64 - 1 }
         ensures no_more_found { D.is_honest (device_of self.old.keeper) → result ≡ Err (StationFault.Keeper KeeperFault.NoMoreGenerations) → found_generation (found SLOT_SIZE (D.seen (device_of self.old.keeper))) ≡ 2 ^ 64 - 1 }
         ensures spoiled { result ≡ Err (StationFault.Keeper KeeperFault.DiskFault) → is_spoiled self.new.keeper ≡ true }
     {
         self.life.settled();
         self.life.image(&mut self.image)?;
-        match self.keeper.save_in_place(self.image.as_mut_slice()) {
+        match save_again(&mut self.keeper, self.image.as_mut_slice()) {
             Ok(()) => Ok(told_none(alloc)),
             Err(fault) => Err(StationFault::from(fault)),
         }
@@ -186,7 +192,7 @@ impl<D: Disk + Drop> Station<D> {
 }
 
 impl<D: Disk + Drop> Station<FuseDisk<D>> {
-    ghost use Rattle.mon_disk.specs.Kept.{device_of, is_spoiled};
+    ghost use Rattle.mon_disk.specs.Kept.{device_of, is_spoiled, last_body};
     ghost use Rattle.mon_disk.specs.Wrapped.{calls_left, under_fuse};
 
     /// From now on `calls` calls of the disk pass, and all later ones fail and do nothing.
@@ -195,6 +201,7 @@ impl<D: Disk + Drop> Station<FuseDisk<D>> {
         ensures disk { under_fuse (device_of self.new.keeper) ≡ under_fuse (device_of self.old.keeper) }
         ensures calls { calls_left (device_of self.new.keeper) ≡ Some calls }
         ensures spoiled { is_spoiled self.new.keeper ≡ is_spoiled self.old.keeper }
+        ensures last { last_body self.new.keeper ≡ last_body self.old.keeper }
     {
         self.keeper.set(calls);
     }

@@ -326,6 +326,16 @@ BUGS = {
         "            Err(fault) => Err(StationFault::from(fault)),",
         "            Err(_) => Err(StationFault::Keeper(KeeperFault::TooLarge)),",
     ),
+    "never_mends_its_file": (
+        "src/mending.rt",
+        "        Ok(()) => keeper.save_in_place(octets),\n        Err(fault) => Err(fault),",
+        "        Ok(()) => keeper.save_in_place(octets),\n        Err(_) => keeper.save_in_place(octets),",
+    ),
+    "takes_a_mended_file_for_saved": (
+        "src/mending.rt",
+        "        Ok(()) => keeper.save_in_place(octets),",
+        "        Ok(()) => Ok(()),",
+    ),
     "a_failed_save_asks_for_reopening": (
         "src/station.rt",
         "            Err(fault) => Err(StationFault::from(fault)),",

@@ -1,6 +1,7 @@
 use Rattle.std.proofs.Common.{rules, arith, ◌≡◌, ◌<◌, ◌≤◌, ◌+◌, ◌^◌, ◌++◌, false, Some, List, ℕ, drop, length, sym, ◌∙◌, ap, subst}
 use Rattle.mon_disk.specs.File.{save_of, found, Finds}
-use Rattle.mon_disk.specs.Keeper.{FindsBody, spelled, next_saved, shown_from}
+use Rattle.mon_disk.specs.Keeper.{FindsBody, saved_body, spelled, next_saved, shown_from}
+use Rattle.mon_disk.specs.Kept.{last_save}
 use Rattle.mon_disk.specs.Save.{IsSaveOf}
 use Rattle.mon_disk.specs.declared.file.TheConstants.{SLOT_SIZE}
 use Rattle.mon_disk.proofs.Gates.{on_err}
@@ -70,7 +71,8 @@ returns-in_err-put-clause-save g c =
     let ran = run h in
     let event = on_err c.from_residual-in_err-put.result _ ran in
     record { seen = search rules; synced = search rules; whole = search rules; saved = search rules; any_moment = ran; happens = search rules; happens_err = event; no_more_found = search rules } in
-    search (rules, disk)
+    let stays : (h : g.D.Disk.is_honest k.device) → last_save c.put.new.self ≡ last_save k = λ h. c.in_err-put.ensures.last_err h in
+    search (rules, disk, λ (h : g.D.Disk.is_honest k.device). on_err c.from_residual-in_err-put.result _ (ap saved_body (stays h)))
 
 pub returns-clause-save : goal.returns-clause-save
 returns-clause-save g c =
@@ -108,6 +110,9 @@ returns-clause-save g c =
       spoiled = search rules;
       same = search rules;
       generation = search rules;
+      last = λ h all. ap saved_body (c.in_ok-put.ensures.last h all) ∙ ap Some said;
+      last_before = λ h less. ap saved_body (c.in_ok-put.ensures.last_before h less);
+      last_err = λ h. tt;
       fits = search rules;
       honest = search rules;
       count = search rules;

@@ -1,6 +1,6 @@
 use Rattle.std.proofs.Common.{ℕ, ◌≡◌, ◌++◌, ◌+◌, ◌∷◌, [], List, Option, Ok, refl, sym, ap, subst, ◌∙◌, arith, rules}
 use Rattle.std.proofs.lemmas.Slice.{pushed}
-use Rattle.mon_disk.specs.Kept.{device_of}
+use Rattle.mon_disk.specs.Kept.{device_of, last_body}
 use Rattle.mon_station.specs.ReadEvent.{OwnedEvent}
 use Rattle.mon_station.specs.declared.running.Answer.{Answer}
 use Rattle.mon_station.specs.Ran as ran
@@ -22,7 +22,7 @@ returns-in-Ok-Some-clause-called g c =
     let turned = c.turn-answer.ensures.turned in
     record {
       call = record { oldest = oldest; gave = ran.Event turned.turn; view = S.view c.ask.new.source };
-      did = did_event g.D.Disk S.gives (state_of station.life) (state_of c.turn-answer.new.self.life) (S.view c.args.source.now) (S.view c.ask.new.source) (g.O.Outbox.handed c.args.outbox.now) (g.O.Outbox.handed c.turn-answer.new.outbox) (device_of station.keeper) (device_of c.turn-answer.new.self.keeper)
+      did = did_event g.D.Disk S.gives (state_of station.life) (state_of c.turn-answer.new.self.life) (S.view c.args.source.now) (S.view c.ask.new.source) (g.O.Outbox.handed c.args.outbox.now) (g.O.Outbox.handed c.turn-answer.new.outbox) (device_of station.keeper) (device_of c.turn-answer.new.self.keeper) (last_body station.keeper) (last_body c.turn-answer.new.self.keeper)
           oldest c.in-Ok-Some.event answer turned asked.1 (subst (λ (o : Option OwnedEvent). S.gives (S.view c.args.source.now) oldest (Ok o) (S.view c.ask.new.source)) c.in-Ok-Some.field-0-is asked.2);
       counted = record {
         turns = refl;
@@ -42,7 +42,7 @@ returns-in-Ok-None-clause-called g c =
     let oldest : Option ℕ = asked.0 in
     record {
       call = record { oldest = oldest; gave = ran.End; view = S.view c.ask.new.source };
-      did = did_none g.D.Disk S.gives (λ disk t h left. g.met.D.Disk.only_now disk t h left) (state_of station.life) (S.view c.args.source.now) (S.view c.ask.new.source) (g.O.Outbox.handed c.args.outbox.now) (device_of station.keeper) oldest ran.End refl tt asked.1
+      did = did_none g.D.Disk S.gives (λ disk t h left. g.met.D.Disk.only_now disk t h left) (state_of station.life) (S.view c.args.source.now) (S.view c.ask.new.source) (g.O.Outbox.handed c.args.outbox.now) (device_of station.keeper) (last_body station.keeper) oldest ran.End refl tt asked.1
           (subst (λ (o : Option OwnedEvent). S.gives (S.view c.args.source.now) oldest (Ok o) (S.view c.ask.new.source)) c.in-Ok-None.field-0-is asked.2);
       counted = record { turns = refl; answers = sym (append_nil _); faults = omega arith; room = omega arith; refused = λ was. was };
       going_is = refl;
@@ -56,7 +56,7 @@ returns-in-Err-clause-called g c =
     let oldest : Option ℕ = asked.0 in
     record {
       call = record { oldest = oldest; gave = ran.Fault c.in-Err.field-0; view = S.view c.ask.new.source };
-      did = did_none g.D.Disk S.gives (λ disk t h left. g.met.D.Disk.only_now disk t h left) (state_of station.life) (S.view c.args.source.now) (S.view c.ask.new.source) (g.O.Outbox.handed c.args.outbox.now) (device_of station.keeper) oldest (ran.Fault c.in-Err.field-0) refl tt asked.1
+      did = did_none g.D.Disk S.gives (λ disk t h left. g.met.D.Disk.only_now disk t h left) (state_of station.life) (S.view c.args.source.now) (S.view c.ask.new.source) (g.O.Outbox.handed c.args.outbox.now) (device_of station.keeper) (last_body station.keeper) oldest (ran.Fault c.in-Err.field-0) refl tt asked.1
           asked.2;
       counted = record { turns = refl; answers = sym (append_nil _); faults = refl; room = omega arith; refused = λ was. was };
       going_is = refl;
