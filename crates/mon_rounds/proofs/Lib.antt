@@ -1,3 +1,5 @@
+mod Answered
+mod InPlace
 mod Onward
 mod Notices
 mod Wholly

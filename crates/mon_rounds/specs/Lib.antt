@@ -1,5 +1,6 @@
 pub mod AtSocket
 pub mod Course
+pub mod Freshness
 pub mod Given
 pub mod Grid
 pub mod Next

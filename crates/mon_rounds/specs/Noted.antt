@@ -1,7 +1,8 @@
 -- What is reported of a round to an operator.
-use Rattle.std.specs.Prelude.{ℕ, ◌-◌, ◌^◌, min, Bool, true, false, not, cond, List, [], ◌∷◌, ◌++◌, Option, Some, None, filter, length, sum_by}
+use Rattle.std.specs.Prelude.{ℕ, ◌-◌, ◌^◌, min, Bool, true, false, not, ◌&&◌, ◌||◌, cond, List, [], ◌∷◌, ◌++◌, Option, Some, None, filter, length, map, sum_by}
 use Rattle.mon_rounds.specs.Order.{RoundEvent}
 use Rattle.mon_udp.specs.declared.addr.Addr.{Addr}
+use Rattle.mon_udp.specs.Addr.{same_addr}
 use Rattle.mon_rounds.specs.declared.reporting.Notice.{Notice}
 use Rattle.mon_rounds.specs.declared.reporting.Notice.TheVariants as notice
 use Rattle.mon_rounds.specs.Next.{stands_in}
@@ -85,3 +86,55 @@ is_given_up (notice.NoMemory event) = false
 -- how many polls were given up
 abbrev pub gave_up : List Notice → ℕ
 gave_up notices = length (filter is_given_up notices)
+
+-- ---- saves
+-- whether an event is a save
+abbrev pub is_save : RoundEvent → Bool
+is_save Save = true
+is_save (StartPoll target) = false
+is_save (Timeout id) = false
+is_save (FromAgent from none) = false
+is_save (FromPeer from) = false
+is_save (Share peer) = false
+
+-- whether a notice says that a save failed: it met the keeper's fault, or memory was refused for it
+abbrev pub is_unsaved : Notice → Bool
+is_unsaved (notice.NotSaved number) = true
+is_unsaved (notice.NoMemory event) = is_save event
+is_unsaved (notice.GaveUp target) = false
+is_unsaved (notice.NotPolled target fault) = false
+is_unsaved (notice.BadResponse from fault) = false
+is_unsaved (notice.BadClaim from fault) = false
+is_unsaved (notice.NotShared peer fault) = false
+
+-- how many saves failed
+abbrev pub unsaved : List Notice → ℕ
+unsaved notices = length (filter is_unsaved notices)
+
+-- ---- targets that answered
+-- whether an event is a datagram from this address that is no peer's
+abbrev pub comes_from : Addr → RoundEvent → Bool
+comes_from address (FromAgent from none) = same_addr from address
+comes_from address (FromPeer from) = false
+comes_from address (StartPoll target) = false
+comes_from address (Timeout id) = false
+comes_from address (Share peer) = false
+comes_from address Save = false
+
+-- whether an event with this answer was handled
+abbrev pub is_handled : Answer → Bool
+is_handled (answer.Handled n) = true
+is_handled (answer.GaveUp target) = false
+is_handled answer.Memory = false
+is_handled (answer.Refused fault) = false
+is_handled (answer.Keeper number) = false
+
+-- whether a response from this address was taken, in events with these answers
+abbrev pub has_answered : Addr → List RoundEvent → List Answer → Bool
+has_answered address [] answers = false
+has_answered address (e ∷ events) [] = false
+has_answered address (e ∷ events) (a ∷ answers) = (comes_from address e && is_handled a) || has_answered address events answers
+
+-- of each of these targets, whether a response from its address was taken
+abbrev pub answered_of : List Addr → List RoundEvent → List Answer → List Bool
+answered_of targets events answers = map (λ address. has_answered address events answers) targets

@@ -9,6 +9,7 @@
 
 mod addresses;
 mod course;
+mod freshness;
 mod grid;
 mod receiver;
 mod reporting;
@@ -19,6 +20,7 @@ mod source;
 
 pub use addresses::Addresses;
 pub use course::{Course, debts_of, is_due, left_of};
+pub use freshness::{Freshness, InstanceAge, Spell, TargetAge};
 pub use grid::{milliseconds, next_start, phase_of};
 pub use receiver::{Arrival, Receiver, ReceiverFault, Wait};
 pub use reporting::{Notice, RoundReport};

@@ -1,7 +1,7 @@
 //! What is reported of a round to an operator.
 
-ghost use Rattle.std.specs.Prelude.{◌≡◌, ◌++◌, IfOk, OnOk};
-ghost use Rattle.mon_rounds.specs.Noted.{gave_up, is_stranger, notice_of, notices_of, refusal_of, response_notice, samples_taken, strangers_in, told_of};
+ghost use Rattle.std.specs.Prelude.{◌≡◌, ◌&&◌, ◌++◌, IfOk, OnOk};
+ghost use Rattle.mon_rounds.specs.Noted.{answered_of, comes_from, gave_up, has_answered, is_handled, is_stranger, is_unsaved, unsaved, notice_of, notices_of, refusal_of, response_notice, samples_taken, strangers_in, told_of};
 ghost use Rattle.mon_rounds.specs.Order.{datagrams_in};
 
 use crate::round::{Round, RoundEvent};
@@ -45,6 +45,11 @@ pub struct RoundReport {
     pub taken: u64,
     /// How many polls were given up.
     pub given_up: u64,
+    /// How many saves failed.
+    pub failed_saves: u64,
+    /// Of each target, in order, whether a response from its address was taken. (Of two targets at
+    /// one address both count as answered.)
+    pub answered: Vec<bool>,
 }
 
 /// Returns the notice of a refused event. A stranger's datagram is only counted.
@@ -113,11 +118,14 @@ impl RoundReport {
         ensures sends { IfOk result (λ r. r.send_faults ≡ run.now.send_faults) }
         ensures taken { IfOk result (λ r. r.taken ≡ samples_taken run.now.answers.items) }
         ensures given_up { IfOk result (λ r. r.given_up ≡ gave_up r.notices.items) }
+        ensures failed_saves { IfOk result (λ r. r.failed_saves ≡ unsaved r.notices.items) }
+        ensures answered { IfOk result (λ r. r.answered.items ≡ answered_of round.now.targets round.now.events run.now.answers.items) }
     {
         let events = round.events();
         let answers = run.answers.as_slice();
         let notices = notices_of(alloc, round, answers)?;
         let given_up = count_given_up(notices.as_slice());
+        let failed_saves = count_failed_saves(notices.as_slice());
         Ok(RoundReport {
             notices,
             datagrams: round.datagrams(),
@@ -126,6 +134,8 @@ impl RoundReport {
             send_faults: run.send_faults,
             taken: count_taken(answers),
             given_up,
+            failed_saves,
+            answered: answered_of(alloc, round.targets(), events, answers)?,
         })
     }
 }
@@ -154,6 +164,93 @@ fn count_given_up(notices: &[Notice]) -> u64
         }
     }
     count
+}
+
+/// How many of these say that a save failed.
+fn count_failed_saves(notices: &[Notice]) -> u64
+    ensures { result ≡ unsaved notices.now }
+{
+    let mut count = 0;
+    for notice in notices {
+        if is_unsaved(*notice) {
+            count += 1;
+        }
+    }
+    count
+}
+
+/// Returns `true` if a notice says that a save failed.
+fn is_unsaved(notice: Notice) -> bool
+    ensures { result ≡ is_unsaved notice }
+{
+    match notice {
+        Notice::NotSaved(_) | Notice::NoMemory(RoundEvent::Save) => true,
+        Notice::NoMemory(_)
+        | Notice::GaveUp(_)
+        | Notice::NotPolled(..)
+        | Notice::BadResponse(..)
+        | Notice::BadClaim(..)
+        | Notice::NotShared(..) => false,
+    }
+}
+
+/// Of each of these targets, whether a response from its address was taken.
+fn answered_of(
+    alloc: Global,
+    targets: &[Addr],
+    events: &[RoundEvent],
+    answers: &[Answer],
+) -> Result<Vec<bool>, AllocError>
+    ensures { IfOk result (λ v. v.items ≡ answered_of targets.now events.now answers.now) }
+{
+    let mut answered = Vec::with_capacity(alloc, targets.len())?;
+    for address in targets {
+        answered.push(has_answered(*address, events, answers))?;
+    }
+    Ok(answered)
+}
+
+/// Returns `true` if a response from this address was taken, in events with these answers.
+fn has_answered(address: Addr, events: &[RoundEvent], answers: &[Answer]) -> bool
+    ensures { result ≡ has_answered address events.now answers.now }
+{
+    for place in 0..events.len().min(answers.len()) {
+        if is_answer(address, events[place], answers[place]) {
+            return true;
+        }
+    }
+    false
+}
+
+/// Returns `true` if an event with this answer is a response from this address that was taken.
+fn is_answer(address: Addr, event: RoundEvent, answer: Answer) -> bool
+    ensures { result ≡ (comes_from address event && is_handled answer) }
+{
+    comes_from(address, event) && is_handled(answer)
+}
+
+/// Returns `true` if an event is a datagram from this address that is no peer's.
+fn comes_from(address: Addr, event: RoundEvent) -> bool
+    ensures { result ≡ comes_from address event }
+{
+    match event {
+        RoundEvent::FromAgent(from, ()) => from == address,
+        RoundEvent::FromPeer(_)
+        | RoundEvent::StartPoll(_)
+        | RoundEvent::Timeout(_)
+        | RoundEvent::Share(_)
+        | RoundEvent::Save => false,
+    }
+}
+
+/// Returns `true` if an event with this answer was handled.
+fn is_handled(answer: Answer) -> bool
+    ensures { result ≡ is_handled answer }
+{
+    match answer {
+        Answer::Handled(_) => true,
+        Answer::GaveUp(_) | Answer::Memory | Answer::Refused(_) | Answer::Keeper(_) => false,
+    }
 }
 
 /// Returns the notices of the events of a round with these answers.

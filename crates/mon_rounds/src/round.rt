@@ -163,6 +163,13 @@ impl Round {
         MOST_DATAGRAMS - self.datagrams
     }
 
+    /// Returns the addresses of the targets, in their order.
+    pub(crate) fn targets(&self) -> &[Addr]
+        ensures { result.now ≡ self.now.targets }
+    {
+        self.addresses.targets.as_slice()
+    }
+
     /// Returns `true` if a target has this address.
     pub fn is_target(&self, from: Addr) -> bool
         ensures { result ≡ stands_in self.now.targets from }

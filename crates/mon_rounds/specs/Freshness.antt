@@ -1,0 +1,136 @@
+-- How long ago targets answered and instances had a new sample.
+use Rattle.std.specs.Prelude.{ℕ, ◌+◌, ◌-◌, ◌/◌, ◌^◌, ◌==◌, min, nat_lt, Bool, true, false, not, ◌||◌, if◌then◌else◌, List, [], ◌∷◌, Option, Some, None, filter, get_or, length, option_map, slice_get}
+use Rattle.std.specs.List.{fold}
+use Rattle.std.specs.Str.{bytes_eq}
+use Rattle.mon_sample.specs.Record.{octets_of}
+use Rattle.mon_board.specs.Board.{Board, window_of}
+use Rattle.mon_window.specs.Top.{rising}
+use Rattle.mon_udp.specs.Addr.{same_addr}
+use Rattle.mon_udp.specs.declared.addr.Addr.{Addr}
+use Rattle.mon_station.specs.declared.fault.StationFault.{StationFault}
+use Rattle.mon_rounds.specs.Course.{counted_on}
+use Rattle.mon_rounds.specs.declared.freshness.InstanceAge.{InstanceAge}
+use Rattle.mon_rounds.specs.declared.freshness.TargetAge.{TargetAge}
+use Rattle.mon_rounds.specs.declared.reporting.Notice.{Notice}
+use Rattle.mon_rounds.specs.declared.reporting.Notice.TheVariants as notice
+use Rattle.mon_rounds.specs.declared.reporting.RoundReport.{RoundReport}
+use Rattle.mon_rounds.specs.declared.round.Span.{Span}
+use Rattle.mon_rounds.specs.declared.round.Span.TheVariants.{Round, Between}
+
+-- a function of each element and its number, from this number on
+abbrev pub numbered : {X Y : Type 0} → (ℕ → X → Y) → ℕ → List X → List Y
+numbered f n [] = []
+numbered f n (x ∷ xs) = f n x ∷ numbered f (n + 1) xs
+
+-- ---- ages
+-- one round more, at most 2^32 - 1; the time between two rounds makes nothing older
+abbrev pub older : Span → ℕ → ℕ
+older Round age = min (age + 1) (2 ^ 32 - 1)
+older (Between milliseconds) age = age
+
+-- an age after a round, or the time after it: 0 where there was something new, else older
+abbrev pub age_after : Span → Bool → ℕ → ℕ
+age_after span true age = 0
+age_after span false age = older span age
+
+-- ---- targets
+-- at the station's start: nothing is known of the target of this number, at this address
+abbrev pub new_target : ℕ → Addr → TargetAge
+new_target number address = record { number = number; address = address; up = false; rounds = 0; answered = 0; given_up = 0; refusal = None }
+
+-- whether the last poll was answered: after a round, whether it was in that round; an answer may come later, in the time after it
+abbrev pub up_after : Span → Bool → Bool → Bool
+up_after Round answered up = answered
+up_after (Between milliseconds) answered up = answered || up
+
+-- whether a notice is that of a poll of the target of this number that was given up
+abbrev pub is_given_up_by : ℕ → Notice → Bool
+is_given_up_by number (notice.GaveUp target) = target == number
+is_given_up_by number (notice.NotPolled target fault) = false
+is_given_up_by number (notice.BadResponse from fault) = false
+is_given_up_by number (notice.BadClaim from fault) = false
+is_given_up_by number (notice.NotShared peer fault) = false
+is_given_up_by number (notice.NotSaved n) = false
+is_given_up_by number (notice.NoMemory event) = false
+
+-- how many polls of the target of this number were given up
+abbrev pub gave_up_by : ℕ → List Notice → ℕ
+gave_up_by number notices = length (filter (is_given_up_by number) notices)
+
+-- why a response from this address was refused, by one notice more
+abbrev pub refusal_with : Addr → Option StationFault → Notice → Option StationFault
+refusal_with address before (notice.BadResponse from fault) = if same_addr from address then Some fault else before
+refusal_with address before (notice.GaveUp target) = before
+refusal_with address before (notice.NotPolled target fault) = before
+refusal_with address before (notice.BadClaim from fault) = before
+refusal_with address before (notice.NotShared peer fault) = before
+refusal_with address before (notice.NotSaved n) = before
+refusal_with address before (notice.NoMemory event) = before
+
+-- why the last refused response from this address was refused, if these notices have one
+abbrev pub last_refusal : Addr → List Notice → Option StationFault
+last_refusal address notices = fold (refusal_with address) None notices
+
+-- why a target's last response was refused: by the last refusal of this round; where that has none, an answer clears it
+abbrev pub refusal_after : Bool → Option StationFault → Option StationFault → Option StationFault
+refusal_after answered (Some fault) before = Some fault
+refusal_after true None before = None
+refusal_after false None before = before
+
+-- a target that answered or did not, after a round, or the time after it, that has these notices and ended at this time
+abbrev pub target_with : Span → Bool → List Notice → ℕ → TargetAge → TargetAge
+target_with span answered notices now t = record {
+  number = t.number;
+  address = t.address;
+  up = up_after span answered t.up;
+  rounds = age_after span answered t.rounds;
+  answered = if answered then now else t.answered;
+  given_up = counted_on t.given_up (gave_up_by t.number notices);
+  refusal = refusal_after answered (last_refusal t.address notices) t.refusal;
+}
+
+-- a target after a round, or the time after it, of which this is reported and that ended at this time
+abbrev pub target_after : Span → RoundReport → ℕ → TargetAge → TargetAge
+target_after span report now t = target_with span (get_or report.answered.items t.number false) report.notices.items now t
+
+-- how many seconds before this time a target answered, or the station began
+abbrev pub seconds_since : ℕ → TargetAge → ℕ
+seconds_since now t = (now - t.answered) / 1000
+
+-- ---- instances
+-- the newest of samples, the oldest of which is first
+abbrev pub last_of : List ℕ → Option ℕ
+last_of items = slice_get items (length items - 1)
+
+-- the octets of the newest sample of the instance of this number, where there is one
+abbrev pub newest_on : Board → ℕ → Option (List ℕ)
+newest_on b number = if nat_lt number (length b.watch.instances) then option_map octets_of (last_of (rising (window_of b number))) else None
+
+-- whether two samples, or none, have equal octets
+abbrev pub is_same : Option (List ℕ) → Option (List ℕ) → Bool
+is_same None None = true
+is_same None (Some t) = false
+is_same (Some s) None = false
+is_same (Some s) (Some t) = bytes_eq s t
+
+-- at the station's start: the newest sample of the instance of this number is known, and no round went by without one
+abbrev pub new_instance : Board → ℕ → InstanceAge
+new_instance b number = record { number = number; newest = newest_on b number; rounds = 0 }
+
+-- the instances of a board at the station's start
+abbrev pub new_instances : Board → List InstanceAge
+new_instances b = numbered (λ number watched. new_instance b number) 0 b.watch.instances
+
+-- an instance that has this newest sample after a round, or the time after it
+abbrev pub instance_with : Span → Option (List ℕ) → InstanceAge → InstanceAge
+instance_with span newest i = record { number = i.number; newest = newest; rounds = age_after span (not (is_same i.newest newest)) i.rounds }
+
+-- an instance after a round, or the time after it, that left this board
+abbrev pub instance_after : Span → Board → InstanceAge → InstanceAge
+instance_after span b i = instance_with span (newest_on b i.number) i
+
+-- ---- the station
+-- how long the last round took, in milliseconds: the time between two rounds is none
+abbrev pub length_after : Span → ℕ → ℕ → ℕ
+length_after Round took before = took
+length_after (Between milliseconds) took before = before

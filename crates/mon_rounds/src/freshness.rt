@@ -1,0 +1,389 @@
+//! How long ago targets answered and instances had a new sample.
+
+ghost use Rattle.std.specs.Prelude.{◌≡◌, ◌≤◌, IfOk, None, get_or, false, length, map};
+ghost use Rattle.mon_rounds.specs.Course.{counted_on};
+ghost use Rattle.mon_rounds.specs.Freshness.{age_after, gave_up_by, instance_after, instance_with, is_given_up_by, is_same, last_refusal, length_after, new_instance, new_instances, new_target, newest_on, numbered, older, refusal_after, refusal_with, seconds_since, target_after, target_with, up_after};
+
+use crate::addresses::Addresses;
+use crate::reporting::{Notice, RoundReport};
+use crate::round::Span;
+use mon_board::Board;
+use mon_station::StationFault;
+use mon_udp::Addr;
+use std::alloc::{AllocError, Global};
+
+/// How long ago a target answered, and what became of its polls.
+#[derive(Clone, Copy, Debug)]
+pub struct TargetAge {
+    /// The target's number, from 0.
+    pub number: u16,
+    /// Where its agent is reached.
+    pub address: Addr,
+    /// `true` if its last poll was answered.
+    pub up: bool,
+    /// How many whole rounds went by since its last answer, or since the station's start if it did
+    /// not answer; at most 2^32 - 1.
+    pub rounds: u32,
+    /// When the round in which it last answered ended, in milliseconds since the station's start; 0
+    /// if it did not answer.
+    pub answered: u64,
+    /// How many of its polls were given up, at most 2^64 - 1.
+    pub given_up: u64,
+    /// Why its last response was refused, if one was and no round with an answer and without a
+    /// refusal came after it.
+    pub refusal: Option<StationFault>,
+}
+
+impl TargetAge {
+    /// Returns how many seconds before this time it answered, or the station was started. The time
+    /// is in milliseconds since the station's start.
+    pub fn seconds(&self, now: u64) -> u64
+        ensures { result ≡ seconds_since now self.now }
+    {
+        now.saturating_sub(self.answered) / 1000
+    }
+}
+
+/// How long ago an instance had a new sample.
+#[derive(Clone, Copy, Debug)]
+pub struct InstanceAge {
+    /// The instance's number in the watch.
+    pub number: u16,
+    /// The octets of its newest sample: equal samples, and only they, have equal octets.
+    pub newest: Option<[u8; 21]>,
+    /// How many whole rounds went by since its newest sample changed, or since the station's start;
+    /// at most 2^32 - 1.
+    pub rounds: u32,
+}
+
+/// A round, or the time after it, that is over.
+#[derive(Clone, Copy, Debug)]
+pub struct Spell {
+    /// Which of the two it was.
+    pub span: Span,
+    /// When it ended, in milliseconds since the station's start.
+    pub ended: u64,
+    /// How long it took, in milliseconds.
+    pub took: u64,
+}
+
+/// How long ago targets answered and instances had a new sample, and what went wrong.
+#[derive(Drop)]
+pub struct Freshness {
+    targets: Vec<TargetAge>,
+    instances: Vec<InstanceAge>,
+    failed_saves: u64,
+    strangers: u64,
+    round_ms: u64,
+}
+
+impl Freshness {
+    /// That of a station that begins with this board: no target answered, and each instance's newest
+    /// sample is known.
+    pub fn new(alloc: Global, addresses: &Addresses, board: &Board) -> Result<Self, AllocError>
+        ensures targets { IfOk result (λ f. f.targets.items ≡ numbered new_target 0 addresses.now.targets.items) }
+        ensures instances { IfOk result (λ f. f.instances.items ≡ new_instances board.now) }
+        ensures failed_saves { IfOk result (λ f. f.failed_saves ≡ 0) }
+        ensures strangers { IfOk result (λ f. f.strangers ≡ 0) }
+        ensures round_ms { IfOk result (λ f. f.round_ms ≡ 0) }
+    {
+        Ok(Freshness {
+            targets: new_targets(alloc, addresses.targets.as_slice())?,
+            instances: new_instances(alloc, board)?,
+            failed_saves: 0,
+            strangers: 0,
+            round_ms: 0,
+        })
+    }
+
+    /// Returns what is known of each target, in their order.
+    pub fn targets(&self) -> &[TargetAge]
+        ensures { result.now ≡ self.now.targets.items }
+    {
+        self.targets.as_slice()
+    }
+
+    /// Returns what is known of each instance, in their order.
+    pub fn instances(&self) -> &[InstanceAge]
+        ensures { result.now ≡ self.now.instances.items }
+    {
+        self.instances.as_slice()
+    }
+
+    /// Returns how many saves failed, at most 2^64 - 1.
+    pub fn failed_saves(&self) -> u64
+        ensures { result ≡ self.now.failed_saves }
+    {
+        self.failed_saves
+    }
+
+    /// Returns how many datagrams came from an address that is no target's and no peer's, at most
+    /// 2^64 - 1.
+    pub fn strangers(&self) -> u64
+        ensures { result ≡ self.now.strangers }
+    {
+        self.strangers
+    }
+
+    /// Returns how long the last round took, in milliseconds.
+    pub fn round_ms(&self) -> u64
+        ensures { result ≡ self.now.round_ms }
+    {
+        self.round_ms
+    }
+
+    /// Adds what a round did, or the time after it, of which this is reported and that left this
+    /// board.
+    pub fn add(&mut self, spell: Spell, report: &RoundReport, board: &Board)
+        ensures targets { self.new.targets.items ≡ map (target_after spell.span report.now spell.ended) self.old.targets.items }
+        ensures instances { self.new.instances.items ≡ map (instance_after spell.span board.now) self.old.instances.items }
+        ensures failed_saves { self.new.failed_saves ≡ counted_on self.old.failed_saves report.now.failed_saves }
+        ensures strangers { self.new.strangers ≡ counted_on self.old.strangers report.now.strangers }
+        ensures round_ms { self.new.round_ms ≡ length_after spell.span spell.took self.old.round_ms }
+    {
+        add_to_targets(&mut self.targets, spell, report);
+        add_to_instances(&mut self.instances, spell.span, board);
+        self.failed_saves = self.failed_saves.saturating_add(report.failed_saves);
+        self.strangers = self.strangers.saturating_add(u64::from(report.strangers));
+        self.round_ms = length_after(spell, self.round_ms);
+    }
+}
+
+/// The targets at these addresses, of which nothing is known.
+fn new_targets(alloc: Global, addresses: &[Addr]) -> Result<Vec<TargetAge>, AllocError>
+    requires { length addresses.now ≤ 64 }
+    ensures { IfOk result (λ v. v.items ≡ numbered new_target 0 addresses.now) }
+{
+    let mut targets = Vec::with_capacity(alloc, addresses.len())?;
+    for place in 0..addresses.len() {
+        targets.push(new_target(place as u16, addresses[place]))?;
+    }
+    Ok(targets)
+}
+
+/// A target of which nothing is known.
+fn new_target(number: u16, address: Addr) -> TargetAge
+    ensures { result ≡ new_target number address }
+{
+    TargetAge {
+        number,
+        address,
+        up: false,
+        rounds: 0,
+        answered: 0,
+        given_up: 0,
+        refusal: None,
+    }
+}
+
+/// The instances of a board, with their newest samples.
+fn new_instances(alloc: Global, board: &Board) -> Result<Vec<InstanceAge>, AllocError>
+    ensures { IfOk result (λ v. v.items ≡ new_instances board.now) }
+{
+    let count = board.watch().instances().len();
+    let mut instances = Vec::with_capacity(alloc, count)?;
+    for place in 0..count {
+        instances.push(new_instance(board, place as u16))?;
+    }
+    Ok(instances)
+}
+
+/// The instance of this number, with its newest sample.
+fn new_instance(board: &Board, number: u16) -> InstanceAge
+    ensures { result ≡ new_instance board.now number }
+{
+    InstanceAge {
+        number,
+        newest: newest_on(board, number),
+        rounds: 0,
+    }
+}
+
+/// The octets of the newest sample of the instance of this number.
+fn newest_on(board: &Board, number: u16) -> Option<[u8; 21]>
+    ensures { result ≡ newest_on board.now number }
+{
+    if usize::from(number) >= board.watch().instances().len() {
+        return None;
+    }
+    match board.items(number).last() {
+        Some(sample) => Some(sample.to_record()),
+        None => None,
+    }
+}
+
+/// Adds what was reported of a round, or the time after it, to each target.
+#[tactic(auto, using(crate::proofs::InPlace::none_mapped, crate::proofs::InPlace::one_mapped, crate::proofs::InPlace::all_mapped))]
+fn add_to_targets(targets: &mut [TargetAge], spell: Spell, report: &RoundReport)
+    ensures { targets.new ≡ map (target_after spell.span report.now spell.ended) targets.old }
+{
+    for place in 0..targets.len() {
+        targets[place] = target_after(targets[place], spell, report);
+    }
+}
+
+/// Returns a target after a round, or the time after it, of which this is reported.
+fn target_after(target: TargetAge, spell: Spell, report: &RoundReport) -> TargetAge
+    ensures { result ≡ target_after spell.span report.now spell.ended target }
+{
+    let answered = has_answered(report, target.number);
+    let notices = report.notices.as_slice();
+    let given_up = count_given_up(notices, target.number);
+    TargetAge {
+        up: is_up_after(spell.span, answered, target.up),
+        rounds: age_after(spell.span, answered, target.rounds),
+        answered: if answered {
+            spell.ended
+        } else {
+            target.answered
+        },
+        given_up: target.given_up.saturating_add(given_up),
+        refusal: refusal_after(
+            answered,
+            last_refusal(notices, target.address),
+            target.refusal,
+        ),
+        ..target
+    }
+}
+
+/// Returns `true` if the target of this number answered.
+fn has_answered(report: &RoundReport, number: u16) -> bool
+    ensures { result ≡ get_or report.now.answered.items number false }
+{
+    match report.answered.as_slice().get(usize::from(number)) {
+        Some(answered) => *answered,
+        None => false,
+    }
+}
+
+/// Returns `true` if the last poll was answered.
+fn is_up_after(span: Span, answered: bool, up: bool) -> bool
+    ensures { result ≡ up_after span answered up }
+{
+    match span {
+        Span::Round => answered,
+        Span::Between(_) => answered || up,
+    }
+}
+
+/// An age after a round, or the time after it: 0 if there was something new.
+fn age_after(span: Span, is_new: bool, age: u32) -> u32
+    ensures { result ≡ age_after span is_new age }
+{
+    if is_new {
+        return 0;
+    }
+    match span {
+        Span::Round => age.saturating_add(1),
+        Span::Between(_) => age,
+    }
+}
+
+/// How long the last round took.
+fn length_after(spell: Spell, before: u64) -> u64
+    ensures { result ≡ length_after spell.span spell.took before }
+{
+    match spell.span {
+        Span::Round => spell.took,
+        Span::Between(_) => before,
+    }
+}
+
+/// How many polls of the target of this number were given up.
+fn count_given_up(notices: &[Notice], number: u16) -> u64
+    ensures { result ≡ gave_up_by number notices.now }
+{
+    let mut count = 0;
+    for notice in notices {
+        if is_given_up_by(*notice, number) {
+            count += 1;
+        }
+    }
+    count
+}
+
+/// Returns `true` if a notice is that of a poll of this target that was given up.
+fn is_given_up_by(notice: Notice, number: u16) -> bool
+    ensures { result ≡ is_given_up_by number notice }
+{
+    match notice {
+        Notice::GaveUp(target) => target == number,
+        Notice::NotPolled(..)
+        | Notice::BadResponse(..)
+        | Notice::BadClaim(..)
+        | Notice::NotShared(..)
+        | Notice::NotSaved(_)
+        | Notice::NoMemory(_) => false,
+    }
+}
+
+/// Returns why the last refused response from this address was refused.
+fn last_refusal(notices: &[Notice], address: Addr) -> Option<StationFault>
+    ensures { result ≡ last_refusal address notices.now }
+{
+    let mut last = None;
+    for notice in notices {
+        last = refusal_with(address, last, *notice);
+    }
+    last
+}
+
+/// Returns why a response from this address was refused, by one notice more.
+fn refusal_with(address: Addr, before: Option<StationFault>, notice: Notice) -> Option<StationFault>
+    ensures { result ≡ refusal_with address before notice }
+{
+    match notice {
+        Notice::BadResponse(from, fault) if from == address => Some(fault),
+        _ => before,
+    }
+}
+
+/// Returns why a target's last response was refused: an answer clears it.
+fn refusal_after(
+    answered: bool,
+    last: Option<StationFault>,
+    before: Option<StationFault>,
+) -> Option<StationFault>
+    ensures { result ≡ refusal_after answered last before }
+{
+    match last {
+        Some(fault) => Some(fault),
+        None if answered => None,
+        None => before,
+    }
+}
+
+/// Adds a round, or the time after it, that left this board to each instance.
+#[tactic(auto, using(crate::proofs::InPlace::none_mapped, crate::proofs::InPlace::one_mapped, crate::proofs::InPlace::all_mapped))]
+fn add_to_instances(instances: &mut [InstanceAge], span: Span, board: &Board)
+    ensures { instances.new ≡ map (instance_after span board.now) instances.old }
+{
+    for place in 0..instances.len() {
+        instances[place] = instance_after(instances[place], span, board);
+    }
+}
+
+/// Returns an instance after a round, or the time after it, that left this board.
+fn instance_after(instance: InstanceAge, span: Span, board: &Board) -> InstanceAge
+    ensures { result ≡ instance_after span board.now instance }
+{
+    let newest = newest_on(board, instance.number);
+    let is_new = !is_same(instance.newest, newest);
+    InstanceAge {
+        number: instance.number,
+        newest,
+        rounds: age_after(span, is_new, instance.rounds),
+    }
+}
+
+/// Returns `true` if two samples, or none, are equal.
+fn is_same(one: Option<[u8; 21]>, other: Option<[u8; 21]>) -> bool
+    ensures { result ≡ is_same one other }
+{
+    match (one, other) {
+        (None, None) => true,
+        (Some(one), Some(other)) => one == other,
+        _ => false,
+    }
+}
