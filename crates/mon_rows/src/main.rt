@@ -21,8 +21,8 @@
 //!                                              request-id at the place, for bench/poller
 //!        mon_rows save-times FILE OCTETS N     saves N bodies of OCTETS octets, for bench/save
 //!        mon_rows saves FILE                   prints what it finds, then the number of each save
-//!                                              that is acknowledged, until it is stopped, for
-//!                                              tests/kill
+//!                                              that is acknowledged and `failed` with that of each
+//!                                              that failed, until it is stopped, for tests/kill
 //!        mon_rows opens FILE                   prints what an opening of a file answers, for
 //!                                              tests/files
 #![tactic(auto)]

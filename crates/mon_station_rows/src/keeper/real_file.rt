@@ -76,18 +76,27 @@ fn number_of(alloc: Global, body: Option<Vec<u8>>) -> Option<u64> {
 }
 
 /// Prints the number of the save that it finds, then saves the ones after it and prints the number
-/// of each that is acknowledged.
+/// of each that is acknowledged; of one that failed it says so, and saves it again.
 pub fn save_on<R: Files<File = File> + Print + AllocGlobal>(rt: &R, path: &str) -> Option<()> {
     let (mut keeper, body) = open_file(rt, path)?;
     let found = number_of(rt.alloc(), body)?;
     println!(rt; "{found}").ok()?;
-    for number in found.checked_add(1)?..u64::MAX {
-        keeper
-            .save(rt.alloc(), numbered(rt.alloc(), number)?.as_slice())
-            .ok()?;
-        println!(rt; "{number}").ok()?;
+    let mut number = found.checked_add(1)?;
+    loop {
+        if is_saved(rt.alloc(), &mut keeper, number)? {
+            println!(rt; "{number}").ok()?;
+            number = number.checked_add(1)?;
+        } else {
+            println!(rt; "failed {number}").ok()?;
+        }
     }
-    Some(())
+}
+
+/// Saves the body of this number, and reopens the file before if the save before it failed. Returns
+/// `true` if it is acknowledged.
+fn is_saved(alloc: Global, keeper: &mut Keeper<FileDisk>, number: u64) -> Option<bool> {
+    let body = numbered(alloc, number)?;
+    Some(keeper.reopen().is_ok() && keeper.save(alloc, body.as_slice()).is_ok())
 }
 
 /// Saves in a file as the arguments FILE OCTETS TIMES say.
