@@ -9,13 +9,13 @@ mod event;
 mod memory;
 mod mib;
 mod names;
-mod poller;
+mod polls;
 mod reading;
 mod rows;
 mod small_agent;
 mod walked;
 
-pub use poller::script::answer as answer_poll;
-pub use poller::targets::poller;
-pub use poller::timing::time_polls;
+pub use polls::script::answer as answer_poll;
+pub use polls::targets::poller;
+pub use polls::timing::time_polls;
 pub use rows::answer;

@@ -1,6 +1,6 @@
 //! Polls that are started and answered at once, again and again.
 
-use crate::poller::targets::{local, poller};
+use crate::polls::targets::{local, poller};
 use mon_poller::Offered;
 use mon_row_texts::{first_line, octets};
 use std::alloc::Global;
