@@ -1,4 +1,5 @@
 pub mod AtSocket
+pub mod Changes
 pub mod Course
 pub mod Freshness
 pub mod Given

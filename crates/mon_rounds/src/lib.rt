@@ -1,13 +1,15 @@
 //! A station's rounds over sockets. It follows no standard. To run a station: `Addresses::of` its
 //! core, a `SocketReceiver` and a `SocketOutbox` on one `Socket` of mon_udp, and `Rounds` over the
-//! receiver. `Rounds::run` runs a `Station` through a round or the time between two, and
-//! `RoundReport::of` says what is reported of it.
+//! receiver. `Rounds::run` runs a `Station` through a round or the time between two,
+//! `RoundReport::of` says what is reported of it, and `Freshness::add` how long ago each target answered
+//! and each instance had a new sample.
 //! Contract: a round polls each target, receives, offers each peer what it is owed, receives again
 //! and saves, in this order; what it gives a station is fixed by what its receiver got, and only a
 //! datagram from a target or a peer begins a wait again.
 #![tactic(auto)]
 
 mod addresses;
+mod changes;
 mod course;
 mod freshness;
 mod grid;
@@ -19,6 +21,7 @@ mod socket;
 mod source;
 
 pub use addresses::Addresses;
+pub use changes::{Change, Said};
 pub use course::{Course, debts_of, is_due, left_of};
 pub use freshness::{Freshness, InstanceAge, Spell, TargetAge};
 pub use grid::{milliseconds, next_start, phase_of};
