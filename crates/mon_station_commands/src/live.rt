@@ -5,13 +5,13 @@ ghost use Rattle.mon_disk.specs.Fault.{number_of};
 
 use crate::opening::{file_failure, or_socket_failure};
 use crate::pace::{now, passed};
-use crate::telling::tell_notices;
+use crate::telling::{tell_change, tell_notices};
 use mon_console::{Failure, Printing};
 use mon_disk::{FileDisk, KeeperFault};
 use mon_poller::Target;
 use mon_rounds::{
-    Addresses, Course, Freshness, Notice, Receiver, RoundReport, Rounds, SocketOutbox,
-    SocketReceiver, Span, Spell,
+    Addresses, Course, Freshness, Notice, Receiver, RoundReport, Rounds, Said, SocketOutbox,
+    SocketReceiver, Span, Spell, TargetAge,
 };
 use mon_settings::StationSettings;
 use mon_station::{Outbox, Run, Station};
@@ -30,6 +30,8 @@ pub(crate) struct Live<S: Receiver + Drop, O: Outbox + Drop> {
     pub(crate) run: Run,
     pub(crate) course: Course,
     pub(crate) freshness: Freshness,
+    /// What was said of targets and instances that are silent.
+    pub(crate) said: Said,
     pub(crate) reports: Reports,
     /// The path of the station's file.
     pub(crate) file: String,
@@ -54,6 +56,8 @@ pub(crate) struct Transport<S: Receiver + Drop, O: Outbox + Drop> {
     pub(crate) peers: Vec<u32>,
     /// The engine ids of its targets, in their order.
     pub(crate) engines: Vec<Vec<u8>>,
+    /// Each instance that is polled, with the target that is polled for it, by their numbers from 0.
+    pub(crate) polled: Vec<(u16, u16)>,
 }
 
 /// How a station's reports are printed, the file that each round's report is written to, and from how
@@ -109,6 +113,7 @@ pub(crate) fn make_transport<S: Receiver + Drop, O: Outbox + Drop>(
     )?;
     let peers = Vec::from_slice(alloc, settings.core.peers())?;
     let engines = engines_of(alloc, settings.core.targets())?;
+    let polled = polled_of(alloc, settings.core.targets())?;
     Ok(Transport {
         rounds,
         outbox,
@@ -116,6 +121,7 @@ pub(crate) fn make_transport<S: Receiver + Drop, O: Outbox + Drop>(
         number: settings.core.station(),
         peers,
         engines,
+        polled,
     })
 }
 
@@ -126,6 +132,17 @@ fn engines_of(alloc: Global, targets: &[Target]) -> Result<Vec<Vec<u8>>, AllocEr
         engines.push(Vec::from_slice(alloc, target.engine.as_slice())?)?;
     }
     Ok(engines)
+}
+
+/// Returns each instance that is polled, with the target that is polled for it.
+fn polled_of(alloc: Global, targets: &[Target]) -> Result<Vec<(u16, u16)>, AllocError> {
+    let mut polled = Vec::new(alloc);
+    for (place, target) in targets.iter().enumerate() {
+        for object in target.objects.as_slice() {
+            polled.push((object.instance, place as u16))?;
+        }
+    }
+    Ok(polled)
 }
 
 /// Opens the station, and prints where it is.
@@ -157,6 +174,7 @@ pub(crate) fn start_station<R: Clock + Eprint + AllocGlobal, S: Receiver + Drop,
         run: Run::new(alloc),
         course,
         freshness,
+        said: Said::new(alloc),
         reports,
         file,
         origin,
@@ -209,10 +227,11 @@ fn report_round<R: Eprint + AllocGlobal, S: Receiver + Drop, O: Outbox + Drop>(
     let report = RoundReport::of(alloc, live.transport.rounds.round(), &live.run)?;
     live.course.add(&report);
     live.freshness.add(spell, &report, live.station.board());
+    tell_notices(rt, number, &live.transport.addresses, &report);
     if spell.span == Span::Round {
         live.unsaved = save_fault(&report);
+        report_changes(rt, live, number)?;
     }
-    tell_notices(rt, number, &live.transport.addresses, &report);
     for line in live
         .course
         .take_changes(alloc, live.station.board())?
@@ -221,6 +240,54 @@ fn report_round<R: Eprint + AllocGlobal, S: Receiver + Drop, O: Outbox + Drop>(
         let _ = eprintln!(rt; "snmpmon: {line}");
     }
     Ok(())
+}
+
+/// Prints which targets and instances fell silent in a round, and which did not stay so.
+fn report_changes<R: Eprint + AllocGlobal, S: Receiver + Drop, O: Outbox + Drop>(
+    rt: &R,
+    live: &mut Live<S, O>,
+    number: u32,
+) -> Result<(), Failure> {
+    let alloc = rt.alloc();
+    let count = live.freshness.instances().len();
+    let targets = live.freshness.targets();
+    let heard = heard_of(alloc, count, live.transport.polled.as_slice(), targets)?;
+    let limit = live.reports.stale_after;
+    let changes = live
+        .said
+        .take_changes(alloc, &live.freshness, heard.as_slice(), limit)?;
+    let watch = live.station.board().watch();
+    for change in changes.as_slice() {
+        tell_change(rt, number, &live.transport.addresses, watch, *change)?;
+    }
+    Ok(())
+}
+
+/// Returns of each of so many instances whether a target that is polled for it answered in the last
+/// round.
+fn heard_of(
+    alloc: Global,
+    count: usize,
+    polled: &[(u16, u16)],
+    targets: &[TargetAge],
+) -> Result<Vec<bool>, AllocError> {
+    let mut heard = vec![in alloc; false; count]?;
+    for (instance, target) in polled {
+        if has_answered(targets, *target) {
+            if let Some(it) = heard.get_mut(usize::from(*instance)) {
+                *it = true;
+            }
+        }
+    }
+    Ok(heard)
+}
+
+/// Returns `true` if the target of this number answered in the last round.
+fn has_answered(targets: &[TargetAge], number: u16) -> bool {
+    match targets.get(usize::from(number)) {
+        Some(target) => target.rounds == 0,
+        None => false,
+    }
 }
 
 /// Returns why the last save that a report tells of failed, if it did.

@@ -1,7 +1,9 @@
 //! What a running station says on standard error.
 
-use mon_rounds::{Addresses, Notice, RoundReport};
+use mon_board::Watch;
+use mon_rounds::{Addresses, Change, Notice, RoundReport};
 use mon_udp::Addr;
+use std::alloc::{AllocError, Global};
 
 /// Prints the notices of a round, a line each.
 pub fn tell_notices(rt: &impl Eprint, round: u32, addresses: &Addresses, report: &RoundReport) {
@@ -19,10 +21,8 @@ pub fn tell_notices(rt: &impl Eprint, round: u32, addresses: &Addresses, report:
 
 fn tell_notice(rt: &impl Eprint, round: u32, addresses: &Addresses, notice: Notice) {
     let _ = match notice {
-        Notice::GaveUp(target) => {
-            let (number, at) = (u32::from(target) + 1, shown_target(addresses, target));
-            eprintln!(rt; "snmpmon: round {round}: target {number} at {at} gave up")
-        }
+        // That is said once, as a change.
+        Notice::GaveUp(_) => Ok(()),
         Notice::NotPolled(target, fault) => {
             let (number, at) = (u32::from(target) + 1, shown_target(addresses, target));
             eprintln!(rt; "snmpmon: round {round}: target {number} at {at} was not polled: {fault}")
@@ -49,4 +49,47 @@ fn shown_target(addresses: &Addresses, target: u16) -> Addr {
         octets: [0; 4],
         port: 0,
     })
+}
+
+/// Prints a change of a target or an instance of this watch.
+pub fn tell_change<R: Eprint + AllocGlobal>(
+    rt: &R,
+    round: u32,
+    addresses: &Addresses,
+    watch: &Watch,
+    change: Change,
+) -> Result<(), AllocError> {
+    let _ = match change {
+        Change::TargetSilent(target) => {
+            let (number, at) = (u32::from(target) + 1, shown_target(addresses, target));
+            eprintln!(rt; "snmpmon: round {round}: target {number} at {at} gave up")
+        }
+        Change::TargetAnswers(target) => {
+            let (number, at) = (u32::from(target) + 1, shown_target(addresses, target));
+            eprintln!(rt; "snmpmon: round {round}: target {number} at {at} answers")
+        }
+        Change::InstanceStale(instance) => {
+            let object = shown_instance(rt.alloc(), watch, instance)?;
+            eprintln!(rt;
+                "snmpmon: round {round}: {object} has no new sample, though its target answers"
+            )
+        }
+        Change::InstanceFresh(instance) => {
+            let object = shown_instance(rt.alloc(), watch, instance)?;
+            eprintln!(rt; "snmpmon: round {round}: {object} has a new sample again")
+        }
+    };
+    Ok(())
+}
+
+/// The engine id and the name of an instance.
+fn shown_instance(alloc: Global, watch: &Watch, number: u16) -> Result<String, AllocError> {
+    match watch.instances().get(usize::from(number)) {
+        Some(watched) => {
+            let engine = hex::encode(alloc, watched.instance.engine.as_slice())?;
+            let name = watched.instance.name.text(alloc)?;
+            format!(in alloc; "{engine} {name}")
+        }
+        None => format!(in alloc; "instance {number}"),
+    }
 }
