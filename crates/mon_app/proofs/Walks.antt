@@ -1,9 +1,9 @@
--- What is answered, and a walk, turn by turn.
+-- What is answered, what is said, and a walk, turn by turn.
 use Rattle.std.proofs.Common.{◌≡◌, ℕ, ℤ, pos, ◌+◌, ◌<◌, Bool, true, false, arith, List, [], ◌∷◌, ◌++◌, length, refl, sym, ap, ◌∙◌, subst, inl, inr, length-append, add-one}
-use Rattle.std.specs.Prelude.{◌&&◌, ◌||◌, ◌==◌, not, if◌then◌else◌, Some, Result, Ok, Err, IsOk}
+use Rattle.std.specs.Prelude.{◌&&◌, ◌||◌, ◌==◌, ◌⊎◌, not, if◌then◌else◌, Option, Some, None, Result, Ok, Err, IsOk}
 use Rattle.std.proofs.lemmas.Bool.Decides.{nat_tests}
 use Rattle.std.proofs.lemmas.List.{append-nil}
-use Rattle.mon_udp.specs.Told.{GoesOnBy}
+use Rattle.mon_udp.specs.Told.{GoesOnBy, extended}
 use Rattle.mon_udp.proofs.Promised.{extended_by_none, extended_on}
 use Rattle.mon_pdu.specs.declared.message.Binding.{Binding}
 use Rattle.mon_pdu.specs.declared.message.Body.{Body}
@@ -13,11 +13,13 @@ use Rattle.mon_app.specs.declared.fault.AppFault.{AppFault}
 use Rattle.mon_app.specs.declared.fault.AppFault.TheVariants as faults
 use Rattle.mon_app.specs.declared.question.Asking.TheVariants.{GetNext}
 use Rattle.mon_app.specs.Asking.{IsAsked}
-use Rattle.mon_app.specs.AtWire.{AtWire}
+use Rattle.mon_app.specs.AppFault.{IsOfStream}
+use Rattle.mon_app.specs.AtWire.{AtWire, socket_failures}
 use Rattle.mon_app.specs.Printed.{IsQuestionAnswered, answer_of, bindings_in}
 use Rattle.mon_app.specs.Question.{Asked, is_reply}
 use Rattle.mon_app.specs.Reading.{is_zero}
-use Rattle.mon_app.specs.Walk.{HasWalked, IsNextAsked, IsTurn, IsWalk, last_answer, question_after}
+use Rattle.mon_app.specs.Walk.{HasWalked, IsFailed, IsNextAsked, IsSaid, IsTurn, IsWalk, IsWalkStep, last_answer, question_after}
+use Rattle.mon_app.specs.declared.walking.Step.TheVariants.{On, Past, Back}
 use Rattle.mon_app.proofs.Askings.{Log}
 
 -- of a reply without an error status each name is answered
@@ -93,89 +95,173 @@ not_of_asking q log answered = by_asked answered.asked answered.asking answered.
         let same : fault ≡ faults.NotIncreasing = cc in subst (λ (f : AppFault). IsAsked q log (Err f)) same asking
 
 -- a fault of the question is the turn's; a walk's own fault is none of asking
-pub fault_of_turn : (show : List ℕ → List ℕ) (q : Asked) (start last text : List ℕ) (before after : Log) (fault : AppFault) → GoesOnBy (λ log. IsNextAsked q log (Err fault)) before after
-    → GoesOnBy (λ log. IsTurn show q start last text text log (Err fault)) before after
-fault_of_turn show q start last text before after fault next = record { more = next.more; holds = by_cases fault next.more next.holds; told = next.told }
+failed : (q : Asked) (start last : List ℕ) (fault : AppFault) (log : List AtWire) → IsNextAsked q log (Err fault) → IsFailed q start last log fault
+failed q start last faults.OutOfMemory log next = (Err faults.OutOfMemory, next)
+failed q start last faults.NotIncreasing log next = absurd (not_of_asking q log next)
+failed q start last (faults.SocketFault reason) log next = next
+failed q start last faults.Timeout log next = next
+failed q start last faults.FileFault log next = next
+failed q start last (faults.AgentStatus status index) log next = next
+failed q start last faults.BadText log next = next
+
+-- what takes lines states this of them
+abbrev pub Text : Type 0
+Text = Option (List ℕ)
+
+-- this happened at the wire, and this was said
+abbrev pub Both : (List AtWire → List ℕ → Type 0) → Log → Log → Text → Text → Type 0
+Both Holds before after text more = GoesOnBy (λ log. GoesOnBy (λ said. Holds log said) text more) before after
+
+-- a refusal of a line is no failure of the wire
+pub no_failure : {A : Type 0} → (r : Result A AppFault) (fault : AppFault) (count now : ℕ) → r ≡ Err fault → IsOfStream fault → now ≡ count → now ≡ socket_failures r count
+no_failure r fault count now is of_stream same = same ∙ sym (ap (λ x. socket_failures x count) is ∙ quiet fault of_stream)
   where
-    by_cases : (fault : AppFault) (log : List AtWire) → IsNextAsked q log (Err fault) → IsTurn show q start last text text log (Err fault)
-    by_cases faults.OutOfMemory log next = (Err faults.OutOfMemory, next, refl)
-    by_cases faults.NotIncreasing log next = absurd (not_of_asking q log next)
-    by_cases (faults.SocketFault reason) log next = (next, refl)
-    by_cases faults.Timeout log next = (next, refl)
-    by_cases faults.FileFault log next = (next, refl)
-    by_cases (faults.AgentStatus status index) log next = (next, refl)
-    by_cases faults.BadText log next = (next, refl)
+    quiet : (fault : AppFault) → IsOfStream fault → (let x : Result (Unit {0}) AppFault = Err fault in socket_failures x count) ≡ count
+    quiet faults.OutOfMemory of_stream = refl
+    quiet faults.FileFault of_stream = refl
+    quiet faults.Timeout of_stream = absurd of_stream
+    quiet (faults.SocketFault reason) of_stream = absurd of_stream
+    quiet faults.NotIncreasing of_stream = absurd of_stream
+    quiet (faults.AgentStatus status index) of_stream = absurd of_stream
+    quiet faults.BadText of_stream = absurd of_stream
 
--- so far was walked
-abbrev pub IsAt : (List ℕ → List ℕ) → List ℕ → List ℕ → List ℕ → ℕ → List ℕ → List ℕ → Log → Log → Type 0
-IsAt show community start said n text last before after = GoesOnBy (λ log. HasWalked show community start said n log text last) before after
+module _ (Refuses : AppFault → Type 0) (show : List ℕ → List ℕ) where
+  module _ (q : Asked) (start last : List ℕ) (before after : Log) where
+    -- the turn said nothing
+    silent : (text : Text) (r : Result (Option (List ℕ)) AppFault) → GoesOnBy (λ log. IsTurn Refuses show q start last [] log r) before after
+        → Both (λ log said. IsTurn Refuses show q start last said log r) before after text text
+    silent text r turn = record { more = turn.more; holds = record { more = []; holds = turn.holds; told = sym (extended_by_none text) }; told = turn.told }
 
-pub begins : (show : List ℕ → List ℕ) (community start said last : List ℕ) (told : Log) → last ≡ start → IsAt show community start said 0 said last told told
-begins show community start said last told is = record { more = []; holds = (refl, refl, is); told = sym (extended_by_none told) }
+    pub fault_of_turn : (text : Text) (fault : AppFault) → GoesOnBy (λ log. IsNextAsked q log (Err fault)) before after
+        → Both (λ log said. IsTurn Refuses show q start last said log (Err fault)) before after text text
+    fault_of_turn text fault next = silent text (Err fault) (record { more = next.more; holds = (refl, inl (failed q start last fault next.more next.holds)); told = next.told })
 
--- one turn more
-pub goes_on : (show : List ℕ → List ℕ) (community start said text later last name : List ℕ) (n : ℕ) (before between after : Log) → IsAt show community start said n text last before between
-    → GoesOnBy (λ log. IsTurn show (question_after community n last) start last text later log (Ok (Some name))) between after
-    → IsAt show community start said (n + 1) later name before after
-goes_on show community start said text later last name n before between after at turn =
-    subst (λ (k : ℕ). IsAt show community start said k later name before after) (sym (add-one n)) (record {
-      more = at.more ++ turn.more;
-      holds = (at.more, turn.more, text, last, at.holds, turn.holds, refl);
-      told = extended_on before between after at.more turn.more at.told turn.told;
-    })
+    pub past_turn : (text : Text) (b : Binding) → GoesOnBy (λ log. IsNextAsked q log (Ok b)) before after → IsWalkStep start last b Past
+        → Both (λ log said. IsTurn Refuses show q start last said log (Ok None)) before after text text
+    past_turn text b next step = silent text (Ok None) (record { more = next.more; holds = (b, next.holds, step, refl); told = next.told })
 
--- the last turn
-pub ends : {A : Type 0} → (show : List ℕ → List ℕ) (community start said text later last : List ℕ) (n : ℕ) (before between after : Log) (result : Result A AppFault)
-    → IsAt show community start said n text last before between → n < 65536
-    → GoesOnBy (λ log. IsTurn show (question_after community n last) start last text later log (last_answer result)) between after
-    → GoesOnBy (λ log. IsWalk show community start said later log result) before after
-ends show community start said text later last n before between after result at few turn = record {
-  more = at.more ++ turn.more;
-  holds = record {
-    turns = n;
-    earlier = at.more;
-    text = text;
-    last = last;
-    walked = at.holds;
-    others = turn.more;
-    log_is = refl;
-    ended = inl (few, turn.holds);
-  };
-  told = extended_on before between after at.more turn.more at.told turn.told;
-}
+    pub back_turn : (text : Text) (b : Binding) → GoesOnBy (λ log. IsNextAsked q log (Ok b)) before after → IsWalkStep start last b Back
+        → Both (λ log said. IsTurn Refuses show q start last said log (Err faults.NotIncreasing)) before after text text
+    back_turn text b next step = silent text (Err faults.NotIncreasing) (record { more = next.more; holds = (refl, inl (b, next.holds, step)); told = next.told })
 
--- all the turns that a walk may take
-pub all_turns : {A : Type 0} → (show : List ℕ → List ℕ) (community start said text last : List ℕ) (before after : Log) (result : Result A AppFault)
-    → IsAt show community start said 65536 text last before after → IsOk result → GoesOnBy (λ log. IsWalk show community start said text log result) before after
-all_turns show community start said text last before after result at fine = record {
-  more = at.more;
-  holds = record {
-    turns = 65536;
-    earlier = at.more;
-    text = text;
-    last = last;
-    walked = at.holds;
-    others = [];
-    log_is = sym (append-nil at.more);
-    ended = inr (inl (refl, refl, refl, fine));
-  };
-  told = at.told;
-}
+    pub line_turn : (text more : Text) (b : Binding) → GoesOnBy (λ log. IsNextAsked q log (Ok b)) before after → IsWalkStep start last b On
+        → GoesOnBy (λ said. IsSaid Refuses show b said (let r : Result (Unit {0}) AppFault = Ok tt in r)) text more
+        → Both (λ log said. IsTurn Refuses show q start last said log (Ok (Some b.name))) before after text more
+    line_turn text more b next step said = record {
+      more = next.more;
+      holds = record { more = said.more; holds = (b, next.holds, step, refl, said.holds); told = said.told };
+      told = next.told;
+    }
 
--- no memory for the first turn
-pub no_turn : {A : Type 0} → (show : List ℕ → List ℕ) (community start said : List ℕ) (told : Log) (result : Result A AppFault) → result ≡ Err faults.OutOfMemory
-    → GoesOnBy (λ log. IsWalk show community start said said log result) told told
-no_turn show community start said told result is = record {
-  more = [];
-  holds = record {
-    turns = 0;
-    earlier = [];
-    text = said;
-    last = start;
-    walked = (refl, refl, refl);
-    others = [];
-    log_is = refl;
-    ended = inr (inr (refl, refl, is));
-  };
-  told = sym (extended_by_none told);
-}
+    pub refused_turn : (text more : Text) (b : Binding) (fault : AppFault) → GoesOnBy (λ log. IsNextAsked q log (Ok b)) before after → IsWalkStep start last b On
+        → GoesOnBy (λ said. IsSaid Refuses show b said (let r : Result (Unit {0}) AppFault = Err fault in r)) text more
+        → Both (λ log said. IsTurn Refuses show q start last said log (Err fault)) before after text more
+    refused_turn text more b fault next step said = record {
+      more = next.more;
+      holds = record { more = said.more; holds = (said.holds.0, why said.holds.1); told = said.told };
+      told = next.told;
+    }
+      where
+        why : (fault ≡ faults.OutOfMemory) ⊎ Refuses fault → IsFailed q start last next.more fault ⊎ ((b : Binding) × IsNextAsked q next.more (Ok b) × IsWalkStep start last b On × Refuses fault)
+        why (inl is) = inl (subst (λ (f : AppFault). IsFailed q start last next.more f) (sym is) (Ok b, next.holds))
+        why (inr refuses) = inr (b, next.holds, step, refuses)
+
+  module _ (community start : List ℕ) where
+    -- so far was walked
+    abbrev pub IsAt : ℕ → List ℕ → Log → Log → Text → Text → Type 0
+    IsAt n last before after text more = Both (λ log said. HasWalked Refuses show community start n log said last) before after text more
+
+    pub begins : (last : List ℕ) (told : Log) (text : Text) → last ≡ start → IsAt 0 last told told text text
+    begins last told text is = record {
+      more = [];
+      holds = record { more = []; holds = (refl, refl, is); told = sym (extended_by_none text) };
+      told = sym (extended_by_none told);
+    }
+
+    -- one turn more
+    pub goes_on : (last name : List ℕ) (n : ℕ) (before between after : Log) (text said more : Text) → IsAt n last before between text said
+        → Both (λ log line. IsTurn Refuses show (question_after community n last) start last line log (Ok (Some name))) between after said more
+        → IsAt (n + 1) name before after text more
+    goes_on last name n before between after text said more at turn =
+        subst (λ (k : ℕ). IsAt k name before after text more) (sym (add-one n)) (record {
+          more = at.more ++ turn.more;
+          holds = record {
+            more = at.holds.more ++ turn.holds.more;
+            holds = (at.more, turn.more, at.holds.more, turn.holds.more, last, at.holds.holds, turn.holds.holds, refl, refl);
+            told = extended_on text said more at.holds.more turn.holds.more at.holds.told turn.holds.told;
+          };
+          told = extended_on before between after at.more turn.more at.told turn.told;
+        })
+
+    -- a walk's last turn says nothing
+    says_none : {A : Type 0} → (q : Asked) (last line : List ℕ) (log : List AtWire) (result : Result A AppFault)
+        → IsTurn Refuses show q start last line log (last_answer result) → line ≡ []
+    says_none q last line log (Ok done) turn = turn.3
+    says_none q last line log (Err fault) turn = turn.0
+
+    -- the last turn
+    pub ends : {A : Type 0} → (last : List ℕ) (n : ℕ) (before between after : Log) (text said more : Text) (result : Result A AppFault)
+        → IsAt n last before between text said → n < 65536
+        → Both (λ log line. IsTurn Refuses show (question_after community n last) start last line log (last_answer result)) between after said more
+        → Both (λ log said. IsWalk Refuses show community start log said result) before after text more
+    ends last n before between after text said more result at few turn =
+        let none : turn.holds.more ≡ [] = says_none (question_after community n last) last turn.holds.more turn.more result turn.holds.holds in record {
+          more = at.more ++ turn.more;
+          holds = record {
+            more = at.holds.more;
+            holds = record {
+              turns = n;
+              earlier = at.more;
+              last = last;
+              walked = at.holds.holds;
+              others = turn.more;
+              log_is = refl;
+              ended = inl (few, subst (λ (line : List ℕ). IsTurn Refuses show (question_after community n last) start last line turn.more (last_answer result)) none turn.holds.holds);
+            };
+            told = extended_on text said more at.holds.more turn.holds.more at.holds.told turn.holds.told
+                ∙ ap (λ (line : List ℕ). extended text line) (ap (λ (line : List ℕ). at.holds.more ++ line) none ∙ append-nil at.holds.more);
+          };
+          told = extended_on before between after at.more turn.more at.told turn.told;
+        }
+
+    -- all the turns that a walk may take
+    pub all_turns : {A : Type 0} → (last : List ℕ) (before after : Log) (text more : Text) (result : Result A AppFault) → IsAt 65536 last before after text more → IsOk result
+        → Both (λ log said. IsWalk Refuses show community start log said result) before after text more
+    all_turns last before after text more result at fine = record {
+      more = at.more;
+      holds = record {
+        more = at.holds.more;
+        holds = record {
+          turns = 65536;
+          earlier = at.more;
+          last = last;
+          walked = at.holds.holds;
+          others = [];
+          log_is = sym (append-nil at.more);
+          ended = inr (inl (refl, refl, fine));
+        };
+        told = at.holds.told;
+      };
+      told = at.told;
+    }
+
+    -- no memory for the first turn
+    pub no_turn : {A : Type 0} → (told : Log) (text : Text) (result : Result A AppFault) → result ≡ Err faults.OutOfMemory
+        → Both (λ log said. IsWalk Refuses show community start log said result) told told text text
+    no_turn told text result is = record {
+      more = [];
+      holds = record {
+        more = [];
+        holds = record {
+          turns = 0;
+          earlier = [];
+          last = start;
+          walked = (refl, refl, refl);
+          others = [];
+          log_is = refl;
+          ended = inr (inr (refl, refl, is));
+        };
+        told = sym (extended_by_none text);
+      };
+      told = sym (extended_by_none told);
+    }

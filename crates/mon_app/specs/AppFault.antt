@@ -63,3 +63,9 @@ of_socket kind = SocketFault (reason_of kind)
 abbrev pub of_message : PduFault → AppFault
 of_message pdu.OutOfMemory = OutOfMemory
 of_message _ = BadText
+
+-- a fault of a text or of a stream, and of no socket and no agent
+abbrev pub IsOfStream : AppFault → Type 0
+IsOfStream OutOfMemory = Unit {0}
+IsOfStream FileFault = Unit {0}
+IsOfStream other = ⊥

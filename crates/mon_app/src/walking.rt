@@ -1,14 +1,16 @@
 //! Walking through the variables under a name.
 
-ghost use Rattle.std.specs.Prelude.{◌≡◌, ◌<◌, ◌↔◌, IsTrue, string_bytes};
+ghost use Rattle.std.specs.Prelude.{◌≡◌, ◌<◌, ◌↔◌, IfErr, IsTrue, OnOk};
 ghost use Rattle.mon_udp.specs.Told.{GoesOnBy};
 ghost use Rattle.mon_app.specs.AtWire.{socket_failures};
-ghost use Rattle.mon_app.specs.Walk.{IsNextAsked, IsWalkStep, IsTurn, IsWalk, question_after};
+ghost use Rattle.mon_app.specs.AppFault.{IsOfStream};
+ghost use Rattle.mon_app.specs.Walk.{IsNextAsked, IsSaid, IsWalkStep, IsTurn, IsWalk, question_after};
 
 use crate::client::answers;
 use crate::fault::AppFault;
 use crate::printed::put_binding;
 use crate::question::{Asking, Question};
+use crate::sink::LineSink;
 use crate::wire::Wire;
 use mon_ber::Value;
 use mon_oid::Oid;
@@ -20,27 +22,31 @@ use std::slice;
 /// How many requests a walk makes at most.
 const REQUESTS: u32 = 65_536;
 
-/// Asks an agent for the variable after the start, then for the one after that, and so on, and adds a line for each to the
-/// text. It ends at the first name that is not under the start, at endOfMibView, or after 65536 requests. Names are printed as
-/// `names` has it, also those that are values.
+/// Asks an agent for the variable after the start, then for the one after that, and so on, and puts a line for each as soon as
+/// it is answered. It ends at the first name that is not under the start, at endOfMibView, or after 65536 requests. Names are
+/// printed as `names` has it, also those that are values.
 ///
 /// # Errors
-/// `NotIncreasing` where the agent answers with a name that does not increase; else as `answer_text`. The lines before stay.
-pub fn walk<W: Wire, S: NameTexts>(
+/// `NotIncreasing` where the agent answers with a name that does not increase; the fault with which `lines` refuses a line; else
+/// as `answer_text`. The walk ends at once, and the lines before were put.
+pub fn walk<W: Wire, S: NameTexts, L: LineSink>(
     alloc: Global,
     wire: &mut W,
     community: &[u8],
     start: &Oid,
     names: &S,
-    text: &mut String,
+    lines: &mut L,
 ) -> Result<(), AppFault>
-    ensures walk { GoesOnBy (λ log. IsWalk (S.shown names.now) community.now start.now (string_bytes text.old) (string_bytes text.new) log result) (W.told wire.old) (W.told wire.new) }
+    requires { L.is_ready lines.old }
+    ensures walk { GoesOnBy (λ log. GoesOnBy (λ said. IsWalk L.refuses (S.shown names.now) community.now start.now log said result) (L.told lines.old) (L.told lines.new))
+        (W.told wire.old) (W.told wire.new) }
     ensures failures { W.failures wire.new ≡ socket_failures result (W.failures wire.old) }
+    ensures ready { OnOk result (L.is_ready lines.new) }
 {
     let mut last = start.try_clone(alloc)?;
     for request_id in 0..REQUESTS {
         match walk_on(
-            alloc, wire, community, start, &last, request_id, names, text,
+            alloc, wire, community, start, &last, request_id, names, lines,
         )? {
             Some(name) => last = name,
             None => return Ok(()),
@@ -49,9 +55,9 @@ pub fn walk<W: Wire, S: NameTexts>(
     Ok(())
 }
 
-/// Adds the line of the variable after the last name, and returns its name, or None if the walk is
+/// Puts the line of the variable after the last name, and returns its name, or None if the walk is
 /// at its end.
-fn walk_on<W: Wire, S: NameTexts>(
+fn walk_on<W: Wire, S: NameTexts, L: LineSink>(
     alloc: Global,
     wire: &mut W,
     community: &[u8],
@@ -59,24 +65,41 @@ fn walk_on<W: Wire, S: NameTexts>(
     last: &Oid,
     request_id: u32,
     names: &S,
-    text: &mut String,
+    lines: &mut L,
 ) -> Result<Option<Oid>, AppFault>
-    requires { request_id < 65536 }
-    ensures turn { GoesOnBy (λ log. IsTurn (S.shown names.now) (question_after community.now request_id last.now) start.now last.now (string_bytes text.old) (string_bytes text.new) log result)
-        (W.told wire.old) (W.told wire.new) }
+    requires few { request_id < 65536 }
+    requires ready { L.is_ready lines.old }
+    ensures turn { GoesOnBy (λ log. GoesOnBy (λ said. IsTurn L.refuses (S.shown names.now) (question_after community.now request_id last.now) start.now last.now said log result)
+        (L.told lines.old) (L.told lines.new)) (W.told wire.old) (W.told wire.new) }
     ensures failures { W.failures wire.new ≡ socket_failures result (W.failures wire.old) }
+    ensures ready { OnOk result (L.is_ready lines.new) }
 {
     let found = after(alloc, wire, community, last, request_id)?;
     match step_of(start, last, &found) {
         Step::Past => Ok(None),
         Step::Back => Err(AppFault::NotIncreasing),
         Step::On => {
-            let mut line = String::new(alloc);
-            put_binding(alloc, &mut line, &found, names)?;
-            text.push_str(line.as_str())?;
+            put_found(alloc, &found, names, lines)?;
             Ok(Some(found.name))
         }
     }
+}
+
+/// Puts the line of a variable binding.
+fn put_found<S: NameTexts, L: LineSink>(
+    alloc: Global,
+    found: &Binding,
+    names: &S,
+    lines: &mut L,
+) -> Result<(), AppFault>
+    requires { L.is_ready lines.old }
+    ensures said { GoesOnBy (λ said. IsSaid L.refuses (S.shown names.now) found.now said result) (L.told lines.old) (L.told lines.new) }
+    ensures fault { IfErr result IsOfStream }
+    ensures ready { OnOk result (L.is_ready lines.new) }
+{
+    let mut line = String::new(alloc);
+    put_binding(alloc, &mut line, found, names)?;
+    lines.put_line(line.as_str())
 }
 
 /// What a walk does about a variable binding that answers.

@@ -288,8 +288,8 @@ BUGS = {
     ),
     "walks_in_numbers": (
         "src/walking.rt",
-        "put_binding(alloc, &mut line, &found, names)?;",
-        "put_binding(alloc, &mut line, &found, &mon_smi::InNumbers)?;",
+        "put_binding(alloc, &mut line, found, names)?;",
+        "put_binding(alloc, &mut line, found, &mon_smi::InNumbers)?;",
     ),
     "prints_values_in_numbers": (
         "src/printed.rt",
@@ -358,8 +358,63 @@ BUGS = {
     ),
     "walks_and_prints_nothing": (
         "src/walking.rt",
-        "            text.push_str(line.as_str())?;",
-        "            text.push_str(&line.as_str()[..0])?;",
+        "    lines.put_line(line.as_str())\n",
+        "    lines.put_line(&line.as_str()[..0])\n",
+    ),
+    "puts_no_line": (
+        "src/walking.rt",
+        "    lines.put_line(line.as_str())\n",
+        "    Ok(())\n",
+    ),
+    "puts_a_line_twice": (
+        "src/walking.rt",
+        "    lines.put_line(line.as_str())\n",
+        "    lines.put_line(line.as_str())?;\n    lines.put_line(line.as_str())\n",
+    ),
+    "goes_on_after_a_refused_line": (
+        "src/walking.rt",
+        "    lines.put_line(line.as_str())\n",
+        "    let _ = lines.put_line(line.as_str());\n    Ok(())\n",
+    ),
+    "puts_a_refused_line_again": (
+        "src/walking.rt",
+        "    lines.put_line(line.as_str())\n",
+        "    if lines.put_line(line.as_str()).is_ok() {\n        return Ok(());\n    }\n    lines.put_line(line.as_str())\n",
+    ),
+    "gives_another_fault_of_a_refused_line": (
+        "src/walking.rt",
+        "    lines.put_line(line.as_str())\n",
+        "    lines.put_line(line.as_str()).map_err(|_| AppFault::Timeout)\n",
+    ),
+    "forgets_the_last_line": (
+        "src/walking.rt",
+        "            put_found(alloc, &found, names, lines)?;",
+        "            if request_id < 65_535 {\n                put_found(alloc, &found, names, lines)?;\n            }",
+    ),
+    "ends_well_at_a_refused_line": (
+        "src/walking.rt",
+        "            put_found(alloc, &found, names, lines)?;",
+        "            if put_found(alloc, &found, names, lines).is_err() {\n                return Ok(None);\n            }",
+    ),
+    "a_text_keeps_no_line": (
+        "src/sink.rt",
+        "        self.push_str(line)?;",
+        "        self.push_str(&line[..0])?;",
+    ),
+    "a_text_keeps_a_line_twice": (
+        "src/sink.rt",
+        "        self.push_str(line)?;",
+        "        self.push_str(line)?;\n        self.push_str(line)?;",
+    ),
+    "a_text_refuses_with_another_fault": (
+        "src/sink.rt",
+        "        self.push_str(line)?;",
+        "        self.push_str(line).map_err(|_| AppFault::FileFault)?;",
+    ),
+    "a_text_keeps_a_refused_line": (
+        "src/sink.rt",
+        "        self.push_str(line)?;",
+        "        self.push_str(line)?;\n        if self.len() > 65_536 {\n            return Err(AppFault::OutOfMemory);\n        }",
     ),
     "writes_back_its_input": (
         "src/replaying.rt",
