@@ -1,5 +1,5 @@
 -- What a keeper knows of its file even after its disk failed, and how closing the spare slot's gate mends it.
-use Rattle.std.proofs.Common.{ℕ, ◌≡◌, ◌<◌, ◌≤◌, ◌+◌, ◌*◌, max, [], ◌∷◌, ◌⊎◌, inl, inr, ⊎_elim, true, false, ◌&&◌, ◌==◌, nat_lt, Bool, List, length, refl, sym, ◌∙◌, ap, subst, if◌then◌else◌, Option, Some, None}
+use Rattle.std.proofs.Common.{ℕ, ◌≡◌, ◌<◌, ◌≤◌, ◌+◌, ◌*◌, max, [], ◌∷◌, inl, inr, ⊎_elim, true, ◌&&◌, ◌==◌, nat_lt, Bool, List, length, refl, sym, ◌∙◌, ap, subst, if◌then◌else◌, Option, Some, None}
 use Rattle.std.proofs.lemmas.Bool.{and_parts, and_from}
 use Rattle.mon_disk.specs.Disk.{Follows, IsTorn, Leaves, LeavesSince, Only}
 use Rattle.mon_disk.specs.File.{Saved, offset_of, slot_of, other, held, newer, found, head_of, is_sound_head, are_sound, is_sound, Finds, HoldsEither, IsBeside, IsShut, is_slot}
@@ -11,7 +11,7 @@ use Rattle.mon_disk.specs.declared.file.TheConstants.{SLOT_SIZE}
 use Rattle.mon_disk.proofs.Gates.{closing}
 use Rattle.mon_disk.proofs.Moments.{at_end}
 use Rattle.mon_disk.proofs.Opened.{as_body}
-use Rattle.mon_disk.proofs.Saves.{pick, found_at, pick_none, sound_sides, sound_at, sides}
+use Rattle.mon_disk.proofs.Saves.{found_at, pick_none, sound_sides, sound_at, sides}
 
 -- ---- the slot that is not spare
 pub itself : (z : ℕ) (k : Slot) (file : List ℕ) → length file ≡ 2 * z → IsBeside z k file file
@@ -23,7 +23,7 @@ by_gate z k file f a b h = record { size = h.size; rest = h.rest }
 pub by_slot : (z : ℕ) (k : Slot) (file f1 f2 octets : List ℕ) → IsBeside z k file f1 → is_slot z k f1 octets f2 → IsBeside z k file f2
 by_slot z k file f1 f2 octets b s = record { size = s.0; rest = s.1 ∙ b.rest }
 
--- a step that writes to the spare slot alone
+-- a step that writes only to the spare slot
 pub steps_beside : {D : Type 0} (moment : D → ℕ) (left_since : D → ℕ → List ℕ → Type 0) (may_leave : D → List ℕ → Type 0) (z : ℕ) (k j : Slot) (file f : List ℕ) (a b : Option Saved) → k ≡ j → IsBeside z k file f
     → (d1 d2 : D) → ((t : ℕ) (c : List ℕ) → t ≤ moment d2 → may_leave d2 c → left_since d2 t c) → LeavesSince moment left_since d1 d2 (HoldsEither z k f a b) → Leaves (may_leave d2) (IsBeside z j file)
 steps_beside moment left_since may_leave z k j file f a b same so_far d1 d2 counts run c left =
@@ -55,7 +55,7 @@ pub kept_body : (newest : Option (Slot × ℕ)) (file : List ℕ) (outcomes : Li
 unfolding found_body
 kept_body newest file outcomes kept body finds = ap saved_body (kept_last SLOT_SIZE newest file outcomes kept) ∙ finds.body_is
 
--- after calls that left it alone
+-- after calls that did not change it
 pub still_held : (z : ℕ) (newest : Option (Slot × ℕ)) (file now : List ℕ) (outcomes later : List ℕ → Type 0) → IsHeld z newest file outcomes → Leaves later (IsBeside z (spare newest) file) → later now → IsHeld z newest now later
 still_held z newest file now outcomes later was beside here =
     let b = beside now here in

@@ -1,6 +1,6 @@
 -- What a reopening of a keeper does.
 use Rattle.std.specs.Prelude.{IsErrAnd}
-use Rattle.std.proofs.Common.{Result, Ok, Err, ℕ, ◌≡◌, ◌<◌, ◌≤◌, ◌-◌, ◌^◌, ◌⊎◌, inl, inr, true, false, List, refl, sym, ◌∙◌, ap, subst, arith, Option, None}
+use Rattle.std.proofs.Common.{Result, Ok, Err, ℕ, ◌≡◌, ◌<◌, ◌≤◌, ◌-◌, ◌^◌, ◌⊎◌, inl, true, false, List, refl, sym, ◌∙◌, ap, subst, arith, Option, None}
 use Rattle.mon_disk.specs.Disk.{Leaves, LeavesSince, Only}
 use Rattle.mon_disk.specs.File.{HoldsEither, IsBeside, IsShut, held, other, slot_of}
 use Rattle.mon_disk.specs.History.{FindsAgain}

@@ -1,13 +1,13 @@
 -- How a keeper mends itself after its disk failed in a save.
 --
--- What a failed save leaves. A save goes to the spare slot alone: it closes the gate, fills the slot and opens the gate, each a write and a sync. So whichever of the six calls failed, each file that a
--- crash may leave has the other slot as it was, with the last save, of generation g; and the spare slot closed, or open with the save before the last, or, if an opening of the gate failed, open with
--- the failed save, whole and of generation g + 1. Which of these is on the disk cannot be known, and no read tells: after a sync that failed, a system may take pages for written that the disk lacks.
+-- What a failed save leaves. A save writes only to the spare slot: it closes the gate, fills the slot and opens the gate, each a write and a sync. So whichever of the six calls failed, each file that a
+-- crash may leave has the other slot as it was, with the last save, of generation g. Its spare slot is closed, or open with the save before the last, or, if opening the gate failed, open with the failed
+-- save, whole and of generation g + 1. Which of these is on the disk cannot be known, and a read does not show it: after a sync that failed, a system may take pages for written that the disk lacks.
 --
--- How two calls settle it. The keeper goes on knowing generation g in the other slot as the newest, whatever became of the failed save. It writes a closed gate to the spare slot, which is open or not,
--- and syncs: that octet's page is written anew, so a sync that succeeds puts it on the disk, and of a closed slot no other octet counts. Nothing of the other slot was written since its own syncs
--- succeeded. Then an opening finds generation g, and no open slot has generation g + 1: the next save takes it, and goes to the spare slot, all of which it writes anew. So the next
--- acknowledged save is the newest in every case. Meanwhile a crash leaves the spare slot as it was or closed: an opening meets what it would have met before, or finds the last save again.
+-- How two calls settle it. The keeper goes on knowing generation g in the other slot as the newest, whatever became of the failed save. It writes a closed gate to the spare slot, open or not, and
+-- syncs: the octet is written again, so a sync that succeeds puts it on the disk, and of a closed slot no other octet counts. Of the other slot nothing was written since its own syncs succeeded.
+-- Then an opening finds generation g, and no open slot has generation g + 1. The next save takes that one, in the spare slot, and writes again each octet that counts. So the next acknowledged
+-- save is the newest in every case. Meanwhile a crash leaves the spare slot as it was or closed: an opening meets what it would have met before, or finds the last save again.
 -- If one of the two calls fails, all of this holds as it did before them.
 use Rattle.std.specs.Prelude.{◌≡◌, ◌<◌, ◌≤◌, ◌-◌, ◌^◌, ◌↔◌, ℕ, true, false, List, Result, Option, IfErr, IsOk, OnOk, OnErr}
 use Rattle.mon_disk.specs.Disk.{Leaves, LeavesSince}
@@ -26,7 +26,7 @@ pub record IsReopeningOf {X T : Type 0} (G : Ghosts X) (last : Option (List ℕ)
   pub whole : OnOk result (IsWhole (G.seen new))
   pub found : OnOk result (FindsBody last (G.seen new))
   pub kept : OnOk result (Leaves (G.may_leave new) (FindsBody last))
-  -- A crash at any time, of one that fails too, leaves what an opening takes for one of the files that it might have left before, or the last save.
+  -- A crash at any time, even if a call fails, leaves one of the files that it might have left before, for an opening, or the last save.
   pub any_moment : LeavesSince G.moment G.left_since old new (FindsAgain last (G.may_leave old))
   -- the call is one of the events of `laws::stops`
   pub happens : OnOk result (Happens G.is_honest G.seen G.may_leave G.moment G.left_since (reopened last) old new)

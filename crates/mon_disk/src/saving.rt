@@ -32,7 +32,7 @@ pub(crate) fn put_spare<D: Disk>(
     // A crash at any time of the call leaves what was found before it, or this save.
     ensures any_moment { D.is_honest disk.old → LeavesSince D.moment D.left_since disk.old disk.new
         (FindsEither SLOT_SIZE (found SLOT_SIZE (D.seen disk.old)) (Some (save_of octets.now))) }
-    // It leaves the other slot alone, whichever call fails.
+    // It changes nothing of the other slot, whichever call fails.
     ensures beside { D.is_honest disk.old → Leaves (D.may_leave disk.new) (IsBeside SLOT_SIZE (spare newest) (D.seen disk.old)) }
     ensures honest { D.is_honest disk.old ↔ D.is_honest disk.new }
     ensures cause { HasCause (D.faults disk.old) (D.faults disk.new) result }

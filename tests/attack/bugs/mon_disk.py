@@ -23,7 +23,7 @@ BUGS = {
     ),
     "lays_open_gates": (
         "src/layout.rt",
-        "disk.write_at(0, &[0; HEAD_SIZE])?;",
+        "disk.write_at(0, zeros)?;",
         "disk.write_at(0, &[0xA5; HEAD_SIZE])?;",
     ),
     "takes_a_longer_file": (
@@ -88,23 +88,23 @@ BUGS = {
     ),
     "always_finds_the_first_slot": (
         "src/keeper.rt",
-        "self.newest = Some((slot, generation));",
+        "self.newest = Some((spare_slot(self.newest), generation));",
         "self.newest = Some((Slot::First, generation));",
     ),
     "stays_spoiled_after_a_save": (
         "src/keeper.rt",
-        "self.spoiled = false;",
-        "self.spoiled = generation > 1;",
+        "self.newest = Some((spare_slot(self.newest), generation));\n        self.spoiled = false;",
+        "self.newest = Some((spare_slot(self.newest), generation));\n        self.spoiled = generation > 1;",
     ),
     "fills_the_second_slot": (
-        "src/keeper.rt",
-        "fill(&mut self.device, slot, octets, calls - 2)?;",
-        "fill(&mut self.device, Slot::Second, octets, calls - 2)?;",
+        "src/saving.rt",
+        "fill(disk, slot, octets, calls - 2)?;",
+        "fill(disk, Slot::Second, octets, calls - 2)?;",
     ),
     "shows_the_second_slot": (
-        "src/keeper.rt",
-        "show(&mut self.device, slot, calls - 4)?;",
-        "show(&mut self.device, Slot::Second, calls - 4)?;",
+        "src/saving.rt",
+        "show(disk, slot, calls - 4)",
+        "show(disk, Slot::Second, calls - 4)",
     ),
     "writes_generations_backwards": (
         "src/keeper.rt",
@@ -182,14 +182,24 @@ BUGS = {
         "        if generation <= u64::MAX {",
     ),
     "closes_the_first_slot": (
-        "src/keeper.rt",
-        "        close(&mut self.device, slot, calls)?;",
-        "        close(&mut self.device, Slot::First, calls)?;",
+        "src/saving.rt",
+        "    close(disk, slot, calls)?;",
+        "    close(disk, Slot::First, calls)?;",
     ),
     "laid_out_open": (
         "src/layout.rt",
-        "    disk.write_at(SLOT_SIZE, &[0; HEAD_SIZE])?;",
+        "    disk.write_at(SLOT_SIZE, &zeros[1..])?;",
         "    disk.write_at(SLOT_SIZE, &[0xA5; HEAD_SIZE])?;",
+    ),
+    "lays_out_a_first_slot_of_gaps": (
+        "src/layout.rt",
+        "    disk.write_at(0, zeros)?;",
+        "    disk.write_at(0, &zeros[..HEAD_SIZE])?;",
+    ),
+    "lays_out_a_second_slot_of_gaps": (
+        "src/layout.rt",
+        "    disk.write_at(SLOT_SIZE, &zeros[1..])?;",
+        "    disk.write_at(SLOT_SIZE, &zeros[..HEAD_SIZE])?;",
     ),
     "same_generation": (
         "src/keeper.rt",
@@ -207,7 +217,7 @@ BUGS = {
         "        if !keep {",
     ),
     "writes_the_found_slot": (
-        "src/keeper.rt",
+        "src/saving.rt",
         "        Some((Slot::First, _)) => Slot::Second,",
         "        Some((Slot::First, _)) => Slot::First,",
     ),
@@ -272,9 +282,9 @@ BUGS = {
         "        self.save_calls(octets, SAVE_CALLS - 1)",
     ),
     "stops_before_the_fifth_call": (
-        "src/keeper.rt",
-        "        if calls <= 4 {",
-        "        if calls <= 5 {",
+        "src/saving.rt",
+        "    if calls <= 4 {",
+        "    if calls <= 5 {",
     ),
     "goes_on_after_five_calls": (
         "src/keeper.rt",
@@ -300,8 +310,8 @@ BUGS = {
     ),
     "never_syncs_a_step": (
         "src/file.rt",
-        "    disk.sync()",
-        "    if disk.failures() < u64::MAX { return Ok(()); }\n    disk.sync()",
+        "    if calls == 1 {\n        return Ok(());\n    }\n    disk.sync()",
+        "    if calls == 1 || disk.failures() < u64::MAX {\n        return Ok(());\n    }\n    disk.sync()",
     ),
     "syncs_after_one_call": (
         "src/file.rt",
@@ -383,11 +393,59 @@ BUGS = {
         "    disk.sync()",
         "    if disk.failures() < u64::MAX { return Ok(()); } disk.sync()",
     ),
+    # ---- a keeper whose disk failed
+    "mends_unsynced": (
+        "src/file.rt",
+        "    disk.write_at(slot.offset(), &[0])?;\n    disk.sync()",
+        "    disk.write_at(slot.offset(), &[0])?;\n    if disk.failures() < u64::MAX { return Ok(()); }\n    disk.sync()",
+    ),
+    "mends_by_opening_the_gate": (
+        "src/file.rt",
+        "    disk.write_at(slot.offset(), &[0])?;",
+        "    disk.write_at(slot.offset(), &[165])?;",
+    ),
+    "mends_the_first_slot": (
+        "src/keeper.rt",
+        "        shut(&mut self.device, spare_slot(self.newest))?;",
+        "        shut(&mut self.device, Slot::First)?;",
+    ),
+    "mends_without_a_call": (
+        "src/keeper.rt",
+        "        shut(&mut self.device, spare_slot(self.newest))?;\n",
+        "",
+    ),
+    "forgets_the_last_save": (
+        "src/keeper.rt",
+        "        shut(&mut self.device, spare_slot(self.newest))?;\n        self.spoiled = false;",
+        "        shut(&mut self.device, spare_slot(self.newest))?;\n        self.newest = None;\n        self.spoiled = false;",
+    ),
+    "takes_the_failed_generation_for_the_newest": (
+        "src/keeper.rt",
+        "        shut(&mut self.device, spare_slot(self.newest))?;\n        self.spoiled = false;",
+        "        shut(&mut self.device, spare_slot(self.newest))?;\n        self.newest = match self.newest { Some((slot, generation)) => Some((slot, generation.saturating_add(1))), None => None };\n        self.spoiled = false;",
+    ),
+    "asks_for_reopening_for_ever": (
+        "src/keeper.rt",
+        "        shut(&mut self.device, spare_slot(self.newest))?;\n        self.spoiled = false;",
+        "        shut(&mut self.device, spare_slot(self.newest))?;",
+    ),
+    "fails_to_mend_without_a_call": (
+        "src/keeper.rt",
+        "        if !self.spoiled {\n            return Ok(());\n        }",
+        "        if self.spoiled {\n            return Err(KeeperFault::DiskFault);\n        }",
+    ),
+    "mends_a_sound_keeper": (
+        "src/keeper.rt",
+        "        if !self.spoiled {\n            return Ok(());\n        }\n",
+        "",
+    ),
 }
 
 # Those that break a promise as a whole, each with its function: tests/bodies tries them in the gate.
 PROMISES = {
     "always_disk_fault": "keeper::Keeper::save_calls",
     "body_not_synced": "file::fill",
+    "forgets_the_last_save": "keeper::Keeper::reopen",
+    "mends_unsynced": "file::shut",
     "no_first_sync": "opening::sync_first",
 }

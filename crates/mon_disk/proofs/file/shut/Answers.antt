@@ -1,5 +1,5 @@
-use Rattle.std.proofs.Common.{◌≡◌, ◌+◌, ◌*◌, ◌<◌, max, length, None, sym, subst, ap, lit<, List, ℕ, arith, [], ◌∷◌}
-use Rattle.mon_disk.specs.Disk.{IsTorn, Leaves, Only}
+use Rattle.std.proofs.Common.{None, sym, subst, lit<, List, ℕ}
+use Rattle.mon_disk.specs.Disk.{Only}
 use Rattle.mon_disk.specs.File.{HoldsEither, IsShut}
 use Rattle.mon_disk.specs.declared.file.TheConstants.{SLOT_SIZE}
 use Rattle.mon_disk.proofs.Gates.{closed, on_ok_map, on_ok_both}
