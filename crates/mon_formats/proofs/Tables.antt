@@ -1,5 +1,5 @@
 -- Texts of a table.
-use Rattle.std.proofs.Common.{◌≡◌, ℕ, ◌+◌, ◌-◌, ◌<◌, Bool, true, false, List, [], ◌∷◌, ◌++◌, length, map, take, get_or, sym, ap, refl, ◌∙◌, append_assoc, arith, codes, ◌==◌, Result, Ok, Err}
+use Rattle.std.proofs.Common.{◌≡◌, ℕ, ◌+◌, ◌-◌, ◌<◌, Bool, true, false, List, [], ◌∷◌, ◌++◌, Option, Some, length, map, take, drop, get_or, sym, ap, refl, ◌∙◌, append_assoc, arith, codes, ◌==◌, Result, Ok, Err}
 use Rattle.std.specs.Prelude.{max, OnOk, if◌then◌else◌, slice_get}
 use Rattle.std.specs.declared.alloc.AllocError.{AllocError}
 use Rattle.std.specs.List.{list_any}
@@ -14,7 +14,7 @@ use Rattle.mon_alarms.specs.Observed.{state_by}
 use Rattle.mon_report.specs.Report.{Entry}
 use Rattle.mon_formats.specs.Cells.{newest_of}
 use Rattle.mon_formats.specs.declared.columns.Widths.{Widths}
-use Rattle.mon_formats.specs.Columns.{alarm_cell, cells_text, is_raised, to_left, to_right, widest}
+use Rattle.mon_formats.specs.Columns.{alarm_cell, cells_text, engine_if_new, is_raised, row_line, rows_from, to_left, to_right, widest}
 
 -- a text, and one more behind it
 pub text-then : (a b c x y : List ℕ) → b ≡ a ++ x → c ≡ b ++ y → c ≡ a ++ (x ++ y)
@@ -62,3 +62,17 @@ raised items (r ∷ rs) e = sym (ap (λ b. if b then codes "RAISED" else codes "
 pub clear : (items : List ℕ) (rules : List Rule) → 0 < length rules → list_any (λ rule. is_raised (state_by rule items)) rules ≡ false → codes "clear" ≡ alarm_cell items rules
 clear items [] some e = absurd (omega arith)
 clear items (r ∷ rs) some e = sym (ap (λ b. if b then codes "RAISED" else codes "clear") e)
+
+-- the line of one instance more, and its engine's above it
+pub one-row : (w : Widths) (shown : List ℕ → List ℕ) (aged : Bool) (ages : List ℕ) (at : ℕ) (before : Option (List ℕ)) (e : Entry) (es : List Entry) (t0 t1 t2 total : List ℕ)
+    → drop at es ≡ e ∷ drop (at + 1) es → t1 ≡ t0 ++ engine_if_new before e.engine → t2 ≡ t1 ++ row_line w shown aged (slice_get ages at) e
+    → t0 ++ rows_from w shown aged ages at before (drop at es) ≡ total
+    → t2 ++ rows_from w shown aged ages (at + 1) (Some e.engine) (drop (at + 1) es) ≡ total
+one-row w shown aged ages at before e es t0 t1 t2 total more engine row whole =
+    let first = engine_if_new before e.engine in
+    let second = row_line w shown aged (slice_get ages at) e in
+    let rest = rows_from w shown aged ages (at + 1) (Some e.engine) (drop (at + 1) es) in
+    ap (λ t. t ++ rest) (row ∙ ap (λ t. t ++ second) engine ∙ append_assoc t0 first second)
+    ∙ append_assoc t0 (first ++ second) rest
+    ∙ ap (λ l. t0 ++ rows_from w shown aged ages at before l) (sym more)
+    ∙ whole

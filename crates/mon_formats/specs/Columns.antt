@@ -1,7 +1,7 @@
 -- A report as a table for people: columns that are as wide as their widest text, and the names last.
-use Rattle.std.specs.Prelude.{ℕ, ◌-◌, max, List, [], ◌∷◌, ◌++◌, Bool, true, false, Option, Some, None, codes, decimal, length, map, if◌then◌else◌}
+use Rattle.std.specs.Prelude.{ℕ, ◌+◌, ◌-◌, max, List, [], ◌∷◌, ◌++◌, Bool, true, false, Option, Some, None, codes, decimal, length, map, slice_get, if◌then◌else◌, String, string_bytes}
 use Rattle.std.specs.Fmt.{signed_decimal}
-use Rattle.std.specs.List.{fold, list_any, repeat}
+use Rattle.std.specs.List.{flat_map, fold, list_any, repeat}
 use Rattle.std.specs.Str.{bytes_eq}
 use Rattle.hex.specs.Hex.{encode_lower}
 use Rattle.mon_alarms.specs.Rule.{Rule}
@@ -10,6 +10,8 @@ use Rattle.mon_alarms.specs.declared.alarm.AlarmState.{AlarmState}
 use Rattle.mon_alarms.specs.declared.alarm.AlarmState.TheVariants.{Clear, Raised}
 use Rattle.mon_report.specs.Report.{Entry, rate_text, samples_in}
 use Rattle.mon_formats.specs.declared.columns.Widths.{Widths}
+use Rattle.mon_formats.specs.declared.figures.Figures.{Figures}
+use Rattle.mon_formats.specs.declared.figures.TargetFigures.{TargetFigures}
 use Rattle.mon_formats.specs.Cells.{newest_of, value_of, rate_of}
 
 -- N spaces
@@ -63,17 +65,32 @@ cells_text w value rate alarm samples = to_right w.value value ++ to_right w.rat
 abbrev pub title_cells : Widths → List ℕ
 title_cells w = cells_text w (codes "VALUE") (codes "RATE") (codes "ALARM") (codes "SAMPLES")
 
--- the line of titles
-abbrev pub title_line : Widths → List ℕ
-title_line w = title_cells w ++ codes "NAME\n"
+-- in how many rounds an instance had no new sample; a dash where that is not known
+abbrev pub age_cell : Option ℕ → List ℕ
+age_cell None = codes "-"
+age_cell (Some age) = decimal age
+
+-- the title of the column of ages, where there is one
+abbrev pub age_title : Bool → List ℕ
+age_title false = []
+age_title true = to_right 5 (codes "AGE")
+
+-- the cell of an age, where there is a column of ages
+abbrev pub age_if : Bool → Option ℕ → List ℕ
+age_if false age = []
+age_if true age = to_right 5 (age_cell age)
+
+-- the line of titles, with the ages' or without
+abbrev pub title_line : Widths → Bool → List ℕ
+title_line w aged = title_cells w ++ age_title aged ++ codes "NAME\n"
 
 -- the cells of an instance before its name
 abbrev pub row_cells : Widths → Entry → List ℕ
 row_cells w e = cells_text w (value_cell (newest_of e.items)) (rate_cell (rate_of e.items)) (alarm_cell e.items e.rules) (decimal (length e.items))
 
--- the line of an instance
-abbrev pub row_line : Widths → (List ℕ → List ℕ) → Entry → List ℕ
-row_line w shown e = row_cells w e ++ shown e.name ++ codes "\n"
+-- the line of an instance, with its age or without
+abbrev pub row_line : Widths → (List ℕ → List ℕ) → Bool → Option ℕ → Entry → List ℕ
+row_line w shown aged age e = row_cells w e ++ age_if aged age ++ shown e.name ++ codes "\n"
 
 -- an engine's line
 unfoldable pub engine_line : List ℕ → List ℕ
@@ -84,16 +101,43 @@ abbrev pub engine_if_new : Option (List ℕ) → List ℕ → List ℕ
 engine_if_new None engine = engine_line engine
 engine_if_new (Some before) engine = if bytes_eq before engine then [] else engine_line engine
 
--- the lines of instances behind one of this engine
-abbrev pub rows_from : Widths → (List ℕ → List ℕ) → Option (List ℕ) → List Entry → List ℕ
-rows_from w shown before [] = []
-rows_from w shown before (e ∷ es) = engine_if_new before e.engine ++ row_line w shown e ++ rows_from w shown (Some e.engine) es
+-- the lines of instances from a place on, behind one of this engine
+abbrev pub rows_from : Widths → (List ℕ → List ℕ) → Bool → List ℕ → ℕ → Option (List ℕ) → List Entry → List ℕ
+rows_from w shown aged ages place before [] = []
+rows_from w shown aged ages place before (e ∷ es) =
+    engine_if_new before e.engine ++ row_line w shown aged (slice_get ages place) e ++ rows_from w shown aged ages (place + 1) (Some e.engine) es
 
 -- how many instances and samples there are
 unfoldable pub count_line : ℕ → ℕ → List ℕ
 count_line instances samples = decimal instances ++ codes " instances, " ++ decimal samples ++ codes " samples\n"
 
--- the titles, the instances under their engines, and how many there are
-unfoldable pub columns_report : (List ℕ → List ℕ) → List Entry → List ℕ
-columns_report shown entries =
-    title_line (widths_of entries) ++ rows_from (widths_of entries) shown None entries ++ count_line (length entries) (samples_in entries)
+-- the titles, the instances under their engines, and how many there are; with a column of ages or without
+unfoldable pub table_text : (List ℕ → List ℕ) → Bool → List ℕ → List Entry → List ℕ
+table_text shown aged ages entries =
+    title_line (widths_of entries) aged ++ rows_from (widths_of entries) shown aged ages 0 None entries ++ count_line (length entries) (samples_in entries)
+
+-- why a target's last response was refused, where one was
+abbrev pub reason_text : {A : Type 0} → Option (String A) → List ℕ
+reason_text None = []
+reason_text (Some reason) = codes ": " ++ string_bytes reason
+
+-- which target it is, and where its agent is reached
+unfoldable pub place_text : TargetFigures → List ℕ
+place_text t = codes "target " ++ decimal t.number ++ codes " at " ++ string_bytes t.address
+
+-- for how long it did not answer
+unfoldable pub silence_text : TargetFigures → List ℕ
+silence_text t = codes " is down: no answer in " ++ decimal t.rounds ++ codes " rounds, " ++ decimal t.seconds ++ codes " s"
+
+-- the line of a target that is down
+unfoldable pub down_line : TargetFigures → List ℕ
+down_line t = place_text t ++ silence_text t ++ reason_text t.refusal ++ codes "\n"
+
+-- that line, unless the target is up
+abbrev pub down_if : TargetFigures → List ℕ
+down_if t = if t.up then [] else down_line t
+
+-- the table; of a running station with ages, and below it a line for each target that is down
+abbrev pub columns_report : (List ℕ → List ℕ) → List Entry → Option Figures → List ℕ
+columns_report shown entries None = table_text shown false [] entries
+columns_report shown entries (Some f) = table_text shown true f.ages.items entries ++ flat_map down_if f.targets.items

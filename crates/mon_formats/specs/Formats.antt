@@ -1,5 +1,5 @@
--- The formats of a report. Each is a function of the instances' windows and rules, of how names are shown, and for Prometheus of what the
--- station says of itself.
+-- The formats of a report. Each is a function of the instances' windows and rules, of how names are shown, and for Prometheus and the
+-- table of what the station says of itself.
 use Rattle.std.specs.Prelude.{ℕ, List, Option}
 use Rattle.mon_board.specs.Watch.{Watch}
 use Rattle.mon_window.specs.Window.{Samples}
@@ -17,7 +17,7 @@ abbrev pub formatted : Format → (List ℕ → List ℕ) → List Entry → Opt
 formatted Text shown entries station = named_report shown entries
 formatted Json shown entries station = json_report shown entries
 formatted Prometheus shown entries station = prometheus_report shown entries station
-formatted Columns shown entries station = columns_report shown entries
+formatted Columns shown entries station = columns_report shown entries station
 
 -- the report of a watch and a window for each of its instances
 abbrev pub report_in : Format → (List ℕ → List ℕ) → Watch → (ℕ → Samples) → Option Figures → List ℕ

@@ -1,11 +1,12 @@
 //! A report as a table for people.
 
-ghost use Rattle.std.specs.Prelude.{◌≡◌, ◌++◌, None, IfOk, OnOk, option_copied, string_bytes};
-ghost use Rattle.std.specs.List.{list_any};
+ghost use Rattle.std.specs.Prelude.{◌≡◌, ◌++◌, None, codes, true, IfOk, OnOk, option_copied, option_map, slice_get, string_bytes};
+ghost use Rattle.std.specs.List.{flat_map, list_any};
 ghost use Rattle.mon_alarms.specs.Observed.{state_by};
-ghost use Rattle.mon_formats.specs.Columns.{to_right, to_left, value_cell, rate_cell, alarm_cell, is_raised, widths_of, title_line, row_cells, row_line, engine_line, engine_if_new, rows_from, count_line, columns_report};
+ghost use Rattle.mon_formats.specs.Columns.{to_right, to_left, value_cell, rate_cell, alarm_cell, is_raised, widths_of, title_cells, title_line, row_cells, row_line, engine_line, engine_if_new, rows_from, count_line, columns_report, age_cell, age_if, age_title, down_if, down_line, place_text, reason_text, silence_text, table_text};
 
 use crate::cells::count_samples;
+use crate::figures::{Figures, TargetFigures};
 use mon_alarms::{AlarmState, Rule, state};
 use mon_report::{Entry, write_rate};
 use mon_sample::Sample;
@@ -21,21 +22,140 @@ struct Widths {
     rate: usize,
 }
 
+/// How wide a row's columns are, and the age of its instance.
+#[derive(Clone, Copy)]
+struct Shape {
+    widths: Widths,
+    /// Says whether there is a column of ages.
+    is_aged: bool,
+    age: Option<u32>,
+}
+
+/// Instances, and in how many rounds each had no new sample.
+#[derive(Clone, Copy)]
+struct Listing<'a, 'e> {
+    entries: &'a [Entry<'e>],
+    ages: &'a [u32],
+}
+
 /// The report as a table.
-#[tactic(auto, unfolding(crate::specs::Columns::columns_report))]
 pub(crate) fn columns_report<S: NameTexts>(
     alloc: Global,
     names: &S,
     entries: &[Entry],
+    station: Option<&Figures>,
 ) -> Result<Vec<u8>, AllocError>
-    ensures { IfOk result (λ text. text.items ≡ columns_report (S.shown names.now) entries.now) }
+    ensures { IfOk result (λ text. text.items ≡ columns_report (S.shown names.now) entries.now (option_map (λ f. f.now) station.entry)) }
+{
+    match station {
+        None => Ok(table_text(alloc, names, entries, false, &[])?.into_bytes()),
+        Some(figures) => running_report(alloc, names, entries, figures),
+    }
+}
+
+/// The report of a running station as a table, and a line for each target that is down.
+fn running_report<S: NameTexts>(
+    alloc: Global,
+    names: &S,
+    entries: &[Entry],
+    figures: &Figures,
+) -> Result<Vec<u8>, AllocError>
+    ensures { IfOk result (λ text. text.items ≡ table_text (S.shown names.now) true figures.now.ages.items entries.now ++ flat_map down_if figures.now.targets.items) }
+{
+    let mut text = table_text(alloc, names, entries, true, figures.ages.as_slice())?;
+    put_down(&mut text, figures.targets.as_slice())?;
+    Ok(text.into_bytes())
+}
+
+/// The table, with a column of these ages or without.
+#[tactic(auto, unfolding(crate::specs::Columns::table_text))]
+fn table_text<S: NameTexts>(
+    alloc: Global,
+    names: &S,
+    entries: &[Entry],
+    is_aged: bool,
+    ages: &[u32],
+) -> Result<String, AllocError>
+    ensures { IfOk result (λ text. string_bytes text ≡ table_text (S.shown names.now) is_aged ages.now entries.now) }
 {
     let widths = widths_of(alloc, entries)?;
+    let shape = Shape {
+        widths,
+        is_aged,
+        age: None,
+    };
     let mut text = String::new(alloc);
-    put_title(alloc, &mut text, widths)?;
-    put_rows(alloc, &mut text, widths, names, entries)?;
+    put_title(alloc, &mut text, shape)?;
+    put_rows(alloc, &mut text, names, Listing { entries, ages }, shape)?;
     put_count(&mut text, entries.len(), count_samples(entries))?;
-    Ok(text.into_bytes())
+    Ok(text)
+}
+
+/// Adds a line for each target that is down.
+fn put_down(text: &mut String, targets: &[TargetFigures]) -> Result<(), AllocError>
+    ensures { OnOk result (string_bytes text.new ≡ string_bytes text.old ++ flat_map down_if targets.now) }
+{
+    for target in targets {
+        put_down_if(text, target)?;
+    }
+    Ok(())
+}
+
+/// Adds the line of a target, unless it is up.
+fn put_down_if(text: &mut String, target: &TargetFigures) -> Result<(), AllocError>
+    ensures { OnOk result (string_bytes text.new ≡ string_bytes text.old ++ down_if target.now) }
+{
+    if target.up {
+        return Ok(());
+    }
+    put_down_line(text, target)
+}
+
+/// Adds the line of a target that is down.
+#[tactic(auto, unfolding(crate::specs::Columns::down_line))]
+fn put_down_line(text: &mut String, target: &TargetFigures) -> Result<(), AllocError>
+    ensures { OnOk result (string_bytes text.new ≡ string_bytes text.old ++ down_line target.now) }
+{
+    put_place(text, target)?;
+    put_silence(text, target)?;
+    put_reason(text, &target.refusal)?;
+    text.push_str("\n")
+}
+
+/// Adds which target it is, and where its agent is reached.
+#[tactic(auto, unfolding(crate::specs::Columns::place_text))]
+fn put_place(text: &mut String, target: &TargetFigures) -> Result<(), AllocError>
+    ensures { OnOk result (string_bytes text.new ≡ string_bytes text.old ++ place_text target.now) }
+{
+    let (number, address) = (target.number, target.address.as_str());
+    write!(text, "target {number} at {address}")
+}
+
+/// Adds for how long a target did not answer.
+#[tactic(auto, unfolding(crate::specs::Columns::silence_text))]
+fn put_silence(text: &mut String, target: &TargetFigures) -> Result<(), AllocError>
+    ensures { OnOk result (string_bytes text.new ≡ string_bytes text.old ++ silence_text target.now) }
+{
+    let (rounds, seconds) = (target.rounds, target.seconds);
+    write!(text, " is down: no answer in {rounds} rounds, {seconds} s")
+}
+
+/// Adds why a target's last response was refused, if one was.
+fn put_reason(text: &mut String, reason: &Option<String>) -> Result<(), AllocError>
+    ensures { OnOk result (string_bytes text.new ≡ string_bytes text.old ++ reason_text reason.now) }
+{
+    match reason {
+        None => Ok(()),
+        Some(reason) => put_reason_text(text, reason.as_str()),
+    }
+}
+
+/// Adds a reason.
+fn put_reason_text(text: &mut String, reason: &str) -> Result<(), AllocError>
+    ensures { OnOk result (string_bytes text.new ≡ string_bytes text.old ++ (codes ": " ++ reason.now)) }
+{
+    text.push_str(": ")?;
+    text.push_str(reason)
 }
 
 /// The widths that the widest of the texts in these columns want.
@@ -52,33 +172,80 @@ fn widths_of(alloc: Global, entries: &[Entry]) -> Result<Widths, AllocError>
 }
 
 /// Adds the line of the columns' titles.
-fn put_title(alloc: Global, text: &mut String, widths: Widths) -> Result<(), AllocError>
-    ensures { OnOk result (string_bytes text.new ≡ string_bytes text.old ++ title_line widths) }
+fn put_title(alloc: Global, text: &mut String, shape: Shape) -> Result<(), AllocError>
+    ensures { OnOk result (string_bytes text.new ≡ string_bytes text.old ++ title_line shape.widths shape.is_aged) }
+{
+    put_titles(alloc, text, shape.widths)?;
+    put_age_title(alloc, text, shape.is_aged)?;
+    text.push_str("NAME\n")
+}
+
+/// Adds the titles of the columns before the ages.
+fn put_titles(alloc: Global, text: &mut String, widths: Widths) -> Result<(), AllocError>
+    ensures { OnOk result (string_bytes text.new ≡ string_bytes text.old ++ title_cells widths) }
 {
     put_right(alloc, text, widths.value, "VALUE")?;
     put_right(alloc, text, widths.rate, "RATE")?;
     put_left(alloc, text, 6, "ALARM")?;
-    put_right(alloc, text, 7, "SAMPLES")?;
-    text.push_str("NAME\n")
+    put_right(alloc, text, 7, "SAMPLES")
 }
 
-/// Adds the lines of the instances, and above those of an engine a line with its id.
+/// Adds the title of the column of ages, if there is one.
+fn put_age_title(alloc: Global, text: &mut String, is_aged: bool) -> Result<(), AllocError>
+    ensures { OnOk result (string_bytes text.new ≡ string_bytes text.old ++ age_title is_aged) }
+{
+    if is_aged {
+        return put_right(alloc, text, 5, "AGE");
+    }
+    Ok(())
+}
+
+/// Adds the cell of an age, if there is a column of ages.
+fn put_age(alloc: Global, text: &mut String, shape: Shape) -> Result<(), AllocError>
+    ensures { OnOk result (string_bytes text.new ≡ string_bytes text.old ++ age_if shape.is_aged shape.age) }
+{
+    if !shape.is_aged {
+        return Ok(());
+    }
+    let age = age_cell(alloc, shape.age)?;
+    put_right(alloc, text, 5, age.as_str())
+}
+
+/// In how many rounds an instance had no new sample, or a dash.
+fn age_cell(alloc: Global, age: Option<u32>) -> Result<String, AllocError>
+    ensures { IfOk result (λ text. string_bytes text ≡ age_cell age) }
+{
+    match age {
+        None => String::from_str(alloc, "-"),
+        Some(age) => age.to_string(alloc),
+    }
+}
+
+/// Adds the lines of the instances with these ages, and above those of an engine a line with its id.
 fn put_rows<S: NameTexts>(
     alloc: Global,
     text: &mut String,
-    widths: Widths,
     names: &S,
-    entries: &[Entry],
+    listing: Listing,
+    shape: Shape,
 ) -> Result<(), AllocError>
-    ensures { OnOk result (string_bytes text.new ≡ string_bytes text.old ++ rows_from widths (S.shown names.now) None entries.now) }
+    ensures { OnOk result (string_bytes text.new ≡ string_bytes text.old ++ rows_from shape.widths (S.shown names.now) shape.is_aged listing.entry.ages.now 0 None listing.entry.entries.now) }
 {
     let mut before: Option<&[u8]> = None;
-    for entry in entries {
+    for (place, entry) in listing.entries.iter().enumerate() {
+        let age = age_at(listing.ages, place);
         put_engine_if_new(alloc, text, before, entry.engine())?;
-        put_row(alloc, text, widths, names, entry)?;
+        put_row(alloc, text, names, entry, Shape { age, ..shape })?;
         before = Some(entry.engine());
     }
     Ok(())
+}
+
+/// The age at a place, where there is one.
+fn age_at(ages: &[u32], place: usize) -> Option<u32>
+    ensures { result ≡ slice_get ages.now place }
+{
+    ages.get(place).copied()
 }
 
 /// Adds an engine's line, unless the instance before is of the same engine.
@@ -109,13 +276,14 @@ fn put_engine(alloc: Global, text: &mut String, engine: &[u8]) -> Result<(), All
 fn put_row<S: NameTexts>(
     alloc: Global,
     text: &mut String,
-    widths: Widths,
     names: &S,
     entry: &Entry,
+    shape: Shape,
 ) -> Result<(), AllocError>
-    ensures { OnOk result (string_bytes text.new ≡ string_bytes text.old ++ row_line widths (S.shown names.now) entry.now) }
+    ensures { OnOk result (string_bytes text.new ≡ string_bytes text.old ++ row_line shape.widths (S.shown names.now) shape.is_aged shape.age entry.now) }
 {
-    put_cells(alloc, text, widths, entry)?;
+    put_cells(alloc, text, shape.widths, entry)?;
+    put_age(alloc, text, shape)?;
     let name = names.text(alloc, entry.name())?;
     text.push_str(name.as_str())?;
     text.push_str("\n")

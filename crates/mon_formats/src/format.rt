@@ -45,7 +45,7 @@ impl Format {
 }
 
 /// Makes the report of instances in a format, with their names as `names` has them. Prometheus'
-/// text also has what the station says of itself.
+/// text and the table also have what the station says of itself.
 pub fn format_report<S: NameTexts>(
     alloc: Global,
     format: Format,
@@ -61,6 +61,6 @@ pub fn format_report<S: NameTexts>(
         Format::Text => named_report(alloc, names, entries),
         Format::Json => json_report(alloc, names, entries),
         Format::Prometheus => prometheus_report(alloc, names, entries, station),
-        Format::Columns => columns_report(alloc, names, entries),
+        Format::Columns => columns_report(alloc, names, entries, station),
     }
 }
