@@ -1,5 +1,5 @@
 -- A report as JSON nests six deep at most.
-use Rattle.std.proofs.Common.{◌≡◌, ◌≤◌, ℕ, ℤ, pos, negsuc, suc, ◌^◌, List, [], ◌∷◌, Bool, true, false, cond, max, Option, Some, None, decimal, map, nat_le, nat_lt, arith}
+use Rattle.std.proofs.Common.{◌≡◌, ◌≤◌, ℕ, ℤ, pos, negsuc, suc, ◌^◌, List, [], ◌∷◌, Bool, true, false, cond, max, Option, Some, None, decimal, map, nat_le, nat_lt, arith, String}
 use Rattle.std.specs.Fmt.{signed_decimal}
 use Rattle.serde_json.specs.Data.{Data, number, unsigned, negative, string, depth, items_depth}
 use Rattle.serde_json.specs.Read.{max_depth}
@@ -11,7 +11,9 @@ use Rattle.mon_alarms.specs.declared.alarm.AlarmState.TheVariants.{Clear, Raised
 use Rattle.mon_rates.specs.Totals.{totals}
 use Rattle.mon_report.specs.Report.{Entry, samples_in}
 use Rattle.mon_formats.specs.Cells.{value_of, rate_of}
-use Rattle.mon_formats.specs.Json.{exact, exact_signed, sample_data, raised_data, alarm_data, rate_data, totals_data, entry_data, report_data}
+use Rattle.mon_formats.specs.Json.{exact, exact_signed, sample_data, raised_data, alarm_data, rate_data, totals_data, age_data, debt_data, refusal_data, target_data, station_data, entry_data, report_data}
+use Rattle.mon_formats.specs.declared.figures.Figures.{Figures}
+use Rattle.mon_formats.specs.declared.figures.TargetFigures.{TargetFigures}
 
 both : (a b n : ℕ) → a ≤ n → b ≤ n → max a b ≤ n
 both a b n p q = omega (arith, p, q)
@@ -66,8 +68,42 @@ of_entry shown e =
     (both _ _ 3 (deeper _ 2 (of_items sample_data 2 (λ s. omega (arith, of_sample s)) e.items))
     (both _ _ 3 (omega (arith, of_totals e.items)) (none 3)))))))
 
-pub of_report : (shown : List ℕ → List ℕ) (entries : List Entry) → depth (report_data shown entries) ≤ max_depth
-of_report shown entries =
-    let shallow : depth (report_data shown entries) ≤ 6 =
+of_refusal : {A : Type 0} (reason : Option (String A)) (n : ℕ) → depth (refusal_data reason) ≤ n
+of_refusal None n = none n
+of_refusal (Some reason) n = none n
+
+of_target : (t : TargetFigures) → depth (target_data t) ≤ 1
+of_target t =
+    deeper _ 0
+    (both _ _ 0 (none 0)
+    (both _ _ 0 (none 0)
+    (both _ _ 0 (of_exact t.given_up 0)
+    (both _ _ 0 (none 0)
+    (both _ _ 0 (of_refusal t.refusal 0) (both _ _ 0 (none 0) (both _ _ 0 (of_exact t.seconds 0) (both _ _ 0 (none 0) (none 0)))))))))
+
+of_debt : (d : ℕ × ℕ) → depth (debt_data d) ≤ 1
+of_debt d = deeper _ 0 (both _ _ 0 (none 0) (both _ _ 0 (none 0) (none 0)))
+
+of_station : (f : Figures) → depth (station_data f) ≤ 3
+of_station f =
+    deeper _ 2
+    (both _ _ 2 (deeper _ 1 (of_items age_data 1 (λ a. none 1) f.ages.items))
+    (both _ _ 2 (deeper _ 1 (of_items debt_data 1 of_debt f.debts.items))
+    (both _ _ 2 (of_exact f.failed_saves 2)
+    (both _ _ 2 (of_exact f.given_up 2)
+    (both _ _ 2 (none 2)
+    (both _ _ 2 (of_exact f.round_ms 2)
+    (both _ _ 2 (of_exact f.strangers 2)
+    (both _ _ 2 (of_exact f.taken 2) (both _ _ 2 (deeper _ 1 (of_items target_data 1 of_target f.targets.items)) (none 2))))))))))
+
+pub of_report : (shown : List ℕ → List ℕ) (entries : List Entry) (station : Option Figures) → depth (report_data shown entries station) ≤ max_depth
+of_report shown entries None =
+    let shallow : depth (report_data shown entries None) ≤ 6 =
     deeper _ 5 (both _ _ 5 (deeper _ 4 (of_items (entry_data shown) 4 (of_entry shown) entries)) (both _ _ 5 (of_exact (samples_in entries) 5) (none 5))) in
+    omega (arith, shallow)
+of_report shown entries (Some f) =
+    let shallow : depth (report_data shown entries (Some f)) ≤ 6 =
+    deeper _ 5
+    (both _ _ 5 (deeper _ 4 (of_items (entry_data shown) 4 (of_entry shown) entries))
+    (both _ _ 5 (of_exact (samples_in entries) 5) (both _ _ 5 (omega (arith, of_station f)) (none 5)))) in
     omega (arith, shallow)

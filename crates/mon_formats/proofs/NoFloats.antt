@@ -1,5 +1,5 @@
 -- A report as JSON has no floating point numbers.
-use Rattle.std.proofs.Common.{◌≡◌, ℕ, ℤ, pos, negsuc, ◌^◌, List, [], ◌∷◌, Bool, true, false, ◌||◌, cond, Option, Some, None, decimal, map, nat_le, nat_lt, refl}
+use Rattle.std.proofs.Common.{◌≡◌, ℕ, ℤ, pos, negsuc, ◌^◌, List, [], ◌∷◌, Bool, true, false, ◌||◌, cond, Option, Some, None, decimal, map, nat_le, nat_lt, refl, String}
 use Rattle.std.specs.Fmt.{signed_decimal}
 use Rattle.serde_json.specs.Data.{Data, number, unsigned, negative, string}
 use Rattle.serde_json.specs.View.{items_of}
@@ -11,7 +11,9 @@ use Rattle.mon_alarms.specs.declared.alarm.AlarmState.TheVariants.{Clear, Raised
 use Rattle.mon_rates.specs.Totals.{totals}
 use Rattle.mon_report.specs.Report.{Entry, samples_in}
 use Rattle.mon_formats.specs.Cells.{value_of, rate_of}
-use Rattle.mon_formats.specs.Json.{exact, exact_signed, sample_data, raised_data, alarm_data, rate_data, totals_data, entry_data, report_data}
+use Rattle.mon_formats.specs.Json.{exact, exact_signed, sample_data, raised_data, alarm_data, rate_data, totals_data, age_data, debt_data, refusal_data, target_data, station_data, entry_data, report_data}
+use Rattle.mon_formats.specs.declared.figures.Figures.{Figures}
+use Rattle.mon_formats.specs.declared.figures.TargetFigures.{TargetFigures}
 
 neither : (a b : Bool) → a ≡ false → b ≡ false → (a || b) ≡ false
 neither true b p q = p
@@ -54,5 +56,23 @@ of_entry shown e =
     neither _ _ (of_items (alarm_data e.items) (of_alarm e.items) e.rules)
     (neither _ _ (of_rate (rate_of e.items)) (neither _ _ (of_items sample_data of_sample e.items) (neither _ _ (of_totals e.items) refl)))
 
-pub of_report : (shown : List ℕ → List ℕ) (entries : List Entry) → has_float (report_data shown entries) ≡ false
-of_report shown entries = neither _ _ (of_items (entry_data shown) (of_entry shown) entries) (neither _ _ (of_exact (samples_in entries)) refl)
+of_refusal : {A : Type 0} (reason : Option (String A)) → has_float (refusal_data reason) ≡ false
+of_refusal None = refl
+of_refusal (Some reason) = refl
+
+of_target : (t : TargetFigures) → has_float (target_data t) ≡ false
+of_target t = neither _ _ (of_exact t.given_up) (neither _ _ (of_refusal t.refusal) (neither _ _ (of_exact t.seconds) refl))
+
+of_station : (f : Figures) → has_float (station_data f) ≡ false
+of_station f =
+    neither _ _ (of_items age_data (λ a. refl) f.ages.items)
+    (neither _ _ (of_items debt_data (λ d. refl) f.debts.items)
+    (neither _ _ (of_exact f.failed_saves)
+    (neither _ _ (of_exact f.given_up)
+    (neither _ _ (of_exact f.round_ms)
+    (neither _ _ (of_exact f.strangers) (neither _ _ (of_exact f.taken) (neither _ _ (of_items target_data of_target f.targets.items) refl)))))))
+
+pub of_report : (shown : List ℕ → List ℕ) (entries : List Entry) (station : Option Figures) → has_float (report_data shown entries station) ≡ false
+of_report shown entries None = neither _ _ (of_items (entry_data shown) (of_entry shown) entries) (neither _ _ (of_exact (samples_in entries)) refl)
+of_report shown entries (Some f) =
+    neither _ _ (of_items (entry_data shown) (of_entry shown) entries) (neither _ _ (of_exact (samples_in entries)) (neither _ _ (of_station f) refl))

@@ -15,7 +15,7 @@ use Rattle.mon_formats.specs.Columns.{columns_report}
 -- the report of some instances
 abbrev pub formatted : Format → (List ℕ → List ℕ) → List Entry → Option Figures → List ℕ
 formatted Text shown entries station = named_report shown entries
-formatted Json shown entries station = json_report shown entries
+formatted Json shown entries station = json_report shown entries station
 formatted Prometheus shown entries station = prometheus_report shown entries station
 formatted Columns shown entries station = columns_report shown entries station
 

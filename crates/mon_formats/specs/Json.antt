@@ -1,8 +1,8 @@
 -- A report as JSON (RFC 8259), on one line. Whole numbers beyond 2^53, which many readers round, are texts.
-use Rattle.std.specs.Prelude.{◌≡◌, ℕ, ℤ, pos, negsuc, ◌^◌, List, ◌++◌, Option, Some, None, codes, decimal, map, nat_le, nat_lt, if◌then◌else◌}
+use Rattle.std.specs.Prelude.{◌≡◌, ℕ, ℤ, pos, negsuc, ◌^◌, List, ◌++◌, Option, Some, None, codes, decimal, map, nat_le, nat_lt, String, string_bytes, if◌then◌else◌}
 use Rattle.std.specs.Fmt.{signed_decimal}
 use Rattle.hex.specs.Hex.{encode_lower}
-use Rattle.serde_json.specs.Data.{Data, null, number, unsigned, negative, string, array, object, no_members, member}
+use Rattle.serde_json.specs.Data.{Data, Members, boolean, null, number, unsigned, negative, string, array, object, no_members, member}
 use Rattle.serde_json.specs.Read.{read}
 use Rattle.serde_json.specs.View.{items_of}
 use Rattle.serde_json.specs.Written.{compact_text}
@@ -15,6 +15,8 @@ use Rattle.mon_alarms.specs.declared.alarm.AlarmState.{AlarmState}
 use Rattle.mon_alarms.specs.declared.alarm.AlarmState.TheVariants.{Clear, Raised}
 use Rattle.mon_report.specs.Report.{Entry, samples_in}
 use Rattle.mon_formats.specs.Cells.{value_of, rate_of}
+use Rattle.mon_formats.specs.declared.figures.Figures.{Figures}
+use Rattle.mon_formats.specs.declared.figures.TargetFigures.{TargetFigures}
 
 -- a whole number: as a number up to 2^53, else as a text
 abbrev pub exact : ℕ → Data
@@ -72,17 +74,62 @@ entry_data shown e = object
     (member (codes "totals") (totals_data e.items)
     no_members))))))
 
--- the instances, and how many samples they have
-abbrev pub report_data : (List ℕ → List ℕ) → List Entry → Data
-report_data shown entries = object
+-- why a target's last response was refused; null where none was
+abbrev pub refusal_data : {A : Type 0} → Option (String A) → Data
+refusal_data None = null
+refusal_data (Some reason) = string (string_bytes reason)
+
+-- what a station says of a target
+abbrev pub target_data : TargetFigures → Data
+target_data t = object
+    (member (codes "address") (string (string_bytes t.address))
+    (member (codes "engine") (string (encode_lower t.engine.items))
+    (member (codes "given_up") (exact t.given_up)
+    (member (codes "number") (number (unsigned t.number))
+    (member (codes "refusal") (refusal_data t.refusal)
+    (member (codes "rounds") (number (unsigned t.rounds))
+    (member (codes "seconds") (exact t.seconds)
+    (member (codes "up") (boolean t.up)
+    no_members))))))))
+
+-- how many samples a station owes a peer, by the peer's number
+abbrev pub debt_data : ℕ × ℕ → Data
+debt_data d = object (member (codes "peer") (number (unsigned d.0)) (member (codes "samples") (number (unsigned d.1)) no_members))
+
+-- in how many rounds an instance had no new sample
+abbrev pub age_data : ℕ → Data
+age_data age = number (unsigned age)
+
+-- what a station says of itself; the ages are in the order of the instances
+abbrev pub station_data : Figures → Data
+station_data f = object
+    (member (codes "ages") (array (items_of (map age_data f.ages.items)))
+    (member (codes "debts") (array (items_of (map debt_data f.debts.items)))
+    (member (codes "failed_saves") (exact f.failed_saves)
+    (member (codes "given_up") (exact f.given_up)
+    (member (codes "incarnation") (number (unsigned f.incarnation))
+    (member (codes "round_ms") (exact f.round_ms)
+    (member (codes "strangers") (exact f.strangers)
+    (member (codes "taken") (exact f.taken)
+    (member (codes "targets") (array (items_of (map target_data f.targets.items)))
+    no_members)))))))))
+
+-- what a running station says of itself, as a member
+abbrev pub station_member : Option Figures → Members
+station_member None = no_members
+station_member (Some f) = member (codes "station") (station_data f) no_members
+
+-- the instances, how many samples they have, and what a running station says of itself
+abbrev pub report_data : (List ℕ → List ℕ) → List Entry → Option Figures → Data
+report_data shown entries station = object
     (member (codes "instances") (array (items_of (map (entry_data shown) entries)))
     (member (codes "samples") (exact (samples_in entries))
-    no_members))
+    (station_member station)))
 
 -- the text, with a line feed behind it
-unfoldable pub json_report : (List ℕ → List ℕ) → List Entry → List ℕ
-json_report shown entries = compact_text (report_data shown entries) ++ codes "\n"
+unfoldable pub json_report : (List ℕ → List ℕ) → List Entry → Option Figures → List ℕ
+json_report shown entries station = compact_text (report_data shown entries station) ++ codes "\n"
 
 -- the text is a line that reads as the report's value, and a line feed
-abbrev pub ReadsAsReport : (List ℕ → List ℕ) → List Entry → List ℕ → Type 0
-ReadsAsReport shown entries text = (line : List ℕ) × (text ≡ line ++ codes "\n") × (read line ≡ Some (report_data shown entries))
+abbrev pub ReadsAsReport : (List ℕ → List ℕ) → List Entry → Option Figures → List ℕ → Type 0
+ReadsAsReport shown entries station text = (line : List ℕ) × (text ≡ line ++ codes "\n") × (read line ≡ Some (report_data shown entries station))

@@ -44,8 +44,8 @@ impl Format {
     }
 }
 
-/// Makes the report of instances in a format, with their names as `names` has them. Prometheus'
-/// text and the table also have what the station says of itself.
+/// Makes the report of instances in a format, with their names as `names` has them. All but
+/// the lines of text also have what the station says of itself.
 pub fn format_report<S: NameTexts>(
     alloc: Global,
     format: Format,
@@ -55,11 +55,11 @@ pub fn format_report<S: NameTexts>(
 ) -> Result<Vec<u8>, AllocError>
     ensures text { IfOk result (λ text. text.items ≡ formatted format (S.shown names.now) entries.now (option_map (λ f. f.now) station.entry)) }
     // JSON reads back as the value of the report (RFC 8259).
-    ensures read_back { format ≡ Json → IfOk result (λ text. ReadsAsReport (S.shown names.now) entries.now text.items) }
+    ensures read_back { format ≡ Json → IfOk result (λ text. ReadsAsReport (S.shown names.now) entries.now (option_map (λ f. f.now) station.entry) text.items) }
 {
     match format {
         Format::Text => named_report(alloc, names, entries),
-        Format::Json => json_report(alloc, names, entries),
+        Format::Json => json_report(alloc, names, entries, station),
         Format::Prometheus => prometheus_report(alloc, names, entries, station),
         Format::Columns => columns_report(alloc, names, entries, station),
     }

@@ -1,12 +1,13 @@
 //! A report as JSON.
 
-ghost use Rattle.std.specs.Prelude.{◌≡◌, IfOk, map};
-ghost use Rattle.serde_json.specs.Data.{array};
+ghost use Rattle.std.specs.Prelude.{◌≡◌, IfOk, None, Some, map, option_map};
+ghost use Rattle.serde_json.specs.Data.{array, string};
 ghost use Rattle.serde_json.specs.View.{view, items_of};
 ghost use Rattle.mon_report.specs.Report.{samples_in};
 ghost use Rattle.mon_formats.specs.Cells.{rate_of};
-ghost use Rattle.mon_formats.specs.Json.{exact, exact_signed, sample_data, raised_data, alarm_data, rate_data, totals_data, entry_data, report_data, json_report, ReadsAsReport};
+ghost use Rattle.mon_formats.specs.Json.{exact, exact_signed, sample_data, raised_data, alarm_data, rate_data, totals_data, age_data, debt_data, target_data, refusal_data, station_data, entry_data, report_data, json_report, ReadsAsReport};
 
+use crate::figures::{Figures, TargetFigures};
 use mon_alarms::{AlarmState, Rule, state};
 use mon_report::Entry;
 use mon_sample::Sample;
@@ -22,23 +23,152 @@ pub(crate) fn json_report<S: NameTexts>(
     alloc: Global,
     names: &S,
     entries: &[Entry],
+    station: Option<&Figures>,
 ) -> Result<Vec<u8>, AllocError>
-    ensures text { IfOk result (λ text. text.items ≡ json_report (S.shown names.now) entries.now) }
-    ensures read_back { IfOk result (λ text. ReadsAsReport (S.shown names.now) entries.now text.items) }
+    ensures text { IfOk result (λ text. text.items ≡ json_report (S.shown names.now) entries.now (option_map (λ f. f.now) station.entry)) }
+    ensures read_back { IfOk result (λ text. ReadsAsReport (S.shown names.now) entries.now (option_map (λ f. f.now) station.entry) text.items) }
 {
-    let report = report_value(alloc, names, entries)?;
+    let report = report_value(alloc, names, entries, station)?;
     let mut text = report.to_string(alloc)?;
     text.push_str("\n")?;
     Ok(text.into_bytes())
 }
 
-/// The report: its instances, and how many samples they have.
+/// The report: its instances, how many samples they have, and what a running station says of itself.
 fn report_value<S: NameTexts>(
     alloc: Global,
     names: &S,
     entries: &[Entry],
+    station: Option<&Figures>,
 ) -> Result<Value, AllocError>
-    ensures { IfOk result (λ v. view v ≡ report_data (S.shown names.now) entries.now) }
+    ensures { IfOk result (λ v. view v ≡ report_data (S.shown names.now) entries.now (option_map (λ f. f.now) station.entry)) }
+{
+    match station {
+        None => file_value(alloc, names, entries),
+        Some(figures) => running_value(alloc, names, entries, figures),
+    }
+}
+
+/// The report of a running station.
+fn running_value<S: NameTexts>(
+    alloc: Global,
+    names: &S,
+    entries: &[Entry],
+    figures: &Figures,
+) -> Result<Value, AllocError>
+    ensures { IfOk result (λ v. view v ≡ report_data (S.shown names.now) entries.now (Some figures.now)) }
+{
+    json!(in alloc; {
+        "instances": instances_value(alloc, names, entries)?,
+        "samples": exact_value(alloc, count_samples(entries))?,
+        "station": station_value(alloc, figures)?
+    })
+}
+
+/// What a station says of itself.
+fn station_value(alloc: Global, figures: &Figures) -> Result<Value, AllocError>
+    ensures { IfOk result (λ v. view v ≡ station_data figures.now) }
+{
+    json!(in alloc; {
+        "ages": ages_value(alloc, figures.ages.as_slice())?,
+        "debts": debts_value(alloc, figures.debts.as_slice())?,
+        "failed_saves": exact_value(alloc, u128::from(figures.failed_saves))?,
+        "given_up": exact_value(alloc, u128::from(figures.given_up))?,
+        "incarnation": figures.incarnation,
+        "round_ms": exact_value(alloc, u128::from(figures.round_ms))?,
+        "strangers": exact_value(alloc, u128::from(figures.strangers))?,
+        "taken": exact_value(alloc, u128::from(figures.taken))?,
+        "targets": targets_value(alloc, figures.targets.as_slice())?
+    })
+}
+
+/// The array of ages.
+fn ages_value(alloc: Global, ages: &[u32]) -> Result<Value, AllocError>
+    ensures { IfOk result (λ v. view v ≡ array (items_of (map age_data ages.now))) }
+{
+    let mut values = Vec::new(alloc);
+    for age in ages {
+        values.push(age_value(*age))?;
+    }
+    Ok(Value::Array(values))
+}
+
+/// In how many rounds an instance had no new sample.
+fn age_value(age: u32) -> Value
+    ensures { view result ≡ age_data age }
+{
+    Value::from(age)
+}
+
+/// The array of the debts to peers.
+fn debts_value(alloc: Global, debts: &[(u32, u32)]) -> Result<Value, AllocError>
+    ensures { IfOk result (λ v. view v ≡ array (items_of (map debt_data debts.now))) }
+{
+    let mut values = Vec::new(alloc);
+    for (peer, samples) in debts {
+        values.push(debt_value(alloc, *peer, *samples)?)?;
+    }
+    Ok(Value::Array(values))
+}
+
+/// How many samples the station owes a peer.
+fn debt_value(alloc: Global, peer: u32, samples: u32) -> Result<Value, AllocError>
+    ensures { IfOk result (λ v. view v ≡ debt_data (peer, samples)) }
+{
+    json!(in alloc; {"peer": peer, "samples": samples})
+}
+
+/// The array of what a station says of its targets.
+fn targets_value(alloc: Global, targets: &[TargetFigures]) -> Result<Value, AllocError>
+    ensures { IfOk result (λ v. view v ≡ array (items_of (map target_data targets.now))) }
+{
+    let mut values = Vec::new(alloc);
+    for target in targets {
+        values.push(target_value(alloc, target)?)?;
+    }
+    Ok(Value::Array(values))
+}
+
+/// What a station says of a target.
+fn target_value(alloc: Global, target: &TargetFigures) -> Result<Value, AllocError>
+    ensures { IfOk result (λ v. view v ≡ target_data target.now) }
+{
+    json!(in alloc; {
+        "address": String::from_str(alloc, target.address.as_str())?,
+        "engine": hex::encode(alloc, target.engine.as_slice())?,
+        "given_up": exact_value(alloc, u128::from(target.given_up))?,
+        "number": target.number,
+        "refusal": refusal_value(alloc, &target.refusal)?,
+        "rounds": target.rounds,
+        "seconds": exact_value(alloc, u128::from(target.seconds))?,
+        "up": target.up
+    })
+}
+
+/// Why a target's last response was refused; null if none was.
+fn refusal_value(alloc: Global, refusal: &Option<String>) -> Result<Value, AllocError>
+    ensures { IfOk result (λ v. view v ≡ refusal_data refusal.now) }
+{
+    match refusal {
+        None => Ok(Value::Null),
+        Some(reason) => reason_value(alloc, reason.as_str()),
+    }
+}
+
+/// A reason.
+fn reason_value(alloc: Global, reason: &str) -> Result<Value, AllocError>
+    ensures { IfOk result (λ v. view v ≡ string reason.now) }
+{
+    Ok(Value::String(String::from_str(alloc, reason)?))
+}
+
+/// The report of a file: its instances, and how many samples they have.
+fn file_value<S: NameTexts>(
+    alloc: Global,
+    names: &S,
+    entries: &[Entry],
+) -> Result<Value, AllocError>
+    ensures { IfOk result (λ v. view v ≡ report_data (S.shown names.now) entries.now None) }
 {
     json!(in alloc; {
         "instances": instances_value(alloc, names, entries)?,

@@ -150,8 +150,8 @@ BUGS = {
     ),
     "forgets_the_last_notices": (
         "src/reporting.rt",
-        "    for place in 0..events.len().min(answers.len()) {",
-        "    for place in 0..events.len().min(answers.len()) / 2 {",
+        "    for place in 0..events.len().min(answers.len()) {\n        put_notice(",
+        "    for place in 0..events.len().min(answers.len()) / 2 {\n        put_notice(",
     ),
     "the_first_target_gave_up": (
         "src/reporting.rt",
@@ -272,5 +272,55 @@ BUGS = {
         "src/grid.rt",
         "filter(|peer| **peer < station)",
         "filter(|peer| **peer > station)",
+    ),
+    "a_refused_response_is_an_answer": (
+        "src/reporting.rt",
+        "Answer::Handled(_) => true,\n        Answer::GaveUp(_) | Answer::Memory | Answer::Refused(_) | Answer::Keeper(_) => false,",
+        "Answer::Handled(_) | Answer::Refused(_) => true,\n        Answer::GaveUp(_) | Answer::Memory | Answer::Keeper(_) => false,",
+    ),
+    "a_save_without_memory_is_none": (
+        "src/reporting.rt",
+        "Notice::NotSaved(_) | Notice::NoMemory(RoundEvent::Save) => true,",
+        "Notice::NotSaved(_) => true,",
+    ),
+    "the_time_between_makes_older": (
+        "src/freshness.rt",
+        "        Span::Round => age.saturating_add(1),\n        Span::Between(_) => age,",
+        "        Span::Round | Span::Between(_) => age.saturating_add(1),",
+    ),
+    "an_age_wraps": (
+        "src/freshness.rt",
+        "age.saturating_add(1)",
+        "age.wrapping_add(1)",
+    ),
+    "an_instance_stays_as_it_was": (
+        "src/freshness.rt",
+        "        instances[place] = instance_after(instances[place], span, board);",
+        "        let _ = instance_after(instances[place], span, board);",
+    ),
+    "an_answer_does_not_clear_a_refusal": (
+        "src/freshness.rt",
+        "        None if answered => None,\n",
+        "",
+    ),
+    "polls_of_all_targets_were_given_up": (
+        "src/freshness.rt",
+        "        Notice::GaveUp(target) => target == number,",
+        "        Notice::GaveUp(_) => true,",
+    ),
+    "down_in_the_time_between": (
+        "src/freshness.rt",
+        "        Span::Between(_) => answered || up,",
+        "        Span::Between(_) => answered,",
+    ),
+    "a_change_is_said_again": (
+        "src/changes.rt",
+        "        self.targets = targets;\n",
+        "",
+    ),
+    "stale_one_round_late": (
+        "src/changes.rt",
+        "    if instance.rounds < limit {",
+        "    if instance.rounds <= limit {",
     ),
 }
