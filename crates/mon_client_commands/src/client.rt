@@ -2,8 +2,10 @@
 
 ghost use Rattle.std.specs.Prelude.{◌↔◌, ◌≤◌, IsTrue, length};
 
+use crate::output::Output;
 use mon_app::{
-    AppFault, Asking, Question, Repeats, SocketWire, ValueKind, answer_text, status_name, value_of,
+    AppFault, Asking, LineSink, Question, Repeats, SocketWire, ValueKind, answer_text, status_name,
+    value_of,
 };
 use mon_ber::Value;
 use mon_cli::{BulkArgs, Request, SetArgs};
@@ -56,16 +58,16 @@ pub fn set<R: Clock + Files + Net + Print + AllocGlobal>(
     print_answer(rt, &query, Asking::Set(&value))
 }
 
-/// Walks through the variables under the name, and prints those that were met, also where the walk then fails.
+/// Walks through the variables under the name, and prints each as soon as it is answered. It ends at the first line that cannot
+/// be printed.
 pub fn walk<R: Clock + Files + Net + Print + AllocGlobal>(
     rt: &R,
     request: Request<'_, '_>,
 ) -> Result<(), Failure> {
     let query = query_of(rt, request)?;
-    let mut text = String::new(rt.alloc());
-    let walked = walk_through(rt, &query, &mut text);
-    print(rt, text.as_bytes())?;
-    walked
+    let mut output = Output::new(rt);
+    let walked = walk_through(rt, &query, &mut output);
+    output.end(walked)
 }
 
 /// Asks the agent that the arguments name, and prints its answer.
@@ -216,44 +218,50 @@ fn answer_query<R: Clock + Net + AllocGlobal, S: NameTexts>(
     answer_text(rt.alloc(), &mut wire, question, names)
 }
 
-/// Walks through the variables under the name, and adds a line for each to the text.
-fn walk_through<R: Clock + Net + AllocGlobal>(
+/// Walks through the variables under the name, and puts a line for each.
+fn walk_through<R: Clock + Net + AllocGlobal, L: LineSink>(
     rt: &R,
     query: &Query<'_>,
-    text: &mut String,
-) -> Result<(), Failure> {
+    lines: &mut L,
+) -> Result<(), Failure>
+    requires { L.is_ready lines.old }
+{
     if query.prints_names {
-        walk_shown(rt, query, &query.known.labels(rt.alloc())?, text)
+        walk_shown(rt, query, &query.known.labels(rt.alloc())?, lines)
     } else {
-        walk_shown(rt, query, &InNumbers, text)
+        walk_shown(rt, query, &InNumbers, lines)
     }
 }
 
-/// Walks through the variables under the name, and adds a line for each to the text, names in this way.
-fn walk_shown<R: Clock + Net + AllocGlobal, S: NameTexts>(
+/// Walks through the variables under the name, and puts a line for each, names in this way.
+fn walk_shown<R: Clock + Net + AllocGlobal, S: NameTexts, L: LineSink>(
     rt: &R,
     query: &Query<'_>,
     names: &S,
-    text: &mut String,
-) -> Result<(), Failure> {
+    lines: &mut L,
+) -> Result<(), Failure>
+    requires { L.is_ready lines.old }
+{
     let [start] = query.asked.as_slice() else {
         return Ok(());
     };
-    match walk_agent(rt, query, start, names, text) {
+    match walk_agent(rt, query, start, names, lines) {
         Ok(()) => Ok(()),
         Err(fault) => Err(answer_failure(rt.alloc(), query, fault)),
     }
 }
 
-fn walk_agent<R: Clock + Net + AllocGlobal, S: NameTexts>(
+fn walk_agent<R: Clock + Net + AllocGlobal, S: NameTexts, L: LineSink>(
     rt: &R,
     query: &Query<'_>,
     start: &Oid,
     names: &S,
-    text: &mut String,
-) -> Result<(), AppFault> {
+    lines: &mut L,
+) -> Result<(), AppFault>
+    requires { L.is_ready lines.old }
+{
     let mut wire = SocketWire::open(rt, query.agent.address)?;
-    mon_app::walk(rt.alloc(), &mut wire, query.community, start, names, text)
+    mon_app::walk(rt.alloc(), &mut wire, query.community, start, names, lines)
 }
 
 /// Why the agent gave no answer that is printed.

@@ -2,5 +2,6 @@
 #![tactic(auto)]
 
 mod client;
+mod output;
 
 pub use client::{bulk, get, next, set, walk};
