@@ -123,7 +123,66 @@ METRICS = {
     "snmpmon_samples_taken_total": ("counter", "Samples that the station took since it began."),
     "snmpmon_polls_given_up_total": ("counter", "Polls that the station gave up since it began."),
     "snmpmon_debt": ("gauge", "Samples that the station owes a peer."),
+    "snmpmon_saves_failed_total": ("counter", "Saves that failed since the station began."),
+    "snmpmon_strangers_total": ("counter", "Datagrams since the station began from an address of no target and no peer."),
+    "snmpmon_round_duration_seconds": ("gauge", "How long the last round took."),
+    "snmpmon_target_up": ("gauge", "1 where the last poll of a target was answered."),
+    "snmpmon_target_answer_age_rounds": ("gauge", "Rounds since a target answered, or since the station began."),
+    "snmpmon_target_answer_age_seconds": ("gauge", "Seconds since a target answered, or since the station began."),
+    "snmpmon_target_polls_given_up_total": ("counter", "Polls of a target that the station gave up since it began."),
+    "snmpmon_target_refusal_info": ("gauge", "Why the last response of a target was refused, until it answers."),
+    "snmpmon_sample_age_rounds": ("gauge", "Rounds since an instance had a new sample, or since the station began."),
 }
+
+
+@dataclass
+class Target:
+    """What a running station says of a target."""
+
+    number: int
+    address: str
+    engine: str
+    up: bool = True
+    rounds: int = 0
+    seconds: int = 0
+    given_up: int = 0
+    refusal: str | None = None
+
+    def lines(self):
+        """Its metrics, by their names."""
+        labels = [("target", self.number), ("address", self.address), ("engine", self.engine)]
+        said = {"up": int(self.up), "answer_age_rounds": self.rounds, "answer_age_seconds": self.seconds, "polls_given_up_total": self.given_up}
+        found = {f"snmpmon_target_{name}": metric(f"snmpmon_target_{name}", labels, value) for name, value in said.items()}
+        if self.refusal is not None:
+            found["snmpmon_target_refusal_info"] = metric("snmpmon_target_refusal_info", labels + [("reason", self.refusal)], 1)
+        return found
+
+
+@dataclass
+class Station:
+    """What a running station says of itself."""
+
+    incarnation: int
+    taken: int
+    given_up: int
+    debts: list
+    targets: list
+    ages: list
+    round_ms: int
+    failed_saves: int = 0
+    strangers: int = 0
+    stale_after: int = 3
+
+    def lines(self, instances):
+        """Its metrics, by their names."""
+        plain = {"incarnation": self.incarnation, "samples_taken_total": self.taken, "polls_given_up_total": self.given_up, "saves_failed_total": self.failed_saves, "strangers_total": self.strangers, "round_duration_seconds": points(self.round_ms)}
+        found = {f"snmpmon_{name}": [metric(f"snmpmon_{name}", [], value)] for name, value in plain.items()}
+        found["snmpmon_debt"] = [metric("snmpmon_debt", [("peer", peer)], owed) for peer, owed in self.debts]
+        for target in self.targets:
+            for name, line in target.lines().items():
+                found.setdefault(name, []).append(line)
+        found["snmpmon_sample_age_rounds"] = [metric("snmpmon_sample_age_rounds", [("engine", it.engine), ("name", it.name)], age) for it, age in zip(instances, self.ages)]
+        return found
 
 
 def metric(name, labels, value):
@@ -132,15 +191,18 @@ def metric(name, labels, value):
 
 
 def prometheus(instances, station=None):
-    """The report; `station` is the incarnation, the samples taken, the polls given up, and pairs of a peer and its debt."""
+    """The report, and what a running `Station` says of itself."""
     lines = {name: [] for name in METRICS}
-    for it in instances:
+    stale = [station is not None and age >= station.stale_after for age in station.ages] if station else [False] * len(instances)
+    for it, is_stale in zip(instances, stale):
         labels = [("engine", it.engine), ("name", it.name)]
+        lines["snmpmon_samples"].append(metric("snmpmon_samples", labels, len(it.samples)))
+        if is_stale:
+            continue
         if it.samples:
             newest = it.samples[-1]
             name = "snmpmon_counted_total" if newest.kind in COUNTERS else "snmpmon_number"
             lines[name].append(metric(name, labels, newest.value))
-        lines["snmpmon_samples"].append(metric("snmpmon_samples", labels, len(it.samples)))
         if it.rate() is not None:
             lines["snmpmon_rate"].append(metric("snmpmon_rate", labels, points(it.rate())))
         for alarm in it.alarms:
@@ -148,14 +210,10 @@ def prometheus(instances, station=None):
             lines["snmpmon_alarm"].append(metric("snmpmon_alarm", labels + more, 1 if alarm.raised else 0))
     shown = list(METRICS)[:5]
     if station:
-        incarnation, taken, given_up, debts = station
-        lines["snmpmon_incarnation"].append(metric("snmpmon_incarnation", [], incarnation))
-        lines["snmpmon_samples_taken_total"].append(metric("snmpmon_samples_taken_total", [], taken))
-        lines["snmpmon_polls_given_up_total"].append(metric("snmpmon_polls_given_up_total", [], given_up))
-        lines["snmpmon_debt"] += [metric("snmpmon_debt", [("peer", peer)], owed) for peer, owed in debts]
+        lines.update(station.lines(instances))
         shown = list(METRICS)
     heads = {name: f"# HELP {name} {words}\n# TYPE {name} {kind}\n" for name, (kind, words) in METRICS.items()}
-    return "".join(heads[name] + "".join(lines[name]) for name in shown)
+    return "".join(heads[name] + "".join(lines.get(name, [])) for name in shown)
 
 
 def columns(instances):

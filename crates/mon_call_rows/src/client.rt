@@ -15,7 +15,7 @@ use std::alloc::Global;
 const SYSTEM_NAME: &str = "1.3.6.1.2.1.1.5.0";
 
 /// Returns the answer to a line, without its first word.
-pub fn answer(alloc: Global, line: &str) -> Option<String> {
+pub(crate) fn answer(alloc: Global, line: &str) -> Option<String> {
     let (word, rest) = line.split_once(' ')?;
     match word {
         "get" => written(alloc, Asking::Get, rest),

@@ -120,7 +120,7 @@ fn next(
 
 /// Returns the name after another one of a line `MANY MOST NAME`, on a device of MANY interfaces,
 /// and whether the device was asked 1 to MOST times.
-pub fn row(alloc: Global, line: &str) -> Option<String> {
+pub(crate) fn row(alloc: Global, line: &str) -> Option<String> {
     let (many, rest) = line.split_once(' ')?;
     let (most, name) = rest.split_once(' ')?;
     let name = Oid::parse(alloc, name).ok()?;

@@ -13,7 +13,7 @@ use mon_settings::AgentSettings;
 use std::alloc::Global;
 
 /// Returns the answer to a line, without its first word.
-pub fn answer(alloc: Global, line: &str) -> Option<String> {
+pub(crate) fn answer(alloc: Global, line: &str) -> Option<String> {
     let (word, rest) = line.split_once(' ').unwrap_or((line, ""));
     match word {
         "next" => counting::row(alloc, rest),

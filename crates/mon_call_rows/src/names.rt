@@ -6,7 +6,7 @@ use std::alloc::Global;
 
 /// Returns the answer to a line `adds NAME MODULE`: what adding the module answers, what the name
 /// then means, and what adding the module again answers.
-pub fn answer(alloc: Global, line: &str) -> Option<String> {
+pub(crate) fn answer(alloc: Global, line: &str) -> Option<String> {
     let (name, module) = line.strip_prefix("adds ")?.split_once(' ')?;
     let module = read_module(alloc, module).ok()?;
     let mut names = Names::new(alloc).ok()?;

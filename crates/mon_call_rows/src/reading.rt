@@ -6,7 +6,7 @@ use std::alloc::Global;
 use std::io::{Error, ErrorKind, Read, Result as IoResult};
 
 /// Returns the answer to a line, without its first word.
-pub fn answer(alloc: Global, line: &str) -> Option<String> {
+pub(crate) fn answer(alloc: Global, line: &str) -> Option<String> {
     let (word, rest) = line.split_once(' ')?;
     match word {
         "gives" => given(alloc, rest),

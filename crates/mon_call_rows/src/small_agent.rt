@@ -60,12 +60,16 @@ out_packets = { start = 0, rate = 0 }
 "#;
 
 /// Reads the settings.
-pub fn settings(alloc: Global) -> Option<AgentSettings> {
+pub(crate) fn settings(alloc: Global) -> Option<AgentSettings> {
     read_agent(alloc, TEXT).ok()
 }
 
 /// Makes the question under request-id 7.
-pub fn question<'a>(asking: Asking<'a>, community: &'a [u8], names: &'a [Oid]) -> Question<'a> {
+pub(crate) fn question<'a>(
+    asking: Asking<'a>,
+    community: &'a [u8],
+    names: &'a [Oid],
+) -> Question<'a> {
     Question {
         asking,
         request_id: 7,
@@ -85,7 +89,7 @@ fn made(
 }
 
 /// Makes the agent of the settings.
-pub fn agent(alloc: Global) -> Option<Agent<SimDevice>> {
+pub(crate) fn agent(alloc: Global) -> Option<Agent<SimDevice>> {
     let AgentSettings {
         settings,
         texts,

@@ -53,7 +53,7 @@ fn walked<W: Wire>(
 }
 
 /// Returns what the walk of a line `NAME HEX` prints, and why it ends.
-pub fn row(alloc: Global, line: &str) -> Option<String> {
+pub(crate) fn row(alloc: Global, line: &str) -> Option<String> {
     let (name, reply) = line.split_once(' ')?;
     let start = Oid::parse(alloc, name).ok()?;
     let mut wire = Same {

@@ -35,7 +35,7 @@ fn watch_of(alloc: Global, instances: &str, rules: &str) -> Option<Result<Watch,
 }
 
 /// Says that the line's instances and rules make a watch; or the fault.
-pub fn watched(alloc: Global, line: &str) -> Option<String> {
+pub(crate) fn watched(alloc: Global, line: &str) -> Option<String> {
     let (instances, rules) = line.split_once(' ')?;
     match watch_of(alloc, instances, rules)? {
         Ok(_watch) => String::from_str(alloc, "a watch").ok(),
@@ -44,7 +44,7 @@ pub fn watched(alloc: Global, line: &str) -> Option<String> {
 }
 
 /// Says what a board of the line's watch, without rules, does with each sample `NUMBER/RECORD`.
-pub fn taken(alloc: Global, line: &str) -> Option<String> {
+pub(crate) fn taken(alloc: Global, line: &str) -> Option<String> {
     let (instances, samples) = line.split_once(' ')?;
     let watch = watch_of(alloc, instances, "-")?.ok()?;
     let mut board = Board::new(alloc, watch).ok()?;
@@ -102,7 +102,7 @@ impl Write for Narrow {
 /// Returns the report of a board of the line `INSTANCES RULES RECORD,..` whose first instance took
 /// the samples, without the last line's end, if each writer that is too narrow for it fails with a
 /// beginning of it.
-pub fn reported(alloc: Global, line: &str) -> Option<String> {
+pub(crate) fn reported(alloc: Global, line: &str) -> Option<String> {
     let (instances, rest) = line.split_once(' ')?;
     let (rules, records) = rest.split_once(' ')?;
     let watch = watch_of(alloc, instances, rules)?.ok()?;

@@ -9,7 +9,7 @@ use std::alloc::Global;
 
 /// Returns the claim that these octets spell, its size and its octets as they are written; or the
 /// fault.
-pub fn row(alloc: Global, digits: &str) -> Option<String> {
+pub(crate) fn row(alloc: Global, digits: &str) -> Option<String> {
     let octets = octets(alloc, digits)?;
     match read_claim(alloc, octets.as_slice()) {
         Ok(claim) => shown(alloc, &claim),

@@ -91,7 +91,7 @@ fn put_portion(text: &mut String, portion: &Portion) -> Option<()> {
 }
 
 /// Returns the serial after this one.
-pub fn serial(alloc: Global, word: &str) -> Option<String> {
+pub(crate) fn serial(alloc: Global, word: &str) -> Option<String> {
     let next = serial_after(word.parse().ok()?);
     format!(in alloc; "{next}").ok()
 }

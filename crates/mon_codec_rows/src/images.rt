@@ -8,7 +8,7 @@ use std::alloc::Global;
 /// Answers a line `ENGINE/NAME/WINDOW/EPOCH,.. HEX`, a watch's instances and an image: with the
 /// fault, or the incarnation, the sizes and the number of samples that the image has of each
 /// instance, and the image that is written of the board read.
-pub fn row(alloc: Global, line: &str) -> Option<String> {
+pub(crate) fn row(alloc: Global, line: &str) -> Option<String> {
     let (words, digits) = line.split_once(' ')?;
     let watch = watch_of(alloc, words)?;
     let octets = octets(alloc, digits)?;
@@ -20,7 +20,7 @@ pub fn row(alloc: Global, line: &str) -> Option<String> {
 
 /// Returns the report of the board that a line's image is read as under its watch, without the last
 /// line's end.
-pub fn report(alloc: Global, line: &str) -> Option<String> {
+pub(crate) fn report(alloc: Global, line: &str) -> Option<String> {
     let (words, digits) = line.split_once(' ')?;
     let watch = watch_of(alloc, words)?;
     let octets = octets(alloc, digits)?;
@@ -71,7 +71,7 @@ fn watch_of(alloc: Global, words: &str) -> Option<Watch> {
 }
 
 /// Reads the instances `ENGINE/NAME/WINDOW/EPOCH`, with commas between them; of a dash none.
-pub fn instances_of(alloc: Global, words: &str) -> Option<Vec<Watched>> {
+pub(crate) fn instances_of(alloc: Global, words: &str) -> Option<Vec<Watched>> {
     let mut instances = Vec::new(alloc);
     if words == "-" {
         return Some(instances);

@@ -12,7 +12,7 @@ use std::alloc::Global;
 /// steps, the second after its own, and the first, joined with it, after the last ones. A step is
 /// `take/SLOT/N/HEX`, `mark/SLOT/N/HEX`, `unmark/SLOT/N/-`, or `owed/SLOT/N/HEX` for what is owed
 /// after the sample, of all for a dash.
-pub fn row(alloc: Global, line: &str) -> Option<String> {
+pub(crate) fn row(alloc: Global, line: &str) -> Option<String> {
     let (instances, rest) = line.split_once(' ')?;
     let (own_steps, rest) = rest.split_once(' ')?;
     let (other_steps, last_steps) = rest.split_once(' ')?;

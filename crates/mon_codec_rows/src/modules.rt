@@ -10,7 +10,7 @@ const EX_MIB: &str =
     "EX-MIB DEFINITIONS ::= BEGIN ex OBJECT IDENTIFIER ::= { enterprises 32473 1 } exCount OBJECT-TYPE SYNTAX Counter32 MAX-ACCESS read-only STATUS current DESCRIPTION \"n\" ::= { ex 2 } exLoop OBJECT IDENTIFIER ::= { exPool 1 } exPool OBJECT IDENTIFIER ::= { exLoop 1 } END";
 
 /// Returns the tokens of a text: of each its kind, and where it begins and ends; or the fault.
-pub fn cut(alloc: Global, text: &str) -> Option<String> {
+pub(crate) fn cut(alloc: Global, text: &str) -> Option<String> {
     let found = match tokens(alloc, text) {
         Ok(found) => found,
         Err(why) => return refused_text(alloc, why),
@@ -28,7 +28,7 @@ fn refused_text(alloc: Global, why: TextFault) -> Option<String> {
 }
 
 /// Counts the names that the module of this text defines; or the fault.
-pub fn row(alloc: Global, text: &str) -> Option<String> {
+pub(crate) fn row(alloc: Global, text: &str) -> Option<String> {
     match read_module(alloc, text) {
         Ok(module) => {
             let count = module.defs.as_slice().len();
@@ -47,7 +47,7 @@ fn known(alloc: Global) -> Option<Names> {
 }
 
 /// Returns the identifier that a text means; or the fault.
-pub fn meant(alloc: Global, text: &str) -> Option<String> {
+pub(crate) fn meant(alloc: Global, text: &str) -> Option<String> {
     match known(alloc)?.resolve(alloc, text) {
         Ok(name) => name.text(alloc).ok(),
         Err(why) => fault(alloc, why.number(), why.name()),
@@ -55,7 +55,7 @@ pub fn meant(alloc: Global, text: &str) -> Option<String> {
 }
 
 /// Returns the name of an identifier.
-pub fn called(alloc: Global, text: &str) -> Option<String> {
+pub(crate) fn called(alloc: Global, text: &str) -> Option<String> {
     let name = Oid::parse(alloc, text).ok()?;
     known(alloc)?.name_of(alloc, &name).ok()
 }

@@ -6,7 +6,7 @@ use std::alloc::Global;
 
 /// Says how many sub-identifiers the identifier has that this text spells, its text, and whether a
 /// copy is equal; or the fault.
-pub fn row(alloc: Global, text: &str) -> Option<String> {
+pub(crate) fn row(alloc: Global, text: &str) -> Option<String> {
     let name = match Oid::parse(alloc, text) {
         Ok(name) => name,
         Err(why) => return fault(alloc, why.number(), why.name()),
@@ -17,7 +17,7 @@ pub fn row(alloc: Global, text: &str) -> Option<String> {
 }
 
 /// Returns the text of the identifier of these numbers, with spaces between them; or the fault.
-pub fn made(alloc: Global, words: &str) -> Option<String> {
+pub(crate) fn made(alloc: Global, words: &str) -> Option<String> {
     let mut parts = Vec::new(alloc);
     for word in words.split(' ') {
         parts.push(word.parse().ok()?).ok()?;
@@ -30,7 +30,7 @@ pub fn made(alloc: Global, words: &str) -> Option<String> {
 
 /// Says how the first of two identifiers compares with the second, whether they are equal, and if
 /// the first is a prefix of the second.
-pub fn compared(alloc: Global, words: &str) -> Option<String> {
+pub(crate) fn compared(alloc: Global, words: &str) -> Option<String> {
     let (own, other) = words.split_once(' ')?;
     let own = Oid::parse(alloc, own).ok()?;
     let other = Oid::parse(alloc, other).ok()?;

@@ -8,7 +8,7 @@ use mon_window::{Inserted, Window};
 use std::alloc::Global;
 
 /// Returns the fields of the sample of this record, and its record as it is written; or the fault.
-pub fn row(alloc: Global, digits: &str) -> Option<String> {
+pub(crate) fn row(alloc: Global, digits: &str) -> Option<String> {
     let octets = octets(alloc, digits)?;
     match Sample::from_record(octets.as_slice().first_chunk::<21>()?) {
         Ok(sample) => fields(alloc, &sample),
@@ -29,26 +29,26 @@ fn fields(alloc: Global, sample: &Sample) -> Option<String> {
 }
 
 /// Returns the boots and the time of a sample.
-pub fn stamp(alloc: Global, sample: &Sample) -> Option<String> {
+pub(crate) fn stamp(alloc: Global, sample: &Sample) -> Option<String> {
     let (boots, time) = (sample.boots(), sample.time());
     format!(in alloc; "{boots}:{time}").ok()
 }
 
 /// Says how the first of two samples compares with the second.
-pub fn compared(alloc: Global, words: &str) -> Option<String> {
+pub(crate) fn compared(alloc: Global, words: &str) -> Option<String> {
     let (own, other) = words.split_once(' ')?;
     let order = sample_of(alloc, own)?.compare(&sample_of(alloc, other)?);
     format!(in alloc; "{order:?}").ok()
 }
 
 /// Reads the sample of a record.
-pub fn sample_of(alloc: Global, digits: &str) -> Option<Sample> {
+pub(crate) fn sample_of(alloc: Global, digits: &str) -> Option<Sample> {
     let octets = octets(alloc, digits)?;
     Sample::from_record(octets.as_slice().first_chunk::<21>()?).ok()
 }
 
 /// Reads the samples of records with commas between them; of a dash none.
-pub fn samples_of(alloc: Global, words: &str) -> Option<Vec<Sample>> {
+pub(crate) fn samples_of(alloc: Global, words: &str) -> Option<Vec<Sample>> {
     let mut samples = Vec::new(alloc);
     if words == "-" {
         return Some(samples);
@@ -71,7 +71,7 @@ fn track_of(alloc: Global, size: &str, epoch: &str) -> Option<Track> {
 
 /// Says what becomes of each sample of a line `SIZE EPOCH RECORD,..`, and what the track has
 /// counted after it, in how many seconds and pairs; at last the stamps of what it keeps.
-pub fn track(alloc: Global, line: &str) -> Option<String> {
+pub(crate) fn track(alloc: Global, line: &str) -> Option<String> {
     let (size, rest) = line.split_once(' ')?;
     let (epoch, records) = rest.split_once(' ')?;
     let mut track = track_of(alloc, size, epoch)?;
@@ -86,7 +86,7 @@ pub fn track(alloc: Global, line: &str) -> Option<String> {
 }
 
 /// Adds what became of a sample.
-pub fn put_inserted(alloc: Global, text: &mut String, inserted: Inserted) -> Option<()> {
+pub(crate) fn put_inserted(alloc: Global, text: &mut String, inserted: Inserted) -> Option<()> {
     match inserted {
         Inserted::Added { at, dropped: None } => write!(text, "added at {at}").ok(),
         Inserted::Added {
@@ -123,7 +123,7 @@ fn put_kept(alloc: Global, text: &mut String, items: &[Sample]) -> Option<()> {
 
 /// Says what becomes of each sample of a line `SIZE EPOCH RECORD,..` in a window; at last the
 /// stamps of what it keeps.
-pub fn window(alloc: Global, line: &str) -> Option<String> {
+pub(crate) fn window(alloc: Global, line: &str) -> Option<String> {
     let (size, rest) = line.split_once(' ')?;
     let (epoch, records) = rest.split_once(' ')?;
     let mut window = window_of(alloc, size, epoch)?;
@@ -149,7 +149,7 @@ fn window_of(alloc: Global, size: &str, epoch: &str) -> Option<Window> {
 
 /// Returns the stamps of what two tracks of a line `SIZE EPOCH RECORD,.. RECORD,..` keep when they
 /// are joined, and its totals.
-pub fn joined(alloc: Global, line: &str) -> Option<String> {
+pub(crate) fn joined(alloc: Global, line: &str) -> Option<String> {
     let (size, rest) = line.split_once(' ')?;
     let (epoch, rest) = rest.split_once(' ')?;
     let (own, others) = rest.split_once(' ')?;
@@ -175,7 +175,7 @@ fn insert_all(track: &mut Track, samples: &[Sample]) {
 
 /// Returns the state of the rule of a line `RISING FALLING RECORD,..` over its samples; or the
 /// fault of the thresholds.
-pub fn alarm(alloc: Global, line: &str) -> Option<String> {
+pub(crate) fn alarm(alloc: Global, line: &str) -> Option<String> {
     let (rising, rest) = line.split_once(' ')?;
     let (falling, records) = rest.split_once(' ')?;
     let samples = samples_of(alloc, records)?;

@@ -8,7 +8,7 @@ use std::alloc::Global;
 
 /// Returns the value that these octets begin with, how many spell it, its size and its octets as
 /// they are written; or the fault.
-pub fn value_row(alloc: Global, digits: &str) -> Option<String> {
+pub(crate) fn value_row(alloc: Global, digits: &str) -> Option<String> {
     let octets = octets(alloc, digits)?;
     match read_value(alloc, octets.as_slice()) {
         Ok((value, spelled)) => value_shown(alloc, &value, spelled),
@@ -25,7 +25,7 @@ fn value_shown(alloc: Global, value: &Value, spelled: usize) -> Option<String> {
 }
 
 /// Returns the octets of the value that the text of a line `KIND TEXT` means; or the fault.
-pub fn meant(alloc: Global, line: &str) -> Option<String> {
+pub(crate) fn meant(alloc: Global, line: &str) -> Option<String> {
     let (kind, text) = line.split_once(' ')?;
     let Some(kind) = ValueKind::from_word(kind) else {
         return String::from_str(alloc, "no kind").ok();
@@ -41,7 +41,7 @@ pub fn meant(alloc: Global, line: &str) -> Option<String> {
 
 /// Returns the fields of the message that these octets begin with, its size and its octets as they
 /// are written; or the fault.
-pub fn message_row(alloc: Global, digits: &str) -> Option<String> {
+pub(crate) fn message_row(alloc: Global, digits: &str) -> Option<String> {
     let octets = octets(alloc, digits)?;
     match read_message(alloc, octets.as_slice()) {
         Ok(message) => message_shown(alloc, &message),

@@ -32,7 +32,7 @@ impl KnownNames {
         &self.names
     }
 
-    /// The names alone.
+    /// The names, without which module defines which.
     pub fn into_names(self) -> Names {
         self.names
     }
@@ -99,7 +99,7 @@ pub fn known_names<R: Files + AllocGlobal>(rt: &R, files: &[&str]) -> Result<Kno
     Ok(known)
 }
 
-/// The same names, without which module defines which.
+/// The names of `known_names`, without which module defines which.
 pub fn names_of<R: Files + AllocGlobal>(rt: &R, files: &[&str]) -> Result<Names, Failure> {
     Ok(known_names(rt, files)?.into_names())
 }

@@ -18,7 +18,7 @@ struct RoundTime {
     most: u64,
 }
 
-/// Prints how long a round of a station of these settings may take, beside this interval in seconds
+/// Prints how long a round of a station of these settings may take, with this interval in seconds
 /// (0 for none), and what else limits it. Nothing is opened.
 pub fn print_limits<R: Print + AllocGlobal>(
     rt: &R,
@@ -70,7 +70,7 @@ fn round_time(settings: &StationSettings) -> RoundTime {
     }
 }
 
-/// Returns how many milliseconds a round waits in which so many sendings are not answered.
+/// Returns how many milliseconds a round waits in which this many sendings are not answered.
 fn waits(wait_ms: u32, unanswered: u32, has_peers: bool) -> u64
     ensures { result ≡ waits wait_ms unanswered has_peers }
 {

@@ -216,7 +216,7 @@ pub(crate) fn run_span<R: Clock + Eprint + AllocGlobal, S: Receiver + Drop, O: O
     Ok(())
 }
 
-/// Adds what a round did to what is known of the station, and prints what is to be said of it.
+/// Adds what a round did to what is known of the station, and prints its notices.
 fn report_round<R: Eprint + AllocGlobal, S: Receiver + Drop, O: Outbox + Drop>(
     rt: &R,
     live: &mut Live<S, O>,
@@ -263,7 +263,7 @@ fn report_changes<R: Eprint + AllocGlobal, S: Receiver + Drop, O: Outbox + Drop>
     Ok(())
 }
 
-/// Returns of each of so many instances whether a target that is polled for it answered in the last
+/// Returns of each instance, as many as `count` says, whether a target that is polled for it answered in the last
 /// round.
 fn heard_of(
     alloc: Global,
@@ -290,7 +290,7 @@ fn has_answered(targets: &[TargetAge], number: u16) -> bool {
     }
 }
 
-/// Returns why the last save that a report tells of failed, if it did.
+/// Returns why the save of a report's round failed, if it did.
 fn save_fault(report: &RoundReport) -> Option<KeeperFault> {
     match report.notices.as_slice().last() {
         Some(Notice::NotSaved(number)) => Some(keeper_fault(*number)),

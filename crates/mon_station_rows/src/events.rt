@@ -8,7 +8,7 @@ use std::alloc::Global;
 use std::collections::VecDeque;
 
 /// Reads the events between semicolons.
-pub fn events_of(alloc: Global, events: &str) -> Option<VecDeque<OwnedEvent>> {
+pub(crate) fn events_of(alloc: Global, events: &str) -> Option<VecDeque<OwnedEvent>> {
     let mut list = VecDeque::new(alloc);
     for event in events.split("; ") {
         list.push_back(owned(alloc, event)?).ok()?;
@@ -22,7 +22,7 @@ fn owned(alloc: Global, line: &str) -> Option<OwnedEvent> {
 }
 
 /// Reads the event that a word and the rest of its line mean.
-pub fn event(alloc: Global, word: &str, rest: &str) -> Option<OwnedEvent> {
+pub(crate) fn event(alloc: Global, word: &str, rest: &str) -> Option<OwnedEvent> {
     Some(match word {
         "poll" => OwnedEvent::StartPoll(rest.parse().ok()?),
         "timeout" => OwnedEvent::Timeout(rest.parse().ok()?),

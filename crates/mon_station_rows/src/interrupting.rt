@@ -36,7 +36,7 @@ impl Write for Interrupting {
 }
 
 /// Returns the report of the board by such a writer, without the last line's end.
-pub fn interrupted(alloc: Global, board: &Board) -> Option<String> {
+pub(crate) fn interrupted(alloc: Global, board: &Board) -> Option<String> {
     let mut writer = Interrupting {
         taken: Vec::new(alloc),
         is_interrupted: false,

@@ -7,7 +7,7 @@ use std::fmt::Write;
 
 /// Returns the samples that were taken, what became of a claim, the target that gave up, and each
 /// datagram that is sent.
-pub fn told(alloc: Global, told: &Told) -> Option<String> {
+pub(crate) fn told(alloc: Global, told: &Told) -> Option<String> {
     let mut text = format!(in alloc; "ok").ok()?;
     for (instance, sample) in told.taken.as_slice() {
         let (boots, time) = (sample.boots(), sample.time());
@@ -26,7 +26,7 @@ pub fn told(alloc: Global, told: &Told) -> Option<String> {
 }
 
 /// Appends a datagram that is sent, and where it goes.
-pub fn sent(alloc: Global, text: &mut String, out: &Outgoing) -> Option<()> {
+pub(crate) fn sent(alloc: Global, text: &mut String, out: &Outgoing) -> Option<()> {
     let octets = digits(alloc, out.octets.as_slice())?;
     match out.to {
         To::Target(target) => write!(text, " target {target} {octets}").ok(),
@@ -35,7 +35,7 @@ pub fn sent(alloc: Global, text: &mut String, out: &Outgoing) -> Option<()> {
 }
 
 /// Returns the fault's number and name, and its cause's.
-pub fn fault(alloc: Global, fault: StationFault) -> Option<String> {
+pub(crate) fn fault(alloc: Global, fault: StationFault) -> Option<String> {
     let (number, name) = (fault.number(), fault.name());
     match cause_of(fault) {
         Some((cause, why)) => format!(in alloc; "refused {number} {name} {cause} {why}").ok(),

@@ -118,7 +118,7 @@ fn asked_of(numbers: &str) -> Option<Asked> {
 }
 
 /// Runs the station over the numbers and the events of a line.
-pub fn run(
+pub(crate) fn run(
     alloc: Global,
     station: &mut Station<FuseDisk<MemoryDisk>>,
     line: &str,

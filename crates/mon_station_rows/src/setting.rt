@@ -50,7 +50,7 @@ const MOST_PARTS: usize = 128;
 
 /// Makes the core of a station of one object: `1` and the like is the window's size, `long` has the
 /// longest engine id and name and a window of 64.
-pub fn core(alloc: Global, word: &str) -> Option<Core> {
+pub(crate) fn core(alloc: Global, word: &str) -> Option<Core> {
     if word == "long" {
         let name = lengthened(alloc, LONGEST[1])?;
         core_of(alloc, "64", LONGEST[0], &name)
@@ -88,7 +88,7 @@ fn lengthened(alloc: Global, name: &str) -> Option<String> {
 }
 
 /// Returns where the target's datagrams come from.
-pub fn target() -> Addr {
+pub(crate) fn target() -> Addr {
     Addr {
         octets: [127, 0, 0, 1],
         port: 16100,

@@ -1,4 +1,4 @@
-//! The commands over texts alone: `replay` of recorded responses, `mib` of a module.
+//! The commands that only read texts: `replay` of recorded responses, `mib` of a module.
 #![tactic(auto)]
 
 mod listing;

@@ -13,7 +13,7 @@ const IN_OCTETS: [u32; 11] = [1, 3, 6, 1, 2, 1, 31, 1, 1, 1, 6];
 const DISCONTINUITY: [u32; 11] = [1, 3, 6, 1, 2, 1, 31, 1, 1, 1, 19];
 
 /// Returns the address of this host with a port.
-pub fn local(port: u16) -> Addr {
+pub(crate) fn local(port: u16) -> Addr {
     Addr {
         octets: [127, 0, 0, 1],
         port,

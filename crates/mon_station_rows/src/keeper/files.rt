@@ -43,7 +43,7 @@ impl Slot {
 }
 
 /// Says what an opening answers of a file of a line `NAME: SLOT SLOT SIZE`, and then a save.
-pub fn row(alloc: Global, line: &str) -> Option<String> {
+pub(crate) fn row(alloc: Global, line: &str) -> Option<String> {
     let (name, file) = line.split_once(": ")?;
     match Keeper::open(alloc, disk_of(alloc, file)?) {
         Ok((mut keeper, body)) => {
@@ -75,7 +75,7 @@ fn put_slot(alloc: Global, disk: &mut MemoryDisk, at: u64, slot: Slot) -> Option
 }
 
 /// Says what a save of this many octets answers.
-pub fn sized(alloc: Global, size: usize) -> Option<String> {
+pub(crate) fn sized(alloc: Global, size: usize) -> Option<String> {
     let disk = MemoryDisk::new(alloc, &[]).ok()?;
     let (mut keeper, _) = Keeper::open(alloc, disk).ok()?;
     let answer = saved(keeper.save(alloc, zeros(alloc, size).ok()?.as_slice()));

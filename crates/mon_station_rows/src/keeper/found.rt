@@ -54,7 +54,7 @@ impl fmt::Display for Found {
 }
 
 /// Says what a save answers.
-pub fn saved(done: Result<(), KeeperFault>) -> &'static str {
+pub(crate) fn saved(done: Result<(), KeeperFault>) -> &'static str {
     match done {
         Ok(()) => "Ok",
         Err(fault) => fault.name(),

@@ -19,7 +19,7 @@ fn open_file<R: Files<File = File> + AllocGlobal>(
 }
 
 /// Says what an opening of the file finds, and what a save of this text then answers.
-pub fn saved_row<R: Files<File = File> + AllocGlobal>(rt: &R, body: &str) -> Option<String> {
+pub(crate) fn saved_row<R: Files<File = File> + AllocGlobal>(rt: &R, body: &str) -> Option<String> {
     let (mut keeper, found) = open_file(rt, PATH)?;
     let found = Found::of(found);
     let answer = saved(keeper.save(rt.alloc(), body.as_bytes()));
@@ -27,13 +27,13 @@ pub fn saved_row<R: Files<File = File> + AllocGlobal>(rt: &R, body: &str) -> Opt
 }
 
 /// Says what an opening of the file finds.
-pub fn found_row<R: Files<File = File> + AllocGlobal>(rt: &R) -> Option<String> {
+pub(crate) fn found_row<R: Files<File = File> + AllocGlobal>(rt: &R) -> Option<String> {
     let found = Found::on(rt.alloc(), FileDisk::open(rt, PATH).ok()?);
     format!(in rt.alloc(); "a file: {found}").ok()
 }
 
 /// Removes the file, and says whether an opening is then refused.
-pub fn removed_row<R: Files<File = File> + AllocGlobal>(rt: &R) -> Option<String> {
+pub(crate) fn removed_row<R: Files<File = File> + AllocGlobal>(rt: &R) -> Option<String> {
     fs::remove_file(rt, PATH).ok()?;
     let gone = FileDisk::open(rt, PATH).is_err();
     format!(in rt.alloc(); "no file is refused: {gone}").ok()
@@ -41,7 +41,7 @@ pub fn removed_row<R: Files<File = File> + AllocGlobal>(rt: &R) -> Option<String
 
 /// Says whether a folder is refused by its path, and what an opening answers of it by a handle that
 /// only reads.
-pub fn folder_row<R: Files<File = File> + AllocGlobal>(rt: &R) -> Option<String> {
+pub(crate) fn folder_row<R: Files<File = File> + AllocGlobal>(rt: &R) -> Option<String> {
     let refused = FileDisk::open_or_create(rt, ".").is_err();
     let found = Found::on(rt.alloc(), FileDisk::new(File::open(rt, ".").ok()?));
     format!(in rt.alloc(); "a folder is refused: {refused}, and its handle: {found}").ok()

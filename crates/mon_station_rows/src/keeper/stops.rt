@@ -28,7 +28,7 @@ fn end(keep: bool) -> &'static str {
 }
 
 /// Says what becomes of a save that is stopped as a line `CALLS KEEP` says.
-pub fn save_row(alloc: Global, line: &str) -> Option<String> {
+pub(crate) fn save_row(alloc: Global, line: &str) -> Option<String> {
     let (calls, keep) = stop_of(line)?;
     let row = stopped_save(alloc, calls, keep)?;
     format!(in alloc; "save stopped after {calls}, a crash {}: {row}", end(keep)).ok()
@@ -36,7 +36,7 @@ pub fn save_row(alloc: Global, line: &str) -> Option<String> {
 
 /// Says what becomes of openings that are stopped as a line `CALLS KEEP` says: of a fresh disk, of
 /// one whose open gate is not synced, and of one on which a crash left it open.
-pub fn opening_row(alloc: Global, line: &str) -> Option<String> {
+pub(crate) fn opening_row(alloc: Global, line: &str) -> Option<String> {
     let (calls, keep) = stop_of(line)?;
     let first = stopped_opening(alloc, fresh(alloc)?, calls, keep)?;
     let second = stopped_opening(alloc, unsynced(alloc)?, calls, keep)?;
@@ -50,7 +50,7 @@ pub fn opening_row(alloc: Global, line: &str) -> Option<String> {
 }
 
 /// Says what becomes of an opening and a save of which this call fails.
-pub fn failing_row(alloc: Global, call: u64) -> Option<String> {
+pub(crate) fn failing_row(alloc: Global, call: u64) -> Option<String> {
     let row = one_failing_call(alloc, call)?;
     format!(in alloc; "call {call} fails: {row}").ok()
 }
