@@ -1,5 +1,5 @@
 -- A report as JSON nests six deep at most.
-use Rattle.std.proofs.Common.{◌≡◌, ◌≤◌, ℕ, ℤ, pos, negsuc, suc, ◌^◌, List, [], ◌∷◌, Bool, true, false, cond, max, Option, Some, None, decimal, map, nat_le, nat_lt, arith, String}
+use Rattle.std.proofs.Common.{◌≤◌, ℕ, ℤ, pos, negsuc, suc, ◌^◌, List, [], ◌∷◌, Bool, true, false, cond, max, Option, Some, None, decimal, map, nat_le, nat_lt, arith, String}
 use Rattle.std.specs.Fmt.{signed_decimal}
 use Rattle.serde_json.specs.Data.{Data, number, unsigned, negative, string, depth, items_depth}
 use Rattle.serde_json.specs.Read.{max_depth}

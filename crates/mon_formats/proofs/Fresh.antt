@@ -1,9 +1,9 @@
 -- Instances that are not stale, and the lines of ages, from a place on.
-use Rattle.std.proofs.Common.{◌≡◌, ℕ, zero, suc, ◌+◌, ◌<◌, ◌≤◌, min, Bool, true, false, List, [], ◌∷◌, ◌++◌, length, drop, get_or, slice_get, ap, refl, sym, ◌∙◌, arith}
+use Rattle.std.proofs.Common.{◌≡◌, ℕ, zero, suc, ◌+◌, ◌<◌, ◌≤◌, min, true, false, List, [], ◌∷◌, length, drop, get_or, slice_get, refl, ◌∙◌, arith}
 use Rattle.std.specs.Prelude.{if◌then◌else◌}
 use Rattle.std.proofs.lemmas.List.{drop_all, drop_more}
 use Rattle.mon_report.specs.Report.{Entry}
-use Rattle.mon_formats.specs.Prometheus.{age_line, age_lines, fresh, is_fresh}
+use Rattle.mon_formats.specs.Prometheus.{age_lines, fresh, is_fresh}
 
 -- an instance that is not stale comes before the others
 step_fresh : (limit : ℕ) (ages : List ℕ) (es : List Entry) (i : ℕ) (e : Entry) → i < length es → is_fresh limit (slice_get ages i) ≡ true

@@ -11,5 +11,5 @@ pub mod laws;
 mod named;
 mod prometheus;
 
-pub use figures::Figures;
+pub use figures::{Figures, TargetFigures};
 pub use format::{Format, format_report};

@@ -1,10 +1,10 @@
 -- A round from its beginning to its end.
-use Rattle.std.proofs.Common.{ℕ, ◌≡◌, ◌≤◌, ◌<◌, ◌+◌, ◌⊎◌, inl, inr, ⊎_elim, Bool, true, false, List, [], ◌∷◌, ◌++◌, Option, Some, None, Result, Ok, Err, length, refl, sym, ap, subst, ◌∙◌, arith}
+use Rattle.std.proofs.Common.{ℕ, ◌≡◌, ◌≤◌, ◌+◌, inl, inr, ⊎_elim, Bool, true, false, List, [], ◌∷◌, ◌++◌, Option, Some, None, Result, Ok, Err, length, refl, sym, ap, subst, ◌∙◌, arith}
 use Rattle.std.specs.Prelude.{zero, suc, cond, nat_lt, option_map}
 use Rattle.std.proofs.lemmas.List.{append-nil}
 use Rattle.mon_disk.specs.declared.disk.Disk.{Ghosts}
 use Rattle.mon_station.specs.ReadEvent.{OwnedEvent}
-use Rattle.mon_station.specs.declared.event.Event.TheVariants.{StartPoll, Timeout, FromAgent, FromPeer, Share, Save}
+use Rattle.mon_station.specs.declared.event.Event.TheVariants.{StartPoll, Timeout, Save}
 use Rattle.mon_udp.specs.declared.addr.Addr.{Addr}
 use Rattle.mon_rounds.specs.declared.receiver.Arrival.{Arrival}
 use Rattle.mon_rounds.specs.declared.receiver.Arrival.TheVariants.{Datagram, Quiet}
@@ -13,7 +13,7 @@ use Rattle.mon_rounds.specs.declared.round.Phase.TheVariants.{Polling, Hearing, 
 use Rattle.mon_rounds.specs.declared.round.Span.{Span}
 use Rattle.mon_rounds.specs.declared.round.Span.TheVariants.{Round, Between}
 use Rattle.mon_rounds.specs.Given.{AreGiven, IsGiven, with_octets}
-use Rattle.mon_rounds.specs.Next.{GivesNext, HandsOn, IsEnded, LeadsTo, Misses, Proceeds, RoundState, TakesTurn, after_datagram, after_event, after_failure, after_polls, event_from, event_in_phase, next_event, phase_after, phase_ended, share_at, slot_after, turns_left}
+use Rattle.mon_rounds.specs.Next.{GivesNext, IsEnded, LeadsTo, Proceeds, RoundState, TakesTurn, after_datagram, after_event, after_failure, after_polls, event_from, event_in_phase, next_event, phase_after, phase_ended, share_at, slot_after, turns_left}
 use Rattle.mon_rounds.specs.Order.{RoundEvent, AreSoFar, IsRound}
 use Rattle.mon_rounds.specs.Orderly.{first_phase}
 use Rattle.mon_rounds.specs.Reception.{Reception}

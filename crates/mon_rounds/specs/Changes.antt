@@ -1,5 +1,5 @@
 -- What changed in how long ago targets answered and instances had a new sample: each change is said once.
-use Rattle.std.specs.Prelude.{ℕ, Bool, true, false, ◌||◌, nat_lt, if◌then◌else◌, List, [], ◌∷◌, ◌++◌, get_or, map}
+use Rattle.std.specs.Prelude.{ℕ, Bool, true, false, ◌||◌, nat_lt, if◌then◌else◌, List, [], ◌∷◌, get_or}
 use Rattle.std.specs.List.{flat_map}
 use Rattle.mon_rounds.specs.declared.changes.Change.{Change}
 use Rattle.mon_rounds.specs.declared.changes.Change.TheVariants.{TargetSilent, TargetAnswers, InstanceStale, InstanceFresh}

@@ -10,8 +10,8 @@ use Rattle.mon_disk.specs.declared.fault.KeeperFault.TheVariants as keeper
 use Rattle.mon_disk.specs.declared.keeper.Keeper.{Keeper}
 use Rattle.mon_disk.specs.declared.memory.MemoryDisk.{MemoryDisk}
 use Rattle.mon_disk.specs.Disk.{Leaves, LeavesSince}
-use Rattle.mon_disk.specs.Keeper.{IsAs}
-use Rattle.mon_disk.specs.Kept.{device_of}
+use Rattle.mon_disk.specs.Keeper.{FindsBody, IsAs}
+use Rattle.mon_disk.specs.Kept.{device_of, last_body}
 use Rattle.mon_disk.specs.Memory.{memory_leaves}
 use Rattle.mon_disk.specs.Outcomes.{counts}
 use Rattle.mon_disk.specs.Record.{leaves_since}
@@ -28,7 +28,7 @@ use Rattle.mon_station.specs.declared.station.Station.{Station}
 use Rattle.mon_station.specs.Lived.{IsLived, HandledIn, last_state, saved_states}
 use Rattle.mon_station.specs.ReadEvent.{ReadEvent, ReadsAs, SaysAs, Said, owned, OwnedEvent, LentEvent}
 use Rattle.mon_station.specs.declared.event.Event.TheVariants.{StartPoll, Timeout, FromAgent, FromPeer, Share, Save}
-use Rattle.mon_station.specs.Saved.{FindsRunning, FindsState}
+use Rattle.mon_station.specs.Saved.{FindsRunning, FindsState, IsSavedAs, OrLast}
 use Rattle.mon_station.specs.State.{State, IsHandled}
 use Rattle.mon_station.specs.Taken.{Entry, Answered, at_place}
 use Rattle.mon_station.specs.Told.{IsTold, claims_sent, resends, sends, to_peer}
@@ -98,6 +98,17 @@ pub finds_running : (lives : List (Entry × State)) (s : State) (outcomes : List
 finds_running lives s outcomes were c (inl as_old) = inl (finds_as lives c as_old.0 as_old.2 (were as_old.0 as_old.1))
 finds_running lives s outcomes were c (inr here) = inr here
 
+-- files in which this state is found, also those in which the keeper's last save is, if that is this state
+pub saved_or_last : (outcomes : List ℕ → Type 0) (last : Option (List ℕ)) (s : State) → Leaves outcomes (FindsState s) → IsSavedAs s last → Leaves (OrLast outcomes last) (FindsState s)
+saved_or_last outcomes last s found is c (inl left) = found c left
+saved_or_last outcomes last s found is c (inr finds) = record { body = subst (λ (b : Option (List ℕ)). FindsBody b c) is.octets finds; spells = is.spells }
+
+-- a file in which the keeper's last save is found, as it was before
+running_or_last : (lives : List (Entry × State)) (s : State) (left outcomes : List ℕ → Type 0) (before now : Option (List ℕ)) → now ≡ before → Leaves (OrLast outcomes before) (FindsOne lives)
+    → Leaves left (FindsRunning (OrLast outcomes before) s) → (c : List ℕ) → OrLast left now c → FindsOne lives c ⊎ FindsState s c
+running_or_last lives s left outcomes before now same were since c (inl here) = finds_running lives s (OrLast outcomes before) were c (since c here)
+running_or_last lives s left outcomes before now same were since c (inr finds) = inl (were c (inr (subst (λ (b : Option (List ℕ)). FindsBody b c) same finds)))
+
 -- an event that is no save
 still : (lives : List (Entry × State)) (e : ReadEvent) (answer : Option StationFault) (s : State) (c : List ℕ) → (MayFind ((Answered e answer, s) ∷ lives) ≡ MayFind lives) → (saved_states ((Answered e answer, s) ∷ lives) ≡ saved_states lives)
     → FindsOne lives c → FindsOne ((Answered e answer, s) ∷ lives) c
@@ -143,7 +154,7 @@ is_disk_fault station.NoMoreIncarnations = inr (λ e. cc)
 module _ {G : Ghosts MemoryDisk} (old new : Station MemoryDisk G) (watch : Watch) (lives : List (Entry × State)) (is : last_state lives ≡ Some (state_in old)) (were : Leaves (disk_leaves old) (FindsOne lives))
     (event : LentEvent) (disk : (event ≡ Save → ⊥) → new.keeper ≡ old.keeper) where
   same_left : new.keeper ≡ old.keeper → (c : List ℕ) → disk_leaves new c → FindsOne lives c
-  same_left same c left = were c (subst (λ (k : Keeper MemoryDisk G). memory_leaves (device_of k) c) same left)
+  same_left same c left = were c (subst (λ (k : Keeper MemoryDisk G). OrLast (memory_leaves (device_of k)) (last_body k) c) same left)
 
   -- what an opening finds after an event with this answer
   pub finds_next : (e : ReadEvent) → ReadsAs watch (owned event) e → (answer : Option StationFault) → (event ≡ Save → Leaves (disk_leaves new) (FindsOne ((Answered Save answer, state_in new) ∷ lives)))
@@ -159,13 +170,15 @@ module _ {G : Ghosts MemoryDisk} (old new : Station MemoryDisk G) (watch : Watch
       by (Share y) r d v c left = subst (λ f. FindsOne ((Answered f answer, state_in new) ∷ lives) c) (sym r) (still lives (Share y) answer (state_in new) c refl refl (same_left (d (λ q. cc)) c left))
       by Save r d v c left = subst (λ f. FindsOne ((Answered f answer, state_in new) ∷ lives) c) (sym r) (v refl c left)
 
-  pub saved_well : (event ≡ Save → Leaves (disk_leaves new) (FindsState (state_in old))) → event ≡ Save → Leaves (disk_leaves new) (FindsOne ((Answered Save None, state_in new) ∷ lives))
-  saved_well saved save c left = this_save lives (state_in old) (state_in new) is None refl c (saved save c left)
+  pub saved_well : (event ≡ Save → Leaves (memory_leaves (device_of new.keeper)) (FindsState (state_in old))) → (event ≡ Save → IsSavedAs (state_in old) (last_body new.keeper)) → event ≡ Save
+      → Leaves (disk_leaves new) (FindsOne ((Answered Save None, state_in new) ∷ lives))
+  saved_well saved last save c left =
+      this_save lives (state_in old) (state_in new) is None refl c (saved_or_last (memory_leaves (device_of new.keeper)) (last_body new.keeper) (state_in old) (saved save) (last save) c left)
 
-  pub saved_badly : (f : StationFault) → ((f ≡ station.Keeper keeper.DiskFault → ⊥) → new.keeper ≡ old.keeper) → Leaves (disk_leaves new) (FindsRunning (disk_leaves old) (state_in old))
-      → Leaves (disk_leaves new) (FindsOne ((Answered Save (Some f), state_in new) ∷ lives))
-  saved_badly f unsaved since c left = elim (is_disk_fault f) [
-    | inl disk_fault ↦ elim (finds_running lives (state_in old) (disk_leaves old) were c (since c left)) [
+  pub saved_badly : (f : StationFault) → ((f ≡ station.Keeper keeper.DiskFault → ⊥) → new.keeper ≡ old.keeper) → last_body new.keeper ≡ last_body old.keeper
+      → Leaves (memory_leaves (device_of new.keeper)) (FindsRunning (disk_leaves old) (state_in old)) → Leaves (disk_leaves new) (FindsOne ((Answered Save (Some f), state_in new) ∷ lives))
+  saved_badly f unsaved last since c left = elim (is_disk_fault f) [
+    | inl disk_fault ↦ elim (running_or_last lives (state_in old) (memory_leaves (device_of new.keeper)) (memory_leaves (device_of old.keeper)) (last_body old.keeper) (last_body new.keeper) last were since c left) [
       | inl before ↦ earlier_save lives (state_in old) (state_in new) is f c before
       | inr here ↦ this_save lives (state_in old) (state_in new) is (Some f) disk_fault c here
     ]
@@ -230,7 +243,7 @@ module _ {G : Ghosts MemoryDisk} (core : Core) (stations : List (Station MemoryD
       stand x t here = elim (number_set stations place x new t here) [
         | inl is ↦ subst (λ y. Stands t (lives_of y past)) (sym is.0) (subst (λ (u : Station MemoryDisk G). Stands u its_lives) (sym is.1) (record {
           state = its_state ∙ ap (λ (q : State). Some q) (sym same);
-          disk = λ c left. its_disk c (subst (λ (k : Keeper MemoryDisk G). memory_leaves (device_of k) c) keeper left);
+          disk = λ c left. its_disk c (subst (λ (k : Keeper MemoryDisk G). OrLast (memory_leaves (device_of k)) (last_body k) c) keeper left);
         }))
         | inr other ↦ was.stand x t other.1
       ]
@@ -248,23 +261,24 @@ module _ {G : Ghosts MemoryDisk} (core : Core) (stations : List (Station MemoryD
     shown_after answer handled save = moved (Answered e answer) (handled_lived e answer handled) (numbered core.watch (owned event) e reads_as, was.are.lives (place + 1))
         (finds_next old new core.watch its_lives its_state its_disk event disk e reads_as answer save)
 
-    pub asked_ok : (told : Told) → IsHandled e None (state_in old) (state_in new) → IsTold (state_in old) e told → (event ≡ Save → Leaves (disk_leaves new) (FindsState (state_in old)))
+    pub asked_ok : (told : Told) → IsHandled e None (state_in old) (state_in new) → IsTold (state_in old) e told
+        → (event ≡ Save → Leaves (memory_leaves (device_of new.keeper)) (FindsState (state_in old))) → (event ≡ Save → IsSavedAs (state_in old) (last_body new.keeper))
         → IsStationAsked core (place + 1) (owned event) None (to_peers told.sends.items) past (slice_set stations place new)
-    asked_ok told handled is_told saved = record {
+    asked_ok told handled is_told saved last = record {
       read = e;
       after = state_in new;
       reads = reads_as;
-      shown = shown_after None handled (saved_well old new core.watch its_lives its_state its_disk event disk saved);
+      shown = shown_after None handled (saved_well old new core.watch its_lives its_state its_disk event disk saved last);
       letters = subst (λ o. AreSent (to_peers told.sends.items) (letters_by o (Answered e None))) (sym its_state) (sent_told (state_in old) e told is_told);
     }
 
     pub asked_err : (f : StationFault) → IsHandled e (Some f) (state_in old) (state_in new) → ((f ≡ station.Keeper keeper.DiskFault → ⊥) → new.keeper ≡ old.keeper)
-        → Leaves (disk_leaves new) (FindsRunning (disk_leaves old) (state_in old)) → IsStationAsked core (place + 1) (owned event) (Some f) [] past (slice_set stations place new)
-    asked_err f handled unsaved since = record {
+        → last_body new.keeper ≡ last_body old.keeper → Leaves (memory_leaves (device_of new.keeper)) (FindsRunning (disk_leaves old) (state_in old)) → IsStationAsked core (place + 1) (owned event) (Some f) [] past (slice_set stations place new)
+    asked_err f handled unsaved last since = record {
       read = e;
       after = state_in new;
       reads = reads_as;
-      shown = shown_after (Some f) handled (λ _. saved_badly old new core.watch its_lives its_state its_disk event disk f unsaved since);
+      shown = shown_after (Some f) handled (λ _. saved_badly old new core.watch its_lives its_state its_disk event disk f unsaved last since);
       letters = subst (λ o. AreSent [] (letters_by o (Answered e (Some f)))) (sym its_state) (record { parcels = refl; claims = tt });
     }
 

@@ -1,5 +1,5 @@
 -- A station that is opened again, from its disk or after a stop.
-use Rattle.std.proofs.Common.{ℕ, zero, suc, ◌≡◌, ◌+◌, Bool, true, false, List, [], ◌∷◌, ◌++◌, length, Option, Some, None, Result, Ok, Err, refl, sym, ◌∙◌, ap, subst, arith}
+use Rattle.std.proofs.Common.{ℕ, zero, suc, ◌≡◌, ◌+◌, Bool, true, false, List, [], ◌∷◌, ◌++◌, length, Option, Some, None, Result, Ok, Err, refl, inl, sym, ◌∙◌, ap, subst, arith}
 use Rattle.std.specs.Prelude.{◌&&◌, OnErr, OnOk, nat_lt, slice_get, slice_set}
 use Rattle.std.proofs.lemmas.List.{append-nil, set-get_or}
 use Rattle.std.proofs.lemmas.Option.{get_or_from_slice_get}
@@ -187,7 +187,7 @@ module _ {G : Ghosts MemoryDisk} (core : Core) (stations : List (Station MemoryD
   found_stopped was true file found =
       let lives = lives_of (place + 1) past in
       let seen = memory_octets (device_of old.keeper) in
-      let before = finds_as lives file seen found (found_there was seen (seen_is_left (device_of old.keeper))) in
+      let before = finds_as lives file seen found (found_there was seen (inl (seen_is_left (device_of old.keeper)))) in
       subst (FindsFrom true file) (sym (own_lives save_move past)) (earlier_save lives (state_in old) (state_in old) (its_state core stations past was place old old at) disk_fault file before, before.may)
   found_stopped was false file found =
       let lives = lives_of (place + 1) past in

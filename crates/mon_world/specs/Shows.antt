@@ -5,7 +5,7 @@ use Rattle.mon_board.specs.Board.{window_of}
 use Rattle.mon_board.specs.Windows.{Has}
 use Rattle.mon_disk.specs.Disk.{Leaves}
 use Rattle.mon_disk.specs.Keeper.{IsAs}
-use Rattle.mon_disk.specs.Kept.{device_of}
+use Rattle.mon_disk.specs.Kept.{device_of, last_body}
 use Rattle.mon_disk.specs.Memory.{memory_leaves}
 use Rattle.mon_disk.specs.declared.disk.Disk.{Ghosts}
 use Rattle.mon_disk.specs.declared.memory.MemoryDisk.{MemoryDisk}
@@ -16,7 +16,7 @@ use Rattle.mon_station.specs.declared.station.Station.{Station}
 use Rattle.mon_station.specs.Lived.{entries_of, last_state, saved_states}
 use Rattle.mon_station.specs.declared.fault.StationFault.{StationFault}
 use Rattle.mon_station.specs.ReadEvent.{ReadEvent, ReadsAs, OwnedEvent}
-use Rattle.mon_station.specs.Saved.{FindsState, IsBegun}
+use Rattle.mon_station.specs.Saved.{FindsState, IsBegun, OrLast}
 use Rattle.mon_station.specs.State.{State, known_of, owed_count, setting_of, state_of}
 use Rattle.mon_station.specs.Taken.{Entry, Answered, at_place, taken}
 use Rattle.mon_station.specs.Verdict.{slot_of}
@@ -64,9 +64,9 @@ FindsStopped false s old file = FindsState s file
 abbrev pub state_in : {G : Ghosts MemoryDisk} → Station MemoryDisk G → State
 state_in s = state_of s.life
 
--- what a crash may leave of its disk
+-- what a crash may leave of its disk, or a file in which its keeper's last save is found
 abbrev pub disk_leaves : {G : Ghosts MemoryDisk} → Station MemoryDisk G → List ℕ → Type 0
-disk_leaves s = memory_leaves (device_of s.keeper)
+disk_leaves s = OrLast (memory_leaves (device_of s.keeper)) (last_body s.keeper)
 
 -- a station is as these lives left it, and whatever a crash leaves of its disk, an opening finds one of their saves
 pub record Stands {G : Ghosts MemoryDisk} (s : Station MemoryDisk G) (lives : List (Entry × State)) : Type 0 where

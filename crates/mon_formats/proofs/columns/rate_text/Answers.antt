@@ -1,4 +1,4 @@
-use Rattle.std.proofs.Common.{◌≡◌, ℕ, ◌<◌, ◌^◌, ◌+◌, ◌/◌, ◌%◌, zero, suc, ◌∷◌, ◌++◌, List, [], ◌∙◌, sym, subst, arith, rules, codes, decimal, Some}
+use Rattle.std.proofs.Common.{◌≡◌, ℕ, ◌<◌, ◌^◌, ◌+◌, ◌/◌, ◌%◌, zero, suc, ◌∷◌, [], sym, subst, arith, rules, codes, decimal, Some}
 use Rattle.std.specs.Prelude.{IsOk, Result, Ok, Err}
 use Rattle.std.specs.Str.{IsAscii, IsUtf8}
 use Rattle.std.proofs.lemmas.Fmt.{IsAscii-decimal_wide}

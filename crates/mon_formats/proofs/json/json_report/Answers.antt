@@ -1,6 +1,6 @@
-use Rattle.std.proofs.Common.{option_map, ◌≡◌, ◌≤◌, ◌∙◌, ◌++◌, Some, ap, codes, string_bytes, subst, sym, rules}
+use Rattle.std.proofs.Common.{option_map, ◌≡◌, ◌≤◌, ◌∙◌, Some, ap, string_bytes, subst, sym, rules}
 use Rattle.serde_json.specs.Data.{depth}
-use Rattle.serde_json.specs.Read.{max_depth, read}
+use Rattle.serde_json.specs.Read.{max_depth}
 use Rattle.serde_json.specs.View.{view}
 use Rattle.serde_json.specs.Written.{has_float, compact_text}
 use Rattle.mon_formats.specs.Json.{report_data, json_report}

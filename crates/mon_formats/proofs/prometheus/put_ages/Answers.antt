@@ -1,4 +1,4 @@
-use Rattle.std.proofs.Common.{◌≡◌, ◌++◌, ◌∙◌, sym, length, drop, arith, append_assoc, append-nil}
+use Rattle.std.proofs.Common.{◌++◌, ◌∙◌, sym, arith, append_assoc, append-nil}
 use Rattle.mon_formats.specs.Prometheus.{age_lines, ages_text, head_text, station_head}
 use Rattle.mon_formats.specs.declared.prometheus.station.StationMetric.TheVariants.{Age}
 use Rattle.mon_formats.proofs.Fresh.{ages_end}

@@ -1,4 +1,4 @@
-use Rattle.std.proofs.Common.{◌≡◌, ℕ, ◌+◌, ◌<◌, List, ◌∷◌, ◌++◌, ◌∙◌, ap, sym, length, drop, get_or, arith, append_assoc, append-nil}
+use Rattle.std.proofs.Common.{ℕ, ◌+◌, ◌<◌, List, ◌++◌, ◌∙◌, ap, sym, length, drop, get_or, arith, append_assoc, append-nil}
 use Rattle.std.specs.List.{flat_map}
 use Rattle.mon_report.specs.Report.{Entry}
 use Rattle.mon_formats.specs.Prometheus.{entry_lines, fresh, head_text, help_of, metric_text, name_of, type_of}

@@ -1,6 +1,6 @@
-use Rattle.std.proofs.Common.{◌≡◌, ◌<◌, [], ◌∷◌, ◌++◌, ◌∙◌, ap, sym, length, take, arith}
+use Rattle.std.proofs.Common.{[], ◌∷◌, ◌++◌, ◌∙◌, ap, sym, length, take, arith}
 use Rattle.mon_rounds.specs.Freshness.{new_instance, numbered}
-use Rattle.mon_rounds.proofs.InPlace.{numbered_all, numbers_more}
+use Rattle.mon_rounds.proofs.InPlace.{numbers_more}
 use Rattle.mon_rounds.proofs.freshness.new_instances.Goals as goal
 
 pub loop-place-preserved : goal.loop-place-preserved

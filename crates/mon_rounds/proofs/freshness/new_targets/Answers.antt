@@ -1,4 +1,4 @@
-use Rattle.std.proofs.Common.{◌≡◌, ◌<◌, [], ◌∷◌, ◌++◌, ◌∙◌, ap, sym, length, take, arith}
+use Rattle.std.proofs.Common.{[], ◌∷◌, ◌++◌, ◌∙◌, ap, sym, take, arith}
 use Rattle.mon_rounds.specs.Freshness.{new_target, numbered}
 use Rattle.mon_rounds.proofs.InPlace.{numbered_all, numbered_more}
 use Rattle.mon_rounds.proofs.freshness.new_targets.Goals as goal

@@ -1,4 +1,4 @@
-use Rattle.std.proofs.Common.{◌≡◌, ◌<◌, length, take, ap, ◌∙◌, arith}
+use Rattle.std.proofs.Common.{◌<◌, length, ap, ◌∙◌, arith}
 use Rattle.std.specs.Prelude.{List, min}
 use Rattle.mon_rounds.specs.Noted.{notices_of}
 use Rattle.mon_rounds.proofs.Notices.{notices_all, notices_step}

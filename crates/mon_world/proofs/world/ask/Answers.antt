@@ -14,7 +14,7 @@ returns-clause-told c core past was =
     let at : HasNumber stations (c.args.place + 1) old = number_at stations c.args.place old (get_at stations c.args.place old c.requires c.index_mut.ensures.value) in
     let read = c.in_ok-told.ensures.read in
     let answered = c.in_ok-told.ensures.answered read.0 read.1 in
-    asked_ok core stations past was c.args.place old new at c.args.event read.0 read.1 c.step.ensures.disk c.in_ok-told.told answered.0 answered.1 (c.in_ok-told.ensures.saved tt)
+    asked_ok core stations past was c.args.place old new at c.args.event read.0 read.1 c.step.ensures.disk c.in_ok-told.told answered.0 answered.1 (c.in_ok-told.ensures.saved tt) (c.in_ok-told.ensures.last tt)
 
 pub returns-in_err-told-clause-refused : goal.returns-in_err-told-clause-refused
 returns-in_err-told-clause-refused c =
@@ -27,7 +27,7 @@ returns-in_err-told-clause-refused c =
     refused_as core stations past was c.args.place old new at c.args.event f
     (λ is. let same = c.step.ensures.memory (c.in_err-told.was ∙ ap Err is) in unmoved core stations past was c.args.place old new at same.0 same.1)
     (λ other. let read = c.in_err-told.ensures.read other in
-    asked_err core stations past was c.args.place old new at c.args.event read.0 read.1 c.step.ensures.disk f (c.in_err-told.ensures.answered read.0 read.1) c.in_err-told.ensures.unsaved
+    asked_err core stations past was c.args.place old new at c.args.event read.0 read.1 c.step.ensures.disk f (c.in_err-told.ensures.answered read.0 read.1) c.in_err-told.ensures.unsaved (c.in_err-told.ensures.last_err tt)
     (torn _ _ _ (c.step.ensures.any_moment tt))))
 
 pub returns-in_err-told-clause-kept : goal.returns-in_err-told-clause-kept

@@ -1,4 +1,4 @@
-use Rattle.std.proofs.Common.{◌≡◌, ◌≤◌, List, Option, refl, subst}
+use Rattle.std.proofs.Common.{◌≡◌, ◌≤◌, refl, subst}
 use Rattle.mon_rounds.specs.Next.{RoundState, turns_left}
 use Rattle.mon_rounds.specs.Orderly.{begun}
 use Rattle.mon_rounds.specs.Whole.{GivesOn, RoundsView, view_of}
