@@ -56,3 +56,11 @@ pub(crate) fn sent_between(before: usize, now: usize) -> Sent
         count: (now - before) as u64,
     }
 }
+
+/// Returns that nothing is sent after these datagrams.
+pub(crate) fn none_after(sent: &[Datagram]) -> Sent
+    ensures first { result.first ≡ length sent.now + 1 }
+    ensures count { result.count ≡ 0 }
+{
+    sent_between(sent.len(), sent.len())
+}

@@ -16,7 +16,7 @@ ghost use Rattle.mon_world.specs.Shows.{AreShown, DebtsAreTrue, IsStationAsked, 
 use crate::fault::WorldFault;
 use crate::laws;
 use crate::opening::{core_at, open_all};
-use crate::sending::{Datagram, Sent, append, sent_between};
+use crate::sending::{Datagram, Sent, append, none_after};
 use crate::speaker::speaker;
 use crate::step::Step;
 use crate::stop::{promise_unsaved, stop_at};
@@ -188,12 +188,13 @@ impl World {
         ensures first { IfOk result (λ sent. sent.first ≡ length self.old.sent.items + 1) }
         ensures none { IfOk result (λ sent. sent.count ≡ 0) }
     {
+        let none = none_after(self.sent.as_slice());
         let number = place as u32 + 1;
         let core = core_at(self.alloc, &self.core, self.stations.len() as u32, number)?;
         match Station::open(self.alloc, core, disk) {
             Ok(station) => {
                 self.stations[place] = station;
-                Ok(sent_between(self.sent.len(), self.sent.len()))
+                Ok(none)
             }
             Err((fault, _)) => Err(WorldFault::from(fault)),
         }
