@@ -1,4 +1,4 @@
-use Rattle.std.proofs.Common.{refl, sym, ◌∙◌}
+use Rattle.std.proofs.Common.{refl, ◌∙◌}
 use Rattle.mon_smi.proofs.Labelled.{asked, goes_in, stays}
 use Rattle.mon_smi.proofs.labels.put_label.Goals as goal
 
