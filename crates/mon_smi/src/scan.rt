@@ -56,7 +56,7 @@ pub(crate) fn behind(text: &[u8], n: usize) -> &[u8]
     &text[n..]
 }
 
-/// Which bytes a run is made of.
+/// The bytes of a run.
 #[derive(Clone, Copy)]
 pub(crate) enum Run {
     Digits,
