@@ -1,13 +1,16 @@
 -- Places of definitions by their names.
 use Rattle.std.proofs.Common.{◌≡◌, ℕ, ◌+◌, ◌-◌, ◌<◌, ◌≤◌, Bool, true, false, cond, List, [], ◌∷◌, ◌++◌, length, get_or, take, drop, Option, Some, None, sym, refl, ap, ◌∙◌, subst, arith, length-append, append_assoc, take-append-drop, ⊎_elim}
 use Rattle.std.specs.Str.{bytes_eq}
-use Rattle.std.specs.Prelude.{is_some}
-use Rattle.std.specs.Map.{update}
+use Rattle.std.specs.Prelude.{String, is_some, string_bytes}
+use Rattle.std.specs.BTreeMap.{BTreeMap, is_at}
+use Rattle.std.specs.Cmp.Lexicographic.{slice_cmp}
+use Rattle.std.specs.Map.{lookup, update}
+use Rattle.std.specs.Ordering.{nat_cmp}
 use Rattle.std.proofs.lemmas.List.{get_or-take, take_more, length-take}
 use Rattle.std.proofs.lemmas.Slice.Eq.{bytes_eq-Decides}
 use Rattle.mon_smi.specs.declared.definition.Definition.{Definition}
 use Rattle.mon_smi.specs.Names.{IsAt, IsUndefined, AreDistinct}
-use Rattle.mon_smi.specs.Places.{IsAgain}
+use Rattle.mon_smi.specs.Places.{AreFound, IsAgain}
 use Rattle.mon_smi.proofs.Chains.{at_front, at_end, at_split, only_one, undefined_both}
 use Rattle.mon_smi.proofs.ForText.{more_distinct}
 
@@ -62,6 +65,10 @@ IsFoundBy f defs = (i : ℕ) (d : Definition) → IsAt defs i d → f d.name ≡
 
 pub found_front : (f : List ℕ → Option ℕ) (xs ys : List Definition) → IsFoundBy f (xs ++ ys) → IsFoundBy f xs
 found_front f xs ys found i d at = found i d (at_front xs ys i d at)
+
+-- in a map with the same entries the same is found
+pub found_unchanged : {Y : Type 0} (m n : BTreeMap (String Y) ℕ) (xs : List Definition) → n.entries ≡ m.entries → AreFound m xs → AreFound n xs
+found_unchanged {Y} m n xs same found i d at = ap (λ (es : List (String Y × ℕ)). lookup (is_at (λ k. slice_cmp nat_cmp d.name (string_bytes k))) es) same ∙ found i d at
 
 pub distinct_front : (xs ys : List Definition) → AreDistinct (xs ++ ys) → AreDistinct xs
 distinct_front xs ys distinct i j d e at_d at_e same = distinct i j d e (at_front xs ys i d at_d) (at_front xs ys j e at_e) same

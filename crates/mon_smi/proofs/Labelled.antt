@@ -21,7 +21,7 @@ use Rattle.mon_smi.specs.declared.fault.NamesFault.TheVariants.{OutOfMemory}
 use Rattle.mon_smi.specs.Names.{AreDistinct, StandsFor, IsFaultOfName}
 use Rattle.mon_smi.specs.Parents.{numbers_of}
 use Rattle.mon_smi.specs.Nearest.{dotted_after}
-use Rattle.mon_smi.specs.Labels.{is_name_for, is_known, lesser, label_among, label_of, longest, found_at, AreLabels, name_text, named_by}
+use Rattle.mon_smi.specs.Labels.{is_name_for, is_known, lesser, label_among, label_of, longest, found_at, AreLabels, IsAdded, IsPut, is_meant, name_text, named_by}
 use Rattle.mon_smi.proofs.Indexed.{more_is}
 use Rattle.mon_smi.proofs.Nearness.{no_cover}
 use Rattle.mon_smi.proofs.Standing.{numbers_are}
@@ -71,42 +71,32 @@ nobody : (r : Option (List ℕ)) (q : List ℕ) → (r ≡ Some q → ⊥) → o
 nobody None q other = refl
 nobody (Some p) q other = not_same p q (λ same. other (ap Some same))
 
-module _ (defs : List Definition) (i : ℕ) (d : Definition) (w : List ℕ) (lt : i < length defs) (is : d ≡ get_or defs i d) (named : w ≡ d.name) where
-  -- a definition whose name means no identifier
-  pub passed : (labels : BTreeMap (Vec ℕ) (Bor (List ℕ))) → AreLabels defs (take i defs) labels → ((q : List ℕ) → IsOid q → numbers_of defs w ≡ Some q → ⊥) → AreLabels defs (take (i + 1) defs) labels
-  passed labels so_far none q oid =
-      let no : is_name_for defs q d ≡ false = nobody (numbers_of defs d.name) q (λ h. none q oid (ap (numbers_of defs) named ∙ h)) in
-      so_far q oid
-      ∙ ap (λ (t : Bool). if t then lesser (label_among defs (take i defs) q) d.name else label_among defs (take i defs) q) (sym no)
-      ∙ sym (label_step defs (take i defs) d q) ∙ ap (λ (seen : List Definition). label_among defs seen q) (sym (more_is defs i d lt is))
+-- a name whose identifier has one that is no greater
+pub stays : (labels : BTreeMap (Vec ℕ) (Bor (List ℕ))) (p w : List ℕ) → is_known (found_at labels p) w ≡ true → IsPut p w labels labels
+stays labels p w known q = go (bytes_eq p q) refl
+  where
+    go : (t : Bool) → bytes_eq p q ≡ t → found_at labels q ≡ cond t (lesser (found_at labels q) w) (found_at labels q)
+    go false other = refl
+    go true same = ap (λ (t : Bool). if t then found_at labels q else Some w) (sym (ap (λ (v : List ℕ). is_known (found_at labels v) w) (sym ((bytes_eq-Decides p q).0 same)) ∙ known))
 
-  noted : (p : List ℕ) (f g : List ℕ → Option (List ℕ)) → numbers_of defs w ≡ Some p → ((q : List ℕ) → IsOid q → f q ≡ label_among defs (take i defs) q) → ((q : List ℕ) → g q ≡ cond (bytes_eq p q) (lesser (f q) w) (f q)) → (q : List ℕ) → IsOid q → g q ≡ label_among defs (take (i + 1) defs) q
-  noted p f g stands so_far g_is q oid =
-      let best = label_among defs (take i defs) q in
-      let numbers : numbers_of defs d.name ≡ Some p = ap (numbers_of defs) (sym named) ∙ stands in
-      g_is q ∙ ap (λ (l : Option (List ℕ)). cond (bytes_eq p q) (lesser l w) l) (so_far q oid)
-      ∙ ap (λ (v : List ℕ). cond (bytes_eq p q) (lesser best v) best) named
-      ∙ ap (λ (r : Option (List ℕ)). if option_map_or (λ n. bytes_eq n q) r false then lesser best d.name else best) (sym numbers)
-      ∙ sym (label_step defs (take i defs) d q) ∙ ap (λ (seen : List Definition). label_among defs seen q) (sym (more_is defs i d lt is))
+-- a name that is the first of its identifier, or less than the others
+pub goes_in : (m n : BTreeMap (Vec ℕ) (Bor (List ℕ))) (key : Vec ℕ) (p w : List ℕ) (name : Bor (List ℕ)) → key.items ≡ p → name.now ≡ w → is_known (found_at m p) w ≡ false → Updates (λ x y. slice_cmp nat_cmp x.items y.items) m n key (Some name) → IsPut p w m n
+goes_in m n key p w name key_is name_is new updates q = step ∙ go (bytes_eq p q) refl
+  where
+    step : found_at n q ≡ cond (bytes_eq p q) (Some w) (found_at m q)
+    step = inserted m n key name updates q ∙ ap (λ (k : List ℕ). cond (bytes_eq k q) (Some name.now) (found_at m q)) key_is ∙ ap (λ (v : List ℕ). cond (bytes_eq p q) (Some v) (found_at m q)) name_is
 
-  -- a definition whose identifier has a name that is no greater
-  pub kept : (labels : BTreeMap (Vec ℕ) (Bor (List ℕ))) (p : List ℕ) → AreLabels defs (take i defs) labels → numbers_of defs w ≡ Some p → is_known (found_at labels p) w ≡ true → AreLabels defs (take (i + 1) defs) labels
-  kept labels p so_far stands known = noted p (found_at labels) (found_at labels) stands so_far (λ q. go q (bytes_eq p q) refl)
-    where
-      go : (q : List ℕ) (t : Bool) → bytes_eq p q ≡ t → found_at labels q ≡ cond t (lesser (found_at labels q) w) (found_at labels q)
-      go q false other = refl
-      go q true same = ap (λ (t : Bool). if t then found_at labels q else Some w) (sym (ap (λ (v : List ℕ). is_known (found_at labels v) w) (sym ((bytes_eq-Decides p q).0 same)) ∙ known))
+    go : (t : Bool) → bytes_eq p q ≡ t → cond t (Some w) (found_at m q) ≡ cond t (lesser (found_at m q) w) (found_at m q)
+    go false other = refl
+    go true same = ap (λ (t : Bool). if t then found_at m q else Some w) (sym (ap (λ (v : List ℕ). is_known (found_at m v) w) (sym ((bytes_eq-Decides p q).0 same)) ∙ new))
 
-  -- a definition whose name is the first of its identifier, or less than the others
-  pub added : (m n : BTreeMap (Vec ℕ) (Bor (List ℕ))) (key : Vec ℕ) (p : List ℕ) (name : Bor (List ℕ)) → AreLabels defs (take i defs) m → numbers_of defs w ≡ Some p → key.items ≡ p → name.now ≡ w → is_known (found_at m p) w ≡ false → Updates (λ x y. slice_cmp nat_cmp x.items y.items) m n key (Some name) → AreLabels defs (take (i + 1) defs) n
-  added m n key p name so_far stands key_is name_is new updates = noted p (found_at m) (found_at n) stands so_far (λ q. step q ∙ go q (bytes_eq p q) refl)
-    where
-      step : (q : List ℕ) → found_at n q ≡ cond (bytes_eq p q) (Some w) (found_at m q)
-      step q = inserted m n key name updates q ∙ ap (λ (k : List ℕ). cond (bytes_eq k q) (Some name.now) (found_at m q)) key_is ∙ ap (λ (v : List ℕ). cond (bytes_eq p q) (Some v) (found_at m q)) name_is
-
-      go : (q : List ℕ) (t : Bool) → bytes_eq p q ≡ t → cond t (Some w) (found_at m q) ≡ cond t (lesser (found_at m q) w) (found_at m q)
-      go q false other = refl
-      go q true same = ap (λ (t : Bool). if t then found_at m q else Some w) (sym (ap (λ (v : List ℕ). is_known (found_at m v) w) (sym ((bytes_eq-Decides p q).0 same)) ∙ new))
+-- the labels among one definition more
+pub labelled : (defs : List Definition) (i : ℕ) (d : Definition) (w : List ℕ) (m n : BTreeMap (Vec ℕ) (Bor (List ℕ))) → i < length defs → d ≡ get_or defs i d → w ≡ d.name → AreLabels defs (take i defs) m → IsAdded defs w m n → AreLabels defs (take (i + 1) defs) n
+labelled defs i d w m n lt is named so_far more q oid =
+    more q oid
+    ∙ ap (λ (l : Option (List ℕ)). if is_meant defs q w then lesser l w else l) (so_far q oid)
+    ∙ ap (λ (v : List ℕ). if is_meant defs q v then lesser (label_among defs (take i defs) q) v else label_among defs (take i defs) q) named
+    ∙ sym (label_step defs (take i defs) d q) ∙ ap (λ (seen : List Definition). label_among defs seen q) (sym (more_is defs i d lt is))
 
 -- whether a name is known of what the map has
 pub asked : (labels : BTreeMap (Vec ℕ) (Bor (List ℕ))) (q p w : List ℕ) (r : Option (Bor (List ℕ))) (t : Bool) → t ≡ is_known (option_map (λ (v : Bor (List ℕ)). v.now) r) w → r ≡ get_by (λ k. slice_cmp nat_cmp q k.items) labels → q ≡ p → is_known (found_at labels p) w ≡ t

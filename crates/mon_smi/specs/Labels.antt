@@ -13,9 +13,13 @@ use Rattle.mon_smi.specs.declared.definition.Definition.{Definition}
 use Rattle.mon_smi.specs.Parents.{numbers_of}
 use Rattle.mon_smi.specs.Nearest.{dotted_after}
 
+-- the name means these numbers
+abbrev pub is_meant : List Definition → List ℕ → List ℕ → Bool
+is_meant defs q w = option_map_or (λ p. bytes_eq p q) (numbers_of defs w) false
+
 -- the definition's name means these numbers
 abbrev pub is_name_for : List Definition → List ℕ → Definition → Bool
-is_name_for defs q d = option_map_or (λ p. bytes_eq p q) (numbers_of defs d.name) false
+is_name_for defs q d = is_meant defs q d.name
 
 -- a name is known that is no greater by its bytes
 abbrev pub is_known : Option (List ℕ) → List ℕ → Bool
@@ -57,3 +61,11 @@ found_at labels q = option_map (λ w. w.now) (get_by (λ k. slice_cmp nat_cmp q 
 -- the map has the labels among these definitions
 abbrev pub AreLabels : List Definition → List Definition → BTreeMap (Vec ℕ) (Bor (List ℕ)) → Type 0
 AreLabels defs seen labels = (q : List ℕ) → IsOid q → found_at labels q ≡ label_among defs seen q
+
+-- the map has the lesser of its label and the name for these numbers, and for others what it had
+abbrev pub IsPut : List ℕ → List ℕ → BTreeMap (Vec ℕ) (Bor (List ℕ)) → BTreeMap (Vec ℕ) (Bor (List ℕ)) → Type 0
+IsPut p w old new = (q : List ℕ) → found_at new q ≡ (if bytes_eq p q then lesser (found_at old q) w else found_at old q)
+
+-- the map has the lesser of its label and the name for the identifier that the name means, and for others what it had
+abbrev pub IsAdded : List Definition → List ℕ → BTreeMap (Vec ℕ) (Bor (List ℕ)) → BTreeMap (Vec ℕ) (Bor (List ℕ)) → Type 0
+IsAdded defs w old new = (q : List ℕ) → IsOid q → found_at new q ≡ (if is_meant defs q w then lesser (found_at old q) w else found_at old q)

@@ -5,7 +5,16 @@ use Rattle.mon_smi.specs.Words.{is_part}
 use Rattle.mon_smi.specs.Tokens.{is_space, is_hyphen, is_bit}
 use Rattle.mon_smi.specs.declared.kind.TokenKind.{TokenKind}
 use Rattle.mon_smi.specs.declared.kind.TokenKind.TheVariants.{Word, Number, Quoted, Hex, Binary, Assign, Range, LeftBrace, RightBrace, LeftParen, RightParen, LeftBracket, RightBracket, Comma, Semicolon, Dot, Bar}
+use Rattle.mon_smi.specs.declared.scan.Run.{Run}
+use Rattle.mon_smi.specs.declared.scan.Run.TheVariants as run
 use Rattle.mon_smi.specs.declared.token.Piece.{Piece}
+
+-- the bytes of a run
+abbrev pub is_of : Run → ℕ → Bool
+is_of run.Digits = is_ascii_digit
+is_of run.HexDigits = is_ascii_hexdigit
+is_of run.Bits = is_bit
+is_of run.Hyphens = is_hyphen
 
 -- how many bytes at the front pass the test
 abbrev pub run_at : (ℕ → Bool) → List ℕ → ℕ

@@ -1,6 +1,7 @@
 //! Reading assignments.
 
-ghost use Rattle.std.specs.Prelude.{◌≡◌};
+ghost use Rattle.std.specs.Prelude.{◌≡◌, IfOk};
+ghost use Rattle.std.specs.Option.{option_map};
 ghost use Rattle.mon_smi.specs.Reading.{Gives, is_macro, one, up_to, identifier_at, object_at, macro_at, head_at, definition_at, is_convention, textual_at, type_body_at, assignment_of, assignment_at};
 
 use crate::definition::Definition;
@@ -9,9 +10,9 @@ use crate::lexeme::{Lexeme, begins_capital, begins_small};
 use crate::numbers::Numbers;
 use crate::read_fault::ReadFault;
 use crate::rules::{begins, begins_word, convention_at, mark_at, object_type_at, type_at, word_at};
-use crate::values::{name_at, value_at};
+use crate::values::{Value, name_at, value_at};
 use crate::word::Word;
-use std::alloc::Global;
+use std::alloc::{AllocError, Global};
 
 /// Returns `true` if the word is a macro whose clauses are passed over.
 fn is_macro(l: &Lexeme) -> bool
@@ -109,20 +110,26 @@ fn definition_at<'a, 's>(
     let rest = head_at(ls)?;
     let rest = mark_at(TokenKind::Assign, rest)?;
     let (value, rest) = value_at(alloc, rest)?;
+    Ok((define(alloc, name, value)?, rest))
+}
+
+/// The definition of a name as this value.
+fn define(alloc: Global, name: &str, value: Value) -> Result<Definition, AllocError>
+    ensures name { IfOk result (λ d. d.name ≡ name.now) }
+    ensures parent { IfOk result (λ d. d.parent ≡ option_map (λ w. w.now) value.entry.parent) }
+    ensures numbers { IfOk result (λ d. d.numbers ≡ value.entry.numbers.items) }
+{
     let name = Word::from_str(alloc, name)?;
     let parent = match value.parent {
         Some(parent) => Some(Word::from_str(alloc, parent)?),
         None => None,
     };
     let numbers = Numbers::new(value.numbers);
-    Ok((
-        Definition {
-            name,
-            parent,
-            numbers,
-        },
-        rest,
-    ))
+    Ok(Definition {
+        name,
+        parent,
+        numbers,
+    })
 }
 
 /// Returns `true` if the clauses of a textual convention come next.

@@ -7,7 +7,7 @@ ghost use Rattle.mon_smi.specs.Names.{AreDistinct};
 ghost use Rattle.mon_smi.specs.Parents.{numbers_of};
 ghost use Rattle.mon_smi.specs.Places.{AreFound};
 ghost use Rattle.mon_smi.specs.Nearest.{IsNameOf, dotted_after};
-ghost use Rattle.mon_smi.specs.Labels.{AreLabels, is_known, label_of, longest, name_text};
+ghost use Rattle.mon_smi.specs.Labels.{AreLabels, IsAdded, IsPut, is_known, label_of, longest, name_text};
 
 use crate::chain::identifier_of;
 use crate::definition::Definition;
@@ -55,13 +55,7 @@ impl<'a> Labels<'a> {
         let mut by_identifier = BTreeMap::new(alloc);
         for definition in defs {
             let name = definition.name.as_str();
-            let Some(oid) = identify(alloc, places, defs, name)? else {
-                continue;
-            };
-            if is_known(by_identifier.get(oid.parts()).copied(), name) {
-                continue;
-            }
-            by_identifier.insert(Vec::from_slice(alloc, oid.parts())?, name)?;
+            add_label(alloc, places, defs, &mut by_identifier, name)?;
         }
         Ok(Labels {
             defs,
@@ -140,6 +134,40 @@ fn identify(
             _ => Ok(None),
         },
     }
+}
+
+/// Puts a name into the map if it means an identifier.
+fn add_label<'a>(
+    alloc: Global,
+    places: &BTreeMap<String, usize>,
+    defs: &[Definition],
+    by_identifier: &mut BTreeMap<Vec<u32>, &'a str>,
+    name: &'a str,
+) -> Result<(), AllocError>
+    requires distinct { AreDistinct defs.now }
+    requires found { AreFound places.now defs.now }
+    ensures { OnOk result (IsAdded defs.now name.now by_identifier.old by_identifier.new) }
+{
+    match identify(alloc, places, defs, name)? {
+        Some(oid) => put_label(alloc, by_identifier, &oid, name),
+        None => Ok(()),
+    }
+}
+
+/// Puts a name into the map, unless one is known for the identifier that is no greater.
+fn put_label<'a>(
+    alloc: Global,
+    by_identifier: &mut BTreeMap<Vec<u32>, &'a str>,
+    oid: &Oid,
+    name: &'a str,
+) -> Result<(), AllocError>
+    ensures { OnOk result (IsPut oid.now name.now by_identifier.old by_identifier.new) }
+{
+    if is_known(by_identifier.get(oid.parts()).copied(), name) {
+        return Ok(());
+    }
+    by_identifier.insert(Vec::from_slice(alloc, oid.parts())?, name)?;
+    Ok(())
 }
 
 /// Returns `true` if a name is known that is no greater.

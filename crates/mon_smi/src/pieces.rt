@@ -5,9 +5,7 @@ ghost use Rattle.mon_smi.specs.Tokens.{is_space};
 ghost use Rattle.mon_smi.specs.Scan.{token, passed, signed, hyphen_at, quoted_at, closed_bits, quoted_bits_at, assign_at, dot_at, mark_at, behind_at, piece_at};
 
 use crate::kind::TokenKind;
-use crate::scan::{
-    behind, bits_len, byte_at, closing_len, comment_len, digits_len, hex_digits_len, word_len,
-};
+use crate::scan::{Run, behind, byte_at, closing_len, comment_len, run_len, word_len};
 use crate::token::Piece;
 
 /// A token of this length.
@@ -34,7 +32,7 @@ fn hyphen_at(text: &[u8]) -> Option<Piece>
     if byte_at(text, 0) == b'-' {
         return skip(comment_len(text) + 1);
     }
-    let digits = digits_len(text);
+    let digits = run_len(Run::Digits, text);
     if digits == 0 {
         return None;
     }
@@ -70,8 +68,9 @@ fn closed_bits(digits: usize, bits: usize, text: &[u8]) -> Option<Piece>
 fn quoted_bits_at(text: &[u8]) -> Option<Piece>
     ensures { result ≡ quoted_bits_at text.now }
 {
-    let digits = hex_digits_len(text);
-    closed_bits(digits, bits_len(text), behind(text, digits))
+    let digits = run_len(Run::HexDigits, text);
+    let bits = run_len(Run::Bits, text);
+    closed_bits(digits, bits, behind(text, digits))
 }
 
 /// The assignment mark, after its first colon.
@@ -148,7 +147,7 @@ pub(crate) fn piece_at(text: &[u8]) -> Option<Piece>
         return token(TokenKind::Word, word_len(text));
     }
     if first.is_ascii_digit() {
-        return token(TokenKind::Number, digits_len(text));
+        return token(TokenKind::Number, run_len(Run::Digits, text));
     }
     behind_at(*first, rest)
 }

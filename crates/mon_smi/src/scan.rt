@@ -1,10 +1,9 @@
 //! How long what is at the front of a text is.
 
 ghost use Rattle.std.specs.Prelude.{◌≡◌, ◌+◌, ◌<◌, ◌≤◌, ◌↔◌, ℕ, length, take, drop, slice_index, IsTrue, IfSome};
-ghost use Rattle.std.specs.Char.{is_ascii_alphabetic, is_ascii_digit, is_ascii_hexdigit};
+ghost use Rattle.std.specs.Char.{is_ascii_alphabetic};
 ghost use Rattle.mon_smi.specs.Words.{is_part, GoesOn, IsWord};
-ghost use Rattle.mon_smi.specs.Tokens.{is_bit, is_hyphen};
-ghost use Rattle.mon_smi.specs.Scan.{run_at, word_at, closes_at, remark_at, ending_at, comment_at};
+ghost use Rattle.mon_smi.specs.Scan.{is_of, run_at, word_at, closes_at, remark_at, ending_at, comment_at};
 
 /// Returns `true` if the byte is a letter, a digit or an underscore.
 fn is_part(byte: u8) -> bool
@@ -57,66 +56,36 @@ pub(crate) fn behind(text: &[u8], n: usize) -> &[u8]
     &text[n..]
 }
 
-/// The number of digits at the front.
-pub(crate) fn digits_len(text: &[u8]) -> usize
-    ensures within { result ≤ length text.now }
-    ensures exact { result ≡ run_at is_ascii_digit text.now }
-{
-    let mut len = 0;
-    let mut rest = text;
-    while let [byte, after @ ..] = rest {
-        if !byte.is_ascii_digit() {
-            return len;
-        }
-        rest = after;
-        len += 1;
-    }
-    len
+/// The bytes of a run.
+#[derive(Clone, Copy)]
+pub(crate) enum Run {
+    Digits,
+    HexDigits,
+    Bits,
+    Hyphens,
 }
 
-/// The number of hex digits at the front.
-pub(crate) fn hex_digits_len(text: &[u8]) -> usize
-    ensures within { result ≤ length text.now }
-    ensures exact { result ≡ run_at is_ascii_hexdigit text.now }
+/// Returns `true` if the byte is one of the run.
+fn is_of(run: Run, byte: u8) -> bool
+    ensures { result ≡ is_of run byte }
 {
-    let mut len = 0;
-    let mut rest = text;
-    while let [byte, after @ ..] = rest {
-        if !byte.is_ascii_hexdigit() {
-            return len;
-        }
-        rest = after;
-        len += 1;
+    match run {
+        Run::Digits => byte.is_ascii_digit(),
+        Run::HexDigits => byte.is_ascii_hexdigit(),
+        Run::Bits => byte == b'0' || byte == b'1',
+        Run::Hyphens => byte == b'-',
     }
-    len
 }
 
-/// The number of binary digits at the front.
-pub(crate) fn bits_len(text: &[u8]) -> usize
+/// The length of the run at the front.
+pub(crate) fn run_len(run: Run, text: &[u8]) -> usize
     ensures within { result ≤ length text.now }
-    ensures exact { result ≡ run_at is_bit text.now }
+    ensures exact { result ≡ run_at (is_of run) text.now }
 {
     let mut len = 0;
     let mut rest = text;
     while let [byte, after @ ..] = rest {
-        if *byte != b'0' && *byte != b'1' {
-            return len;
-        }
-        rest = after;
-        len += 1;
-    }
-    len
-}
-
-/// The number of hyphens at the front.
-fn hyphens_len(text: &[u8]) -> usize
-    ensures within { result ≤ length text.now }
-    ensures exact { result ≡ run_at is_hyphen text.now }
-{
-    let mut len = 0;
-    let mut rest = text;
-    while let [byte, after @ ..] = rest {
-        if *byte != b'-' {
+        if !is_of(run, *byte) {
             return len;
         }
         rest = after;
@@ -148,7 +117,7 @@ fn ending_len(text: &[u8]) -> usize
     ensures exact { result ≡ ending_at text.now }
 {
     let remark = remark_len(text);
-    remark + hyphens_len(behind(text, remark))
+    remark + run_len(Run::Hyphens, behind(text, remark))
 }
 
 /// The length of a comment after its first hyphen.
@@ -156,7 +125,7 @@ pub(crate) fn comment_len(text: &[u8]) -> usize
     ensures within { result ≤ length text.now }
     ensures exact { result ≡ comment_at text.now }
 {
-    let opening = hyphens_len(text);
+    let opening = run_len(Run::Hyphens, text);
     opening + ending_len(behind(text, opening))
 }
 

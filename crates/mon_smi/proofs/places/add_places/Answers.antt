@@ -4,7 +4,7 @@ use Rattle.std.proofs.lemmas.List.{take_all}
 use Rattle.std.proofs.lemmas.Map.Text.{btree_map_updates_text}
 use Rattle.mon_smi.specs.declared.definition.Definition.{Definition}
 use Rattle.mon_smi.specs.Places.{AreFound}
-use Rattle.mon_smi.proofs.Indexed.{found_front, found_more}
+use Rattle.mon_smi.proofs.Indexed.{found_front, found_more, found_unchanged}
 use Rattle.mon_smi.proofs.places.add_places.Goals as goal
 
 pub loop-i-preserved : goal.loop-i-preserved
@@ -18,3 +18,11 @@ returns-clause-found c = subst (λ (l : List Definition). AreFound c.loop-i.plac
 
 pub returns-clause-kept : goal.returns-clause-kept
 returns-clause-kept c = found_front (λ q. get_by_text c.loop-i.places q) c.args.known.now (take c.loop-i.i c.args.defs.now) c.loop-i.invariant
+
+pub returns-in_err-name-clause-kept : goal.returns-in_err-name-clause-kept
+returns-in_err-name-clause-kept c = found_front (λ q. get_by_text c.loop-i.places q) c.args.known.now (take c.loop-i.i c.args.defs.now) c.loop-i.invariant
+
+pub returns-in_err-insert-clause-kept : goal.returns-in_err-insert-clause-kept
+returns-in_err-insert-clause-kept c =
+    found_unchanged c.loop-i.places c.insert.new.self c.args.known.now c.in_err-insert.ensures.err
+    (found_front (λ q. get_by_text c.loop-i.places q) c.args.known.now (take c.loop-i.i c.args.defs.now) c.loop-i.invariant)
