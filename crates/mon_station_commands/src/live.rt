@@ -4,9 +4,10 @@ ghost use Rattle.std.specs.Prelude.{◌≡◌, ◌≤◌};
 ghost use Rattle.mon_disk.specs.Fault.{number_of};
 
 use crate::opening::{file_failure, or_socket_failure};
-use crate::pace::{now, passed};
+use crate::pace::passed;
 use crate::telling::{tell_change, tell_notices};
 use mon_console::{Failure, Printing};
+use mon_core::Core;
 use mon_disk::{FileDisk, KeeperFault};
 use mon_poller::Target;
 use mon_rounds::{
@@ -69,11 +70,12 @@ pub(crate) struct Reports {
     pub(crate) stale_after: u32,
 }
 
-/// Where a station keeps its windows and is reached.
+/// Where a station keeps its windows and is reached, and since when.
 #[derive(Drop)]
 pub(crate) struct Place {
     pub(crate) disk: FileDisk,
     pub(crate) at: SocketAddr,
+    pub(crate) origin: Instant,
 }
 
 /// Makes what the station of the settings receives and sends by, over this socket.
@@ -146,41 +148,71 @@ fn polled_of(alloc: Global, targets: &[Target]) -> Result<Vec<(u16, u16)>, Alloc
 }
 
 /// Opens the station, and prints where it is.
-pub(crate) fn start_station<R: Clock + Eprint + AllocGlobal, S: Receiver + Drop, O: Outbox + Drop>(
+pub(crate) fn start_station<R: Eprint + AllocGlobal, S: Receiver + Drop, O: Outbox + Drop>(
     rt: &R,
     settings: StationSettings,
     place: Place,
     transport: Transport<S, O>,
     reports: Reports,
 ) -> Result<Live<S, O>, Failure> {
-    let alloc = rt.alloc();
-    let origin = now(rt)?;
     let StationSettings { core, file, .. } = settings;
-    let (number, targets, peers) = (core.station(), core.targets().len(), core.peers().len());
-    let Place { disk, at } = place;
-    let station = match Station::open(alloc, core, disk) {
-        Ok(station) => station,
-        Err((fault, _)) => return Err(file_failure(alloc, &file, fault)),
-    };
-    let incarnation = station.incarnation();
+    let Place { disk, at, origin } = place;
+    let opened = open_station(rt.alloc(), core, disk, &file, &transport.addresses)?;
+    let (number, incarnation) = (transport.number, opened.station.incarnation());
+    let (targets, peers) = (transport.engines.len(), transport.peers.len());
     let _ = eprintln!(rt;
         "snmpmon: station {number} at {at}, incarnation {incarnation}, file {file}, targets: {targets}, peers: {peers}"
     );
-    let course = Course::new(alloc, station.board())?;
-    let freshness = Freshness::new(alloc, &transport.addresses, station.board())?;
     Ok(Live {
-        station,
+        station: opened.station,
         transport,
-        run: Run::new(alloc),
-        course,
-        freshness,
-        said: Said::new(alloc),
+        run: Run::new(rt.alloc()),
+        course: opened.course,
+        freshness: opened.freshness,
+        said: Said::new(rt.alloc()),
         reports,
         file,
         origin,
         ended: 0,
         unsaved: None,
         unprinted: None,
+    })
+}
+
+/// A station that was opened, and what is known of it then.
+#[derive(Drop)]
+struct Opened {
+    station: Station<FileDisk>,
+    course: Course,
+    freshness: Freshness,
+}
+
+/// Opens the station of a core whose targets are at these addresses, from the disk of this file.
+fn open_station(
+    alloc: Global,
+    core: Core,
+    disk: FileDisk,
+    file: &str,
+    addresses: &Addresses,
+) -> Result<Opened, Failure> {
+    match Station::open(alloc, core, disk) {
+        Ok(station) => Ok(watched(alloc, station, addresses)?),
+        Err((fault, _)) => Err(file_failure(alloc, file, fault)),
+    }
+}
+
+/// Returns a station with what is known of it before its first round.
+fn watched(
+    alloc: Global,
+    station: Station<FileDisk>,
+    addresses: &Addresses,
+) -> Result<Opened, AllocError> {
+    let course = Course::new(alloc, station.board())?;
+    let freshness = Freshness::new(alloc, addresses, station.board())?;
+    Ok(Opened {
+        station,
+        course,
+        freshness,
     })
 }
 

@@ -3,7 +3,7 @@
 use crate::limits::print_limits;
 use crate::live::{Live, Place, Reports, open_transport, run_span, start_station};
 use crate::opening::{open_file_and_socket, or_socket_failure};
-use crate::pace::{start_pace, wait_for_next};
+use crate::pace::{now, start_pace, wait_for_next};
 use crate::printing::{print_between, print_report, write_out};
 use mon_cli::{StationArgs, Timing};
 use mon_console::{Failure, Fault, read_station_file};
@@ -34,7 +34,8 @@ pub fn run_station<R: Clock + Files<File = File> + Net + Print + Eprint + AllocG
         out,
         stale_after: words.stale_after,
     };
-    let live = start_station(rt, settings, Place { disk, at }, transport, reports)?;
+    let origin = now(rt)?;
+    let live = start_station(rt, settings, Place { disk, at, origin }, transport, reports)?;
     run_rounds(rt, live, words.timing)
 }
 
