@@ -1,10 +1,5 @@
 -- How long a round waits.
-use Rattle.std.specs.Prelude.{Bool, ℕ, ◌+◌, ◌*◌, List, map, sum, if◌then◌else◌}
-use Rattle.mon_poller.specs.declared.target.Target.{Target}
-
--- how often the polls of these targets are sent if none of them answers
-abbrev pub sends_to : List Target → ℕ
-sends_to targets = sum (map (λ (t : Target). t.tries) targets)
+use Rattle.std.specs.Prelude.{Bool, ℕ, ◌+◌, ◌*◌, if◌then◌else◌}
 
 -- The milliseconds that a round waits if it waits once after its polls, once after each sending that
 -- is not answered, and with peers once after its shares.

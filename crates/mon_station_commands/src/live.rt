@@ -136,12 +136,15 @@ fn engines_of(alloc: Global, targets: &[Target]) -> Result<Vec<Vec<u8>>, AllocEr
     Ok(engines)
 }
 
+/// The greatest number that a target may have.
+const MOST_TARGET: usize = 65_535;
+
 /// Returns each instance that is polled, with the target that is polled for it.
 fn polled_of(alloc: Global, targets: &[Target]) -> Result<Vec<(u16, u16)>, AllocError> {
     let mut polled = Vec::new(alloc);
     for (place, target) in targets.iter().enumerate() {
         for object in target.objects.as_slice() {
-            polled.push((object.instance, place as u16))?;
+            polled.push((object.instance, place.min(MOST_TARGET) as u16))?;
         }
     }
     Ok(polled)

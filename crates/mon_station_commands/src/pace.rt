@@ -31,11 +31,11 @@ pub(crate) fn start_pace<R: Clock + Eprint + AllocGlobal, S: Receiver + Drop, O:
 ) -> Result<Pace, Failure> {
     let interval = u64::from(timing.interval) * 1000;
     let left = match phase(&live.transport, timing) {
-        Some(phase) => {
+        Some(phase) if interval > 0 => {
             let time = wall_time(rt)?;
             next_start(time, interval, phase).saturating_sub(time)
         }
-        None => 0,
+        _ => 0,
     };
     let first = passed(rt, live.origin)?.saturating_add(left);
     let pace = Pace {

@@ -82,7 +82,7 @@ pub fn save_on<R: Files<File = File> + Print + AllocGlobal>(rt: &R, path: &str) 
     let found = number_of(rt.alloc(), body)?;
     println!(rt; "{found}").ok()?;
     let mut number = found.checked_add(1)?;
-    loop {
+    for _ in 0..u64::MAX {
         if is_saved(rt.alloc(), &mut keeper, number)? {
             println!(rt; "{number}").ok()?;
             number = number.checked_add(1)?;
@@ -90,6 +90,7 @@ pub fn save_on<R: Files<File = File> + Print + AllocGlobal>(rt: &R, path: &str) 
             println!(rt; "failed {number}").ok()?;
         }
     }
+    Some(())
 }
 
 /// Saves the body of this number, and reopens the file before if the save before it failed. Returns
