@@ -49,13 +49,8 @@ def body(octets):
 
 
 def laid_out(octets):
-    """What an opening makes of a file."""
-    if len(octets) >= SIZE:
-        return bytes(octets)
-    whole = bytearray(octets.ljust(SIZE, b"\0"))
-    for at, size in ((0, HEAD), (SLOT, HEAD), (SIZE - 1, 1)):
-        whole[at : at + size] = bytes(size)
-    return bytes(whole)
+    """What an opening makes of a file: of a short one zeros, whose space is taken."""
+    return bytes(octets) if len(octets) >= SIZE else bytes(SIZE)
 
 
 def saved(octets, new):
