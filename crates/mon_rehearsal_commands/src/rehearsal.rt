@@ -9,6 +9,7 @@ use mon_cli::{Named, Printed, RehearseArgs};
 use mon_console::{Failure, Fault, print, read_input, read_station_file};
 use mon_formats::Format;
 use mon_rehearsal::{RehearsalFault, TrialFault, rehearse, run_trial};
+use mon_world::WorldFault;
 use std::alloc::Global;
 use std::rt::Files;
 
@@ -46,25 +47,35 @@ pub fn run_self_test<R: Print + AllocGlobal>(rt: &R) -> Result<(), Failure> {
 }
 
 /// Why there was no rehearsal.
-fn rehearsal_failure(alloc: Global, fault: RehearsalFault) -> Failure
-    ensures part { (innermost_of result.fault).part ≡ (rehearsal.innermost_of fault).part }
-    ensures number { (innermost_of result.fault).number ≡ (rehearsal.innermost_of fault).number }
-    ensures name { (innermost_of result.fault).name ≡ (rehearsal.innermost_of fault).name }
-{
-    Failure::said(
-        Fault::Other(fault.innermost()),
-        format!(in alloc; "{fault}"),
-    )
+fn rehearsal_failure(alloc: Global, fault: RehearsalFault) -> Failure {
+    Failure::said(rehearsal_fault(fault), format!(in alloc; "{fault}"))
 }
 
 /// Why the trial did not end well.
-fn trial_failure(alloc: Global, fault: TrialFault) -> Failure
-    ensures part { (innermost_of result.fault).part ≡ (trial.innermost_of fault).part }
-    ensures number { (innermost_of result.fault).number ≡ (trial.innermost_of fault).number }
-    ensures name { (innermost_of result.fault).name ≡ (trial.innermost_of fault).name }
+fn trial_failure(alloc: Global, fault: TrialFault) -> Failure {
+    Failure::said(trial_fault(fault), format!(in alloc; "{fault}"))
+}
+
+/// Returns a rehearsal's fault as a command's: a station's is its own.
+fn rehearsal_fault(fault: RehearsalFault) -> Fault
+    ensures part { (innermost_of result).part ≡ (rehearsal.innermost_of fault).part }
+    ensures number { (innermost_of result).number ≡ (rehearsal.innermost_of fault).number }
+    ensures name { (innermost_of result).name ≡ (rehearsal.innermost_of fault).name }
 {
-    Failure::said(
-        Fault::Other(fault.innermost()),
-        format!(in alloc; "{fault}"),
-    )
+    match fault {
+        RehearsalFault::World(WorldFault::Refused(fault)) => Fault::Station(fault),
+        other => Fault::Other(other.innermost()),
+    }
+}
+
+/// Returns a trial's fault as a command's: a station's is its own.
+fn trial_fault(fault: TrialFault) -> Fault
+    ensures part { (innermost_of result).part ≡ (trial.innermost_of fault).part }
+    ensures number { (innermost_of result).number ≡ (trial.innermost_of fault).number }
+    ensures name { (innermost_of result).name ≡ (trial.innermost_of fault).name }
+{
+    match fault {
+        TrialFault::Refused(fault) => Fault::Station(fault),
+        other => Fault::Other(other.innermost()),
+    }
 }
