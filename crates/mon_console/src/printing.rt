@@ -3,9 +3,10 @@
 use crate::failure::Failure;
 use crate::files::replace_file;
 use crate::naming::KnownNames;
-use mon_board::Board;
+use mon_alarms::AlarmChange;
+use mon_board::{Board, Instance, Watch};
 use mon_cli::Printed;
-use mon_formats::{Figures, Format, format_report};
+use mon_formats::{Figures, Format, alarm_line, format_report, instance_text};
 use mon_report::{Entry, entries_of};
 use mon_smi::{InNumbers, Names};
 use std::alloc::{AllocError, Global};
@@ -63,6 +64,27 @@ impl Printing {
                 let labels = names.labels(alloc)?;
                 format_report(alloc, self.format, &labels, entries, station)
             }
+        }
+    }
+
+    /// Returns the line of an alarm of a watch that changed, without its end.
+    pub fn alarm_line(
+        &self,
+        alloc: Global,
+        watch: &Watch,
+        change: &AlarmChange,
+    ) -> Result<String, AllocError> {
+        match &self.names {
+            None => alarm_line(alloc, &InNumbers, watch, change),
+            Some(names) => alarm_line(alloc, &names.labels(alloc)?, watch, change),
+        }
+    }
+
+    /// Returns an instance's engine id and its name.
+    pub fn instance_text(&self, alloc: Global, instance: &Instance) -> Result<String, AllocError> {
+        match &self.names {
+            None => instance_text(alloc, &InNumbers, instance),
+            Some(names) => instance_text(alloc, &names.labels(alloc)?, instance),
         }
     }
 

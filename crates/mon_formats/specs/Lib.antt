@@ -1,4 +1,5 @@
 pub mod Cells
+pub mod Changes
 pub mod Named
 pub mod Json
 pub mod Prometheus

@@ -3,6 +3,7 @@
 #![tactic(auto)]
 
 mod cells;
+mod changes;
 mod columns;
 mod figures;
 mod format;
@@ -11,5 +12,6 @@ pub mod laws;
 mod named;
 mod prometheus;
 
+pub use changes::{alarm_line, instance_text};
 pub use figures::{Figures, TargetFigures};
 pub use format::{Format, format_report};

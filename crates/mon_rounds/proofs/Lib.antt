@@ -2,4 +2,5 @@ mod Answered
 mod InPlace
 mod Onward
 mod Notices
+mod Becoming
 mod Wholly

@@ -1,39 +1,91 @@
--- What changed in how long ago targets answered and instances had a new sample: each change is said once.
-use Rattle.std.specs.Prelude.{ℕ, Bool, true, false, ◌||◌, nat_lt, if◌then◌else◌, List, [], ◌∷◌, get_or}
-use Rattle.std.specs.List.{flat_map}
+-- What is wrong with targets, peers and instances, and what changed in that: each change is said once.
+use Rattle.std.specs.Prelude.{ℕ, ◌+◌, ◌==◌, Bool, true, false, ◌||◌, nat_le, nat_lt, if◌then◌else◌, List, [], ◌∷◌, ◌++◌, Option, Some, None, get_or, map, slice_get}
+use Rattle.mon_poller.specs.declared.fault.ResponseFault.TheVariants as response
+use Rattle.mon_station.specs.declared.fault.StationFault.{StationFault}
+use Rattle.mon_station.specs.declared.fault.StationFault.TheVariants as fault
 use Rattle.mon_rounds.specs.declared.changes.Change.{Change}
-use Rattle.mon_rounds.specs.declared.changes.Change.TheVariants.{TargetSilent, TargetAnswers, InstanceStale, InstanceFresh}
+use Rattle.mon_rounds.specs.declared.changes.Trouble.{Trouble}
+use Rattle.mon_rounds.specs.declared.changes.Trouble.TheVariants.{SilentTarget, OtherEngine, SilentPeer, StaleInstance}
+use Rattle.mon_rounds.specs.declared.changes.Troubles.{Troubles}
+use Rattle.mon_rounds.specs.declared.freshness.Freshness.{Freshness}
 use Rattle.mon_rounds.specs.declared.freshness.InstanceAge.{InstanceAge}
+use Rattle.mon_rounds.specs.declared.freshness.PeerAge.{PeerAge}
 use Rattle.mon_rounds.specs.declared.freshness.TargetAge.{TargetAge}
 
+-- of each target, peer and instance, by their numbers, whether something is wrong with it
+pub record Told : Type 0 where
+  pub silent_targets : List Bool
+  pub other_engines : List Bool
+  pub silent_peers : List Bool
+  pub stale_instances : List Bool
+
+-- nothing is wrong
+abbrev pub no_troubles : Told
+no_troubles = record { silent_targets = []; other_engines = []; silent_peers = []; stale_instances = [] }
+
+-- what was said
+abbrev pub told_by : Troubles → Told
+told_by t = record { silent_targets = t.silent_targets.items; other_engines = t.other_engines.items; silent_peers = t.silent_peers.items; stale_instances = t.stale_instances.items }
+
+-- ---- what is wrong
 -- whether a target is silent: it did not answer in the last round
 abbrev pub is_silent : TargetAge → Bool
 is_silent t = nat_lt 0 t.rounds
 
--- Whether an instance is stale, of which this was said before: not if it had a new sample in the last rounds, as many as the limit; else
--- from when a target that answers is polled for it, which these say of each instance.
-abbrev pub is_stale : ℕ → List Bool → List Bool → InstanceAge → Bool
-is_stale limit polled said i = if nat_lt i.rounds limit then false else get_or said i.number false || get_or polled i.number false
+-- whether a refusal is that of a response of another engine
+abbrev pub is_of_another : Option StationFault → Bool
+is_of_another (Some (fault.Response response.OtherEngine)) = true
+is_of_another _ = false
 
--- the change between what was said and what is: the first where it became so, the second where it is so no more
-abbrev pub change_if : Change → Change → Bool → Bool → List Change
-change_if becomes ends false true = becomes ∷ []
-change_if becomes ends true false = ends ∷ []
-change_if becomes ends false false = []
-change_if becomes ends true true = []
+-- whether a target's last response was of another engine
+abbrev pub is_other : TargetAge → Bool
+is_other t = is_of_another t.refusal
 
--- the change of a target of which this was said
-abbrev pub target_change : List Bool → TargetAge → List Change
-target_change said t = change_if (TargetSilent t.number) (TargetAnswers t.number) (get_or said t.number false) (is_silent t)
+-- whether a peer is silent: nothing came from it in the last rounds, as many as the limit
+abbrev pub is_lost : ℕ → PeerAge → Bool
+is_lost limit p = nat_le limit p.rounds
 
--- the change of an instance of which this was said
-abbrev pub instance_change : ℕ → List Bool → List Bool → InstanceAge → List Change
-instance_change limit polled said i = change_if (InstanceStale i.number) (InstanceFresh i.number) (get_or said i.number false) (is_stale limit polled said i)
+-- whether a target answered in the last round
+abbrev pub is_up : Option TargetAge → Bool
+is_up None = false
+is_up (Some t) = t.rounds == 0
 
--- all changes of targets
-abbrev pub target_changes : List Bool → List TargetAge → List Change
-target_changes said targets = flat_map (target_change said) targets
+-- whether the target of this number, if there is one, answered in the last round
+abbrev pub answers : List TargetAge → Option ℕ → Bool
+answers targets None = false
+answers targets (Some number) = is_up (slice_get targets number)
 
--- all changes of instances
-abbrev pub instance_changes : ℕ → List Bool → List Bool → List InstanceAge → List Change
-instance_changes limit polled said instances = flat_map (instance_change limit polled said) instances
+-- Whether an instance is stale, where this was said of instances before: not if it had a new sample in the last rounds, as many as the limit;
+-- else from when the target that is polled for it answers.
+abbrev pub is_stale : ℕ → List Bool → List TargetAge → InstanceAge → Bool
+is_stale limit said targets i = if nat_lt i.rounds limit then false else get_or said i.number false || answers targets i.target
+
+-- what is wrong now, where this was said before
+abbrev pub troubles_after : ℕ → Told → Freshness → Told
+troubles_after limit told f = record {
+  silent_targets = map is_silent f.targets.items;
+  other_engines = map is_other f.targets.items;
+  silent_peers = map (is_lost limit) f.peers.items;
+  stale_instances = map (is_stale limit told.stale_instances f.targets.items) f.instances.items;
+}
+
+-- ---- what changed
+-- the change of the trouble of this number between what was and what is: none where they are equal
+abbrev pub change_at : Trouble → ℕ → Bool → Bool → List Change
+change_at trouble number true true = []
+change_at trouble number false false = []
+change_at trouble number false true = record { trouble = trouble; number = number; begins = true } ∷ []
+change_at trouble number true false = record { trouble = trouble; number = number; begins = false } ∷ []
+
+-- the changes of a trouble, by numbers from this one on
+abbrev pub changes_from : Trouble → ℕ → List Bool → List Bool → List Change
+changes_from trouble n said [] = []
+changes_from trouble n said (is ∷ now) = change_at trouble n (get_or said n false) is ++ changes_from trouble (n + 1) said now
+
+-- all changes
+abbrev pub changes_between : Told → Told → List Change
+changes_between was is =
+    changes_from SilentTarget 0 was.silent_targets is.silent_targets
+    ++ changes_from OtherEngine 0 was.other_engines is.other_engines
+    ++ changes_from SilentPeer 0 was.silent_peers is.silent_peers
+    ++ changes_from StaleInstance 0 was.stale_instances is.stale_instances

@@ -1,4 +1,4 @@
--- How long ago targets answered and instances had a new sample.
+-- How long ago targets answered, peers sent something and instances had a new sample.
 use Rattle.std.specs.Prelude.{ℕ, ◌+◌, ◌-◌, ◌/◌, ◌^◌, ◌==◌, min, nat_lt, Bool, true, false, not, ◌||◌, if◌then◌else◌, List, [], ◌∷◌, Option, Some, None, filter, get_or, length, option_map, slice_get}
 use Rattle.std.specs.List.{fold}
 use Rattle.std.specs.Str.{bytes_eq}
@@ -10,6 +10,7 @@ use Rattle.mon_udp.specs.declared.addr.Addr.{Addr}
 use Rattle.mon_station.specs.declared.fault.StationFault.{StationFault}
 use Rattle.mon_rounds.specs.Course.{counted_on}
 use Rattle.mon_rounds.specs.declared.freshness.InstanceAge.{InstanceAge}
+use Rattle.mon_rounds.specs.declared.freshness.PeerAge.{PeerAge}
 use Rattle.mon_rounds.specs.declared.freshness.TargetAge.{TargetAge}
 use Rattle.mon_rounds.specs.declared.reporting.Notice.{Notice}
 use Rattle.mon_rounds.specs.declared.reporting.Notice.TheVariants as notice
@@ -48,6 +49,7 @@ abbrev pub is_given_up_by : ℕ → Notice → Bool
 is_given_up_by number (notice.GaveUp target) = target == number
 is_given_up_by number (notice.NotPolled target fault) = false
 is_given_up_by number (notice.BadResponse from fault) = false
+is_given_up_by number (notice.Astray from) = false
 is_given_up_by number (notice.BadClaim from fault) = false
 is_given_up_by number (notice.NotShared peer fault) = false
 is_given_up_by number (notice.NotSaved n) = false
@@ -61,6 +63,7 @@ gave_up_by number notices = length (filter (is_given_up_by number) notices)
 abbrev pub refusal_with : Addr → Option StationFault → Notice → Option StationFault
 refusal_with address before (notice.BadResponse from fault) = if same_addr from address then Some fault else before
 refusal_with address before (notice.GaveUp target) = before
+refusal_with address before (notice.Astray from) = before
 refusal_with address before (notice.NotPolled target fault) = before
 refusal_with address before (notice.BadClaim from fault) = before
 refusal_with address before (notice.NotShared peer fault) = before
@@ -97,6 +100,15 @@ target_after span report now t = target_with span (get_or report.answered.items 
 abbrev pub seconds_since : ℕ → TargetAge → ℕ
 seconds_since now t = (now - t.answered) / 1000
 
+-- ---- peers
+-- at the station's start: nothing came from the peer of this slot and station number
+abbrev pub new_peer : ℕ → ℕ → PeerAge
+new_peer slot station = record { slot = slot; station = station; rounds = 0 }
+
+-- a peer after a round, or the time after it, of which this is reported
+abbrev pub peer_after : Span → RoundReport → PeerAge → PeerAge
+peer_after span report p = record { slot = p.slot; station = p.station; rounds = age_after span (get_or report.heard.items p.slot false) p.rounds }
+
 -- ---- instances
 -- the newest of samples, the oldest of which is first
 abbrev pub last_of : List ℕ → Option ℕ
@@ -114,16 +126,16 @@ is_same (Some s) None = false
 is_same (Some s) (Some t) = bytes_eq s t
 
 -- at the station's start: the newest sample of the instance of this number is known, and no round went by without one
-abbrev pub new_instance : Board → ℕ → InstanceAge
-new_instance b number = record { number = number; newest = newest_on b number; rounds = 0 }
+abbrev pub new_instance : Board → ℕ → Option ℕ → InstanceAge
+new_instance b number target = record { number = number; target = target; newest = newest_on b number; rounds = 0 }
 
--- the instances of a board at the station's start
-abbrev pub new_instances : Board → List InstanceAge
-new_instances b = numbered (λ number watched. new_instance b number) 0 b.watch.instances
+-- the instances of a board at the station's start, each with the target that is polled for it
+abbrev pub new_instances : List (Option ℕ) → Board → List InstanceAge
+new_instances polled b = numbered (λ number watched. new_instance b number (get_or polled number None)) 0 b.watch.instances
 
 -- an instance that has this newest sample after a round, or the time after it
 abbrev pub instance_with : Span → Option (List ℕ) → InstanceAge → InstanceAge
-instance_with span newest i = record { number = i.number; newest = newest; rounds = age_after span (not (is_same i.newest newest)) i.rounds }
+instance_with span newest i = record { number = i.number; target = i.target; newest = newest; rounds = age_after span (not (is_same i.newest newest)) i.rounds }
 
 -- an instance after a round, or the time after it, that left this board
 abbrev pub instance_after : Span → Board → InstanceAge → InstanceAge

@@ -1,6 +1,8 @@
 pub mod AtSocket
 pub mod Changes
+pub mod Polled
 pub mod Course
+pub mod Explained
 pub mod Freshness
 pub mod Given
 pub mod Grid

@@ -1,12 +1,15 @@
 -- What is reported of a round to an operator.
 use Rattle.std.specs.Prelude.{ℕ, ◌-◌, ◌^◌, min, Bool, true, false, not, ◌&&◌, ◌||◌, cond, List, [], ◌∷◌, ◌++◌, Option, Some, None, filter, length, map, sum_by}
+use Rattle.std.specs.List.{list_any}
 use Rattle.mon_rounds.specs.Order.{RoundEvent}
 use Rattle.mon_udp.specs.declared.addr.Addr.{Addr}
 use Rattle.mon_udp.specs.Addr.{same_addr}
 use Rattle.mon_rounds.specs.declared.reporting.Notice.{Notice}
 use Rattle.mon_rounds.specs.declared.reporting.Notice.TheVariants as notice
 use Rattle.mon_rounds.specs.Next.{stands_in}
+use Rattle.mon_poller.specs.declared.fault.ResponseFault.TheVariants.{WrongSource}
 use Rattle.mon_station.specs.declared.fault.StationFault.{StationFault}
+use Rattle.mon_station.specs.declared.fault.StationFault.TheVariants.{Response}
 use Rattle.mon_station.specs.declared.running.Answer.{Answer}
 use Rattle.mon_station.specs.declared.running.Answer.TheVariants as answer
 use Rattle.mon_station.specs.declared.event.Event.TheVariants.{StartPoll, Timeout, FromAgent, FromPeer, Share, Save}
@@ -24,9 +27,14 @@ is_stranger targets Save = false
 abbrev pub strangers_in : List Addr → List RoundEvent → ℕ
 strangers_in targets events = min (length (filter (is_stranger targets) events)) (2 ^ 32 - 1)
 
--- the notice of a refused datagram that is no peer's: none of a stranger's
+-- the notice of a refused stranger's datagram: only of one that responds to an open poll
+abbrev pub stranger_notice : Addr → StationFault → Option Notice
+stranger_notice from (Response WrongSource) = Some (notice.Astray from)
+stranger_notice from _ = None
+
+-- the notice of a refused datagram that is no peer's
 abbrev pub response_notice : List Addr → Addr → StationFault → Option Notice
-response_notice targets from fault = cond (stands_in targets from) (Some (notice.BadResponse from fault)) None
+response_notice targets from fault = cond (stands_in targets from) (Some (notice.BadResponse from fault)) (stranger_notice from fault)
 
 -- the notice of a refused event. A timeout and a save are not refused: they run out of memory or
 -- have the keeper's faults.
@@ -78,6 +86,7 @@ abbrev pub is_given_up : Notice → Bool
 is_given_up (notice.GaveUp target) = true
 is_given_up (notice.NotPolled target fault) = false
 is_given_up (notice.BadResponse from fault) = false
+is_given_up (notice.Astray from) = false
 is_given_up (notice.BadClaim from fault) = false
 is_given_up (notice.NotShared peer fault) = false
 is_given_up (notice.NotSaved number) = false
@@ -104,6 +113,7 @@ is_unsaved (notice.NoMemory event) = is_save event
 is_unsaved (notice.GaveUp target) = false
 is_unsaved (notice.NotPolled target fault) = false
 is_unsaved (notice.BadResponse from fault) = false
+is_unsaved (notice.Astray from) = false
 is_unsaved (notice.BadClaim from fault) = false
 is_unsaved (notice.NotShared peer fault) = false
 
@@ -138,3 +148,21 @@ has_answered address (e ∷ events) (a ∷ answers) = (comes_from address e && i
 -- of each of these targets, whether a response from its address was taken
 abbrev pub answered_of : List Addr → List RoundEvent → List Answer → List Bool
 answered_of targets events answers = map (λ address. has_answered address events answers) targets
+
+-- ---- peers from which something came
+-- whether an event is a datagram from this address, a peer's
+abbrev pub is_from_peer : Addr → RoundEvent → Bool
+is_from_peer address (FromPeer from) = same_addr from address
+is_from_peer address (FromAgent from none) = false
+is_from_peer address (StartPoll target) = false
+is_from_peer address (Timeout id) = false
+is_from_peer address (Share peer) = false
+is_from_peer address Save = false
+
+-- whether one of these events is a datagram from this address, a peer's
+abbrev pub heard_from : Addr → List RoundEvent → Bool
+heard_from address events = list_any (is_from_peer address) events
+
+-- of each of these addresses of peers, whether a datagram came from it
+abbrev pub heard_of : List Addr → List RoundEvent → List Bool
+heard_of peers events = map (λ address. heard_from address events) peers

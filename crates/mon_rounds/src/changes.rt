@@ -1,47 +1,60 @@
-//! What changed in how long ago targets answered and instances had a new sample, said once.
+//! What is wrong with targets, peers and instances, and what changed in that, each change said once.
 
-ghost use Rattle.std.specs.Prelude.{◌≡◌, ◌++◌, [], IfOk, OnErr, OnOk, false, get_or, map};
-ghost use Rattle.mon_rounds.specs.Changes.{change_if, instance_change, instance_changes, is_silent, is_stale, target_change, target_changes};
+ghost use Rattle.std.specs.Prelude.{◌≡◌, ◌++◌, IfOk, OnErr, OnOk, [], false, get_or, map};
+ghost use Rattle.mon_rounds.specs.Changes.{answers, change_at, changes_between, changes_from, is_lost, is_other, is_silent, is_stale, no_troubles, told_by, troubles_after};
 
-use crate::freshness::{Freshness, InstanceAge, TargetAge};
+use crate::freshness::{Freshness, InstanceAge, PeerAge, TargetAge};
+use mon_poller::ResponseFault;
+use mon_station::StationFault;
 use std::alloc::{AllocError, Global};
 
-/// A change that is said once.
+/// What may be wrong.
 #[derive(Clone, Copy, Debug, PartialEq, Eq)]
-pub enum Change {
-    /// The target of this number did not answer in the last round.
-    TargetSilent(u16),
-    /// The target of this number answers again.
-    TargetAnswers(u16),
-    /// The instance of this number had no new sample for some rounds, though a target that is polled
-    /// for it answers.
-    InstanceStale(u16),
-    /// The instance of this number has a new sample again.
-    InstanceFresh(u16),
+pub enum Trouble {
+    /// A target did not answer in the last round.
+    SilentTarget,
+    /// A target's last response was of another engine.
+    OtherEngine,
+    /// Nothing came from a peer for some rounds.
+    SilentPeer,
+    /// An instance had no new sample for some rounds, though the target that is polled for it answers.
+    StaleInstance,
 }
 
-/// What was said of targets and instances.
+/// A trouble that begins or ends.
+#[derive(Clone, Copy, Debug, PartialEq, Eq)]
+pub struct Change {
+    pub trouble: Trouble,
+    /// The number of the target, of the peer's slot or of the instance, from 0.
+    pub number: usize,
+    /// `true` if it begins, `false` if it ends.
+    pub begins: bool,
+}
+
+/// What is wrong with each target, peer and instance, as far as it was said.
 #[derive(Drop)]
-pub struct Said {
-    targets: Vec<bool>,
-    instances: Vec<bool>,
+pub struct Troubles {
+    silent_targets: Vec<bool>,
+    other_engines: Vec<bool>,
+    silent_peers: Vec<bool>,
+    stale_instances: Vec<bool>,
 }
 
-impl Said {
+impl Troubles {
     /// Nothing was said yet.
     pub fn new(alloc: Global) -> Self
-        ensures targets { result.targets.items ≡ [] }
-        ensures instances { result.instances.items ≡ [] }
+        ensures { told_by result ≡ no_troubles }
     {
-        Said {
-            targets: Vec::new(alloc),
-            instances: Vec::new(alloc),
+        Troubles {
+            silent_targets: Vec::new(alloc),
+            other_engines: Vec::new(alloc),
+            silent_peers: Vec::new(alloc),
+            stale_instances: Vec::new(alloc),
         }
     }
 
-    /// Returns what changed since the last call. An instance is stale after this many rounds without
-    /// a new sample; `polled` says of each instance whether a target that is polled for it answered
-    /// in the last round.
+    /// Returns what changed since the last call. A peer is silent, and an instance stale, after this
+    /// many rounds without a datagram or a new sample.
     ///
     /// # Errors
     /// `AllocError`: then the next call returns these changes too.
@@ -49,162 +62,173 @@ impl Said {
         &mut self,
         alloc: Global,
         freshness: &Freshness,
-        polled: &[bool],
         limit: u32,
     ) -> Result<Vec<Change>, AllocError>
-        ensures changes { IfOk result (λ v. v.items ≡ target_changes self.old.targets.items freshness.now.targets.items ++ instance_changes limit polled.now self.old.instances.items freshness.now.instances.items) }
-        ensures targets { OnOk result (self.new.targets.items ≡ map is_silent freshness.now.targets.items) }
-        ensures instances { OnOk result (self.new.instances.items ≡ map (is_stale limit polled.now self.old.instances.items) freshness.now.instances.items) }
-        ensures kept { OnErr result (self.new ≡ self.old) }
+        ensures changes { IfOk result (λ v. v.items ≡ changes_between (told_by self.old) (troubles_after limit (told_by self.old) freshness.now)) }
+        ensures told { OnOk result (told_by self.new ≡ troubles_after limit (told_by self.old) freshness.now) }
+        ensures kept { OnErr result (told_by self.new ≡ told_by self.old) }
     {
-        let changes = self.changes(alloc, freshness, polled, limit)?;
-        let targets = target_states(alloc, freshness.targets())?;
-        let said = self.instances.as_slice();
-        self.instances = instance_states(alloc, freshness.instances(), polled, said, limit)?;
-        self.targets = targets;
+        let now = self.after(alloc, freshness, limit)?;
+        let changes = self.changes_to(alloc, &now)?;
+        *self = now;
         Ok(changes)
     }
 
-    /// Returns what changed since the last call.
-    fn changes(
-        &self,
-        alloc: Global,
-        freshness: &Freshness,
-        polled: &[bool],
-        limit: u32,
-    ) -> Result<Vec<Change>, AllocError>
-        ensures { IfOk result (λ v. v.items ≡ target_changes self.now.targets.items freshness.now.targets.items ++ instance_changes limit polled.now self.now.instances.items freshness.now.instances.items) }
+    /// Returns what is wrong now, where this was said before.
+    fn after(&self, alloc: Global, freshness: &Freshness, limit: u32) -> Result<Self, AllocError>
+        ensures { IfOk result (λ t. told_by t ≡ troubles_after limit (told_by self.now) freshness.now) }
+    {
+        let (targets, peers) = (freshness.targets(), freshness.peers());
+        let said = self.stale_instances.as_slice();
+        Ok(Troubles {
+            silent_targets: silent_targets(alloc, targets)?,
+            other_engines: other_engines(alloc, targets)?,
+            silent_peers: silent_peers(alloc, peers, limit)?,
+            stale_instances: stale_instances(alloc, freshness, said, limit)?,
+        })
+    }
+
+    /// Returns what changed from this to what is wrong now.
+    fn changes_to(&self, alloc: Global, now: &Troubles) -> Result<Vec<Change>, AllocError>
+        ensures { IfOk result (λ v. v.items ≡ changes_between (told_by self.now) (told_by now.now)) }
     {
         let mut changes = Vec::new(alloc);
-        put_target_changes(&mut changes, freshness.targets(), self.targets.as_slice())?;
-        let said = self.instances.as_slice();
-        put_instance_changes(&mut changes, freshness.instances(), polled, said, limit)?;
+        let (was, is) = (self.silent_targets.as_slice(), now.silent_targets.as_slice());
+        put_changes(&mut changes, Trouble::SilentTarget, was, is)?;
+        let (was, is) = (self.other_engines.as_slice(), now.other_engines.as_slice());
+        put_changes(&mut changes, Trouble::OtherEngine, was, is)?;
+        let (was, is) = (self.silent_peers.as_slice(), now.silent_peers.as_slice());
+        put_changes(&mut changes, Trouble::SilentPeer, was, is)?;
+        let (was, is) = (self.stale_instances.as_slice(), now.stale_instances.as_slice());
+        put_changes(&mut changes, Trouble::StaleInstance, was, is)?;
         Ok(changes)
     }
 }
 
-/// Adds the changes of instances of which this was said.
-fn put_instance_changes(
+/// Adds the changes of a trouble from what was said to what is.
+fn put_changes(
     changes: &mut Vec<Change>,
-    instances: &[InstanceAge],
-    polled: &[bool],
+    trouble: Trouble,
     said: &[bool],
-    limit: u32,
+    is: &[bool],
 ) -> Result<(), AllocError>
-    ensures { OnOk result (changes.new.items ≡ changes.old.items ++ instance_changes limit polled.now said.now instances.now) }
+    ensures { OnOk result (changes.new.items ≡ changes.old.items ++ changes_from trouble 0 said.now is.now) }
 {
-    for instance in instances {
-        let is = is_stale(instance, polled, said, limit);
-        put_instance_change(changes, instance.number, said, is)?;
+    for number in 0..is.len() {
+        put_change(changes, trouble, number, is_said(said, number), is[number])?;
     }
     Ok(())
 }
 
-/// Adds the change of the instance of this number, of which this was said and that is stale or not.
-fn put_instance_change(
+/// Adds the change of the trouble of this number, if there is one.
+fn put_change(
     changes: &mut Vec<Change>,
-    number: u16,
-    said: &[bool],
+    trouble: Trouble,
+    number: usize,
+    was: bool,
     is: bool,
 ) -> Result<(), AllocError>
-    ensures { OnOk result (changes.new.items ≡ changes.old.items ++ change_if (Change.InstanceStale number) (Change.InstanceFresh number) (get_or said.now number false) is) }
+    ensures { OnOk result (changes.new.items ≡ changes.old.items ++ change_at trouble number was is) }
 {
-    let was = is_said(said, number);
-    let (becomes, ends) = (Change::InstanceStale(number), Change::InstanceFresh(number));
-    put_change(changes, becomes, ends, was, is)
-}
-
-/// Of each target, whether it is silent.
-fn target_states(alloc: Global, targets: &[TargetAge]) -> Result<Vec<bool>, AllocError>
-    ensures { IfOk result (λ v. v.items ≡ map is_silent targets.now) }
-{
-    let mut states = Vec::with_capacity(alloc, targets.len())?;
-    for target in targets {
-        states.push(target.rounds > 0)?;
-    }
-    Ok(states)
-}
-
-/// Adds the changes of targets of which this was said.
-fn put_target_changes(
-    changes: &mut Vec<Change>,
-    targets: &[TargetAge],
-    said: &[bool],
-) -> Result<(), AllocError>
-    ensures { OnOk result (changes.new.items ≡ changes.old.items ++ target_changes said.now targets.now) }
-{
-    for target in targets {
-        put_target_change(changes, target, said)?;
+    if was != is {
+        changes.push(Change {
+            trouble,
+            number,
+            begins: is,
+        })?;
     }
     Ok(())
 }
 
-/// Adds the change of a target of which this was said, if there is one.
-fn put_target_change(
-    changes: &mut Vec<Change>,
-    target: &TargetAge,
-    said: &[bool],
-) -> Result<(), AllocError>
-    ensures { OnOk result (changes.new.items ≡ changes.old.items ++ target_change said.now target.now) }
-{
-    let number = target.number;
-    let was = is_said(said, number);
-    let is = target.rounds > 0;
-    let (becomes, ends) = (Change::TargetSilent(number), Change::TargetAnswers(number));
-    put_change(changes, becomes, ends, was, is)
-}
-
-/// Returns `true` if it was said of the target or the instance of this number.
-fn is_said(said: &[bool], number: u16) -> bool
+/// Returns `true` if it was said of the one of this number.
+fn is_said(said: &[bool], number: usize) -> bool
     ensures { result ≡ get_or said.now number false }
 {
-    match said.get(usize::from(number)) {
+    match said.get(number) {
         Some(was) => *was,
         None => false,
     }
 }
 
-/// Adds the change between what was said and what is, if there is one.
-fn put_change(
-    changes: &mut Vec<Change>,
-    becomes: Change,
-    ends: Change,
-    was: bool,
-    is: bool,
-) -> Result<(), AllocError>
-    ensures { OnOk result (changes.new.items ≡ changes.old.items ++ change_if becomes ends was is) }
+/// Of each target, whether it is silent.
+fn silent_targets(alloc: Global, targets: &[TargetAge]) -> Result<Vec<bool>, AllocError>
+    ensures { IfOk result (λ v. v.items ≡ map is_silent targets.now) }
 {
-    match (was, is) {
-        (false, true) => changes.push(becomes)?,
-        (true, false) => changes.push(ends)?,
-        (false, false) | (true, true) => {}
+    let mut silent = Vec::with_capacity(alloc, targets.len())?;
+    for target in targets {
+        silent.push(target.rounds > 0)?;
     }
-    Ok(())
+    Ok(silent)
 }
 
-/// Of each instance, whether it is stale.
-fn instance_states(
+/// Of each target, whether its last response was of another engine.
+fn other_engines(alloc: Global, targets: &[TargetAge]) -> Result<Vec<bool>, AllocError>
+    ensures { IfOk result (λ v. v.items ≡ map is_other targets.now) }
+{
+    let mut others = Vec::with_capacity(alloc, targets.len())?;
+    for target in targets {
+        others.push(is_other(target))?;
+    }
+    Ok(others)
+}
+
+/// Returns `true` if a target's last response was of another engine.
+fn is_other(target: &TargetAge) -> bool
+    ensures { result ≡ is_other target.now }
+{
+    match target.refusal {
+        Some(StationFault::Response(ResponseFault::OtherEngine)) => true,
+        _ => false,
+    }
+}
+
+/// Of each peer, whether it is silent.
+fn silent_peers(alloc: Global, peers: &[PeerAge], limit: u32) -> Result<Vec<bool>, AllocError>
+    ensures { IfOk result (λ v. v.items ≡ map (is_lost limit) peers.now) }
+{
+    let mut silent = Vec::with_capacity(alloc, peers.len())?;
+    for peer in peers {
+        silent.push(peer.rounds >= limit)?;
+    }
+    Ok(silent)
+}
+
+/// Of each instance, whether it is stale, where this was said of them before.
+fn stale_instances(
     alloc: Global,
-    instances: &[InstanceAge],
-    polled: &[bool],
+    freshness: &Freshness,
     said: &[bool],
     limit: u32,
 ) -> Result<Vec<bool>, AllocError>
-    ensures { IfOk result (λ v. v.items ≡ map (is_stale limit polled.now said.now) instances.now) }
+    ensures { IfOk result (λ v. v.items ≡ map (is_stale limit said.now freshness.now.targets.items) freshness.now.instances.items) }
 {
-    let mut states = Vec::with_capacity(alloc, instances.len())?;
+    let (targets, instances) = (freshness.targets(), freshness.instances());
+    let mut stale = Vec::with_capacity(alloc, instances.len())?;
     for instance in instances {
-        states.push(is_stale(instance, polled, said, limit))?;
+        stale.push(is_stale(instance, targets, said, limit))?;
     }
-    Ok(states)
+    Ok(stale)
 }
 
-/// Returns `true` if an instance is stale, of which this was said.
-fn is_stale(instance: &InstanceAge, polled: &[bool], said: &[bool], limit: u32) -> bool
-    ensures { result ≡ is_stale limit polled.now said.now instance.now }
+/// Returns `true` if an instance is stale, where this was said of instances before.
+fn is_stale(instance: &InstanceAge, targets: &[TargetAge], said: &[bool], limit: u32) -> bool
+    ensures { result ≡ is_stale limit said.now targets.now instance.now }
 {
     if instance.rounds < limit {
         return false;
     }
-    is_said(said, instance.number) || is_said(polled, instance.number)
+    is_said(said, usize::from(instance.number)) || answers(targets, instance.target)
+}
+
+/// Returns `true` if the target of this number, if there is one, answered in the last round.
+fn answers(targets: &[TargetAge], number: Option<u16>) -> bool
+    ensures { result ≡ answers targets.now number }
+{
+    let Some(number) = number else {
+        return false;
+    };
+    match targets.get(usize::from(number)) {
+        Some(target) => target.rounds == 0,
+        None => false,
+    }
 }

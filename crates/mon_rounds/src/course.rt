@@ -1,17 +1,17 @@
 //! What a station did over its rounds, and when it reports.
 
-ghost use Rattle.std.specs.Prelude.{◌≡◌, ◌↔◌, IfOk, IsTrue, OnErr, OnOk, map, string_bytes};
+ghost use Rattle.std.specs.Prelude.{◌≡◌, ◌↔◌, IfOk, IsTrue, OnErr, OnOk};
 ghost use Rattle.std.specs.Duration.{as_nanos};
 ghost use Rattle.mon_alarms.specs.Changes.{changes_from};
-ghost use Rattle.mon_report.specs.Alarms.{change_line, states_of};
+ghost use Rattle.mon_report.specs.Alarms.{states_of};
 ghost use Rattle.mon_rounds.specs.Course.{IsDue, counted_on, debts_to, milliseconds_left};
 ghost use Rattle.mon_station.specs.State.{state_of};
 
 use crate::reporting::RoundReport;
 use mon_alarms::{AlarmChange, AlarmState, find_changes};
-use mon_board::{Board, Watch};
+use mon_board::Board;
 use mon_disk::Disk;
-use mon_report::{alarm_line, alarm_states};
+use mon_report::alarm_states;
 use mon_station::Station;
 use std::alloc::{AllocError, Global};
 use std::time::Duration;
@@ -65,13 +65,16 @@ impl Course {
         self.given_up = self.given_up.saturating_add(report.given_up);
     }
 
-    /// Returns a line for each alarm of the board that has another state than at the last call, as
-    /// `alarm_line` has it.
+    /// Returns the alarms of the board that have another state than at the last call.
     ///
     /// # Errors
-    /// `AllocError`: then the next call returns these lines too.
-    pub fn take_changes(&mut self, alloc: Global, board: &Board) -> Result<Vec<String>, AllocError>
-        ensures lines { IfOk result (λ v. map string_bytes v.items ≡ map (change_line board.now.watch) (changes_from 0 self.old.alarms.items (states_of board.now))) }
+    /// `AllocError`: then the next call returns these changes too.
+    pub fn take_changes(
+        &mut self,
+        alloc: Global,
+        board: &Board,
+    ) -> Result<Vec<AlarmChange>, AllocError>
+        ensures changes { IfOk result (λ v. v.items ≡ changes_from 0 self.old.alarms.items (states_of board.now)) }
         ensures told { OnOk result (self.new.alarms.items ≡ states_of board.now) }
         ensures kept { OnErr result (self.new.alarms ≡ self.old.alarms) }
         ensures taken { self.new.taken ≡ self.old.taken }
@@ -79,25 +82,9 @@ impl Course {
     {
         let states = alarm_states(alloc, board)?;
         let changes = find_changes(alloc, self.alarms.as_slice(), states.as_slice())?;
-        let lines = change_lines(alloc, board.watch(), changes.as_slice())?;
         self.alarms = states;
-        Ok(lines)
+        Ok(changes)
     }
-}
-
-/// The lines of changes.
-fn change_lines(
-    alloc: Global,
-    watch: &Watch,
-    changes: &[AlarmChange],
-) -> Result<Vec<String>, AllocError>
-    ensures { IfOk result (λ v. map string_bytes v.items ≡ map (change_line watch.now) changes.now) }
-{
-    let mut lines = Vec::new(alloc);
-    for change in changes {
-        lines.push(alarm_line(alloc, watch, change)?)?;
-    }
-    Ok(lines)
 }
 
 /// By the station number of each of these peers, how many samples the station owes it.

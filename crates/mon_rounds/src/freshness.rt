@@ -1,8 +1,8 @@
-//! How long ago targets answered and instances had a new sample.
+//! How long ago targets answered, peers sent something and instances had a new sample.
 
 ghost use Rattle.std.specs.Prelude.{◌≡◌, ◌≤◌, IfOk, None, get_or, false, length, map};
 ghost use Rattle.mon_rounds.specs.Course.{counted_on};
-ghost use Rattle.mon_rounds.specs.Freshness.{age_after, gave_up_by, instance_after, instance_with, is_given_up_by, is_same, last_refusal, length_after, new_instance, new_instances, new_target, newest_on, numbered, older, refusal_after, refusal_with, seconds_since, target_after, target_with, up_after};
+ghost use Rattle.mon_rounds.specs.Freshness.{age_after, gave_up_by, instance_after, instance_with, is_given_up_by, is_same, last_refusal, length_after, new_instance, new_instances, new_peer, new_target, newest_on, numbered, older, peer_after, refusal_after, refusal_with, seconds_since, target_after, target_with, up_after};
 
 use crate::addresses::Addresses;
 use crate::reporting::{Notice, RoundReport};
@@ -44,11 +44,25 @@ impl TargetAge {
     }
 }
 
+/// How long ago something came from a peer.
+#[derive(Clone, Copy, Debug)]
+pub struct PeerAge {
+    /// The peer's slot, from 0.
+    pub slot: u16,
+    /// Its station number.
+    pub station: u32,
+    /// How many whole rounds went by since a datagram came from its address, or since the station's
+    /// start; at most 2^32 - 1.
+    pub rounds: u32,
+}
+
 /// How long ago an instance had a new sample.
 #[derive(Clone, Copy, Debug)]
 pub struct InstanceAge {
     /// The instance's number in the watch.
     pub number: u16,
+    /// The number of the target that is polled for it, from 0.
+    pub target: Option<u16>,
     /// The octets of its newest sample: equal samples, and only they, have equal octets.
     pub newest: Option<[u8; 21]>,
     /// How many whole rounds went by since its newest sample changed, or since the station's start;
@@ -67,10 +81,12 @@ pub struct Spell {
     pub took: u64,
 }
 
-/// How long ago targets answered and instances had a new sample, and what went wrong.
+/// How long ago targets answered, peers sent something and instances had a new sample, and what went
+/// wrong.
 #[derive(Drop)]
 pub struct Freshness {
     targets: Vec<TargetAge>,
+    peers: Vec<PeerAge>,
     instances: Vec<InstanceAge>,
     failed_saves: u64,
     strangers: u64,
@@ -78,18 +94,26 @@ pub struct Freshness {
 }
 
 impl Freshness {
-    /// That of a station that begins with this board: no target answered, and each instance's newest
-    /// sample is known.
-    pub fn new(alloc: Global, addresses: &Addresses, board: &Board) -> Result<Self, AllocError>
+    /// That of a station that begins with this board: no target answered, nothing came from a peer,
+    /// and each instance's newest sample is known. `polled` has of each instance the number of the
+    /// target that is polled for it.
+    pub fn new(
+        alloc: Global,
+        addresses: &Addresses,
+        polled: &[Option<u16>],
+        board: &Board,
+    ) -> Result<Self, AllocError>
         ensures targets { IfOk result (λ f. f.targets.items ≡ numbered new_target 0 addresses.now.targets.items) }
-        ensures instances { IfOk result (λ f. f.instances.items ≡ new_instances board.now) }
+        ensures peers { IfOk result (λ f. f.peers.items ≡ numbered new_peer 0 addresses.now.peers.items) }
+        ensures instances { IfOk result (λ f. f.instances.items ≡ new_instances polled.now board.now) }
         ensures failed_saves { IfOk result (λ f. f.failed_saves ≡ 0) }
         ensures strangers { IfOk result (λ f. f.strangers ≡ 0) }
         ensures round_ms { IfOk result (λ f. f.round_ms ≡ 0) }
     {
         Ok(Freshness {
             targets: new_targets(alloc, addresses.targets.as_slice())?,
-            instances: new_instances(alloc, board)?,
+            peers: new_peers(alloc, addresses.peers.as_slice())?,
+            instances: new_instances(alloc, polled, board)?,
             failed_saves: 0,
             strangers: 0,
             round_ms: 0,
@@ -101,6 +125,13 @@ impl Freshness {
         ensures { result.now ≡ self.now.targets.items }
     {
         self.targets.as_slice()
+    }
+
+    /// Returns what is known of each peer, in the order of their slots.
+    pub fn peers(&self) -> &[PeerAge]
+        ensures { result.now ≡ self.now.peers.items }
+    {
+        self.peers.as_slice()
     }
 
     /// Returns what is known of each instance, in their order.
@@ -136,12 +167,14 @@ impl Freshness {
     /// board.
     pub fn add(&mut self, spell: Spell, report: &RoundReport, board: &Board)
         ensures targets { self.new.targets.items ≡ map (target_after spell.span report.now spell.ended) self.old.targets.items }
+        ensures peers { self.new.peers.items ≡ map (peer_after spell.span report.now) self.old.peers.items }
         ensures instances { self.new.instances.items ≡ map (instance_after spell.span board.now) self.old.instances.items }
         ensures failed_saves { self.new.failed_saves ≡ counted_on self.old.failed_saves report.now.failed_saves }
         ensures strangers { self.new.strangers ≡ counted_on self.old.strangers report.now.strangers }
         ensures round_ms { self.new.round_ms ≡ length_after spell.span spell.took self.old.round_ms }
     {
         add_to_targets(&mut self.targets, spell, report);
+        add_to_peers(&mut self.peers, spell.span, report);
         add_to_instances(&mut self.instances, spell.span, board);
         self.failed_saves = self.failed_saves.saturating_add(report.failed_saves);
         self.strangers = self.strangers.saturating_add(u64::from(report.strangers));
@@ -176,24 +209,63 @@ fn new_target(number: u16, address: Addr) -> TargetAge
     }
 }
 
-/// The instances of a board, with their newest samples.
-fn new_instances(alloc: Global, board: &Board) -> Result<Vec<InstanceAge>, AllocError>
-    ensures { IfOk result (λ v. v.items ≡ new_instances board.now) }
+/// The peers of these station numbers, of which nothing is known.
+fn new_peers(alloc: Global, stations: &[u32]) -> Result<Vec<PeerAge>, AllocError>
+    requires { length stations.now ≤ 15 }
+    ensures { IfOk result (λ v. v.items ≡ numbered new_peer 0 stations.now) }
+{
+    let mut peers = Vec::with_capacity(alloc, stations.len())?;
+    for place in 0..stations.len() {
+        peers.push(new_peer(place as u16, stations[place]))?;
+    }
+    Ok(peers)
+}
+
+/// A peer of which nothing is known.
+fn new_peer(slot: u16, station: u32) -> PeerAge
+    ensures { result ≡ new_peer slot station }
+{
+    PeerAge {
+        slot,
+        station,
+        rounds: 0,
+    }
+}
+
+/// The instances of a board, with their newest samples and the targets that are polled for them.
+fn new_instances(
+    alloc: Global,
+    polled: &[Option<u16>],
+    board: &Board,
+) -> Result<Vec<InstanceAge>, AllocError>
+    ensures { IfOk result (λ v. v.items ≡ new_instances polled.now board.now) }
 {
     let count = board.watch().instances().len();
     let mut instances = Vec::with_capacity(alloc, count)?;
     for place in 0..count {
-        instances.push(new_instance(board, place as u16))?;
+        let target = target_at(polled, place);
+        instances.push(new_instance(board, place as u16, target))?;
     }
     Ok(instances)
 }
 
-/// The instance of this number, with its newest sample.
-fn new_instance(board: &Board, number: u16) -> InstanceAge
-    ensures { result ≡ new_instance board.now number }
+/// The target that is polled for the instance of this number.
+fn target_at(polled: &[Option<u16>], number: usize) -> Option<u16>
+    ensures { result ≡ get_or polled.now number None }
+{
+    match polled.get(number) {
+        Some(target) => *target,
+        None => None,
+    }
+}
+
+/// The instance of this number, for which this target is polled, with its newest sample.
+fn new_instance(board: &Board, number: u16, target: Option<u16>) -> InstanceAge
+    ensures { result ≡ new_instance board.now number target }
 {
     InstanceAge {
         number,
+        target,
         newest: newest_on(board, number),
         rounds: 0,
     }
@@ -311,6 +383,7 @@ fn is_given_up_by(notice: Notice, number: u16) -> bool
         Notice::GaveUp(target) => target == number,
         Notice::NotPolled(..)
         | Notice::BadResponse(..)
+        | Notice::Astray(_)
         | Notice::BadClaim(..)
         | Notice::NotShared(..)
         | Notice::NotSaved(_)
@@ -354,6 +427,37 @@ fn refusal_after(
     }
 }
 
+/// Adds what was reported of a round, or the time after it, to each peer.
+#[tactic(auto, using(crate::proofs::InPlace::none_mapped, crate::proofs::InPlace::one_mapped, crate::proofs::InPlace::all_mapped))]
+fn add_to_peers(peers: &mut [PeerAge], span: Span, report: &RoundReport)
+    ensures { peers.new ≡ map (peer_after span report.now) peers.old }
+{
+    for place in 0..peers.len() {
+        peers[place] = peer_after(peers[place], span, report);
+    }
+}
+
+/// Returns a peer after a round, or the time after it, of which this is reported.
+fn peer_after(peer: PeerAge, span: Span, report: &RoundReport) -> PeerAge
+    ensures { result ≡ peer_after span report.now peer }
+{
+    let heard = is_heard(report, peer.slot);
+    PeerAge {
+        rounds: age_after(span, heard, peer.rounds),
+        ..peer
+    }
+}
+
+/// Returns `true` if a datagram came from the peer of this slot.
+fn is_heard(report: &RoundReport, slot: u16) -> bool
+    ensures { result ≡ get_or report.now.heard.items slot false }
+{
+    match report.heard.as_slice().get(usize::from(slot)) {
+        Some(heard) => *heard,
+        None => false,
+    }
+}
+
 /// Adds a round, or the time after it, that left this board to each instance.
 #[tactic(auto, using(crate::proofs::InPlace::none_mapped, crate::proofs::InPlace::one_mapped, crate::proofs::InPlace::all_mapped))]
 fn add_to_instances(instances: &mut [InstanceAge], span: Span, board: &Board)
@@ -371,9 +475,9 @@ fn instance_after(instance: InstanceAge, span: Span, board: &Board) -> InstanceA
     let newest = newest_on(board, instance.number);
     let is_new = !is_same(instance.newest, newest);
     InstanceAge {
-        number: instance.number,
         newest,
         rounds: age_after(span, is_new, instance.rounds),
+        ..instance
     }
 }
 

@@ -1,8 +1,8 @@
 //! A station's rounds over sockets. It follows no standard. To run a station: `Addresses::of` its
 //! core, a `SocketReceiver` and a `SocketOutbox` on one `Socket` of mon_udp, and `Rounds` over the
 //! receiver. `Rounds::run` runs a `Station` through a round or the time between two,
-//! `RoundReport::of` says what is reported of it, and `Freshness::add` how long ago each target answered
-//! and each instance had a new sample.
+//! `RoundReport::of` says what is reported of it, `Freshness::add` how long ago each target answered
+//! and each instance had a new sample, and `Troubles::take_changes` what changed in that.
 //! Contract: a round polls each target, receives, offers each peer what it is owed, receives again
 //! and saves, in this order; what it gives a station is fixed by what its receiver got, and only a
 //! datagram from a target or a peer begins a wait again.
@@ -11,8 +11,10 @@
 mod addresses;
 mod changes;
 mod course;
+mod explaining;
 mod freshness;
 mod grid;
+mod polled;
 mod receiver;
 mod reporting;
 mod round;
@@ -21,10 +23,12 @@ mod socket;
 mod source;
 
 pub use addresses::Addresses;
-pub use changes::{Change, Said};
+pub use changes::{Change, Trouble, Troubles};
 pub use course::{Course, debts_of, is_due, left_of};
-pub use freshness::{Freshness, InstanceAge, Spell, TargetAge};
+pub use explaining::explain_stale;
+pub use freshness::{Freshness, InstanceAge, PeerAge, Spell, TargetAge};
 pub use grid::{milliseconds, next_start, phase_of};
+pub use polled::polled_targets;
 pub use receiver::{Arrival, Receiver, ReceiverFault, Wait};
 pub use reporting::{Notice, RoundReport};
 pub use round::{Phase, Round, RoundEvent, Span};

@@ -1,10 +1,11 @@
 //! What is reported of a round to an operator.
 
-ghost use Rattle.std.specs.Prelude.{◌≡◌, ◌&&◌, ◌++◌, IfOk, OnOk};
-ghost use Rattle.mon_rounds.specs.Noted.{answered_of, comes_from, gave_up, has_answered, is_handled, is_stranger, is_unsaved, unsaved, notice_of, notices_of, refusal_of, response_notice, samples_taken, strangers_in, told_of};
+ghost use Rattle.std.specs.Prelude.{◌≡◌, ◌&&◌, ◌++◌, IfOk, OnOk, map};
+ghost use Rattle.mon_rounds.specs.Noted.{answered_of, comes_from, gave_up, has_answered, heard_from, heard_of, is_from_peer, is_handled, is_stranger, is_unsaved, unsaved, notice_of, notices_of, refusal_of, response_notice, samples_taken, stranger_notice, strangers_in, told_of};
 ghost use Rattle.mon_rounds.specs.Order.{datagrams_in};
 
 use crate::round::{Round, RoundEvent};
+use mon_poller::ResponseFault;
 use mon_station::{Answer, Run, StationFault};
 use mon_udp::Addr;
 use std::alloc::{AllocError, Global};
@@ -18,6 +19,8 @@ pub enum Notice {
     NotPolled(u16, StationFault),
     /// A datagram from this address, a target's, was refused, and why.
     BadResponse(Addr, StationFault),
+    /// A response to an open poll came from this address, which is no target's.
+    Astray(Addr),
     /// A datagram from this address, a peer's, was refused, and why.
     BadClaim(Addr, StationFault),
     /// The peer of this station number was offered nothing, and why.
@@ -50,9 +53,12 @@ pub struct RoundReport {
     /// Of each target, in order, whether a response from its address was taken. (Of two targets at
     /// one address both count as answered.)
     pub answered: Vec<bool>,
+    /// Of each peer, in order, whether a datagram came from its address.
+    pub heard: Vec<bool>,
 }
 
-/// Returns the notice of a refused event. A stranger's datagram is only counted.
+/// Returns the notice of a refused event. A stranger's datagram is only counted, unless it responds
+/// to an open poll.
 fn refused(round: &Round, event: RoundEvent, fault: StationFault) -> Option<Notice>
     ensures { result ≡ refusal_of round.now.targets event fault }
 {
@@ -65,14 +71,25 @@ fn refused(round: &Round, event: RoundEvent, fault: StationFault) -> Option<Noti
     }
 }
 
-/// Returns the notice of a refused datagram from this address, if it is a target's.
+/// Returns the notice of a refused datagram from this address, if it is a target's or responds to an
+/// open poll.
 fn bad_response(round: &Round, from: Addr, fault: StationFault) -> Option<Notice>
     ensures { result ≡ response_notice round.now.targets from fault }
 {
     if round.is_target(from) {
         Some(Notice::BadResponse(from, fault))
     } else {
-        None
+        astray(from, fault)
+    }
+}
+
+/// Returns the notice of a refused stranger's datagram, if it responds to an open poll.
+fn astray(from: Addr, fault: StationFault) -> Option<Notice>
+    ensures { result ≡ stranger_notice from fault }
+{
+    match fault {
+        StationFault::Response(ResponseFault::WrongSource) => Some(Notice::Astray(from)),
+        _ => None,
     }
 }
 
@@ -120,6 +137,7 @@ impl RoundReport {
         ensures given_up { IfOk result (λ r. r.given_up ≡ gave_up r.notices.items) }
         ensures failed_saves { IfOk result (λ r. r.failed_saves ≡ unsaved r.notices.items) }
         ensures answered { IfOk result (λ r. r.answered.items ≡ answered_of round.now.targets round.now.events run.now.answers.items) }
+        ensures heard { IfOk result (λ r. r.heard.items ≡ heard_of round.now.peer_addresses round.now.events) }
     {
         let events = round.events();
         let answers = run.answers.as_slice();
@@ -136,6 +154,7 @@ impl RoundReport {
             given_up,
             failed_saves,
             answered: answered_of(alloc, round.targets(), events, answers)?,
+            heard: heard_of(alloc, round.peer_addresses(), events)?,
         })
     }
 }
@@ -189,6 +208,7 @@ fn is_unsaved(notice: Notice) -> bool
         | Notice::GaveUp(_)
         | Notice::NotPolled(..)
         | Notice::BadResponse(..)
+        | Notice::Astray(_)
         | Notice::BadClaim(..)
         | Notice::NotShared(..) => false,
     }
@@ -236,6 +256,47 @@ fn comes_from(address: Addr, event: RoundEvent) -> bool
     match event {
         RoundEvent::FromAgent(from, ()) => from == address,
         RoundEvent::FromPeer(_)
+        | RoundEvent::StartPoll(_)
+        | RoundEvent::Timeout(_)
+        | RoundEvent::Share(_)
+        | RoundEvent::Save => false,
+    }
+}
+
+/// Of each of these addresses of peers, whether a datagram came from it.
+fn heard_of(
+    alloc: Global,
+    peers: &[Addr],
+    events: &[RoundEvent],
+) -> Result<Vec<bool>, AllocError>
+    ensures { IfOk result (λ v. v.items ≡ heard_of peers.now events.now) }
+{
+    let mut heard = Vec::with_capacity(alloc, peers.len())?;
+    for address in peers {
+        heard.push(heard_from(*address, events))?;
+    }
+    Ok(heard)
+}
+
+/// Returns `true` if one of these events is a datagram from this address, a peer's.
+fn heard_from(address: Addr, events: &[RoundEvent]) -> bool
+    ensures { result ≡ heard_from address events.now }
+{
+    for event in events {
+        if is_from_peer(address, *event) {
+            return true;
+        }
+    }
+    false
+}
+
+/// Returns `true` if an event is a datagram from this address, a peer's.
+fn is_from_peer(address: Addr, event: RoundEvent) -> bool
+    ensures { result ≡ is_from_peer address event }
+{
+    match event {
+        RoundEvent::FromPeer(from) => from == address,
+        RoundEvent::FromAgent(..)
         | RoundEvent::StartPoll(_)
         | RoundEvent::Timeout(_)
         | RoundEvent::Share(_)

@@ -170,6 +170,13 @@ impl Round {
         self.addresses.targets.as_slice()
     }
 
+    /// Returns the addresses of the peers, in their order.
+    pub(crate) fn peer_addresses(&self) -> &[Addr]
+        ensures { result.now ≡ self.now.peer_addresses }
+    {
+        self.addresses.peer_addresses.as_slice()
+    }
+
     /// Returns `true` if a target has this address.
     pub fn is_target(&self, from: Addr) -> bool
         ensures { result ≡ stands_in self.now.targets from }

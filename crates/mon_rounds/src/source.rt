@@ -11,7 +11,10 @@ ghost use Rattle.mon_rounds.specs.Next.{GivesNext, IsEnded, TakesTurn, next_wait
 use crate::addresses::Addresses;
 use crate::receiver::{Arrival, Receiver, Wait};
 use crate::round::{Round, Span};
+use mon_ber::Octets;
+use mon_reasons::Latest;
 use mon_station::{OwnedEvent, Source, SourceFault};
+use mon_udp::Addr;
 use std::alloc::{AllocError, Global};
 
 /// A station's events: what a round has in its order, and what is received. Each call for the next event receives at most once.
@@ -19,6 +22,8 @@ use std::alloc::{AllocError, Global};
 pub struct Rounds<R: Receiver + Drop> {
     pub(crate) round: Round,
     pub(crate) receiver: R,
+    alloc: Global,
+    latest: Latest,
 }
 
 impl<R: Receiver + Drop> Rounds<R> {
@@ -36,6 +41,8 @@ impl<R: Receiver + Drop> Rounds<R> {
         Ok(Rounds {
             round: Round::new(alloc, addresses, wait_ms)?,
             receiver,
+            alloc,
+            latest: Latest::new(alloc),
         })
     }
 
@@ -52,6 +59,13 @@ impl<R: Receiver + Drop> Rounds<R> {
     {
         // Proof: the invariant of the round.
         let _ = self.round.events();
+    }
+
+    /// Returns the newest datagrams of targets. One for which memory was refused is not among them.
+    pub fn latest(&self) -> &Latest
+        ensures { result.now ≡ self.now.latest }
+    {
+        &self.latest
     }
 
     /// The receiver.
@@ -93,12 +107,27 @@ impl<R: Receiver + Drop> Rounds<R> {
         ensures turns { TakesTurn result (turns_left self.old.round) (turns_left self.new.round) }
     {
         match self.receiver.receive(wait) {
-            Ok(Arrival::Datagram(from, octets)) => Ok(Some(self.round.take(from, octets))),
+            Ok(Arrival::Datagram(from, octets)) => {
+                self.keep_latest(from, &octets);
+                Ok(Some(self.round.take(from, octets)))
+            }
             Ok(Arrival::Quiet) => Ok(self.round.proceed(oldest)),
             Err(_) => {
                 self.round.fail();
                 Err(SourceFault)
             }
+        }
+    }
+}
+
+impl<R: Receiver + Drop> Rounds<R> {
+    /// Keeps a datagram if it comes from a target. If memory is refused it is not kept.
+    fn keep_latest(&mut self, from: Addr, octets: &Octets)
+        ensures round { self.new.round ≡ self.old.round }
+        ensures receiver { self.new.receiver ≡ self.old.receiver }
+    {
+        if self.round.is_target(from) {
+            let _ = self.latest.keep(self.alloc, from, octets.as_slice());
         }
     }
 }

@@ -1,7 +1,7 @@
 //! What limits a station of some settings.
 
-ghost use Rattle.std.specs.Prelude.{◌≡◌};
-ghost use Rattle.mon_station_commands.specs.Limits.{waits};
+ghost use Rattle.std.specs.Prelude.{◌≡◌, ◌≤◌, length};
+ghost use Rattle.mon_station_commands.specs.Limits.{has_some, sends_of, waits};
 
 use mon_console::{Failure, print};
 use mon_disk::SLOT_SIZE;
@@ -61,7 +61,10 @@ fn put_round(
 }
 
 /// Returns how long a round may take.
-fn round_time(settings: &StationSettings) -> RoundTime {
+fn round_time(settings: &StationSettings) -> RoundTime
+    ensures least { result.least ≡ waits settings.now.wait_ms 0 (has_some settings.now.core.peers) }
+    ensures most { result.most ≡ waits settings.now.wait_ms (sends_of settings.now.core.targets) (has_some settings.now.core.peers) }
+{
     let has_peers = !settings.core.peers().is_empty();
     let sends = count_sends(settings.core.targets());
     RoundTime {
@@ -77,11 +80,14 @@ fn waits(wait_ms: u32, unanswered: u32, has_peers: bool) -> u64
     u64::from(wait_ms) * (1 + u64::from(unanswered) + u64::from(has_peers))
 }
 
-/// Returns how often the polls of targets are sent if none answers, at most 4294967295 times.
-fn count_sends(targets: &[Target]) -> u32 {
-    let mut sends: u32 = 0;
+/// Returns how often the polls of targets are sent if none answers.
+fn count_sends(targets: &[Target]) -> u32
+    requires { length targets.now ≤ 64 }
+    ensures { result ≡ sends_of targets.now }
+{
+    let mut sends = 0;
     for target in targets {
-        sends = sends.saturating_add(u32::from(target.tries));
+        sends += u32::from(target.tries);
     }
     sends
 }

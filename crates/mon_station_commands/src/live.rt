@@ -3,16 +3,15 @@
 ghost use Rattle.std.specs.Prelude.{◌≡◌, ◌≤◌};
 ghost use Rattle.mon_disk.specs.Fault.{number_of};
 
-use crate::opening::{file_failure, or_socket_failure};
+use crate::opening::{or_socket_failure, unopened};
 use crate::pace::passed;
-use crate::telling::{tell_change, tell_notices};
+use crate::telling::{tell_alarm, tell_change, tell_notices};
 use mon_console::{Failure, Printing};
-use mon_core::Core;
 use mon_disk::{FileDisk, KeeperFault};
 use mon_poller::Target;
 use mon_rounds::{
-    Addresses, Course, Freshness, Notice, Receiver, RoundReport, Rounds, Said, SocketOutbox,
-    SocketReceiver, Span, Spell, TargetAge,
+    Addresses, Course, Freshness, Notice, Receiver, RoundReport, Rounds, SocketOutbox,
+    SocketReceiver, Span, Spell, Troubles, polled_targets,
 };
 use mon_settings::StationSettings;
 use mon_station::{Outbox, Run, Station};
@@ -31,8 +30,8 @@ pub(crate) struct Live<S: Receiver + Drop, O: Outbox + Drop> {
     pub(crate) run: Run,
     pub(crate) course: Course,
     pub(crate) freshness: Freshness,
-    /// What was said of targets and instances that are silent.
-    pub(crate) said: Said,
+    /// What was said to be wrong with targets, peers and instances.
+    pub(crate) troubles: Troubles,
     pub(crate) reports: Reports,
     /// The path of the station's file.
     pub(crate) file: String,
@@ -57,8 +56,8 @@ pub(crate) struct Transport<S: Receiver + Drop, O: Outbox + Drop> {
     pub(crate) peers: Vec<u32>,
     /// The engine ids of its targets, in their order.
     pub(crate) engines: Vec<Vec<u8>>,
-    /// Each instance that is polled, with the target that is polled for it, by their numbers from 0.
-    pub(crate) polled: Vec<(u16, u16)>,
+    /// Of each instance the number of the target that is polled for it, from 0.
+    pub(crate) polled: Vec<Option<u16>>,
 }
 
 /// How a station's reports are printed, the file that each round's report is written to, and from how
@@ -115,7 +114,7 @@ pub(crate) fn make_transport<S: Receiver + Drop, O: Outbox + Drop>(
     )?;
     let peers = Vec::from_slice(alloc, settings.core.peers())?;
     let engines = engines_of(alloc, settings.core.targets())?;
-    let polled = polled_of(alloc, settings.core.targets())?;
+    let polled = polled_targets(alloc, &settings.core)?;
     Ok(Transport {
         rounds,
         outbox,
@@ -136,20 +135,6 @@ fn engines_of(alloc: Global, targets: &[Target]) -> Result<Vec<Vec<u8>>, AllocEr
     Ok(engines)
 }
 
-/// The greatest number that a target may have.
-const MOST_TARGET: usize = 65_535;
-
-/// Returns each instance that is polled, with the target that is polled for it.
-fn polled_of(alloc: Global, targets: &[Target]) -> Result<Vec<(u16, u16)>, AllocError> {
-    let mut polled = Vec::new(alloc);
-    for (place, target) in targets.iter().enumerate() {
-        for object in target.objects.as_slice() {
-            polled.push((object.instance, place.min(MOST_TARGET) as u16))?;
-        }
-    }
-    Ok(polled)
-}
-
 /// Opens the station, and prints where it is.
 pub(crate) fn start_station<R: Eprint + AllocGlobal, S: Receiver + Drop, O: Outbox + Drop>(
     rt: &R,
@@ -160,7 +145,10 @@ pub(crate) fn start_station<R: Eprint + AllocGlobal, S: Receiver + Drop, O: Outb
 ) -> Result<Live<S, O>, Failure> {
     let StationSettings { core, file, .. } = settings;
     let Place { disk, at, origin } = place;
-    let opened = open_station(rt.alloc(), core, disk, &file, &transport.addresses)?;
+    let opened = match Station::open(rt.alloc(), core, disk) {
+        Ok(station) => watched(rt.alloc(), station, &transport)?,
+        Err((fault, disk)) => return Err(unopened(rt.alloc(), &file, fault, &disk)),
+    };
     let (number, incarnation) = (transport.number, opened.station.incarnation());
     let (targets, peers) = (transport.engines.len(), transport.peers.len());
     let _ = eprintln!(rt;
@@ -172,7 +160,7 @@ pub(crate) fn start_station<R: Eprint + AllocGlobal, S: Receiver + Drop, O: Outb
         run: Run::new(rt.alloc()),
         course: opened.course,
         freshness: opened.freshness,
-        said: Said::new(rt.alloc()),
+        troubles: Troubles::new(rt.alloc()),
         reports,
         file,
         origin,
@@ -190,28 +178,15 @@ struct Opened {
     freshness: Freshness,
 }
 
-/// Opens the station of a core whose targets are at these addresses, from the disk of this file.
-fn open_station(
-    alloc: Global,
-    core: Core,
-    disk: FileDisk,
-    file: &str,
-    addresses: &Addresses,
-) -> Result<Opened, Failure> {
-    match Station::open(alloc, core, disk) {
-        Ok(station) => Ok(watched(alloc, station, addresses)?),
-        Err((fault, _)) => Err(file_failure(alloc, file, fault)),
-    }
-}
-
 /// Returns a station with what is known of it before its first round.
-fn watched(
+fn watched<S: Receiver + Drop, O: Outbox + Drop>(
     alloc: Global,
     station: Station<FileDisk>,
-    addresses: &Addresses,
+    transport: &Transport<S, O>,
 ) -> Result<Opened, AllocError> {
+    let (addresses, polled) = (&transport.addresses, transport.polled.as_slice());
     let course = Course::new(alloc, station.board())?;
-    let freshness = Freshness::new(alloc, addresses, station.board())?;
+    let freshness = Freshness::new(alloc, addresses, polled, station.board())?;
     Ok(Opened {
         station,
         course,
@@ -262,67 +237,32 @@ fn report_round<R: Eprint + AllocGlobal, S: Receiver + Drop, O: Outbox + Drop>(
     let report = RoundReport::of(alloc, live.transport.rounds.round(), &live.run)?;
     live.course.add(&report);
     live.freshness.add(spell, &report, live.station.board());
-    tell_notices(rt, number, &live.transport.addresses, &report);
+    tell_notices(rt, live, number, &report);
     if spell.span == Span::Round {
         live.unsaved = save_fault(&report);
-        report_changes(rt, live, number)?;
+        report_troubles(rt, live, number)?;
     }
-    for line in live
-        .course
-        .take_changes(alloc, live.station.board())?
-        .as_slice()
-    {
-        let _ = eprintln!(rt; "snmpmon: {line}");
+    let changes = live.course.take_changes(alloc, live.station.board())?;
+    for change in changes.as_slice() {
+        tell_alarm(rt, live, change)?;
     }
     Ok(())
 }
 
-/// Prints which targets and instances fell silent in a round, and which did not stay so.
-fn report_changes<R: Eprint + AllocGlobal, S: Receiver + Drop, O: Outbox + Drop>(
+/// Prints what went wrong with targets, peers and instances in a round, and what is right again.
+fn report_troubles<R: Eprint + AllocGlobal, S: Receiver + Drop, O: Outbox + Drop>(
     rt: &R,
     live: &mut Live<S, O>,
     number: u32,
 ) -> Result<(), Failure> {
-    let alloc = rt.alloc();
-    let count = live.freshness.instances().len();
-    let targets = live.freshness.targets();
-    let heard = heard_of(alloc, count, live.transport.polled.as_slice(), targets)?;
     let limit = live.reports.stale_after;
     let changes = live
-        .said
-        .take_changes(alloc, &live.freshness, heard.as_slice(), limit)?;
-    let watch = live.station.board().watch();
+        .troubles
+        .take_changes(rt.alloc(), &live.freshness, limit)?;
     for change in changes.as_slice() {
-        tell_change(rt, number, &live.transport.addresses, watch, *change)?;
+        tell_change(rt, live, number, *change)?;
     }
     Ok(())
-}
-
-/// Returns of each instance, as many as `count` says, whether a target that is polled for it answered in the last
-/// round.
-fn heard_of(
-    alloc: Global,
-    count: usize,
-    polled: &[(u16, u16)],
-    targets: &[TargetAge],
-) -> Result<Vec<bool>, AllocError> {
-    let mut heard = vec![in alloc; false; count]?;
-    for (instance, target) in polled {
-        if has_answered(targets, *target) {
-            if let Some(it) = heard.get_mut(usize::from(*instance)) {
-                *it = true;
-            }
-        }
-    }
-    Ok(heard)
-}
-
-/// Returns `true` if the target of this number answered in the last round.
-fn has_answered(targets: &[TargetAge], number: u16) -> bool {
-    match targets.get(usize::from(number)) {
-        Some(target) => target.rounds == 0,
-        None => false,
-    }
 }
 
 /// Returns why the save of a report's round failed, if it did.

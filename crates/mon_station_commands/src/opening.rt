@@ -1,11 +1,12 @@
 //! The file and the socket of a station.
 
-ghost use Rattle.std.specs.Prelude.{◌↔◌, ◌<◌, ◌≤◌, IsTrue};
+ghost use Rattle.std.specs.Prelude.{◌≡◌, ◌↔◌, ◌<◌, ◌≤◌, IsTrue};
+ghost use Rattle.mon_faults.specs.Fault.{station_fault};
 
 use mon_board::Board;
 use mon_cli::ReportArgs;
 use mon_console::{Failure, Fault, print, read_first, read_station_file};
-use mon_disk::{Disk, DiskError, FileDisk, SLOT_SIZE};
+use mon_disk::{Disk, DiskError, FileDisk, KeeperFault, SLOT_SIZE};
 use mon_settings::StationSettings;
 use mon_station::{StationFault, board_in};
 use mon_udp::{Addr, Socket};
@@ -106,7 +107,39 @@ pub(crate) fn or_socket_failure<T: Drop>(
     }
 }
 
-/// Why a station's file gave no station or no report.
-pub(crate) fn file_failure(alloc: Global, path: &str, fault: StationFault) -> Failure {
+/// Why a station's file gave no report.
+fn file_failure(alloc: Global, path: &str, fault: StationFault) -> Failure {
     Failure::at(alloc, path, Fault::from(fault))
+}
+
+/// Why a station's file, of this disk, gave no station.
+pub(crate) fn unopened(alloc: Global, path: &str, fault: StationFault, disk: &FileDisk) -> Failure
+    ensures { result.fault ≡ station_fault fault }
+{
+    match fault {
+        StationFault::Keeper(KeeperFault::DiskFault) => {
+            disk_failure(alloc, path, Fault::from(fault), disk)
+        }
+        _ => file_failure(alloc, path, fault),
+    }
+}
+
+/// Why a station's windows were not saved in its file, of this disk.
+pub(crate) fn unsaved(alloc: Global, path: &str, fault: KeeperFault, disk: &FileDisk) -> Failure
+    ensures { result.fault ≡ Fault.Keeper fault }
+{
+    match fault {
+        KeeperFault::DiskFault => disk_failure(alloc, path, Fault::Keeper(fault), disk),
+        _ => Failure::at(alloc, path, Fault::Keeper(fault)),
+    }
+}
+
+/// A disk that failed, with the system's reason.
+fn disk_failure(alloc: Global, path: &str, fault: Fault, disk: &FileDisk) -> Failure
+    ensures { result.fault ≡ fault }
+{
+    match disk.last_error() {
+        Some(error) => Failure::said(fault, format!(in alloc; "{path}: {fault}: {error}")),
+        None => Failure::at(alloc, path, fault),
+    }
 }

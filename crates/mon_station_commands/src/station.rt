@@ -2,11 +2,11 @@
 
 use crate::limits::print_limits;
 use crate::live::{Live, Place, Reports, open_transport, run_span, start_station};
-use crate::opening::{open_file_and_socket, or_socket_failure};
+use crate::opening::{open_file_and_socket, or_socket_failure, unsaved};
 use crate::pace::{now, start_pace, wait_for_next};
 use crate::printing::{print_between, print_report, write_out};
 use mon_cli::{StationArgs, Timing};
-use mon_console::{Failure, Fault, read_station_file};
+use mon_console::{Failure, read_station_file};
 use mon_rounds::{Receiver, Span, is_due};
 use mon_station::Outbox;
 use std::alloc::Global;
@@ -35,8 +35,9 @@ pub fn run_station<R: Clock + Files<File = File> + Net + Print + Eprint + AllocG
         stale_after: words.stale_after,
     };
     let origin = now(rt)?;
-    let live = start_station(rt, settings, Place { disk, at, origin }, transport, reports)?;
-    run_rounds(rt, live, words.timing)
+    let place = Place { disk, at, origin };
+    let mut live = start_station(rt, settings, place, transport, reports)?;
+    run_rounds(rt, &mut live, words.timing)
 }
 
 /// Runs a station through its rounds, and prints its report. If a report between two rounds could not
@@ -45,39 +46,34 @@ fn run_rounds<
     R: Clock + Files<File = File> + Print + Eprint + AllocGlobal,
     S: Receiver + Drop,
     O: Outbox + Drop,
->(rt: &R, live: Live<S, O>, timing: Timing) -> Result<(), Failure> {
-    let mut live = live;
-    let mut pace = start_pace(rt, &mut live, timing)?;
+>(rt: &R, live: &mut Live<S, O>, timing: Timing) -> Result<(), Failure> {
+    let mut pace = start_pace(rt, live, timing)?;
     for number in 1..=timing.rounds {
-        run_span(rt, &mut live, number, Span::Round)?;
-        write_out(rt, &live);
+        run_span(rt, live, number, Span::Round)?;
+        write_out(rt, live);
         if number == timing.rounds {
             break;
         }
         if is_due(number, timing.report_every) {
-            print_between(rt, &mut live);
+            print_between(rt, live);
         }
-        pace = wait_for_next(rt, &mut live, number, pace)?;
+        pace = wait_for_next(rt, live, number, pace)?;
     }
-    print_report(rt, &live)?;
+    print_report(rt, live)?;
     ended(rt.alloc(), live)
 }
 
 /// Returns why a station did not do all that it had to: a report or its last save.
 fn ended<S: Receiver + Drop, O: Outbox + Drop>(
     alloc: Global,
-    live: Live<S, O>,
+    live: &mut Live<S, O>,
 ) -> Result<(), Failure> {
-    let Live {
-        file,
-        unsaved,
-        unprinted,
-        ..
-    } = live;
-    match (unsaved, unprinted) {
-        (Some(fault), _) => Err(Failure::at(alloc, &file, Fault::Keeper(fault))),
-        (None, Some(failure)) => Err(failure),
-        (None, None) => Ok(()),
+    if let Some(fault) = live.unsaved {
+        return Err(unsaved(alloc, &live.file, fault, live.station.disk()));
+    }
+    match live.unprinted.take() {
+        Some(failure) => Err(failure),
+        None => Ok(()),
     }
 }
 

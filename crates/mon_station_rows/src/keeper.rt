@@ -7,6 +7,11 @@
 //!                                        gate is not synced, and of one on which a crash left it
 //!                                        open
 //!     keeper failing-call N              an opening and a save while call N fails
+//!     keeper reopened CALLS KEEP         a save that is stopped after CALLS calls of the disk, a
+//!                                        reopening by the same keeper and a save, and what a
+//!                                        crash leaves after each of the three
+//!     keeper mended-after N              an opening and a save while call N fails, then a
+//!                                        reopening and a save
 //!     keeper file NAME: SLOT SLOT SIZE   what an opening answers of a file of SIZE octets, and
 //!                                        then a save; a slot is open, GENERATION/LENGTH, or
 //!                                        shut, a dash
@@ -33,6 +38,8 @@ pub fn answer<R: Files<File = File> + AllocGlobal>(rt: &R, line: &str) -> Option
         "save-stopped" => stops::save_row(alloc, rest),
         "opening-stopped" => stops::opening_row(alloc, rest),
         "failing-call" => stops::failing_row(alloc, rest.parse().ok()?),
+        "reopened" => stops::reopened_row(alloc, rest),
+        "mended-after" => stops::mended_row(alloc, rest.parse().ok()?),
         "file" => files::row(alloc, rest),
         "sized" => files::sized(alloc, rest.parse().ok()?),
         "real-file" => real_file::saved_row(rt, rest),

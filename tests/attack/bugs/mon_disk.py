@@ -1,6 +1,21 @@
 """Bugs of mon_disk for planted_bugs: by a name the file, what stands there once, and the bug in its place."""
 
 BUGS = {
+    "keeps_no_reason": (
+        "src/file_disk.rt",
+        "            *last_error = Some(error);\n",
+        "            let _ = error;\n",
+    ),
+    "tells_no_reason": (
+        "src/file_disk.rt",
+        "    {\n        self.last_error\n    }",
+        "    {\n        None\n    }",
+    ),
+    "each_call_forgets_the_reason": (
+        "src/file_disk.rt",
+        "        Ok(value) => Ok(value),\n        Err(error) => {\n            *failures",
+        "        Ok(value) => {\n            *last_error = None;\n            Ok(value)\n        }\n        Err(error) => {\n            *failures",
+    ),
     "shows_by_another_gate": (
         "src/file.rt",
         "put_down(disk, slot.offset(), &[165], calls)",

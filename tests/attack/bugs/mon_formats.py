@@ -1,6 +1,26 @@
 """Bugs for planted_bugs to plant in mon_formats: a file, what stands in it once, and what stands there then."""
 
 BUGS = {
+    "alarm_line_swaps_the_thresholds": (
+        "src/changes.rt",
+        "    let (rising, falling) = (rule.rising(), rule.falling());",
+        "    let (falling, rising) = (rule.rising(), rule.falling());",
+    ),
+    "alarm_line_of_the_first_rule": (
+        "src/changes.rt",
+        "    match watch.rules().get(change.rule) {",
+        "    match watch.rules().first() {",
+    ),
+    "alarm_line_in_numbers": (
+        "src/changes.rt",
+        "    let name = names.text(alloc, &instance.name)?;",
+        "    let _ = names;\n    let name = instance.name.text(alloc)?;",
+    ),
+    "alarm_line_is_empty": (
+        "src/changes.rt",
+        "        Some(watched) => line_on(alloc, names, &watched.instance, rule, state),",
+        "        Some(_) => Ok(String::new(alloc)),",
+    ),
     "json_is_text": ("src/format.rt", '"json" => Some(Format::Json)', '"json" => Some(Format::Text)'),
     "columns_engine_of_the_first": ("src/columns.rt", "        before = Some(entry.engine());", "        if before.is_none() { before = Some(entry.engine()); }"),
     "columns_engines_of_one_length": ("src/columns.rt", "Some(before) if before == engine =>", "Some(before) if before.len() == engine.len() =>"),

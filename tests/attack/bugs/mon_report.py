@@ -1,16 +1,6 @@
 """Bugs for planted_bugs to plant in mon_report: a file, what stands in it once, and what stands there then."""
 
 BUGS = {
-    "alarm_line_swaps_the_thresholds": (
-        "src/alarms.rt",
-        "    let (rising, falling) = (rule.rising(), rule.falling());",
-        "    let (falling, rising) = (rule.rising(), rule.falling());",
-    ),
-    "alarm_line_of_the_first_rule": (
-        "src/alarms.rt",
-        "    match watch.rules().get(change.rule) {",
-        "    match watch.rules().first() {",
-    ),
     "all_alarms_are_clear": (
         "src/alarms.rt",
         "        states.push(state(rule, board.items(rule.instance())))?;",

@@ -165,8 +165,103 @@ BUGS = {
     ),
     "tells_of_strangers": (
         "src/reporting.rt",
-        "    if round.is_target(from) {\n        Some(Notice::BadResponse(from, fault))\n    } else {\n        None\n    }",
-        "    if round.is_target(from) {\n        Some(Notice::BadResponse(from, fault))\n    } else {\n        Some(Notice::BadResponse(from, fault))\n    }",
+        "    } else {\n        astray(from, fault)\n    }",
+        "    } else {\n        Some(Notice::BadResponse(from, fault))\n    }",
+    ),
+    "each_stranger_is_astray": (
+        "src/reporting.rt",
+        "        StationFault::Response(ResponseFault::WrongSource) => Some(Notice::Astray(from)),\n        _ => None,",
+        "        _ => {\n            let _ = fault;\n            Some(Notice::Astray(from))\n        }",
+    ),
+    "hides_what_came_astray": (
+        "src/reporting.rt",
+        "        StationFault::Response(ResponseFault::WrongSource) => Some(Notice::Astray(from)),",
+        "        StationFault::Response(ResponseFault::WrongSource) => None,",
+    ),
+    "a_targets_datagram_is_a_peers": (
+        "src/reporting.rt",
+        "        RoundEvent::FromPeer(from) => from == address,\n        RoundEvent::FromAgent(..)\n",
+        "        RoundEvent::FromPeer(from) | RoundEvent::FromAgent(from, ()) => from == address,\n        RoundEvent::FromAgent(..)\n",
+    ),
+    "each_peer_was_heard": (
+        "src/reporting.rt",
+        "        RoundEvent::FromPeer(from) => from == address,",
+        "        RoundEvent::FromPeer(_) => true,",
+    ),
+    "a_peer_grows_no_older": (
+        "src/freshness.rt",
+        "        rounds: age_after(span, heard, peer.rounds),",
+        "        rounds: age_after(span, true, peer.rounds),",
+    ),
+    "the_first_peers_age_for_all": (
+        "src/freshness.rt",
+        "report.heard.as_slice().get(usize::from(slot))",
+        "report.heard.as_slice().first()",
+    ),
+    "polled_by_the_first_target": (
+        "src/freshness.rt",
+        "    match polled.get(number) {",
+        "    match polled.first() {",
+    ),
+    "polled_by_no_target": (
+        "src/polled.rt",
+        "            return Some(number as u16);",
+        "            return None;",
+    ),
+    "polled_by_the_target_after_it": (
+        "src/polled.rt",
+        "            return Some(number as u16);",
+        "            return Some(number as u16 + 1);",
+    ),
+    "a_peer_is_lost_at_once": (
+        "src/changes.rt",
+        "        silent.push(peer.rounds >= limit)?;",
+        "        silent.push(peer.rounds > 0)?;",
+    ),
+    "another_engine_is_none": (
+        "src/changes.rt",
+        "        Some(StationFault::Response(ResponseFault::OtherEngine)) => true,",
+        "        Some(StationFault::Response(ResponseFault::OtherEngine)) => false,",
+    ),
+    "each_refusal_is_another_engine": (
+        "src/changes.rt",
+        "        Some(StationFault::Response(ResponseFault::OtherEngine)) => true,",
+        "        Some(_) => true,",
+    ),
+    "stale_though_its_target_is_silent": (
+        "src/changes.rt",
+        "        Some(target) => target.rounds == 0,",
+        "        Some(_) => true,",
+    ),
+    "says_no_change_of_peers": (
+        "src/changes.rt",
+        "        put_changes(&mut changes, Trouble::SilentPeer, was, is)?;\n",
+        "        let _ = (was, is);\n",
+    ),
+    "peers_for_targets": (
+        "src/changes.rt",
+        "put_changes(&mut changes, Trouble::SilentPeer, was, is)?;",
+        "put_changes(&mut changes, Trouble::SilentTarget, was, is)?;",
+    ),
+    "ends_what_begins": (
+        "src/changes.rt",
+        "            begins: is,",
+        "            begins: was,",
+    ),
+    "explains_by_the_oldest_sample": (
+        "src/explaining.rt",
+        "board.items(number as u16).last().copied()",
+        "board.items(number as u16).first().copied()",
+    ),
+    "explains_by_the_first_target": (
+        "src/explaining.rt",
+        "    match targets.get(usize::from(target)) {",
+        "    let _ = target;\n    match targets.first() {",
+    ),
+    "explains_nothing": (
+        "src/explaining.rt",
+        "    latest.reason(alloc, from, watched, newest)",
+        "    let _ = (alloc, latest, from, watched, newest);\n    Ok(None)",
     ),
     "hides_bad_responses": (
         "src/reporting.rt",
@@ -220,8 +315,8 @@ BUGS = {
     ),
     "tells_no_alarm": (
         "src/course.rt",
-        "        Ok(lines)\n    }\n}",
-        "        let _ = lines;\n        Ok(Vec::new(alloc))\n    }\n}",
+        "        Ok(changes)\n    }\n}",
+        "        let _ = changes;\n        Ok(Vec::new(alloc))\n    }\n}",
     ),
     "owes_all_what_it_owes_the_first": (
         "src/course.rt",
@@ -315,8 +410,8 @@ BUGS = {
     ),
     "a_change_is_said_again": (
         "src/changes.rt",
-        "        self.targets = targets;\n",
-        "",
+        "        *self = now;\n",
+        "        let _ = now;\n",
     ),
     "stale_one_round_late": (
         "src/changes.rt",

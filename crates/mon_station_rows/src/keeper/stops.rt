@@ -55,6 +55,64 @@ pub(crate) fn failing_row(alloc: Global, call: u64) -> Option<String> {
     format!(in alloc; "call {call} fails: {row}").ok()
 }
 
+/// Says what becomes of a save that is stopped as a line `CALLS KEEP` says, of a reopening after it
+/// and of a save after that: what each answers, and what a crash then leaves.
+pub(crate) fn reopened_row(alloc: Global, line: &str) -> Option<String> {
+    let (calls, keep) = stop_of(line)?;
+    let stopped = after_stop(alloc, calls, keep, Mending::Nothing)?;
+    let reopened = after_stop(alloc, calls, keep, Mending::Reopening)?;
+    let saved = after_stop(alloc, calls, keep, Mending::Saving)?;
+    format!(in alloc;
+        "save stopped after {calls}, a crash {}: {stopped}; reopened: {reopened}; saved: {saved}",
+        end(keep)
+    )
+    .ok()
+}
+
+/// What is done after a save that was stopped.
+#[derive(Clone, Copy, PartialEq, Eq)]
+enum Mending {
+    Nothing,
+    /// The file is reopened.
+    Reopening,
+    /// The file is reopened, and saved in.
+    Saving,
+}
+
+/// Stops a save of `new` after some calls of the disk, and does what comes after it on a disk that
+/// passes all calls again. Says what the last of these answers, and what a crash then leaves.
+fn after_stop(alloc: Global, calls: u64, keep: bool, mending: Mending) -> Option<String> {
+    let mut keeper = begun(alloc)?;
+    keeper.set(calls);
+    let mut answer = saved(keeper.save(alloc, b"new"));
+    keeper.set(u64::MAX);
+    if mending != Mending::Nothing {
+        answer = saved(keeper.reopen());
+    }
+    if mending == Mending::Saving {
+        answer = saved(keeper.save(alloc, b"new"));
+    }
+    let disk = keeper.into_disk().into_disk().crash(keep).ok()?;
+    let found = Found::on(alloc, disk);
+    format!(in alloc; "{answer} {found}").ok()
+}
+
+/// Says what becomes of an opening and a save of which this call fails, and of a reopening and a
+/// save after them.
+pub(crate) fn mended_row(alloc: Global, call: u64) -> Option<String> {
+    let disk = FlakyDisk::new(MemoryDisk::new(alloc, &[]).ok()?, call);
+    let Ok((mut keeper, _)) = Keeper::open(alloc, disk) else {
+        return format!(in alloc; "call {call} fails: not opened").ok();
+    };
+    let first = saved(keeper.save(alloc, b"old"));
+    let again = saved(keeper.reopen());
+    let second = saved(keeper.save(alloc, b"new"));
+    let disk = keeper.into_disk();
+    let failures = disk.failures();
+    let found = Found::on(alloc, disk);
+    format!(in alloc; "call {call} fails: {first} {again} {second} {failures} {found}").ok()
+}
+
 /// Stops a save of `new` after some calls of the disk. Says what it answers and one after it by the
 /// same keeper, and what a crash then leaves.
 fn stopped_save(alloc: Global, calls: u64, keep: bool) -> Option<String> {

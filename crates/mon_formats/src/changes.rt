@@ -1,0 +1,90 @@
+//! The line of an alarm that changed.
+
+ghost use Rattle.std.specs.Prelude.{◌≡◌, ◌++◌, IfOk, OnOk, slice_get, string_bytes};
+ghost use Rattle.mon_formats.specs.Changes.{change_line, instance_text, line_at, line_on, thresholds_text};
+ghost use Rattle.mon_report.specs.Report.{state_text};
+
+use mon_alarms::{AlarmChange, AlarmState, Rule};
+use mon_board::{Instance, Watch};
+use mon_smi::NameTexts;
+use std::alloc::{AllocError, Global};
+
+/// Returns the line of a change, without its end: the instance, the thresholds in thousandths and the
+/// state, as a report has them. It is empty if the watch has no such rule.
+pub fn alarm_line<S: NameTexts>(
+    alloc: Global,
+    names: &S,
+    watch: &Watch,
+    change: &AlarmChange,
+) -> Result<String, AllocError>
+    ensures { IfOk result (λ text. string_bytes text ≡ change_line (S.shown names.now) watch.now change.now) }
+{
+    match watch.rules().get(change.rule) {
+        Some(rule) => rule_line(alloc, names, watch, rule, change.state),
+        None => Ok(String::new(alloc)),
+    }
+}
+
+/// Returns an instance's engine id in hex digits, a blank and its name.
+pub fn instance_text<S: NameTexts>(
+    alloc: Global,
+    names: &S,
+    instance: &Instance,
+) -> Result<String, AllocError>
+    ensures { IfOk result (λ text. string_bytes text ≡ instance_text (S.shown names.now) instance.now) }
+{
+    let engine = hex::encode(alloc, instance.engine.as_slice())?;
+    let name = names.text(alloc, &instance.name)?;
+    format!(in alloc; "{engine} {name}")
+}
+
+/// Returns the line of a rule of a watch that has this state.
+fn rule_line<S: NameTexts>(
+    alloc: Global,
+    names: &S,
+    watch: &Watch,
+    rule: &Rule,
+    state: AlarmState,
+) -> Result<String, AllocError>
+    ensures { IfOk result (λ text. string_bytes text ≡ line_at (S.shown names.now) (slice_get watch.now.instances rule.now.instance) rule.now state) }
+{
+    match watch.instances().get(usize::from(rule.instance())) {
+        Some(watched) => line_on(alloc, names, &watched.instance, rule, state),
+        None => Ok(String::new(alloc)),
+    }
+}
+
+/// Returns the line of a rule on an instance that has this state.
+#[tactic(auto, unfolding(crate::specs::Changes::line_on))]
+fn line_on<S: NameTexts>(
+    alloc: Global,
+    names: &S,
+    instance: &Instance,
+    rule: &Rule,
+    state: AlarmState,
+) -> Result<String, AllocError>
+    ensures { IfOk result (λ text. string_bytes text ≡ line_on (S.shown names.now) instance.now rule.now state) }
+{
+    let mut text = instance_text(alloc, names, instance)?;
+    put_thresholds(&mut text, rule)?;
+    put_state(&mut text, state)?;
+    Ok(text)
+}
+
+/// Adds the thresholds of a rule.
+fn put_thresholds(text: &mut String, rule: &Rule) -> Result<(), AllocError>
+    ensures { OnOk result (string_bytes text.new ≡ string_bytes text.old ++ thresholds_text rule.now) }
+{
+    let (rising, falling) = (rule.rising(), rule.falling());
+    write!(text, " alarm {rising}/{falling}=")
+}
+
+/// Adds the state of a rule.
+fn put_state(text: &mut String, state: AlarmState) -> Result<(), AllocError>
+    ensures { OnOk result (string_bytes text.new ≡ string_bytes text.old ++ state_text state) }
+{
+    match state {
+        AlarmState::Clear => text.push_str("clear"),
+        AlarmState::Raised { boots, time } => write!(text, "raised@{boots}:{time}"),
+    }
+}
