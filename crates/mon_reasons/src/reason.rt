@@ -146,7 +146,11 @@ impl fmt::Display for Reason {
             Reason::Value(Tag::NoSuchInstance) => f.write_str("the agent has no such instance"),
             Reason::Value(kind) => write!(f, "its value is of the kind {}", kind_name(kind)),
             Reason::Discontinuity(kind) => {
-                write!(f, "the value of its mark is of the kind {}", kind_name(kind))
+                write!(
+                    f,
+                    "the value of its mark is of the kind {}",
+                    kind_name(kind)
+                )
             }
             Reason::NoDiscontinuity => f.write_str("its mark has no value"),
             Reason::Clock(boots, time) => write!(

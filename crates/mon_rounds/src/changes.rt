@@ -93,13 +93,19 @@ impl Troubles {
         ensures { IfOk result (λ v. v.items ≡ changes_between (told_by self.now) (told_by now.now)) }
     {
         let mut changes = Vec::new(alloc);
-        let (was, is) = (self.silent_targets.as_slice(), now.silent_targets.as_slice());
+        let (was, is) = (
+            self.silent_targets.as_slice(),
+            now.silent_targets.as_slice(),
+        );
         put_changes(&mut changes, Trouble::SilentTarget, was, is)?;
         let (was, is) = (self.other_engines.as_slice(), now.other_engines.as_slice());
         put_changes(&mut changes, Trouble::OtherEngine, was, is)?;
         let (was, is) = (self.silent_peers.as_slice(), now.silent_peers.as_slice());
         put_changes(&mut changes, Trouble::SilentPeer, was, is)?;
-        let (was, is) = (self.stale_instances.as_slice(), now.stale_instances.as_slice());
+        let (was, is) = (
+            self.stale_instances.as_slice(),
+            now.stale_instances.as_slice(),
+        );
         put_changes(&mut changes, Trouble::StaleInstance, was, is)?;
         Ok(changes)
     }

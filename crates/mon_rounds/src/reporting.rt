@@ -264,11 +264,7 @@ fn comes_from(address: Addr, event: RoundEvent) -> bool
 }
 
 /// Of each of these addresses of peers, whether a datagram came from it.
-fn heard_of(
-    alloc: Global,
-    peers: &[Addr],
-    events: &[RoundEvent],
-) -> Result<Vec<bool>, AllocError>
+fn heard_of(alloc: Global, peers: &[Addr], events: &[RoundEvent]) -> Result<Vec<bool>, AllocError>
     ensures { IfOk result (λ v. v.items ≡ heard_of peers.now events.now) }
 {
     let mut heard = Vec::with_capacity(alloc, peers.len())?;

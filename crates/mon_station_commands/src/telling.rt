@@ -108,10 +108,7 @@ pub(crate) fn tell_alarm<R: Eprint + AllocGlobal, S: Receiver + Drop, O: Outbox 
     change: &AlarmChange,
 ) -> Result<(), AllocError> {
     let watch = live.station.board().watch();
-    let line = live
-        .reports
-        .printing
-        .alarm_line(rt.alloc(), watch, change)?;
+    let line = live.reports.printing.alarm_line(rt.alloc(), watch, change)?;
     let _ = eprintln!(rt; "snmpmon: {line}");
     Ok(())
 }
@@ -146,7 +143,9 @@ fn silent_target<R: AllocGlobal, S: Receiver + Drop, O: Outbox + Drop>(
     match target.refusal {
         _ if !change.begins => format!(in rt.alloc(); "target {number} at {at} answers"),
         None => format!(in rt.alloc(); "target {number} at {at} gave up"),
-        Some(fault) => format!(in rt.alloc(); "target {number} at {at} has no valid response: {fault}"),
+        Some(fault) => format!(in rt.alloc();
+            "target {number} at {at} has no valid response: {fault}"
+        ),
     }
 }
 
@@ -211,7 +210,13 @@ fn stale_instance<R: AllocGlobal, S: Receiver + Drop, O: Outbox + Drop>(
         return format!(in alloc; "{object} has a new sample again");
     }
     let latest = live.transport.rounds.latest();
-    match explain_stale(alloc, latest, &live.freshness, live.station.board(), change.number)? {
+    match explain_stale(
+        alloc,
+        latest,
+        &live.freshness,
+        live.station.board(),
+        change.number,
+    )? {
         Some(reason) => format!(in alloc; "{object} has no new sample: {reason}"),
         None => format!(in alloc; "{object} has no new sample, though its target answers"),
     }
