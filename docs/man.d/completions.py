@@ -20,13 +20,15 @@ _snmpmon_offer() {
 }
 
 _snmpmon() {
-    # The words after snmpmon, the last of which is completed. Bash makes --format=json three words.
+    # The words after snmpmon, the last of which is completed. They are split by spaces only, since bash would also split an
+    # address at its colon; --format=json is two of them.
     local words=() word
-    for word in "${COMP_WORDS[@]:1:COMP_CWORD}"; do
-        [ "$word" = = ] || words+=("$word")
-    done
-    local cur=${COMP_WORDS[COMP_CWORD]}
-    [ "$cur" != = ] || { cur= && words+=(''); }
+    read -ra words <<< "${COMP_LINE:0:COMP_POINT}"
+    [[ ${COMP_LINE:0:COMP_POINT} != *[[:space:]] ]] || words+=('')
+    words=("${words[@]:1}")
+    word=${words[-1]:-}
+    [[ $word != --*=* ]] || words[-1]=${word%%=*} words+=("${word#*=}")
+    local cur=${words[-1]:-}
     COMPREPLY=()
     if [ "${#words[@]}" -lt 2 ]; then
         if [[ $cur == -* ]]; then _snmpmon_offer '@FIRST@' "$cur"; else _snmpmon_offer '@WORDS@' "$cur"; fi
@@ -46,6 +48,7 @@ _snmpmon() {
             value=
         elif [[ $word == -?* ]]; then
             value=${takes[$word]:-}
+            word=${word%%=*}
             [[ $again == *" $word "* ]] || options=${options/ $word / }
         else
             place=$((place + 1))
