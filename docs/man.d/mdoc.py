@@ -29,14 +29,20 @@ def words(text):
 def inline(text):
     """Running text: backquoted words in bold, links as their text."""
     text = re.sub(r"\[([^\]]*)\]\([^)]*\)", r"\1", text)
-    text = re.sub(r"\*\*([^*]*)\*\*", r"\1", text)
     parts = re.split(r"`([^`]*)`", text)
     return "".join(escaped(part) if i % 2 == 0 else f"\\fB{code(part)}\\fR" for i, part in enumerate(parts))
 
 
 def sentences(text):
     """Running text, a sentence on each line."""
-    lines = [inline(part) for part in SENTENCE.split(" ".join(text.split()))]
+    plain, parts = re.sub(r"\*\*([^*]*)\*\*", r"\1", text), []
+    for part in SENTENCE.split(" ".join(plain.split())):
+        # Within backquotes nothing is split.
+        if parts and parts[-1].count("`") % 2:
+            parts[-1] += " " + part
+        else:
+            parts.append(part)
+    lines = [inline(part) for part in parts]
     return [("\\&" + line) if line[:1] in (".", "'") else line for line in lines]
 
 

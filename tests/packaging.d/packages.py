@@ -4,7 +4,7 @@ import os
 import tempfile
 from pathlib import Path
 
-from common import PACKAGING, holds, need, ran, same
+from common import PACKAGING, TOP, holds, need, ran, same
 
 INSTALLED = [
     "bin/snmpmon",
@@ -41,6 +41,9 @@ def try_install(program):
         to = Path(folder) / "opt/snmpmon"
         same("what packaging/install lacks", [name for name in INSTALLED if not (to / name).is_file()], [])
         same("the installed program", digest(to / "bin/snmpmon"), digest(program))
+        build = dict(line.split(" ", 1) for line in (to / "share/doc/snmpmon/BUILD").read_text().splitlines())
+        same("the program of BUILD", build["program"], digest(program))
+        same("the commit of BUILD", build["commit"], ran("git", "-C", TOP, "rev-parse", "HEAD").strip())
         unit = (to / "lib/systemd/system/snmpmon@.service").read_text()
         holds("the unit runs another program than the installed one", "\nExecStart=/opt/snmpmon/bin/snmpmon station " in unit)
 
