@@ -37,10 +37,11 @@ def built_twice(script, program, folder):
 
 def try_install(program):
     with tempfile.TemporaryDirectory() as folder:
-        ran(PACKAGING / "install", "/opt/snmpmon", program, env=os.environ | {"DESTDIR": folder})
+        ran(PACKAGING / "install", "/opt/snmpmon", program, env=os.environ | {"DESTDIR": folder}, umask=0o077)
         to = Path(folder) / "opt/snmpmon"
         same("what packaging/install lacks", [name for name in INSTALLED if not (to / name).is_file()], [])
         same("the installed program", digest(to / "bin/snmpmon"), digest(program))
+        same("folders that not all may read", [str(path) for path in to.rglob("*") if path.stat().st_mode & 0o444 != 0o444], [])
         build = dict(line.split(" ", 1) for line in (to / "share/doc/snmpmon/BUILD").read_text().splitlines())
         same("the program of BUILD", build["program"], digest(program))
         same("the commit of BUILD", build["commit"], ran("git", "-C", TOP, "rev-parse", "HEAD").strip())
@@ -50,7 +51,10 @@ def try_install(program):
 
 def try_tarball(program):
     with tempfile.TemporaryDirectory() as folder:
-        ran("tar", "-C", folder, "-xf", built_twice("tarball", program, folder))
+        tarball = built_twice("tarball", program, folder)
+        names = [tuple(name.rstrip("/").split("/")) for name in ran("tar", "-tf", tarball).splitlines()]
+        same("order of the tarball", names, sorted(names))
+        ran("tar", "-C", folder, "-xf", tarball)
         to = next(Path(folder).glob("snmpmon-*"))
         files = sorted(str(path.relative_to(to)) for path in to.rglob("*") if path.is_file())
         same("what the tarball lacks", [name for name in [*INSTALLED, "LICENSE", "SHA256SUMS"] if name not in files], [])

@@ -153,6 +153,7 @@ def probe(sandbox):
             "executable": lambda: mmap.mmap(-1, 4096, prot=mmap.PROT_READ | mmap.PROT_WRITE | mmap.PROT_EXEC).close(),
             "root": lambda: os.setuid(0),
             "chroot": lambda: os.chroot("/"),
+            "resources": lambda: os.sched_setaffinity(0, os.sched_getaffinity(0)),
             "inet": lambda: socket.socket(socket.AF_INET, socket.SOCK_DGRAM).close(),
             "state": write_to(f"/var/lib/snmpmon/{INSTANCE}/x"),
             "runtime": write_to(f"/run/snmpmon/{INSTANCE}/x"),
