@@ -1,4 +1,4 @@
-"""Reads the command line from crates/mon_cli: the commands, their options and operands, and their help texts."""
+"""Reads the command line from crates/mon_cli: commands, their options and operands, help texts."""
 import re
 from pathlib import Path
 from typing import NamedTuple
@@ -100,7 +100,12 @@ def commands():
     words = arms(function(source("choice.rt"), "word"), TEXT)
     order = re.search(r"const CHOICES.*?= \[(.*?)\];", source("parser.rt"), re.S)[1]
     return [
-        Command(words[choice], unescaped(abouts[choice]), long[mores[choice]], named.get(listed[choice], []))
+        Command(
+            words[choice],
+            unescaped(abouts[choice]),
+            long[mores[choice]],
+            named.get(listed[choice], []),
+        )
         for choice in re.findall(r"Choice::(\w+)", order)
     ]
 

@@ -29,9 +29,13 @@ def without_comments(text):
 def numbers_of(text, fault):
     """The number of each variant of a fault's type, by its arm or its discriminant."""
     by_arm = re.findall(rf"((?:{fault}::\w+(?:\([^)]*\)| \{{ \.\. \}})?[\s|]*)+)=> (\d+)", text)
-    found = {variant: int(number) for arm, number in by_arm for variant in re.findall(r"::(\w+)", arm)}
+    found = {
+        variant: int(number) for arm, number in by_arm for variant in re.findall(r"::(\w+)", arm)
+    }
     body = re.search(rf"pub enum {fault} \{{(.*?)\n\}}", text, re.S)[1]
-    return found | {variant: int(number) for variant, number in re.findall(r"^\s*(\w+) = (\d+),", body, re.M)}
+    return found | {
+        variant: int(number) for variant, number in re.findall(r"^\s*(\w+) = (\d+),", body, re.M)
+    }
 
 
 def meanings_of(text, fault):
@@ -52,14 +56,18 @@ def meanings_of(text, fault):
 
 
 def faults():
-    """The faults by crate, in the order of TYPES and of their numbers: number, name, what was wrong."""
+    """The faults by crate in the order of their numbers: number, name, what was wrong."""
     found = {}
     for crate, path, fault in TYPES:
         text = (CRATES / path).read_text(encoding="utf-8")
         numbers, meanings = numbers_of(text, fault), meanings_of(text, fault)
         for variant, number in sorted(numbers.items(), key=lambda item: item[1]):
-            # A part's fault is named by the part; the numbers that stand for parts are never printed.
-            inner = re.search(rf"^    {variant}\((Poll|Response|Exchange|Keeper|Image|Station|Form)Fault\)", text, re.M)
+            # A part's fault is printed with the part's name and number.
+            inner = re.search(
+                rf"^    {variant}\((Poll|Response|Exchange|Keeper|Image|Station|Form)Fault\)",
+                text,
+                re.M,
+            )
             if number != 1 and not inner:
                 found.setdefault(crate, {}).setdefault((number, variant), meanings[variant])
     return {crate: dict(sorted(named.items())) for crate, named in found.items()}

@@ -1,4 +1,4 @@
-"""Writes mdoc(7): plain text with backquotes, the help texts of commands, and the Markdown of docs/."""
+"""Writes mdoc(7): text with backquotes, help texts of commands, and the Markdown of docs/."""
 import re
 
 SENTENCE = re.compile(r"(?<=[.!?:]) +(?=[A-Z(`])")
@@ -22,7 +22,12 @@ def word(text):
 def words(text):
     """The argument of a macro: words with code in bold."""
     parts = re.split(r"`([^`]*)`", text.replace("**", "").replace("*", ""))
-    shown = [" ".join(word(w) for w in part.split(" ")) if i % 2 == 0 else "\\fB" + code(part).replace('"', "\\(dq") + "\\fR" for i, part in enumerate(parts)]
+    shown = [
+        " ".join(word(w) for w in part.split(" "))
+        if i % 2 == 0
+        else "\\fB" + code(part).replace('"', "\\(dq") + "\\fR"
+        for i, part in enumerate(parts)
+    ]
     return "".join(shown)
 
 
@@ -30,7 +35,9 @@ def inline(text):
     """Running text: backquoted words in bold, links as their text."""
     text = re.sub(r"\[([^\]]*)\]\([^)]*\)", r"\1", text)
     parts = re.split(r"`([^`]*)`", text)
-    return "".join(escaped(part) if i % 2 == 0 else f"\\fB{code(part)}\\fR" for i, part in enumerate(parts))
+    return "".join(
+        escaped(part) if i % 2 == 0 else f"\\fB{code(part)}\\fR" for i, part in enumerate(parts)
+    )
 
 
 def sentences(text):
@@ -51,7 +58,11 @@ def paragraph(text):
 
 
 def literal(lines):
-    return [".Bd -literal -offset indent", *[("\\&" + code(line)) if line[:1] in (".", "'") else code(line) for line in lines], ".Ed"]
+    return [
+        ".Bd -literal -offset indent",
+        *[("\\&" + code(line)) if line[:1] in (".", "'") else code(line) for line in lines],
+        ".Ed",
+    ]
 
 
 def width(terms):
@@ -86,7 +97,11 @@ def help_text(text):
     for block in text.split("\n\n"):
         rows = block.splitlines()
         if m := re.match(r"Examples?: +", block):
-            lines += [".Pp", "Examples:" if len(rows) > 1 else "Example:", *literal([row.removeprefix(m[0]).strip() for row in rows])]
+            lines += [
+                ".Pp",
+                "Examples:" if len(rows) > 1 else "Example:",
+                *literal([row.removeprefix(m[0]).strip() for row in rows]),
+            ]
         elif all(row.startswith("  ") for row in rows):
             items = help_list(rows)
             lines += tagged(items) if items else literal([row.strip() for row in rows])
@@ -100,10 +115,18 @@ def cells(row):
 
 
 def table(rows):
-    """A table of Markdown: all cells but the last are the term, and the last one says what it is."""
-    items = [(" ".join(row[:-1]), row[-1]) for row in map(cells, rows) if not all(re.fullmatch(r":?-+:?", cell) for cell in row)]
+    """A table of Markdown: the cells before the last one are the term of an item."""
+    items = [
+        (" ".join(row[:-1]), row[-1])
+        for row in map(cells, rows)
+        if not all(re.fullmatch(r":?-+:?", cell) for cell in row)
+    ]
     head, rest = items[0], items[1:]
-    lines = [f".Bl -tag -width {width([term for term, _ in rest])}n", f".It Em {words(head[0])}", f".Em {words(head[1])}"]
+    lines = [
+        f".Bl -tag -width {width([term for term, _ in rest])}n",
+        f".It Em {words(head[0])}",
+        f".Em {words(head[1])}",
+    ]
     for term, body in rest:
         lines += [f".It {words(term)}", *(sentences(body) if body else ["\\&"])]
     return [*lines, ".El"]
@@ -124,8 +147,16 @@ def markdown(text):
             lines += literal([row[4:] for row in rows])
         elif rows[0].startswith("- "):
             items = re.split(r"^- ", block, flags=re.M)[1:]
-            lines += [".Bl -bullet", *[line for item in items for line in [".It", *sentences(item)]], ".El"]
+            lines += [
+                ".Bl -bullet",
+                *[line for item in items for line in [".It", *sentences(item)]],
+                ".El",
+            ]
         else:
             lines += paragraph(block)
     # No paragraph begins right after a head.
-    return [line for at, line in enumerate(lines) if not (line == ".Pp" and at and lines[at - 1].startswith(".Sh"))]
+    return [
+        line
+        for at, line in enumerate(lines)
+        if not (line == ".Pp" and at and lines[at - 1].startswith(".Sh"))
+    ]

@@ -1,5 +1,8 @@
-"""Reads the keys of settings: which there are and their ranges from crates/mon_settings, their words from keys.toml, and an
-example of each from examples/."""
+"""Reads the keys of settings.
+
+Which there are, their ranges and whether they may be left out are in crates/mon_settings, their
+words in keys.toml, and an example of each in examples/.
+"""
 import json
 import re
 import tomllib
@@ -24,7 +27,10 @@ READERS = {
     "peer": ["peer_of"],
     "alarm": ["alarm_of"],
 }
-READING = re.compile(r"\b(needed_at|default_at|optional_at|rows_between|rows_up_to|list_at|name_at find|name_or_none find|growth_at) key\.(\w+)")
+READING = re.compile(
+    r"\b(needed_at|default_at|optional_at|rows_between|rows_up_to|list_at|growth_at"
+    r"|name_at find|name_or_none find) key\.(\w+)"
+)
 OPTIONAL = {"default_at", "optional_at", "rows_up_to", "name_or_none find"}
 
 
@@ -51,7 +57,10 @@ def written():
 def grammar():
     """The variants of each table's keys, by the table's name."""
     text, names = source("grammar.rt"), written()
-    consts = {m[1]: re.findall(r"\w+", m[2]) for m in re.finditer(r"const (\w+): \[Key; \d+\] = \[([^\]]*)\];", text)}
+    consts = {
+        m[1]: re.findall(r"\w+", m[2])
+        for m in re.finditer(r"const (\w+): \[Key; \d+\] = \[([^\]]*)\];", text)
+    }
     tables = {"agent": consts["AGENT"], "station": consts["STATION"]}
     for m in re.finditer(r"^ {8}([\w |]+) => &(?:\[([\w, ]*)\]|(\w+)),", text, re.M):
         for table in re.findall(r"\w+", m[1]):
@@ -72,7 +81,10 @@ def wanted_arms(body):
 def wanted():
     """A function that says what a key of a table must be."""
     text = source("wanted.rt")
-    bodies = {name: re.search(rf"fn {name}\(.*?\n\}}", text, re.S)[0] for name in ("at_top", "in_table", "value", "number")}
+    bodies = {
+        name: re.search(rf"fn {name}\(.*?\n\}}", text, re.S)[0]
+        for name in ("at_top", "in_table", "value", "number")
+    }
     nested = re.search(r"Key::(\w+) => match table \{(.*?)_ =>", bodies["in_table"], re.S)
     bodies["in_table"] = bodies["in_table"].replace(nested[0], "")
     inner = wanted_arms(nested[2])
@@ -80,7 +92,11 @@ def wanted():
     tables = {name: variant for variant, name in written().items()}
 
     def says(table, key):
-        chain = [by_body["at_top" if table in ("agent", "station") else "in_table"], by_body["value"], by_body["number"]]
+        chain = [
+            by_body["at_top" if table in ("agent", "station") else "in_table"],
+            by_body["value"],
+            by_body["number"],
+        ]
         if key == nested[1] and tables.get(table) in inner:
             chain.insert(0, {key: inner[tables[table]]})
         return next(found[key] for found in chain if key in found)
@@ -89,7 +105,7 @@ def wanted():
 
 
 def optional_keys():
-    """The keys of each table that may be left out, and those that must be there, as two sets of variants."""
+    """Whether a key may be left out, by table and by the key's variant."""
     texts = [path.read_text(encoding="utf-8") for path in sorted((CRATE / "specs").glob("*.antt"))]
     bodies = {}
     for text in texts:
@@ -103,12 +119,14 @@ def optional_keys():
 
 
 def examples():
-    """A value of each key by table, from the first file of examples/ that has one that is not empty."""
+    """A value of each key by table, from the first file that has one that is not empty."""
     found = {}
 
     def add(table, values):
         for key, value in values.items():
-            inner = "growth" if key in ("in_octets", "in_packets", "out_octets", "out_packets") else key
+            inner = (
+                "growth" if key in ("in_octets", "in_packets", "out_octets", "out_packets") else key
+            )
             for row in value if isinstance(value, list) else [value]:
                 if isinstance(row, dict):
                     add(inner, row)
@@ -116,21 +134,28 @@ def examples():
                 found[table, key] = value
 
     for name in EXAMPLES:
-        add("agent" if name.startswith("agent") else "station", tomllib.loads((TOP / "examples" / name).read_text(encoding="utf-8")))
+        add(
+            "agent" if name.startswith("agent") else "station",
+            tomllib.loads((TOP / "examples" / name).read_text(encoding="utf-8")),
+        )
     return found
 
 
 def in_toml(key, value, inner=False):
     """A line of TOML that gives a key this value; of a list of tables its head."""
     if isinstance(value, list) and isinstance(value[0], dict):
-        return f"[[{key}]]" if key != "objects" else "objects = [{ " + in_toml("name", value[0]["name"]) + " }]"
+        return (
+            f"[[{key}]]"
+            if key != "objects"
+            else "objects = [{ " + in_toml("name", value[0]["name"]) + " }]"
+        )
     if isinstance(value, dict):
         return f"{key} = {{ " + ", ".join(in_toml(k, v) for k, v in value.items()) + " }"
     return f"{key} = {json.dumps(value)}"
 
 
 def tables():
-    """The keys of each table in the order of the grammar, and what is missing or too much in keys.toml."""
+    """The keys of each table in the order of the grammar, and what is wrong in keys.toml."""
     words = tomllib.loads((Path(__file__).parent / "keys.toml").read_text(encoding="utf-8"))
     says, optional, values, names = wanted(), optional_keys(), examples(), written()
     found, faults = {}, []
@@ -144,9 +169,13 @@ def tables():
                 continue
             word, left_out = said.pop(name), optional[table][variant]
             if left_out != ("default" in word):
-                faults.append(f"keys.toml: {table}.{name} is {'optional, and has no' if left_out else 'needed, and has a'} default")
+                faults.append(
+                    f"keys.toml: {table}.{name} {'lacks a' if left_out else 'has no'} default"
+                )
             wanted_text = says(table, variant).replace(" is wanted", "").rstrip(",")
             example = in_toml(name, values[table, name])
-            found[table].append(Key(name, wanted_text, left_out, word["meaning"], word.get("default"), example))
+            found[table].append(
+                Key(name, wanted_text, left_out, word["meaning"], word.get("default"), example)
+            )
         faults += [f"keys.toml: {table}.{name} is no key" for name in said]
     return found, faults + [f"keys.toml: {table} is no table" for table in words]

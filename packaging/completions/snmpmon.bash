@@ -1,11 +1,13 @@
-# Completes the arguments of snmpmon. Written by docs/man from the command line's table in crates/mon_cli.
+# Completes the arguments of snmpmon. Written by docs/man from crates/mon_cli.
 
 # Offers what a value may be: files (@PATTERN), one of some words, or nothing (-).
 _snmpmon_offer() {
     case $1 in
         @*)
             compopt -o filenames 2> /dev/null
-            mapfile -t COMPREPLY < <({ compgen -f -X "!${1#@}" -- "$2"; compgen -d -- "$2"; } | sort -u)
+            mapfile -t COMPREPLY < <(
+                { compgen -f -X "!${1#@}" -- "$2"; compgen -d -- "$2"; } | sort -u
+            )
             ;;
         -) ;;
         *) mapfile -t COMPREPLY < <(compgen -W "$1" -- "$2") ;;
@@ -13,22 +15,24 @@ _snmpmon_offer() {
 }
 
 _snmpmon() {
-    # The words after snmpmon, the last of which is completed. They are split by spaces only, since bash would also split an
-    # address at its colon; --format=json is two of them.
+    # The arguments up to the one that is completed. They are split at spaces only, since bash would
+    # also split an address at its colon; --format=json is two of them.
     local words=() word
     read -ra words <<< "${COMP_LINE:0:COMP_POINT}"
     [[ ${COMP_LINE:0:COMP_POINT} != *[[:space:]] ]] || words+=('')
     words=("${words[@]:1}")
     word=${words[-1]:-}
     [[ $word != --*=* ]] || words[-1]=${word%%=*} words+=("${word#*=}")
-    local cur=${words[-1]:-}
+    local cur=${words[-1]:-} options
     COMPREPLY=()
     if [ "${#words[@]}" -lt 2 ]; then
-        if [[ $cur == -* ]]; then _snmpmon_offer '--version -h --help' "$cur"; else _snmpmon_offer 'replay get next bulk walk set agent answer mib station report selftest rehearse help' "$cur"; fi
+        options='--version -h --help'
+        [[ $cur == -* ]] || options='replay get next bulk walk set agent answer mib station report selftest rehearse help'
+        _snmpmon_offer "$options" "$cur"
         return
     fi
     # The options of the command, those that may be given again, what each takes, and its operands.
-    local options again=' ' operands=()
+    local again=' ' operands=()
     local -A takes=()
     case ${words[0]} in
         replay)

@@ -20,7 +20,15 @@ def need(*tools):
 
 def run(*words, **more):
     """Runs a program, and returns its status and all that it prints."""
-    done = subprocess.run([str(w) for w in words], stdout=subprocess.PIPE, stderr=subprocess.STDOUT, text=True, errors="replace", timeout=600, **more)
+    done = subprocess.run(
+        [str(w) for w in words],
+        stdout=subprocess.PIPE,
+        stderr=subprocess.STDOUT,
+        text=True,
+        errors="replace",
+        timeout=600,
+        **more,
+    )
     return done.returncode, done.stdout
 
 
@@ -28,7 +36,9 @@ def ran(*words, **more):
     """Runs a program, which must succeed, and returns what it prints."""
     status, printed = run(*words, **more)
     if status != 0:
-        raise AssertionError(f"{Path(str(words[0])).name} ended with status {status}: {printed[-600:]}")
+        raise AssertionError(
+            f"{Path(str(words[0])).name} ended with status {status}: {printed[-600:]}"
+        )
     return printed
 
 

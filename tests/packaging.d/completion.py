@@ -9,7 +9,7 @@ from pathlib import Path
 from common import PACKAGING, holds, need, ran, same
 
 SCRIPT = PACKAGING / "completions/snmpmon.bash"
-# Calls the completion as bash does: with the line, and with its words split at spaces and at COMP_WORDBREAKS' equals sign.
+# Calls the completion as bash does: with the line, and with its words, split at equals signs too.
 CALL = r"""
 source "$1"
 COMP_LINE=$2 COMP_POINT=${#2}
@@ -35,20 +35,33 @@ def lines():
             yield typed.replace("_", " "), sorted(offered.split())
 
 
-def completed_by_tab(folder, typed):
-    """What an interactive bash shows after a line and a tab."""
-    child, terminal = pty.fork()
-    if child == 0:
-        os.chdir(folder)
-        os.execvpe("bash", ["bash", "--norc", "--noprofile", "-i"], {"PATH": os.environ["PATH"], "PS1": "> ", "TERM": "dumb"})
-    os.write(terminal, f"source {SCRIPT}\n{typed}\t".encode())
+def read_idle(terminal):
+    """What a terminal shows until nothing comes for two seconds, at most for twenty."""
     shown, end = b"", time.monotonic() + 20
     while time.monotonic() < end and select.select([terminal], [], [], 2)[0]:
         shown += os.read(terminal, 4096)
-    os.kill(child, 9)
-    os.close(terminal)
-    os.waitpid(child, 0)
     return shown.decode(errors="replace")
+
+
+def completed_by_tab(folder, shell, first, typed):
+    """What an interactive shell shows after a first line, and then a line with tabs in it."""
+    child, terminal = pty.fork()
+    if child == 0:
+        os.chdir(folder)
+        os.execvpe(
+            shell[0],
+            shell,
+            {"PATH": os.environ["PATH"], "PS1": "> ", "TERM": "dumb", "HOME": folder},
+        )
+    try:
+        os.write(terminal, f"{first}\n".encode())
+        read_idle(terminal)
+        os.write(terminal, f"{typed}\t".encode())
+        return read_idle(terminal)
+    finally:
+        os.kill(child, 9)
+        os.close(terminal)
+        os.waitpid(child, 0)
 
 
 def try_bash(_):
@@ -66,10 +79,28 @@ def try_tab(_):
     need("bash")
     with tempfile.TemporaryDirectory() as folder:
         make_folder(folder)
-        shown = completed_by_tab(folder, "snmpmon stati\told")
-        holds(f"tabs did not complete the line: {shown[-200:]!r}", "snmpmon station old.toml" in shown)
+        shown = completed_by_tab(
+            folder,
+            ["bash", "--norc", "--noprofile", "-i"],
+            f"source {SCRIPT}",
+            "snmpmon stati\told",
+        )
+        holds(
+            f"tabs of bash did not complete the line: {shown[-200:]!r}",
+            "snmpmon station old.toml" in shown,
+        )
 
 
 def try_zsh(_):
     need("zsh")
     ran("zsh", "-n", PACKAGING / "completions/_snmpmon")
+    with tempfile.TemporaryDirectory() as folder:
+        make_folder(folder)
+        first = f"fpath=({PACKAGING}/completions $fpath); autoload -Uz compinit; compinit -D -u"
+        shown = completed_by_tab(
+            folder, ["zsh", "-f", "-i"], first, "snmpmon stati\told\t--form\tpro"
+        )
+        holds(
+            f"tabs of zsh did not complete the line: {shown[-300:]!r}",
+            "station old.toml --format prometheus" in shown.replace(" \x08", ""),
+        )

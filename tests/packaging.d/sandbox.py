@@ -1,6 +1,9 @@
-"""Runs a command line of a unit by hand, under the restrictions that systemd would make of the unit's options: its user, folders,
-credentials and environment, a file system that is read-only but for its folders, no privileges, its system calls, address
-families and no memory that is writable and executable."""
+"""Runs the command line of a unit by hand, under restrictions that systemd makes of its options.
+
+These are its user, folders, credentials and environment; a file system of which only its folders
+can be written; no privileges; its system calls and address families; and no memory that is writable
+and executable.
+"""
 import ctypes
 import os
 import re
@@ -11,22 +14,42 @@ import sys
 from functools import cache
 from pathlib import Path
 
-from common import LeftOut, need, ran, same
+from common import LeftOut, need, ran, run, same
 
 LIBC = ctypes.CDLL(None, use_errno=True)
 UID = 61321  # of the range that systemd's dynamic users have
-CLONE_NEWNS, MS_RDONLY, MS_NOSUID, MS_NODEV, MS_REMOUNT, MS_BIND, MS_REC, MS_PRIVATE = 0x20000, 1, 2, 4, 32, 4096, 16384, 1 << 18
+CLONE_NEWNS, MS_RDONLY, MS_NOSUID, MS_NODEV, MS_REMOUNT, MS_BIND, MS_REC, MS_PRIVATE = (
+    0x20000,
+    1,
+    2,
+    4,
+    32,
+    4096,
+    16384,
+    1 << 18,
+)
 PR_SET_NO_NEW_PRIVS, PR_CAPBSET_DROP = 38, 24
 ALLOW, EQUAL, MASKED = 0x7FFF0000, 4, 7
 # What `enter` does whatever the unit says, so the unit must say it.
-ALWAYS = {"DynamicUser": ["yes"], "ProtectSystem": ["strict"], "NoNewPrivileges": ["yes"], "CapabilityBoundingSet": [""], "AmbientCapabilities": [""]}
+ALWAYS = {
+    "DynamicUser": ["yes"],
+    "ProtectSystem": ["strict"],
+    "NoNewPrivileges": ["yes"],
+    "CapabilityBoundingSet": [""],
+    "AmbientCapabilities": [""],
+}
 FAMILIES = {"AF_UNIX": 1, "AF_INET": 2, "AF_INET6": 10}
 
 
 class Compared(ctypes.Structure):
     """libseccomp's `scmp_arg_cmp`."""
 
-    _fields_ = [("arg", ctypes.c_uint), ("op", ctypes.c_int), ("a", ctypes.c_uint64), ("b", ctypes.c_uint64)]
+    _fields_ = [
+        ("arg", ctypes.c_uint),
+        ("op", ctypes.c_int),
+        ("a", ctypes.c_uint64),
+        ("b", ctypes.c_uint64),
+    ]
 
 
 @cache
@@ -86,7 +109,9 @@ def load_filter(rules):
         number = library.seccomp_syscall_resolve_name(name.encode())
         if number >= 0:
             array = (Compared * len(compared))(*(Compared(*one) for one in compared))
-            library.seccomp_rule_add_array(context, ctypes.c_uint32(ALLOW), number, len(compared), array)
+            library.seccomp_rule_add_array(
+                context, ctypes.c_uint32(ALLOW), number, len(compared), array
+            )
     if library.seccomp_load(context) != 0:
         raise OSError("seccomp_load")
 
@@ -106,8 +131,10 @@ class Sandbox:
     """An instance of the unit of a root folder."""
 
     def __init__(self, root, unit, instance):
-        need("systemd-analyze")
+        need("systemd-analyze", "unshare")
         seccomp()
+        if run("unshare", "-m", "true")[0] != 0:
+            raise LeftOut("no file systems may be mounted here")
         self.root, self.instance = Path(root), instance
         self.options = options_of(unit, instance)
         same("options of the unit", {name: self.options.get(name) for name in ALWAYS}, ALWAYS)
@@ -119,7 +146,11 @@ class Sandbox:
 
     def make_folders(self):
         """Makes what systemd makes before it starts a unit."""
-        for folder, mode in ((self.state, int(self.options["StateDirectoryMode"][0], 8)), (self.runtime, 0o755), (self.root / self.credentials[1:], 0o500)):
+        for folder, mode in (
+            (self.state, int(self.options["StateDirectoryMode"][0], 8)),
+            (self.runtime, 0o755),
+            (self.root / self.credentials[1:], 0o500),
+        ):
             folder.mkdir(parents=True, exist_ok=True)
             folder.chmod(mode)
             os.chown(folder, UID, UID)
@@ -193,10 +224,17 @@ class Sandbox:
         """Starts the unit's command line, with its output in a file, and returns the process."""
         self.make_folders()
         with open(log, "wb") as out:
-            return subprocess.Popen(self.command(), env=self.environment(), stdout=out, stderr=out, stdin=subprocess.DEVNULL, preexec_fn=self.enter)
+            return subprocess.Popen(
+                self.command(),
+                env=self.environment(),
+                stdout=out,
+                stderr=out,
+                stdin=subprocess.DEVNULL,
+                preexec_fn=self.enter,
+            )
 
     def probe(self, tries):
-        """Makes each call of `tries` within the sandbox; returns by name the errno of each, 0 if it succeeded."""
+        """Makes each call of `tries` within the sandbox; returns the errno of each, 0 if none."""
         self.make_folders()
         read, write = os.pipe()
         child = os.fork()

@@ -1,5 +1,8 @@
-"""The Debian package in use: installed, run as the unit's command line under the unit's restrictions, upgraded, removed and purged;
-in a root of dpkg's, or in a system made by debootstrap."""
+"""The Debian package in use: installed, run, upgraded, removed and purged.
+
+It runs as the unit's command line under the unit's restrictions, in a root of dpkg's, or in a
+system that debootstrap makes.
+"""
 import contextlib
 import errno
 import mmap
@@ -14,6 +17,7 @@ import time
 from pathlib import Path
 
 from common import PACKAGING, LeftOut, holds, need, ran, same
+from dashboard import SAMPLE, metrics_of
 from packages import digest
 from sandbox import UID, Sandbox
 
@@ -37,7 +41,14 @@ class DpkgRoot:
             shutil.copy(os.path.realpath(library), to)
 
     def dpkg(self, *words):
-        ran("dpkg", f"--root={self.folder}", f"--log={self.folder}/dpkg.log", "--force-script-chrootless", "--force-depends", *words)
+        ran(
+            "dpkg",
+            f"--root={self.folder}",
+            f"--log={self.folder}/dpkg.log",
+            "--force-script-chrootless",
+            "--force-depends",
+            *words,
+        )
 
     def install(self, deb):
         self.dpkg("-i", deb)
@@ -51,7 +62,13 @@ class System(DpkgRoot):
         self.folder.chmod(0o755)
         release = re.search(r"VERSION_CODENAME=(\w+)", Path("/etc/os-release").read_text())[1]
         try:
-            ran("debootstrap", "--variant=minbase", "--include=man-db,bash-completion", release, folder)
+            ran(
+                "debootstrap",
+                "--variant=minbase",
+                "--include=man-db,bash-completion",
+                release,
+                folder,
+            )
         except AssertionError as error:
             raise LeftOut(f"debootstrap could not make a system: {str(error)[-200:]}") from None
 
@@ -63,7 +80,12 @@ class System(DpkgRoot):
         self.dpkg("-i", "/tmp/snmpmon.deb")
 
     def run(self, *words):
-        return ran("chroot", self.folder, *words, env={"PATH": "/usr/sbin:/usr/bin:/sbin:/bin", "HOME": "/root", "LC_ALL": "C.UTF-8"})
+        return ran(
+            "chroot",
+            self.folder,
+            *words,
+            env={"PATH": "/usr/sbin:/usr/bin:/sbin:/bin", "HOME": "/root", "LC_ALL": "C.UTF-8"},
+        )
 
 
 def within(root, words, cwd="/"):
@@ -88,16 +110,25 @@ def free_port():
 
 
 def write_settings(root):
-    """The settings of a station over an agent, by the package's examples, readable by root only; the agent's are returned."""
+    """Writes the settings of an agent and of a station over it, by the package's examples."""
     examples = root.folder / "usr/share/doc/snmpmon/examples"
     agent_at = free_port()
     with socket.socket(socket.AF_INET, socket.SOCK_DGRAM) as held:
         held.bind(("127.0.0.1", agent_at))
         station_at = free_port()
-    agent = (examples / "agent.toml").read_text().replace("127.0.0.1:16100", f"127.0.0.1:{agent_at}")
+    agent = (
+        (examples / "agent.toml").read_text().replace("127.0.0.1:16100", f"127.0.0.1:{agent_at}")
+    )
     (root.folder / "agent.toml").write_text(agent)
-    station = (examples / "station.toml").read_text().replace("127.0.0.1:16100", f"127.0.0.1:{agent_at}").replace("127.0.0.1:16101", f"127.0.0.1:{station_at}")
-    station = re.sub(r"\[\[peer\]\]\n(?:\w.*\n)+", "", re.sub(r"^modules = .*\n", "", station, flags=re.M))
+    station = (
+        (examples / "station.toml")
+        .read_text()
+        .replace("127.0.0.1:16100", f"127.0.0.1:{agent_at}")
+        .replace("127.0.0.1:16101", f"127.0.0.1:{station_at}")
+    )
+    station = re.sub(
+        r"\[\[peer\]\]\n(?:\w.*\n)+", "", re.sub(r"^modules = .*\n", "", station, flags=re.M)
+    )
     path = root.folder / f"etc/snmpmon/{INSTANCE}.toml"
     path.write_text(station)
     path.chmod(0o600)
@@ -107,7 +138,9 @@ def write_settings(root):
 def agent_of(root):
     """An agent that serves meanwhile, in the root and without restrictions."""
     words = ["/usr/bin/snmpmon", "agent", "/agent.toml", "--count", "1000"]
-    agent = subprocess.Popen(words, preexec_fn=lambda: os.chroot(root.folder), env={}, stderr=subprocess.DEVNULL)
+    agent = subprocess.Popen(
+        words, preexec_fn=lambda: os.chroot(root.folder), env={}, stderr=subprocess.DEVNULL
+    )
     try:
         yield
     finally:
@@ -116,7 +149,7 @@ def agent_of(root):
 
 
 def figures_of_run(root, sandbox):
-    """What the unit's station reports for Prometheus after its first round, and what it logs; then it is stopped as systemd does."""
+    """Runs the unit until its first round is over; returns its report of that and its log."""
     prom, log = sandbox.runtime / "station.prom", root.folder / "log"
     prom.unlink(missing_ok=True)
     station = sandbox.start(log)
@@ -141,7 +174,7 @@ def write_to(path):
 
 
 def probe(sandbox):
-    """Under the unit's restrictions only its folders can be written, and only its families be had; it is nobody."""
+    """Tries what the unit must not be able to do, and what it needs."""
     refused = sandbox.probe(
         {
             "etc": write_to("/etc/snmpmon/x"),
@@ -150,7 +183,9 @@ def probe(sandbox):
             "settings": lambda: open(f"/etc/snmpmon/{INSTANCE}.toml").close(),
             "inet6": lambda: socket.socket(socket.AF_INET6, socket.SOCK_DGRAM).close(),
             "packet": lambda: socket.socket(socket.AF_INET, socket.SOCK_RAW, 1).close(),
-            "executable": lambda: mmap.mmap(-1, 4096, prot=mmap.PROT_READ | mmap.PROT_WRITE | mmap.PROT_EXEC).close(),
+            "executable": lambda: mmap.mmap(
+                -1, 4096, prot=mmap.PROT_READ | mmap.PROT_WRITE | mmap.PROT_EXEC
+            ).close(),
             "root": lambda: os.setuid(0),
             "chroot": lambda: os.chroot("/"),
             "resources": lambda: os.sched_setaffinity(0, os.sched_getaffinity(0)),
@@ -160,38 +195,78 @@ def probe(sandbox):
             "credential": lambda: open(f"{sandbox.credentials}/{INSTANCE}.toml").close(),
         }
     )
-    same("what the unit can do", [name for name, number in refused.items() if number == 0], ["inet", "state", "runtime", "credential"])
-    same("why a folder is refused", {refused[name] for name in ("etc", "usr", "private")}, {errno.EROFS})
+    same(
+        "what the unit can do",
+        [name for name, number in refused.items() if number == 0],
+        ["inet", "state", "runtime", "credential"],
+    )
+    same(
+        "why a folder is refused",
+        {refused[name] for name in ("etc", "usr", "private")},
+        {errno.EROFS},
+    )
     (sandbox.state / "x").unlink()
+
+
+def built(program, folder, **environment):
+    return ran(PACKAGING / "deb", program, folder, env=os.environ | environment).split()[-1]
+
+
+def try_first_run(root, sandbox):
+    """The unit polls, reports and saves, each where the unit says."""
+    figures, log = figures_of_run(root, sandbox)
+    up = re.search(r'^snmpmon_target_up\{target="1".*\} 1$', figures, re.M)
+    holds(f"the target is not up: {figures}", up)
+    same("metrics of a running station", metrics_of(figures), metrics_of(SAMPLE.read_text()))
+    holds(f"no incarnation 1: {log}", ", incarnation 1, " in log)
+    kept = (sandbox.state / "a.mon").stat()
+    same("owner and size of the file", (kept.st_uid, kept.st_size), (UID, 2097152))
+    report = saved_report(root)
+    holds(f"the report has no sample: {report}", "n=1 " in report)
+
+
+def try_upgrade(root, sandbox, deb):
+    """An upgrade leaves the file, and the next run goes on over it, by other options."""
+    kept = sandbox.state / "a.mon"
+    before = digest(kept), saved_report(root)
+    root.install(deb)
+    same("the file after an upgrade", (digest(kept), saved_report(root)), before)
+    out = f"/run/snmpmon/{INSTANCE}/station.prom"
+    options = root.folder / f"etc/snmpmon/{INSTANCE}.env"
+    options.write_text(f"OPTIONS=--interval 1 --format json --out {out}\n")
+    figures, log = figures_of_run(root, sandbox)
+    holds(f"the options are not those of the file: {figures}", figures.startswith("{"))
+    holds(f"no incarnation 2 after an upgrade: {log}", ", incarnation 2, " in log)
+
+
+def try_removal(root, sandbox):
+    """A removal keeps the file, a purge does not; neither touches settings."""
+
+    def left():
+        paths = ["usr/bin/snmpmon", "var/lib/snmpmon", "var/lib/private/snmpmon"]
+        return [path for path in paths if (root.folder / path).exists()]
+
+    root.dpkg("--remove", "snmpmon")
+    same("what a removal leaves", left(), ["var/lib/snmpmon", "var/lib/private/snmpmon"])
+    holds("a removal took the file", (sandbox.state / "a.mon").is_file())
+    root.dpkg("--purge", "snmpmon")
+    same("what a purge leaves", left(), [])
+    settings = root.folder / f"etc/snmpmon/{INSTANCE}.toml"
+    holds("a purge took settings that were written by hand", settings.is_file())
 
 
 def try_in(root, program):
     """The package's life in a root."""
     with tempfile.TemporaryDirectory() as debs:
-        root.install(ran(PACKAGING / "deb", program, debs).split()[-1])
+        root.install(built(program, debs))
         same("the installed program", digest(root.folder / "usr/bin/snmpmon"), digest(program))
         write_settings(root)
         sandbox = Sandbox(root.folder, root.folder / UNIT, INSTANCE)
         probe(sandbox)
         with agent_of(root):
-            figures, log = figures_of_run(root, sandbox)
-            holds(f"the target is not up: {figures}", re.search(r'^snmpmon_target_up\{target="1".*\} 1$', figures, re.M))
-            holds(f"no incarnation 1: {log}", ", incarnation 1, " in log)
-            kept = sandbox.state / "a.mon"
-            same("owner of the file", (kept.stat().st_uid, kept.stat().st_size), (UID, 2097152))
-            before, report = digest(kept), saved_report(root)
-            holds(f"the report has no sample: {report}", "n=1 " in report)
-            root.install(ran(PACKAGING / "deb", program, debs, env=os.environ | {"VERSION": "0.1.0-2"}).split()[-1])
-            same("the file after an upgrade", (digest(kept), saved_report(root)), (before, report))
-            (root.folder / f"etc/snmpmon/{INSTANCE}.env").write_text(f"OPTIONS=--interval 1 --format json --out /run/snmpmon/{INSTANCE}/station.prom\n")
-            figures, log = figures_of_run(root, sandbox)
-            holds(f"the options are not those of the file: {figures}", figures.startswith("{"))
-            holds(f"no incarnation 2 after an upgrade: {log}", ", incarnation 2, " in log)
-        root.dpkg("--remove", "snmpmon")
-        same("program and file after a removal", ((root.folder / "usr/bin/snmpmon").exists(), kept.is_file()), (False, True))
-        root.dpkg("--purge", "snmpmon")
-        same("folders after a purge", ((root.folder / "var/lib/snmpmon").exists(), (root.folder / "var/lib/private/snmpmon").exists()), (False, False))
-        holds("a purge removed settings that were written by hand", (root.folder / f"etc/snmpmon/{INSTANCE}.toml").is_file())
+            try_first_run(root, sandbox)
+            try_upgrade(root, sandbox, built(program, debs, VERSION="0.1.0-2"))
+        try_removal(root, sandbox)
 
 
 def saved_report(root):
@@ -211,15 +286,27 @@ def try_dpkg_root(program):
 
 
 def try_system(program):
-    """In a system of debootstrap's, with what a new user tries besides: man and bash's completion."""
+    """In a system of debootstrap's, with what a new user tries: man and bash's completion."""
     need("debootstrap", "dpkg-deb")
     need_root()
     with tempfile.TemporaryDirectory() as folder, tempfile.TemporaryDirectory() as debs:
         root = System(folder, program)
         root.install(ran(PACKAGING / "deb", program, debs).split()[-1])
-        holds("man shows no page", "SNMPMON(1)" in root.run("man", "-P", "cat", "snmpmon").split("\n")[0])
-        load = "source /usr/share/bash-completion/bash_completion; _completion_loader snmpmon; complete -p snmpmon"
-        holds("bash does not find the completion", "-F _snmpmon snmpmon" in root.run("bash", "-c", load))
-        holds("snmpmon --version prints nothing", root.run("snmpmon", "--version").startswith("snmpmon "))
+        holds(
+            "man shows no page",
+            "SNMPMON(1)" in root.run("man", "-P", "cat", "snmpmon").split("\n")[0],
+        )
+        load = (
+            "source /usr/share/bash-completion/bash_completion;"
+            "_completion_loader snmpmon; complete -p snmpmon"
+        )
+        holds(
+            "bash does not find the completion",
+            "-F _snmpmon snmpmon" in root.run("bash", "-c", load),
+        )
+        holds(
+            "snmpmon --version prints nothing",
+            root.run("snmpmon", "--version").startswith("snmpmon "),
+        )
         root.dpkg("--purge", "snmpmon")
         try_in(root, program)

@@ -11,7 +11,7 @@ UNIT = PACKAGING / "snmpmon@.service"
 
 
 def try_verify(_):
-    """`systemd-analyze verify` under a root that has systemd's own units and the installed program."""
+    """`systemd-analyze verify` under a root with systemd's own units and a program."""
     need("systemd-analyze")
     with tempfile.TemporaryDirectory() as folder:
         units = Path(folder) / "usr/lib/systemd/system"
@@ -20,14 +20,30 @@ def try_verify(_):
         program = Path(folder) / "usr/bin/snmpmon"
         program.parent.mkdir(parents=True)
         program.touch(0o755)
-        same("what systemd-analyze verify says", ran("systemd-analyze", "verify", "--man=no", "--recursive-errors=no", f"--root={folder}", "snmpmon@edge.service"), "")
+        same(
+            "what systemd-analyze verify says",
+            ran(
+                "systemd-analyze",
+                "verify",
+                "--man=no",
+                "--recursive-errors=no",
+                f"--root={folder}",
+                "snmpmon@edge.service",
+            ),
+            "",
+        )
 
 
 def try_security(_):
     """The exposure is at most 2.0."""
     need("systemd-analyze")
-    printed = ran("systemd-analyze", "security", "--no-pager", "--offline=true", "--threshold=20", UNIT)
-    holds("systemd-analyze printed no exposure", re.search(r"Overall exposure level .*: [01]\.\d|: 2\.0", printed))
+    printed = ran(
+        "systemd-analyze", "security", "--no-pager", "--offline=true", "--threshold=20", UNIT
+    )
+    holds(
+        "systemd-analyze printed no exposure",
+        re.search(r"Overall exposure level .*: [01]\.\d|: 2\.0", printed),
+    )
 
 
 def try_pages(_):
@@ -50,6 +66,19 @@ def try_man(_):
             to.mkdir(exist_ok=True)
             shutil.copy(page, to)
         for name, section in re.findall(r"man:([\w.-]+)\((\d)\)", pages):
-            shown = ran("man", "--warnings", "-P", "cat", "-M", folder, section, name, env=os.environ | {"MANWIDTH": "80", "LC_ALL": "C.UTF-8"})
-            holds(f"man shows no NAME of {name}", f"{name} " in shown.split("SYNOPSIS")[0].split("DESCRIPTION")[0])
+            shown = ran(
+                "man",
+                "--warnings",
+                "-P",
+                "cat",
+                "-M",
+                folder,
+                section,
+                name,
+                env=os.environ | {"MANWIDTH": "80", "LC_ALL": "C.UTF-8"},
+            )
+            holds(
+                f"man shows no NAME of {name}",
+                f"{name} " in shown.split("SYNOPSIS")[0].split("DESCRIPTION")[0],
+            )
             holds(f"man complains of {name}", "warning:" not in shown)
