@@ -1,6 +1,7 @@
 """Completion by bash on the lines of `completions`, and the syntax of zsh's."""
 import os
 import pty
+import re
 import select
 import tempfile
 import time
@@ -64,6 +65,11 @@ def completed_by_tab(folder, shell, first, typed):
         os.waitpid(child, 0)
 
 
+def completed(typed, folder=None):
+    """What bash's completion offers at the end of a line."""
+    return sorted(ran("bash", "--norc", "-c", CALL, "bash", SCRIPT, typed, cwd=folder).split())
+
+
 def try_bash(_):
     need("bash")
     with tempfile.TemporaryDirectory() as folder:
@@ -71,8 +77,27 @@ def try_bash(_):
         tried = list(lines())
         holds("fewer than ten lines of completions", len(tried) >= 10)
         for typed, offered in tried:
-            printed = ran("bash", "--norc", "-c", CALL, "bash", SCRIPT, typed, cwd=folder)
-            same(f"completion of '{typed}'", sorted(printed.split()), offered)
+            same(f"completion of '{typed}'", completed(typed, folder), offered)
+
+
+def try_help(program):
+    """What is offered after each command, and the options in its man page, are those of its help."""
+    need("bash")
+    page = (PACKAGING / "man/snmpmon.1").read_text(encoding="utf-8").replace("\\-", "-")
+    commands = re.findall(r"^  (\w+)  ", ran(program, "--help"), re.M)
+    same("commands", completed("snmpmon "), sorted(commands))
+    for command in set(commands) - {"help"}:
+        options = ran(program, command, "--help").split("\nOptions:\n")[1]
+        rows = re.findall(r"^ {2,6}(-.*?)(?: <.*>)?$", options, re.M)
+        flags = sorted(flag for row in rows for flag in row.split(", "))
+        same(f"options of {command}", completed(f"snmpmon {command} -"), flags)
+        part = page.split(f".Ss {command}\n")[1].split("\n.Ss ")[0]
+        shown = re.findall(r"Fl (\S+)", "\n".join(re.findall(r"^\.It Fl .*", part, re.M)))
+        same(
+            f"options of {command} in snmpmon.1",
+            sorted([*("-" + f for f in shown), "--help", "-h"]),
+            flags,
+        )
 
 
 def try_tab(_):

@@ -95,7 +95,10 @@ def within(root, words, cwd="/"):
         os.chroot(root.folder)
         os.chdir(cwd)
 
-    return ran("/usr/bin/snmpmon", *words, preexec_fn=enter, env={})
+    words = ["/usr/bin/snmpmon", *words]
+    return subprocess.run(
+        words, preexec_fn=enter, env={}, capture_output=True, check=True, text=True
+    ).stdout
 
 
 def free_port():
