@@ -36,33 +36,38 @@ def lines():
             yield typed.replace("_", " "), sorted(offered.split())
 
 
-def read_idle(terminal):
-    """What a terminal shows until nothing comes for two seconds, at most for twenty."""
-    shown, end = b"", time.monotonic() + 20
-    while time.monotonic() < end and select.select([terminal], [], [], 2)[0]:
-        shown += os.read(terminal, 4096)
-    return shown.decode(errors="replace")
+def read_until(terminal, wanted):
+    """What a terminal shows until this text comes, at most for thirty seconds."""
+    shown, end = "", time.monotonic() + 30
+    while wanted not in shown and select.select([terminal], [], [], end - time.monotonic())[0]:
+        # A space that is taken back, as zsh's after a word, is not shown.
+        shown = (shown + os.read(terminal, 4096).decode(errors="replace")).replace(" \x08", "")
+        if time.monotonic() > end:
+            break
+    return shown
 
 
-def completed_by_tab(folder, shell, first, typed):
-    """What an interactive shell shows after a first line, and then a line with tabs in it."""
-    child, terminal = pty.fork()
-    if child == 0:
-        os.chdir(folder)
-        os.execvpe(
-            shell[0],
-            shell,
-            {"PATH": os.environ["PATH"], "PS1": "> ", "TERM": "dumb", "HOME": folder},
-        )
-    try:
-        os.write(terminal, f"{first}\n".encode())
-        read_idle(terminal)
-        os.write(terminal, f"{typed}\t".encode())
-        return read_idle(terminal)
-    finally:
-        os.kill(child, 9)
-        os.close(terminal)
-        os.waitpid(child, 0)
+def try_tabs(shell, first, typed, wanted):
+    """An interactive shell, after a first line, completes another one with tabs in it."""
+    with tempfile.TemporaryDirectory() as folder:
+        make_folder(folder)
+        child, terminal = pty.fork()
+        if child == 0:
+            os.chdir(folder)
+            environment = {"PATH": os.environ["PATH"], "PS1": "> ", "TERM": "dumb", "HOME": folder}
+            os.execvpe(shell[0], shell, environment)
+        try:
+            os.write(terminal, f"{first}; echo rea''dy\n".encode())
+            read_until(terminal, "ready")
+            os.write(terminal, f"{typed}\t".encode())
+            shown = read_until(terminal, wanted)
+            holds(
+                f"tabs of {shell[0]} did not complete the line: {shown[-300:]!r}", wanted in shown
+            )
+        finally:
+            os.kill(child, 9)
+            os.close(terminal)
+            os.waitpid(child, 0)
 
 
 def completed(typed, folder=None):
@@ -102,30 +107,13 @@ def try_help(program):
 
 def try_tab(_):
     need("bash")
-    with tempfile.TemporaryDirectory() as folder:
-        make_folder(folder)
-        shown = completed_by_tab(
-            folder,
-            ["bash", "--norc", "--noprofile", "-i"],
-            f"source {SCRIPT}",
-            "snmpmon stati\told",
-        )
-        holds(
-            f"tabs of bash did not complete the line: {shown[-200:]!r}",
-            "snmpmon station old.toml" in shown,
-        )
+    bash = ["bash", "--norc", "--noprofile", "-i"]
+    try_tabs(bash, f"source {SCRIPT}", "snmpmon stati\told", "snmpmon station old.toml")
 
 
 def try_zsh(_):
     need("zsh")
     ran("zsh", "-n", PACKAGING / "completions/_snmpmon")
-    with tempfile.TemporaryDirectory() as folder:
-        make_folder(folder)
-        first = f"fpath=({PACKAGING}/completions $fpath); autoload -Uz compinit; compinit -D -u"
-        shown = completed_by_tab(
-            folder, ["zsh", "-f", "-i"], first, "snmpmon stati\told\t--form\tpro"
-        )
-        holds(
-            f"tabs of zsh did not complete the line: {shown[-300:]!r}",
-            "station old.toml --format prometheus" in shown.replace(" \x08", ""),
-        )
+    first = f"fpath=({PACKAGING}/completions $fpath); autoload -Uz compinit; compinit -D -u"
+    typed = "snmpmon stati\told\t--form\tpro"
+    try_tabs(["zsh", "-f", "-i"], first, typed, "station old.toml --format prometheus")
