@@ -6,6 +6,7 @@ words in keys.toml, and an example of each in examples/.
 import json
 import re
 import tomllib
+from functools import cache
 from pathlib import Path
 from typing import NamedTuple
 
@@ -31,6 +32,14 @@ READING = re.compile(
     r"\b(needed_at|default_at|optional_at|rows_between|rows_up_to|list_at|growth_at"
     r"|name_at find|name_or_none find) key\.(\w+)"
 )
+# What follows a key where it is read within a range: its bounds (no lower one is 0), or fixed ones.
+RANGES = [
+    (r".*\((?:number|int|text|hex)_in (\d+) (\w+)\)", None),
+    (r" (\d+) (\d+) \(", None),
+    (r"() (\d+) (?:peer|\(alarm)_of", None),
+    (r" long_in", ("0", "9223372036854775807")),
+    (r" (?:community|group|access_entry|family|interface)_of t", ("0", "256")),
+]
 OPTIONAL = {"default_at", "optional_at", "rows_up_to", "name_or_none find"}
 
 
@@ -104,18 +113,36 @@ def wanted():
     return says
 
 
+@cache
+def definitions():
+    """The text of each definition of the crate's specs by its name."""
+    found = {}
+    for path in sorted((CRATE / "specs").glob("*.antt")):
+        text = path.read_text(encoding="utf-8")
+        for part in re.split(r"^(?=(?:unfoldable|abbrev) pub )", text, flags=re.M)[1:]:
+            found.setdefault(re.match(r"\w+ pub (\w+)", part)[1], part)
+    return found
+
+
 def optional_keys():
     """Whether a key may be left out, by table and by the key's variant."""
-    texts = [path.read_text(encoding="utf-8") for path in sorted((CRATE / "specs").glob("*.antt"))]
-    bodies = {}
-    for text in texts:
-        for part in re.split(r"^(?=(?:unfoldable|abbrev) pub )", text, flags=re.M)[1:]:
-            bodies.setdefault(re.match(r"\w+ pub (\w+)", part)[1], part)
     found = {}
     for table, readers in READERS.items():
-        read = [m for reader in readers for m in READING.findall(bodies[reader])]
+        read = [m for reader in readers for m in READING.findall(definitions()[reader])]
         found[table] = {key: form in OPTIONAL for form, key in read}
     return found
+
+
+def range_faults(table, variant, said):
+    """Says so if a key's words lack the range by which the definitions read it."""
+    text = "\n".join(definitions()[reader] for reader in READERS[table])
+    for pattern, fixed in RANGES:
+        for found in re.findall(rf"key\.{variant}\b{pattern}", text):
+            low, high = fixed or (found[0] or "0", found[1])
+            words = {f"{low} to {high}".replace("window", "the window")}
+            words |= {f"at most {high}"} if low == "0" else set()
+            if not any(re.search(rf"\b{word}\b", said) for word in words):
+                yield f"wanted.rt: {table} {variant} lacks {' or '.join(sorted(words))}"
 
 
 def examples():
@@ -173,6 +200,7 @@ def tables():
                     f"keys.toml: {table}.{name} {'lacks a' if left_out else 'has no'} default"
                 )
             wanted_text = says(table, variant).replace(" is wanted", "").rstrip(",")
+            faults += range_faults(table, variant, wanted_text)
             example = in_toml(name, values[table, name])
             found[table].append(
                 Key(name, wanted_text, left_out, word["meaning"], word.get("default"), example)
