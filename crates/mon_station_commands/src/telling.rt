@@ -126,7 +126,9 @@ pub(crate) fn tell_change<R: Eprint + AllocGlobal, S: Receiver + Drop, O: Outbox
         Trouble::SilentPeer => silent_peer(rt, live, change)?,
         Trouble::StaleInstance => stale_instance(rt, live, change)?,
     };
-    let _ = eprintln!(rt; "snmpmon: round {round}: {text}");
+    if !text.is_empty() {
+        let _ = eprintln!(rt; "snmpmon: round {round}: {text}");
+    }
     Ok(())
 }
 
@@ -149,7 +151,8 @@ fn silent_target<R: AllocGlobal, S: Receiver + Drop, O: Outbox + Drop>(
     }
 }
 
-/// Says which engine answers in place of a target's, or that its own answers again.
+/// Says which engine answers in place of a target's, or that its own answers again. It says nothing if
+/// no other one is known.
 fn other_engine<R: AllocGlobal, S: Receiver + Drop, O: Outbox + Drop>(
     rt: &R,
     live: &Live<S, O>,
@@ -171,7 +174,8 @@ fn other_engine<R: AllocGlobal, S: Receiver + Drop, O: Outbox + Drop>(
             let other = hex::encode(alloc, other.as_slice())?;
             format!(in alloc; "target {number} at {at} is engine {other}, not {own}")
         }
-        None => format!(in alloc; "target {number} at {at} is not engine {own}"),
+        // The refused response was that of another target at this address.
+        None => Ok(String::new(alloc)),
     }
 }
 
