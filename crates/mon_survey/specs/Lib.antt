@@ -3,6 +3,7 @@ pub mod Column
 pub mod Counter
 pub mod Engine
 pub mod Fault
+pub mod Meant
 pub mod Plan
 pub mod Shown
 pub mod Text

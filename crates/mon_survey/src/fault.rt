@@ -4,6 +4,7 @@ ghost use Rattle.std.specs.Prelude.{◌≡◌};
 ghost use Rattle.mon_survey.specs.Fault.{number_of, name_of};
 ghost use Rattle.mon_survey.specs.declared.fault.SurveyFault.TheVariants.{OutOfMemory};
 
+use mon_settings::SettingsFault;
 use std::alloc::{AllocError, AllocFailed};
 use thiserror::Error;
 
@@ -32,10 +33,16 @@ pub enum SurveyFault {
     /// An option's text has a quote, a backslash or an octet outside 20 to 7E.
     #[error("a text has a quote, a backslash or an octet outside 20 to 7E")]
     BadText,
+    /// The text is no settings: an option is out of its range.
+    #[error("these are no settings: {0}")]
+    Refused(SettingsFault),
+    /// The text is read as other settings than those that were meant.
+    #[error("the settings are read as others than those that were meant")]
+    Misread,
 }
 
 impl SurveyFault {
-    /// The number of the fault, 1 to 7.
+    /// The number of the fault, 1 to 9.
     pub fn number(self) -> u8
         ensures { result ≡ number_of self }
     {
@@ -47,6 +54,8 @@ impl SurveyFault {
             SurveyFault::NoCounter => 5,
             SurveyFault::TooMany(_) => 6,
             SurveyFault::BadText => 7,
+            SurveyFault::Refused(_) => 8,
+            SurveyFault::Misread => 9,
         }
     }
 
@@ -62,6 +71,8 @@ impl SurveyFault {
             SurveyFault::NoCounter => "NoCounter",
             SurveyFault::TooMany(_) => "TooMany",
             SurveyFault::BadText => "BadText",
+            SurveyFault::Refused(_) => "Refused",
+            SurveyFault::Misread => "Misread",
         }
     }
 }

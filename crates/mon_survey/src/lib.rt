@@ -7,6 +7,7 @@
 mod answers;
 mod choice;
 mod column;
+mod comparing;
 mod counter;
 mod drafting;
 mod engine;
@@ -14,6 +15,7 @@ mod fault;
 pub mod laws;
 mod options;
 mod planning;
+mod surveying;
 mod writing;
 
 pub use answers::{Answers, Cell};
@@ -24,4 +26,5 @@ pub use drafting::draft;
 pub use engine::engine_of;
 pub use fault::SurveyFault;
 pub use options::{Options, Peer};
-pub use planning::{plan, Thresholds, thresholds_of};
+pub use planning::{Thresholds, plan, thresholds_of};
+pub use surveying::{Surveyed, settings};

@@ -2,7 +2,7 @@
 
 ghost use Rattle.std.specs.Prelude.{◌≡◌, ◌⊎◌, ◌≤◌, ◌*◌, ◌++◌, Err, Ok, IfErr, IfOk, OnOk, IfSome, pos};
 ghost use Rattle.std.specs.Option.{option_to_list};
-ghost use Rattle.mon_survey.specs.Plan.{counters_from, counters_of, interface_counters, limited, planned_by, planned_of, thresholds_of, width_of};
+ghost use Rattle.mon_survey.specs.Plan.{counters_from, counters_of, interface_counters, limited, planned_by, planned_of, thresholds_at, thresholds_of, width_of};
 ghost use Rattle.mon_survey.specs.Answers.{number_in, value_at};
 
 use crate::answers::{Answers, Cell};
@@ -143,15 +143,11 @@ pub struct Thresholds {
     pub falling: u64,
 }
 
-/// Returns the thresholds at this percentage of the interface's speed; none for a counter that is
-/// not of octets, and none where the speed or the percentage is 0.
-pub fn thresholds_of(answers: &Answers, percent: u8, counter: Counter, index: u32) -> Option<Thresholds>
+/// The thresholds at this percentage of an interface's speed; none where one of the two is 0.
+pub(crate) fn thresholds_at(answers: &Answers, percent: u8, index: u32) -> Option<Thresholds>
     requires { percent ≤ 100 }
-    ensures { result ≡ thresholds_of answers.now percent counter index }
+    ensures { result ≡ thresholds_at (number_in (value_at answers.now (Column.IfX 15) index) * percent) }
 {
-    if counter.kind() != Kind::Octets {
-        return None;
-    }
     let part = u64::from(answers.speed(index)) * u64::from(percent);
     if part == 0 {
         return None;
@@ -160,4 +156,21 @@ pub fn thresholds_of(answers: &Answers, percent: u8, counter: Counter, index: u3
         rising: part * 1250000,
         falling: part * 1125000,
     })
+}
+
+/// Returns the thresholds at this percentage of the interface's speed; none for a counter that is
+/// not of octets, and none where the speed or the percentage is 0.
+pub fn thresholds_of(
+    answers: &Answers,
+    percent: u8,
+    counter: Counter,
+    index: u32,
+) -> Option<Thresholds>
+    requires { percent ≤ 100 }
+    ensures { result ≡ thresholds_of answers.now percent counter index }
+{
+    match counter.kind() {
+        Kind::Octets => thresholds_at(answers, percent, index),
+        Kind::Packets | Kind::Errors | Kind::Discards => None,
+    }
 }
