@@ -15,7 +15,7 @@ use std::marker::Model;
 #[derive(Debug, Drop)]
 pub struct Cell {
     /// The number of its place, which rises as names do.
-    key: u128,
+    pub key: u128,
     /// Its column.
     pub column: Column,
     /// Its index.
@@ -123,17 +123,17 @@ impl Answers {
     pub fn is_marked(&self, index: u32) -> bool
         ensures { result ≡ is_marked self.now index }
     {
-        matches!(self.value(Column::IfX(19), index), Some(Value::TimeTicks(_)))
+        matches!(
+            self.value(Column::IfX(19), index),
+            Some(Value::TimeTicks(_))
+        )
     }
 
     /// Returns `true` if the interface's ifOperStatus is up(1).
     pub(crate) fn is_up(&self, index: u32) -> bool
         ensures { result ≡ is_up self.now index }
     {
-        matches!(
-            self.value(Column::If(8), index),
-            Some(Value::Integer(1))
-        )
+        matches!(self.value(Column::If(8), index), Some(Value::Integer(1)))
     }
 
     /// The interface's ifHighSpeed, in units of 1,000,000 bits a second; 0 where there is none.

@@ -1,6 +1,6 @@
 //! Whether settings that were read are those that were meant.
 
-ghost use Rattle.std.specs.Prelude.{◌≡◌, ◌↔◌, ◌≤◌, ◌++◌, All, IfOk, IsTrue, OnOk, Some, length, string_bytes};
+ghost use Rattle.std.specs.Prelude.{◌≡◌, ◌↔◌, ◌≤◌, ◌++◌, [], All, IfOk, IsTrue, OnOk, Some, length, map, string_bytes};
 ghost use Rattle.std.specs.List.{AllZip, flat_map};
 ghost use Rattle.std.specs.Option.{option_to_list};
 ghost use Rattle.mon_settings.specs.StationAccepted.{station_view};
@@ -60,7 +60,8 @@ fn is_cell(name: &Oid, column: Column, index: u32) -> bool
 {
     match column {
         Column::If(number) => name.parts() == [1, 3, 6, 1, 2, 1, 2, 2, 1, number, index].as_slice(),
-        Column::IfX(number) => name.parts() == [1, 3, 6, 1, 2, 1, 31, 1, 1, 1, number, index].as_slice(),
+        Column::IfX(number) => name.parts()
+            == [1, 3, 6, 1, 2, 1, 31, 1, 1, 1, number, index].as_slice(),
     }
 }
 
@@ -78,7 +79,8 @@ fn has_mark(answers: &Answers, mark: &Option<Oid>, index: u32) -> bool
 fn is_counter(answers: &Answers, object: &Object, one: Planned) -> bool
     ensures { IsTrue result ↔ IsCounter answers.now object.now one }
 {
-    is_cell(&object.name, one.column(), one.index) && has_mark(answers, &object.discontinuity, one.index)
+    is_cell(&object.name, one.column(), one.index)
+        && has_mark(answers, &object.discontinuity, one.index)
 }
 
 /// Returns `true` if the objects are the counters.
@@ -140,9 +142,11 @@ fn are_targets(alloc: Global, wanted: &Wanted<'_>, targets: &[Target]) -> Result
     ensures { IfOk result (λ are. IsTrue are ↔ AreTargets wanted.now.options.now wanted.now.engine.now wanted.now.answers.now wanted.now.planned.now targets.now) }
 {
     let objects = objects_of(alloc, targets)?;
-    Ok(are_agents(wanted, targets)
-        && are_counters(wanted.answers, objects.as_slice(), wanted.planned)
-        && targets.len() == (wanted.planned.len() + MOST_OBJECTS - 1) / MOST_OBJECTS)
+    Ok(
+        are_agents(wanted, targets)
+            && are_counters(wanted.answers, objects.as_slice(), wanted.planned)
+            && targets.len() == (wanted.planned.len() + MOST_OBJECTS - 1) / MOST_OBJECTS,
+    )
 }
 
 /// Returns `true` if the column counts octets.
@@ -202,7 +206,11 @@ fn add_alarm(
 }
 
 /// The alarms on all instances.
-fn alarms_of(alloc: Global, wanted: &Wanted<'_>, instances: &[Watched]) -> Result<Vec<Alarm>, AllocError>
+fn alarms_of(
+    alloc: Global,
+    wanted: &Wanted<'_>,
+    instances: &[Watched],
+) -> Result<Vec<Alarm>, AllocError>
     requires { wanted.now.options.now.percent ≤ 100 }
     ensures { IfOk result (λ v. v.items ≡ alarms_from wanted.now.answers.now wanted.now.options.now.percent 0 instances.now) }
 {
@@ -288,6 +296,13 @@ fn are_sized(options: &Options<'_>, instances: &[Watched]) -> bool
     instances.iter().all(|watched| is_sized(options, watched))
 }
 
+/// Returns `true` if there are no texts.
+fn are_none(texts: &[String]) -> bool
+    ensures { IsTrue result ↔ (map string_bytes texts.now ≡ []) }
+{
+    texts.is_empty()
+}
+
 /// Returns `true` if what is outside of the lists is that of the options.
 fn are_scalars(options: &Options<'_>, station: &StationSettings) -> bool
     ensures { IsTrue result ↔ AreScalars options.now (station_view station.now) }
@@ -296,7 +311,7 @@ fn are_scalars(options: &Options<'_>, station: &StationSettings) -> bool
         && is_address(station.listen, options.listen)
         && station.file.as_bytes() == options.file.as_bytes()
         && station.wait_ms == options.wait_ms
-        && station.modules.is_empty()
+        && are_none(station.modules.as_slice())
 }
 
 /// Returns `true` if the settings are those that were meant.
@@ -313,9 +328,15 @@ pub(crate) fn is_meant(
     let instances = station.core.watch().instances();
     let targets = are_targets(alloc, wanted, station.core.targets())?;
     let alarms = alarms_of(alloc, wanted, instances)?;
-    Ok(are_scalars(options, station)
-        && targets
-        && are_sized(options, instances)
-        && are_alarms(station.core.watch().rules(), alarms.as_slice())
-        && are_peers(options.peers, station.core.peers(), station.peer_addresses.as_slice()))
+    Ok(
+        are_scalars(options, station)
+            && targets
+            && are_sized(options, instances)
+            && are_alarms(station.core.watch().rules(), alarms.as_slice())
+            && are_peers(
+                options.peers,
+                station.core.peers(),
+                station.peer_addresses.as_slice(),
+            ),
+    )
 }

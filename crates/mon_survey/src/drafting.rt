@@ -55,7 +55,12 @@ struct Around<'a> {
 
 /// Adds an object with what is around it.
 #[tactic(auto, unfolding(crate::specs::Text::placed_text))]
-fn put_placed(text: &mut String, around: &Around<'_>, place: usize, one: Planned) -> Result<(), AllocError>
+fn put_placed(
+    text: &mut String,
+    around: &Around<'_>,
+    place: usize,
+    one: Planned,
+) -> Result<(), AllocError>
     requires { place < around.now.count }
     ensures { OnOk result (string_bytes text.new ≡ string_bytes text.old ++ placed_text around.now.options.now around.now.engine.now around.now.answers.now around.now.count place one) }
 {
@@ -65,7 +70,11 @@ fn put_placed(text: &mut String, around: &Around<'_>, place: usize, one: Planned
 }
 
 /// Adds the targets.
-fn put_objects(text: &mut String, around: &Around<'_>, planned: &[Planned]) -> Result<(), AllocError>
+fn put_objects(
+    text: &mut String,
+    around: &Around<'_>,
+    planned: &[Planned],
+) -> Result<(), AllocError>
     requires { length planned.now ≡ around.now.count }
     ensures { OnOk result (string_bytes text.new ≡ string_bytes text.old ++ objects_from around.now.options.now around.now.engine.now around.now.answers.now around.now.count 0 planned.now) }
 {

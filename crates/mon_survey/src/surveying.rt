@@ -24,7 +24,12 @@ pub struct Surveyed<'a> {
 }
 
 /// Returns `Ok` if the text is read as what was meant.
-fn read_back(alloc: Global, names: &Names, wanted: &Wanted<'_>, text: &str) -> Result<(), SurveyFault>
+fn read_back(
+    alloc: Global,
+    names: &Names,
+    wanted: &Wanted<'_>,
+    text: &str,
+) -> Result<(), SurveyFault>
     requires few { length wanted.now.planned.now ≤ 256 }
     requires percent { wanted.now.options.now.percent ≤ 100 }
     ensures gives { OnOk result (IsReadBack names.now wanted.now.options.now wanted.now.engine.now wanted.now.answers.now wanted.now.planned.now text.now) }

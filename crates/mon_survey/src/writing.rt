@@ -93,7 +93,11 @@ fn put_mark(text: &mut String, answers: &Answers, index: u32) -> Result<(), Allo
 
 /// Adds the line of a counter.
 #[tactic(auto, unfolding(crate::specs::Text::object_text))]
-pub(crate) fn put_object(text: &mut String, answers: &Answers, one: Planned) -> Result<(), AllocError>
+pub(crate) fn put_object(
+    text: &mut String,
+    answers: &Answers,
+    one: Planned,
+) -> Result<(), AllocError>
     ensures { OnOk result (string_bytes text.new ≡ string_bytes text.old ++ object_text answers.now one) }
 {
     text.push_str("    { name = \"")?;
@@ -112,18 +116,28 @@ pub(crate) fn put_head(text: &mut String, options: &Options<'_>) -> Result<(), A
     let file = options.file;
     let window = options.window;
     let wait_ms = options.wait_ms;
-    write!(text, "station = {station}\nlisten = \"{listen}\"\nfile = \"{file}\"\nwindow = {window}\nwait_ms = {wait_ms}\n")
+    write!(
+        text,
+        "station = {station}\nlisten = \"{listen}\"\nfile = \"{file}\"\nwindow = {window}\nwait_ms = {wait_ms}\n"
+    )
 }
 
 /// Adds the head of a target.
 #[tactic(auto, unfolding(crate::specs::Text::target_text))]
-pub(crate) fn put_target(text: &mut String, options: &Options<'_>, engine: &str) -> Result<(), AllocError>
+pub(crate) fn put_target(
+    text: &mut String,
+    options: &Options<'_>,
+    engine: &str,
+) -> Result<(), AllocError>
     ensures { OnOk result (string_bytes text.new ≡ string_bytes text.old ++ target_text options.now engine.now) }
 {
     let address = options.address;
     let community = options.community;
     let tries = options.tries;
-    write!(text, "\n[[target]]\naddress = \"{address}\"\ncommunity = \"{community}\"\nengine = \"{engine}\"\ntries = {tries}\nobjects = [\n")
+    write!(
+        text,
+        "\n[[target]]\naddress = \"{address}\"\ncommunity = \"{community}\"\nengine = \"{engine}\"\ntries = {tries}\nobjects = [\n"
+    )
 }
 
 /// Adds a peer.
@@ -132,7 +146,10 @@ pub(crate) fn put_peer(text: &mut String, peer: &Peer) -> Result<(), AllocError>
 {
     let station = peer.station;
     let address = peer.address.as_str();
-    write!(text, "\n[[peer]]\nstation = {station}\naddress = \"{address}\"\n")
+    write!(
+        text,
+        "\n[[peer]]\nstation = {station}\naddress = \"{address}\"\n"
+    )
 }
 
 /// Adds an alarm at these thresholds.
