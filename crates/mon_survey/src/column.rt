@@ -1,9 +1,10 @@
 //! Columns of the tables of interfaces, and where a name lies in them.
 
-ghost use Rattle.std.specs.Prelude.{◌≡◌};
-ghost use Rattle.mon_survey.specs.Column.{code_of, key_of, spot_of, spot_after};
+ghost use Rattle.std.specs.Prelude.{◌≡◌, IfOk};
+ghost use Rattle.mon_survey.specs.Column.{code_of, column_name, columns, key_of, spot_of, spot_after};
 
-use mon_oid::Oid;
+use mon_oid::{Oid, OidFault};
+use std::alloc::Global;
 
 /// ifEntry (RFC 2863 section 6).
 const IF_ENTRY: [u32; 9] = [1, 3, 6, 1, 2, 1, 2, 2, 1];
@@ -34,12 +35,48 @@ impl Column {
         }
     }
 
+    /// Returns the name under which the column's cells lie. An `Err` means out of memory.
+    pub fn name(self, alloc: Global) -> Result<Oid, OidFault>
+        ensures { IfOk result (λ q. q ≡ column_name self) }
+    {
+        match self {
+            Column::If(number) => Oid::from_parts(alloc, &[1, 3, 6, 1, 2, 1, 2, 2, 1, number]),
+            Column::IfX(number) => Oid::from_parts(alloc, &[1, 3, 6, 1, 2, 1, 31, 1, 1, 1, number]),
+        }
+    }
+
     /// A number that rises as the names of cells do.
     pub(crate) fn key(self, index: u32) -> u128
         ensures { result ≡ key_of self index }
     {
         self.code() * INDEXES + u128::from(index)
     }
+}
+
+/// Returns the columns that a plan looks at, in the order of their names.
+pub fn columns() -> [Column; 18]
+    ensures { result ≡ columns }
+{
+    [
+        Column::If(2),
+        Column::If(8),
+        Column::If(10),
+        Column::If(11),
+        Column::If(13),
+        Column::If(14),
+        Column::If(16),
+        Column::If(17),
+        Column::If(19),
+        Column::If(20),
+        Column::IfX(1),
+        Column::IfX(6),
+        Column::IfX(7),
+        Column::IfX(10),
+        Column::IfX(11),
+        Column::IfX(15),
+        Column::IfX(18),
+        Column::IfX(19),
+    ]
 }
 
 /// Where a name lies.

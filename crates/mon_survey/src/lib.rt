@@ -20,7 +20,7 @@ mod writing;
 
 pub use answers::{Answers, Cell};
 pub use choice::{Choice, Kinds};
-pub use column::{Column, Spot};
+pub use column::{Column, Spot, columns};
 pub use counter::{Counter, Kind, Planned};
 pub use drafting::draft;
 pub use engine::engine_of;
