@@ -77,7 +77,7 @@ abbrev pub is_one : Option Value → Bool
 is_one (Some (value.Integer z)) = int_eq z (pos 1)
 is_one _ = false
 
--- the number of a gauge, 0 where there is none
+-- the number of a gauge; 0 if it is absent
 abbrev pub number_in : Option Value → ℕ
 number_in (Some (value.Gauge32 n)) = n
 number_in _ = 0

@@ -22,7 +22,7 @@ kind_of OutErrors = Errors
 kind_of InDiscards = Discards
 kind_of OutDiscards = Discards
 
--- the column of a counter, of 64 bits or of 32; errors and discards have one of 32 bits alone
+-- the column of a counter, of 64 bits or of 32; errors and discards only have one of 32 bits
 abbrev pub column_of : Counter → Bool → Column
 column_of InOctets wide = if wide then IfX 6 else If 10
 column_of OutOctets wide = if wide then IfX 10 else If 16

@@ -1,4 +1,4 @@
--- What settings mean that are made of an agent's answers.
+-- What the settings of a station that polls an agent's interfaces mean.
 use Rattle.std.specs.Prelude.{◌≡◌, ◌≢◌, ◌⊎◌, ℕ, ◌+◌, ◌*◌, ◌/◌, Bool, ◌==◌, ◌||◌, ℤ, pos, List, [], ◌∷◌, ◌++◌, length, map, All, Option, Some, None, Result, Ok, Err, string_bytes, if◌then◌else◌}
 use Rattle.std.specs.List.{AllZip, flat_map}
 use Rattle.std.specs.Option.{option_to_list}

@@ -17,7 +17,7 @@ use Rattle.mon_survey.specs.declared.planning.Thresholds.{Thresholds}
 use Rattle.mon_survey.specs.Answers.{is_counter32, is_counter64, is_up, name_in, number_in, octets_of, value_at}
 use Rattle.mon_survey.specs.Counter.{column_of, every, kind_of}
 
--- whether counters of a kind are wanted
+-- whether counters of a kind are polled
 abbrev pub is_wanted : Kinds → Kind → Bool
 is_wanted kinds Octets = kinds.octets
 is_wanted kinds Packets = kinds.packets
@@ -29,7 +29,7 @@ abbrev pub has_part : List ℕ → List ℕ → Bool
 has_part part [] = starts_with nat_eq [] part
 has_part part (b ∷ bs) = starts_with nat_eq (b ∷ bs) part || has_part part bs
 
--- whether an interface is chosen: it is up where that is asked for, and its name or its alias contains the part
+-- whether an interface is chosen: it is up if only such are, and its name or its alias contains the part
 abbrev pub is_chosen : Choice → List Cell → ℕ → Bool
 is_chosen choice cells index =
     (not choice.up || is_up cells index) && (has_part choice.part.now (name_in cells index) || has_part choice.part.now (octets_of (value_at cells (IfX 18) index)))
@@ -40,7 +40,7 @@ width_of cells counter index =
     if is_counter64 (value_at cells (column_of counter true) index) then Some true
     else (if is_counter32 (value_at cells (column_of counter false) index) then Some false else None)
 
--- a counter of an interface, where it is wanted and the agent has it
+-- a counter of an interface, if its kind is polled and the agent has it
 abbrev pub planned_by : Choice → List Cell → ℕ → Counter → Option Planned
 planned_by choice cells index counter =
     if is_wanted choice.kinds (kind_of counter) then option_map (λ wide. record { counter = counter; wide = wide; index = index }) (width_of cells counter index) else None
@@ -71,7 +71,7 @@ limited (p ∷ ps) = if nat_le (length (p ∷ ps)) 256 then Ok (p ∷ ps) else E
 abbrev pub planned_of : Choice → List Cell → Result (List Planned) SurveyFault
 planned_of choice cells = limited (counters_of choice cells)
 
--- The thresholds where so many percent of a speed are this many times 10,000 bits a second, none at 0. They are in
+-- The thresholds at N times 10,000 bits a second, none at 0. They are in
 -- thousandths of an octet a second: 10,000 bits are 1,250 octets, and the falling one is nine tenths of the rising one.
 abbrev pub thresholds_at : ℕ → Option Thresholds
 thresholds_at part = if part == 0 then None else Some (record { rising = part * 1250000; falling = part * 1125000 })

@@ -1,4 +1,4 @@
--- What may stand in a comment.
+-- Which octets a comment may have.
 use Rattle.std.specs.Prelude.{◌≢◌, ◌≤◌, ℕ, List, length}
 use Rattle.std.specs.List.{All}
 

@@ -23,11 +23,11 @@ shown b = if nat_le 32 b && nat_le b 126 && not (b == 34) then b else 63
 abbrev pub cleaned : List ℕ → List ℕ
 cleaned octets = map shown (take 64 octets)
 
--- whether an octet may stand between quotes: 20 to 7E, and no quote and no backslash
+-- whether a text in quotes may have an octet: 20 to 7E, but no quote and no backslash
 abbrev pub is_plain_octet : ℕ → Bool
 is_plain_octet b = nat_le 32 b && nat_le b 126 && not (b == 34) && not (b == 92)
 
--- whether a text may stand between quotes as it is
+-- whether a text may be put in quotes as it is
 abbrev pub is_plain : List ℕ → Bool
 is_plain text = list_all is_plain_octet text
 
@@ -116,6 +116,6 @@ unfoldable pub settings_text : Options → List ℕ → List Cell → List Plann
 settings_text o engine cells ps =
     head_text o ++ objects_from o (encode_lower engine) cells (length ps) 0 ps ++ flat_map peer_text o.peers.now ++ flat_map (alarm_text cells o.percent (encode_lower engine)) ps
 
--- the text, where those of the options may stand between quotes
+-- the text, if those of the options may be put in quotes
 abbrev pub draft_of : Options → List ℕ → List Cell → List Planned → Result (List ℕ) SurveyFault
 draft_of o engine cells ps = if are_plain o then Ok (settings_text o engine cells ps) else Err BadText

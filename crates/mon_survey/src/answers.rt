@@ -136,7 +136,7 @@ impl Answers {
         matches!(self.value(Column::If(8), index), Some(Value::Integer(1)))
     }
 
-    /// The interface's ifHighSpeed, in units of 1,000,000 bits a second; 0 where there is none.
+    /// The interface's ifHighSpeed, in units of 1,000,000 bits a second; 0 if it is absent.
     pub fn speed(&self, index: u32) -> u32
         ensures { result ≡ number_in (value_at self.now (Column.IfX 15) index) }
     {
@@ -156,7 +156,7 @@ impl Answers {
         }
     }
 
-    /// The interface's ifAlias; no octets where there is none.
+    /// The interface's ifAlias; no octets if it is absent.
     pub fn alias(&self, index: u32) -> &[u8]
         ensures { result.now ≡ octets_of (value_at self.now (Column.IfX 18) index) }
     {

@@ -38,7 +38,7 @@ impl Kinds {
 pub struct Choice<'a> {
     /// The kinds of counters.
     pub kinds: Kinds,
-    /// Whether only interfaces that are up are polled.
+    /// `true` if only interfaces that are up are polled.
     pub up: bool,
     /// What the name or the alias has to contain; no octets are in each.
     pub part: &'a [u8],

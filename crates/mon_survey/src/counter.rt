@@ -74,13 +74,13 @@ impl Counter {
 pub struct Planned {
     /// Which counter.
     pub counter: Counter,
-    /// Whether it is the one of 64 bits.
+    /// `true` if it is the one of 64 bits.
     pub wide: bool,
     /// The interface's index.
     pub index: u32,
 }
 
-/// The column of a counter, of 64 bits or of 32. Errors and discards have one of 32 bits alone.
+/// The column of a counter, of 64 bits or of 32. Errors and discards only have one of 32 bits.
 pub(crate) fn column_of(counter: Counter, wide: bool) -> Column
     ensures { result ≡ column_of counter wide }
 {

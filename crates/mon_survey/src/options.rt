@@ -38,14 +38,14 @@ pub struct Options<'a> {
     pub percent: u8,
 }
 
-/// Returns `true` if an octet may stand between quotes: 20 to 7E, and no quote and no backslash.
+/// Returns `true` if a text in quotes may have the octet: 20 to 7E, but no quote and no backslash.
 fn is_plain_octet(octet: u8) -> bool
     ensures { result ≡ is_plain_octet octet }
 {
     32 <= octet && octet <= 126 && octet != 34 && octet != 92
 }
 
-/// Returns `true` if a text may stand between quotes as it is.
+/// Returns `true` if a text may be put in quotes as it is.
 fn is_plain(text: &str) -> bool
     ensures { result ≡ is_plain text.now }
 {
@@ -59,7 +59,7 @@ fn are_plain_peers(peers: &[Peer]) -> bool
 }
 
 impl Options<'_> {
-    /// Returns `true` if the texts may stand between quotes as they are.
+    /// Returns `true` if the texts may be put in quotes as they are.
     pub(crate) fn are_plain(&self) -> bool
         ensures { result ≡ are_plain self.now }
     {

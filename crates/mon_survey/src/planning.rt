@@ -15,7 +15,7 @@ use std::alloc::{AllocError, AllocFailed, Global};
 /// The most instances of a station.
 const MOST_INSTANCES: usize = 256;
 
-/// Whether the agent counts this by 64 bits or by 32; `None` where it does not.
+/// Returns `true` if the agent counts this by 64 bits, `false` if by 32, `None` if not at all.
 fn width_of(answers: &Answers, counter: Counter, index: u32) -> Option<bool>
     ensures { result ≡ width_of answers.now counter index }
 {
@@ -28,7 +28,7 @@ fn width_of(answers: &Answers, counter: Counter, index: u32) -> Option<bool>
     None
 }
 
-/// The counter of an interface, where it is wanted and the agent has it.
+/// The counter of an interface, if its kind is polled and the agent has it.
 fn planned(answers: &Answers, choice: &Choice<'_>, index: u32, counter: Counter) -> Option<Planned>
     ensures { result ≡ planned_by choice.now answers.now index counter }
 {
@@ -45,7 +45,7 @@ fn planned(answers: &Answers, choice: &Choice<'_>, index: u32, counter: Counter)
     }
 }
 
-/// Adds the counter of an interface, where it is wanted and the agent has it.
+/// Adds the counter of an interface, if its kind is polled and the agent has it.
 fn add_counter(
     counters: &mut Vec<Planned>,
     answers: &Answers,
@@ -111,11 +111,11 @@ fn counters_of(
 }
 
 /// Returns the counters that a station polls: of each interface with an ifDescr that is chosen, in
-/// the order of their indexes, those of the kinds that are wanted and that the agent has, each by 64
+/// the order of their indexes, those of the kinds that are polled and that the agent has, each by 64
 /// bits where the agent has that, else by 32.
 ///
 /// # Errors
-/// `NoCounter` where there are none; `TooMany` with their number above 256; `OutOfMemory`.
+/// `NoCounter` if there is no counter; `TooMany` with their number above 256; `OutOfMemory`.
 pub fn plan(
     alloc: Global,
     answers: &Answers,

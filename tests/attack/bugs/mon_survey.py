@@ -98,8 +98,8 @@ BUGS = {
     ),
     "finds_every_text_misread": (
         "src/comparing.rt",
-        "    Ok(are_scalars(options, station)\n",
-        "    Ok(options.percent > 100 && are_scalars(options, station)\n",
+        "        are_scalars(options, station)\n            && targets",
+        "        options.percent > 100\n            && targets",
     ),
     "reads_nothing_back": (
         "src/surveying.rt",
