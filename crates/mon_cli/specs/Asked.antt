@@ -152,6 +152,7 @@ IsSurvey rows w = (w.address.now ≡ text_in (codes "ADDRESS") rows)
     × (w.up ≡ is_on (codes "up") rows)
     × (w.part.now ≡ text_in (codes "match") rows)
     × IsNumberOr 32 0 (one_of (codes "thresholds") rows) w.percent
+    × (option_map (λ o. o.now) w.split ≡ first_of (codes "split") rows)
 
 -- what the rows of a command's arguments ask for
 abbrev pub Says : Choice → List Row → Asked → Type 0

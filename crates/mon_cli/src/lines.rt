@@ -446,6 +446,15 @@ const THRESHOLDS: Line = Line {
     help: "Writes an alarm on each counter of octets, raised at this percentage of the interface's speed, 1 to 100",
 };
 
+const SPLIT: Line = Line {
+    id: "split",
+    form: Form::Long,
+    takes: Takes::One(Value::Text),
+    needed: false,
+    shown: "FOLDER",
+    help: "Writes a file of settings into FOLDER for each 256 counters, with ports and files counted up, and prints their names",
+};
+
 /// The arguments before any command.
 pub(crate) static FIRST: [Line; 1] = [VERSION];
 
@@ -467,9 +476,9 @@ static WALK: [Line; 5] = [ADDRESS, COMMUNITY, NAME, MODULE, NAMES];
 
 static SET: [Line; 7] = [ADDRESS, COMMUNITY, NAME, KIND, VALUE, MODULE, NAMES];
 
-static SURVEY: [Line; 13] = [
+static SURVEY: [Line; 14] = [
     ADDRESS, COMMUNITY, OWN_NUMBER, LISTEN, SAVED_FILE, WINDOW, WAIT_MS, TRIES, PEER, ONLY, UP,
-    MATCH, THRESHOLDS,
+    MATCH, THRESHOLDS, SPLIT,
 ];
 
 static AGENT: [Line; 3] = [AGENT_SETTINGS, BOOTS, COUNT];

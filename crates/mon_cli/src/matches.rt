@@ -222,6 +222,7 @@ fn survey<'m, 'a>(matches: &'m ArgMatches<'a>) -> SettingsArgs<'m, 'a>
         up: is_on(matches, "up"),
         part: text(matches, "match"),
         percent: number_or(matches, "thresholds", 0),
+        split: find_value(matches, "split"),
     }
 }
 

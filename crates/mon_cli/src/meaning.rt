@@ -107,6 +107,8 @@ pub struct SettingsArgs<'m, 'a> {
     pub part: &'a str,
     /// At which percentage of its speed an interface raises an alarm; 0 for never.
     pub percent: u32,
+    /// The folder of several files of settings, if the arguments say so.
+    pub split: Option<&'a str>,
 }
 
 /// The agent that `agent` serves.

@@ -103,6 +103,9 @@ mark where there is one, in targets of 16. The text is read back before it is pr
 An agent without the snmpEngine group ends it with mon_survey 2 NoEngine, since a station stamps each sample by it; no counter
 to poll with 5 NoCounter, more than 256 with 6 TooMany, an option that no settings can have with 8 Refused.
 
+With --split there may be more: FOLDER/station-1.toml has the first 256, station-2.toml the next, and so on, each the settings of a
+station of its own. From the second on the ports of --listen and --peer are counted up, and the number follows the name of its file.
+
 Examples: snmpmon settings 127.0.0.1:16100 public > station.toml
           snmpmon settings 127.0.0.1:16100 public --up --only octets,packets --thresholds 80 > station.toml";
 

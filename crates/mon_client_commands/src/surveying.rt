@@ -1,10 +1,6 @@
 //! The command `settings`: asks an agent for its engine, walks its tables of interfaces, and prints the
 //! settings of a station that polls it.
 
-ghost use Rattle.std.specs.Prelude.{◌≤◌};
-ghost use Rattle.mon_cli.specs.Asked.{IsWithin};
-ghost use Rattle.mon_cli.specs.declared.meaning.Asked.TheVariants as asked;
-
 use crate::client::{AgentAt, agent_at, answer_failure, community};
 use mon_app::{AppFault, Asking, Question, Repeats, SocketWire, Wire, send_request};
 use mon_ber::Value;
@@ -12,12 +8,15 @@ use mon_cli::SettingsArgs;
 use mon_console::{Failure, Fault, names_of, print};
 use mon_oid::Oid;
 use mon_pdu::{Binding, Body, Message};
+use mon_smi::Names;
 use mon_station::Innermost;
 use mon_survey::{
     Answers, Choice, Column, Kinds, Options, Peer, SurveyFault, Surveyed, columns, engine_of,
-    settings,
+    plan, settings,
 };
-use std::alloc::Global;
+use mon_udp::Addr;
+use std::alloc::{AllocError, Global};
+use std::fs;
 use std::net::Net;
 use std::rt::{Clock, Files};
 use std::slice;
@@ -38,82 +37,186 @@ const REQUESTS: u32 = 65_536;
 /// but one.
 const ENGINE_GROUP: [u32; 3] = [1, 2, 3];
 
-/// Prints the settings of a station that polls the agent that the arguments name. Nothing is printed
-/// unless all was answered and the text was read back.
+/// The most files that settings are split into.
+const MOST_PARTS: u32 = 65_536;
+
+/// Prints the settings of a station that polls the agent that the arguments name, or writes those of
+/// several stations. Nothing is printed or written unless all was answered and each text was read back.
 pub fn print_settings<R: Clock + Files + Net + Print + AllocGlobal>(
     rt: &R,
     words: SettingsArgs<'_, '_>,
 ) -> Result<(), Failure> {
     let alloc = rt.alloc();
-    let agent = agent_at(alloc, words.address)?;
-    let community = community(alloc, words.community)?;
-    let kinds = kinds_of(alloc, words.only)?;
-    let peers = peers_of(alloc, words.peers)?;
-    let text = survey(
-        rt,
-        &words,
-        Asked {
-            agent,
-            community,
-            kinds,
-            peers: &peers,
-        },
-    )?;
-    print(rt, text.as_bytes())
+    let asked = Asked {
+        agent: agent_at(alloc, words.address)?,
+        community: community(alloc, words.community)?,
+        kinds: kinds_of(alloc, words.only)?,
+    };
+    let survey = survey(rt, asked)?;
+    match words.split {
+        Some(folder) => write_parts(rt, &words, asked, &survey, folder),
+        None => {
+            let text = settings_of(alloc, &words, asked, &survey, None)?;
+            print(rt, text.as_bytes())
+        }
+    }
 }
 
-/// What the arguments say, once it was read.
+/// What the arguments say of the agent, once it was read.
 #[derive(Clone, Copy)]
 struct Asked<'a> {
     agent: AgentAt<'a>,
     community: &'a [u8],
     kinds: Kinds,
-    peers: &'a [Peer],
 }
 
-/// The settings of a station that polls the agent.
-fn survey<'a, R: Clock + Files + Net + AllocGlobal>(
+/// What the agent answered.
+#[derive(Drop)]
+struct Survey {
+    engine: Vec<u8>,
+    answers: Answers,
+    names: Names,
+}
+
+/// Asks the agent for its engine and its interfaces.
+fn survey<R: Clock + Files + Net + AllocGlobal>(
     rt: &R,
-    words: &SettingsArgs<'a, 'a>,
-    asked: Asked<'a>,
-) -> Result<String, Failure> {
+    asked: Asked<'_>,
+) -> Result<Survey, Failure> {
     let alloc = rt.alloc();
     let names = names_of(rt, &[])?;
     let mut asker = Asker::open(rt, asked)?;
     let engine = asker.engine(alloc)?;
     let answers = asker.interfaces(alloc)?;
-    let options = options_of(words, asked);
-    let choice = Choice {
-        kinds: asked.kinds,
+    Ok(Survey {
+        engine,
+        answers,
+        names,
+    })
+}
+
+/// Which counters are polled.
+fn choice_of<'a>(words: &SettingsArgs<'_, 'a>, kinds: Kinds, group: Option<u32>) -> Choice<'a> {
+    Choice {
+        kinds,
         up: words.up,
         part: words.part.as_bytes(),
+        group,
+    }
+}
+
+/// The settings of a station that polls all counters, or those of a group, by which its ports and the
+/// name of its file are counted up.
+fn settings_of(
+    alloc: Global,
+    words: &SettingsArgs<'_, '_>,
+    asked: Asked<'_>,
+    survey: &Survey,
+    group: Option<u32>,
+) -> Result<String, Failure> {
+    let up = group.unwrap_or(0);
+    let listen = address_up(alloc, words.listen.unwrap_or(LISTEN), up)?;
+    let file = file_up(alloc, words.file.unwrap_or(FILE), up)?;
+    let peers = peers_of(alloc, words.peers, up)?;
+    let options = Options {
+        station: words.station,
+        listen: listen.as_str(),
+        file: file.as_str(),
+        window: words.window,
+        wait_ms: words.wait_ms,
+        peers: &peers,
+        address: words.address,
+        community: words.community,
+        tries: words.tries.min(8) as u8,
+        percent: words.percent.min(100) as u8,
     };
     let agent = Surveyed {
-        engine: engine.as_slice(),
-        answers: &answers,
+        engine: survey.engine.as_slice(),
+        answers: &survey.answers,
     };
-    match settings(alloc, &names, &agent, &options, &choice) {
+    let choice = choice_of(words, asked.kinds, group);
+    match settings(alloc, &survey.names, &agent, &options, &choice) {
         Ok(text) => Ok(text),
         Err(fault) => Err(survey_failure(alloc, asked.agent.word, fault)),
     }
 }
 
-/// What a station's settings have besides its targets' objects.
-fn options_of<'a>(words: &SettingsArgs<'a, 'a>, asked: Asked<'a>) -> Options<'a>
-    ensures { result.percent ≤ 100 }
-{
-    Options {
-        station: words.station,
-        listen: words.listen.unwrap_or(LISTEN),
-        file: words.file.unwrap_or(FILE),
-        window: words.window,
-        wait_ms: words.wait_ms,
-        peers: asked.peers,
-        address: words.address,
-        community: words.community,
-        tries: words.tries.min(8) as u8,
-        percent: words.percent.min(100) as u8,
+/// How many groups of counters there are.
+fn groups_of(
+    alloc: Global,
+    words: &SettingsArgs<'_, '_>,
+    asked: Asked<'_>,
+    survey: &Survey,
+) -> Result<u32, Failure> {
+    for group in 0..MOST_PARTS {
+        let choice = choice_of(words, asked.kinds, Some(group));
+        match plan(alloc, &survey.answers, &choice) {
+            Ok(_) => {}
+            Err(SurveyFault::NoCounter) if group > 0 => return Ok(group),
+            Err(fault) => return Err(survey_failure(alloc, asked.agent.word, fault)),
+        }
     }
+    Ok(MOST_PARTS)
+}
+
+/// Writes the settings of a station for each group into a folder, and prints the names of the files.
+fn write_parts<R: Files + Print + AllocGlobal>(
+    rt: &R,
+    words: &SettingsArgs<'_, '_>,
+    asked: Asked<'_>,
+    survey: &Survey,
+    folder: &str,
+) -> Result<(), Failure> {
+    let alloc = rt.alloc();
+    let mut texts = Vec::new(alloc);
+    for group in 0..groups_of(alloc, words, asked, survey)? {
+        texts.push(settings_of(alloc, words, asked, survey, Some(group))?)?;
+    }
+    for (place, text) in texts.iter().enumerate() {
+        write_part(rt, folder, place, text.as_str())?;
+    }
+    Ok(())
+}
+
+/// Writes a file of settings, and prints its name.
+fn write_part<R: Files + Print + AllocGlobal>(
+    rt: &R,
+    folder: &str,
+    place: usize,
+    text: &str,
+) -> Result<(), Failure> {
+    let alloc = rt.alloc();
+    let number = place.saturating_add(1);
+    let path = format!(in alloc; "{folder}/station-{number}.toml")?;
+    if let Err(error) = fs::write(rt, path.as_str(), text.as_bytes()) {
+        return Err(Failure::stream(alloc, path.as_str(), error));
+    }
+    let line = format!(in alloc; "{path}\n")?;
+    print(rt, line.as_bytes())
+}
+
+/// The address that a text writes, with its port counted up. What writes none stays as it is, and the
+/// settings are refused for it.
+fn address_up(alloc: Global, text: &str, up: u32) -> Result<String, Failure> {
+    let Some(Addr { octets, port }) = Addr::parse(text) else {
+        return Ok(String::from_str(alloc, text)?);
+    };
+    match u16::try_from(u32::from(port).saturating_add(up)) {
+        Ok(port) => {
+            let address = Addr { octets, port };
+            Ok(format!(in alloc; "{address}")?)
+        }
+        Err(_) => Err(Failure::text(alloc, text, "an address whose port can be counted up")),
+    }
+}
+
+/// The name of a file, with its number from the second on.
+fn file_up(alloc: Global, file: &str, up: u32) -> Result<String, AllocError> {
+    if up == 0 {
+        return String::from_str(alloc, file);
+    }
+    let number = up.saturating_add(1);
+    format!(in alloc; "{file}-{number}")
 }
 
 /// The kinds of counters that a text names; octets and errors if there is none.
@@ -136,24 +239,24 @@ fn kinds_of(alloc: Global, only: Option<&str>) -> Result<Kinds, Failure> {
     Ok(kinds)
 }
 
-/// The peers that texts name.
-fn peers_of(alloc: Global, words: &[&str]) -> Result<Vec<Peer>, Failure> {
+/// The peers that texts name, with their ports counted up.
+fn peers_of(alloc: Global, words: &[&str], up: u32) -> Result<Vec<Peer>, Failure> {
     let mut peers = Vec::new(alloc);
     for word in words {
-        peers.push(peer_of(alloc, word)?)?;
+        peers.push(peer_of(alloc, word, up)?)?;
     }
     Ok(peers)
 }
 
-/// The peer that a text names, as `2=10.0.0.2:16101`.
-fn peer_of(alloc: Global, word: &str) -> Result<Peer, Failure> {
+/// The peer that a text names, as `2=10.0.0.2:16101`, with its port counted up.
+fn peer_of(alloc: Global, word: &str, up: u32) -> Result<Peer, Failure> {
     let Some((number, address)) = word.split_once('=') else {
         return Err(peer_failure(alloc, word));
     };
     match number.parse::<u32>() {
         Ok(station) => Ok(Peer {
             station,
-            address: String::from_str(alloc, address)?,
+            address: address_up(alloc, address, up)?,
         }),
         Err(_) => Err(peer_failure(alloc, word)),
     }

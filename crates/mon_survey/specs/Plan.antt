@@ -1,5 +1,5 @@
 -- Which counters of an agent a station polls.
-use Rattle.std.specs.Prelude.{ℕ, ◌*◌, ◌==◌, nat_eq, nat_le, Bool, true, false, not, ◌&&◌, ◌||◌, List, [], ◌∷◌, length, Option, Some, None, option_map, Result, Ok, Err, if◌then◌else◌}
+use Rattle.std.specs.Prelude.{ℕ, ◌*◌, ◌==◌, nat_eq, nat_le, Bool, true, false, not, ◌&&◌, ◌||◌, List, [], ◌∷◌, length, take, drop, Option, Some, None, option_map, Result, Ok, Err, if◌then◌else◌}
 use Rattle.std.specs.List.{flat_map, starts_with}
 use Rattle.std.specs.Option.{option_to_list}
 use Rattle.mon_survey.specs.declared.answers.Cell.{Cell}
@@ -67,9 +67,14 @@ abbrev pub limited : List Planned → Result (List Planned) SurveyFault
 limited [] = Err NoCounter
 limited (p ∷ ps) = if nat_le (length (p ∷ ps)) 256 then Ok (p ∷ ps) else Err (TooMany (length (p ∷ ps)))
 
+-- a group of 256 counters, the first of which has number 0; or all of them
+abbrev pub group_of : Option ℕ → List Planned → List Planned
+group_of None ps = ps
+group_of (Some g) ps = take 256 (drop (256 * g) ps)
+
 -- the counters that a station polls
 abbrev pub planned_of : Choice → List Cell → Result (List Planned) SurveyFault
-planned_of choice cells = limited (counters_of choice cells)
+planned_of choice cells = limited (group_of choice.group (counters_of choice cells))
 
 -- The thresholds at N times 10,000 bits a second, none at 0. They are in
 -- thousandths of an octet a second: 10,000 bits are 1,250 octets, and the falling one is nine tenths of the rising one.

@@ -42,6 +42,8 @@ pub struct Choice<'a> {
     pub up: bool,
     /// What the name or the alias has to contain; no octets are in each.
     pub part: &'a [u8],
+    /// Which 256 of the counters are polled, from 0; `None` for all.
+    pub group: Option<u32>,
 }
 
 impl Choice<'_> {

@@ -28,7 +28,7 @@ pub enum SurveyFault {
     #[error("no interface that is chosen has a counter of these kinds")]
     NoCounter,
     /// More than 256 counters, which are this many.
-    #[error("{0} counters are more than the 256 of a station: choose fewer by --match, --up or --only")]
+    #[error("{0} counters are more than the 256 of a station: choose fewer by --match, --up or --only, or have several settings by --split")]
     TooMany(usize),
     /// An option's text has a quote, a backslash or an octet outside 20 to 7E.
     #[error("a text has a quote, a backslash or an octet outside 20 to 7E")]

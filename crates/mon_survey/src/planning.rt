@@ -1,8 +1,8 @@
 //! Which counters of an agent a station polls.
 
-ghost use Rattle.std.specs.Prelude.{◌≡◌, ◌⊎◌, ◌≤◌, ◌*◌, ◌++◌, Err, Ok, IfErr, IfOk, OnOk, IfSome, pos};
+ghost use Rattle.std.specs.Prelude.{◌≡◌, ◌⊎◌, ◌≤◌, ◌*◌, ◌++◌, Err, Ok, IfErr, IfOk, OnOk, drop, take};
 ghost use Rattle.std.specs.Option.{option_to_list};
-ghost use Rattle.mon_survey.specs.Plan.{counters_from, counters_of, interface_counters, limited, planned_by, planned_of, thresholds_at, thresholds_of, width_of};
+ghost use Rattle.mon_survey.specs.Plan.{counters_from, counters_of, interface_counters, limited, planned_by, group_of, planned_of, thresholds_at, thresholds_of, width_of};
 ghost use Rattle.mon_survey.specs.Answers.{number_in, value_at};
 
 use crate::answers::{Answers, Cell};
@@ -110,9 +110,47 @@ fn counters_of(
     Ok(counters)
 }
 
+/// The first 256 counters, or all if there are fewer.
+fn front(counters: &[Planned]) -> &[Planned]
+    ensures { result.now ≡ take 256 counters.now }
+{
+    if counters.len() > MOST_INSTANCES {
+        &counters[..MOST_INSTANCES]
+    } else {
+        counters
+    }
+}
+
+/// At most 256 counters from a place on.
+fn part_of(counters: &[Planned], from: usize) -> &[Planned]
+    ensures { result.now ≡ take 256 (drop from counters.now) }
+{
+    if from >= counters.len() {
+        return &[];
+    }
+    front(&counters[from..])
+}
+
+/// The counters of a group, or all.
+fn group_of(
+    alloc: Global,
+    group: Option<u32>,
+    counters: Vec<Planned>,
+) -> Result<Vec<Planned>, AllocError>
+    ensures { IfOk result (λ v. v.items ≡ group_of group counters.items) }
+{
+    match group {
+        Some(number) => {
+            let from = MOST_INSTANCES * number as usize;
+            Vec::from_slice(alloc, part_of(&counters, from))
+        }
+        None => Ok(counters),
+    }
+}
+
 /// Returns the counters that a station polls: of each interface with an ifDescr that is chosen, in
 /// the order of their indexes, those of the kinds that are polled and that the agent has, each by 64
-/// bits where the agent has that, else by 32.
+/// bits where the agent has that, else by 32; and of these the group that is chosen.
 ///
 /// # Errors
 /// `NoCounter` if there is no counter; `TooMany` with their number above 256; `OutOfMemory`.
@@ -124,7 +162,8 @@ pub fn plan(
     ensures gives { IfOk result (λ v. planned_of choice.now answers.now ≡ Ok v.items) }
     ensures fault { IfErr result (λ e. (e ≡ SurveyFault.OutOfMemory) ⊎ (planned_of choice.now answers.now ≡ Err e)) }
 {
-    let counters = counters_of(alloc, answers, choice)?;
+    let all = counters_of(alloc, answers, choice)?;
+    let counters = group_of(alloc, choice.group, all)?;
     if counters.is_empty() {
         return Err(SurveyFault::NoCounter);
     }
