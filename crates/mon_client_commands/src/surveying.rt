@@ -11,15 +11,14 @@ use mon_pdu::{Binding, Body, Message};
 use mon_smi::Names;
 use mon_station::Innermost;
 use mon_survey::{
-    Answers, Choice, Column, Kinds, Options, Peer, SurveyFault, Surveyed, columns, engine_of,
-    plan, settings,
+    Answers, Choice, Column, Kinds, Options, Peer, SurveyFault, Surveyed, columns, engine_of, plan,
+    settings,
 };
 use mon_udp::Addr;
 use std::alloc::{AllocError, Global};
-use std::fs;
 use std::net::Net;
 use std::rt::{Clock, Files};
-use std::slice;
+use std::{fs, slice};
 
 /// Where a station listens if the arguments do not say.
 const LISTEN: &str = "0.0.0.0:16101";
@@ -52,7 +51,7 @@ pub fn print_settings<R: Clock + Files + Net + Print + AllocGlobal>(
         community: community(alloc, words.community)?,
         kinds: kinds_of(alloc, words.only)?,
     };
-    let survey = survey(rt, asked)?;
+    let survey = ask_agent(rt, asked)?;
     match words.split {
         Some(folder) => write_parts(rt, &words, asked, &survey, folder),
         None => {
@@ -79,7 +78,7 @@ struct Survey {
 }
 
 /// Asks the agent for its engine and its interfaces.
-fn survey<R: Clock + Files + Net + AllocGlobal>(
+fn ask_agent<R: Clock + Files + Net + AllocGlobal>(
     rt: &R,
     asked: Asked<'_>,
 ) -> Result<Survey, Failure> {
@@ -198,12 +197,12 @@ fn write_part<R: Files + Print + AllocGlobal>(
 /// The address that a text writes, with its port counted up. What writes none stays as it is, and the
 /// settings are refused for it.
 fn address_up(alloc: Global, text: &str, up: u32) -> Result<String, Failure> {
-    let Some(Addr { octets, port }) = Addr::parse(text) else {
+    let Some(mut address) = Addr::parse(text) else {
         return Ok(String::from_str(alloc, text)?);
     };
-    match u16::try_from(u32::from(port).saturating_add(up)) {
+    match u16::try_from(u32::from(address.port).saturating_add(up)) {
         Ok(port) => {
-            let address = Addr { octets, port };
+            address.port = port;
             Ok(format!(in alloc; "{address}")?)
         }
         Err(_) => Err(Failure::text(alloc, text, "an address whose port can be counted up")),
