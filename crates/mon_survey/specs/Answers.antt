@@ -1,5 +1,5 @@
 -- What an agent answered of its interfaces: cells in the order of their names.
-use Rattle.std.specs.Prelude.{◌≡◌, ◌<◌, ℕ, Bool, true, false, nat_eq, nat_lt, ◌==◌, List, [], ◌∷◌, ◌++◌, length, map, find, slice_index_or, slice_get, ◌-◌, AllPairs, Option, Some, None, option_map, Result, Ok, Err, pos, if◌then◌else◌}
+use Rattle.std.specs.Prelude.{◌≡◌, ◌<◌, ℕ, Bool, true, false, nat_eq, nat_lt, List, [], ◌∷◌, ◌++◌, length, map, find, slice_index_or, slice_get, ◌-◌, AllPairs, Option, Some, None, option_map, Result, Ok, Err, pos, if◌then◌else◌}
 use Rattle.std.specs.Ordering.{int_eq}
 use Rattle.mon_ber.specs.declared.value.Value.{Value}
 use Rattle.mon_ber.specs.declared.value.Value.TheVariants as value

@@ -1,12 +1,11 @@
 -- What the settings of a station that polls an agent's interfaces mean.
-use Rattle.std.specs.Prelude.{◌≡◌, ◌≢◌, ◌⊎◌, ℕ, ◌+◌, ◌*◌, ◌/◌, Bool, ◌==◌, ◌||◌, ℤ, pos, List, [], ◌∷◌, ◌++◌, length, map, All, Option, Some, None, Result, Ok, Err, string_bytes, if◌then◌else◌}
+use Rattle.std.specs.Prelude.{◌≡◌, ◌≢◌, ◌⊎◌, ℕ, ◌+◌, ◌*◌, ◌/◌, Bool, ◌==◌, ◌||◌, pos, List, [], ◌∷◌, ◌++◌, length, All, Option, Some, None, Ok, Err, string_bytes, if◌then◌else◌}
 use Rattle.std.specs.List.{AllZip, flat_map}
 use Rattle.std.specs.Option.{option_to_list}
 use Rattle.mon_alarms.specs.Rule.{Rule}
 use Rattle.mon_board.specs.declared.instance.Watched.{Watched}
 use Rattle.mon_poller.specs.declared.target.Object.{Object}
 use Rattle.mon_poller.specs.declared.target.Target.{Target}
-use Rattle.mon_settings.specs.declared.fault.SettingsFault.{SettingsFault}
 use Rattle.mon_settings.specs.declared.fault.SettingsFault.TheVariants as settings
 use Rattle.mon_settings.specs.Resolving.{resolution}
 use Rattle.mon_settings.specs.Station.{station_of}

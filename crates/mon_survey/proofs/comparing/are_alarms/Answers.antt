@@ -1,6 +1,6 @@
-use Rattle.std.proofs.Common.{◌≡◌, ℕ, List, IsTrue, get_or, length, arith, refl, subst}
+use Rattle.std.proofs.Common.{◌≡◌, length, arith, refl}
 use Rattle.mon_survey.specs.Meant.{IsAlarm}
-use Rattle.mon_survey.proofs.Zips.{each_place, more_here, not_as_long, not_here}
+use Rattle.mon_survey.proofs.Zips.{each_place, not_as_long, not_here}
 use Rattle.mon_survey.proofs.comparing.are_alarms.Goals as goal
 
 pub returns-then-rules-alarms : goal.returns-then-rules-alarms

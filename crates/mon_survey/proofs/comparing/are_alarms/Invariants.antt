@@ -1,4 +1,4 @@
-use Rattle.std.proofs.Common.{◌≡◌, ℕ, ◌<◌, get_or, length}
+use Rattle.std.proofs.Common.{ℕ, ◌<◌, get_or}
 use Rattle.mon_alarms.specs.Rule.{Rule}
 use Rattle.mon_survey.specs.declared.comparing.Alarm.{Alarm}
 use Rattle.mon_survey.specs.Meant.{IsAlarm}

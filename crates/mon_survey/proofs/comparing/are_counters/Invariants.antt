@@ -1,4 +1,4 @@
-use Rattle.std.proofs.Common.{◌≡◌, ℕ, ◌<◌, get_or, length}
+use Rattle.std.proofs.Common.{ℕ, ◌<◌, get_or}
 use Rattle.mon_poller.specs.declared.target.Object.{Object}
 use Rattle.mon_survey.specs.declared.counter.Planned.{Planned}
 use Rattle.mon_survey.specs.Meant.{IsCounter}

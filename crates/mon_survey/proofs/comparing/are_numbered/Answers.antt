@@ -1,4 +1,4 @@
-use Rattle.std.proofs.Common.{◌≡◌, ◌≢◌, ℕ, get_or, length, arith, rules, sym, ◌∙◌, ap}
+use Rattle.std.proofs.Common.{◌≡◌, length, arith, sym, ◌∙◌, ap}
 use Rattle.mon_survey.specs.declared.options.Peer.{Peer}
 use Rattle.mon_survey.proofs.Zips.{each_place, not_as_long, not_at_place}
 use Rattle.mon_survey.proofs.comparing.are_numbered.Goals as goal

@@ -1,4 +1,4 @@
-use Rattle.std.proofs.Common.{◌≡◌, ℕ, ◌<◌, get_or, length}
+use Rattle.std.proofs.Common.{◌≡◌, ℕ, ◌<◌, get_or}
 use Rattle.mon_survey.specs.declared.options.Peer.{Peer}
 use Rattle.mon_survey.proofs.comparing.are_numbered.Given as goal
 

@@ -2,7 +2,7 @@ use Rattle.std.proofs.Common.{◌≡◌, ℕ, List, [], IsTrue, get_or, length, 
 use Rattle.std.specs.Prelude.{Some, string_bytes}
 use Rattle.mon_udp.specs.Addr.{addr_of}
 use Rattle.mon_survey.specs.declared.options.Peer.{Peer}
-use Rattle.mon_survey.proofs.Zips.{each_place, more_here, not_as_long, not_here}
+use Rattle.mon_survey.proofs.Zips.{each_place, not_as_long, not_here}
 use Rattle.mon_survey.proofs.comparing.are_placed.Goals as goal
 
 pub returns-then-addresses-peers : goal.returns-then-addresses-peers
