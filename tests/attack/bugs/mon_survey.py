@@ -33,8 +33,18 @@ BUGS = {
     ),
     "plans_a_counter_too_many": (
         "src/planning.rt",
-        "    if counters.len() > MOST_INSTANCES {",
-        "    if counters.len() > MOST_INSTANCES + 1 {",
+        "    if counters.len() > MOST_INSTANCES {\n        return Err",
+        "    if counters.len() > MOST_INSTANCES + 1 {\n        return Err",
+    ),
+    "polls_a_counter_in_two_groups": (
+        "src/planning.rt",
+        "            let from = MOST_INSTANCES * number as usize;",
+        "            let from = (MOST_INSTANCES - 1) * number as usize;",
+    ),
+    "asks_for_no_mark": (
+        "src/column.rt",
+        "        Column::IfX(18),\n        Column::IfX(19),\n",
+        "        Column::IfX(18),\n        Column::IfX(18),\n",
     ),
     "plans_nothing_for_no_counter": (
         "src/planning.rt",
