@@ -27,7 +27,7 @@ _snmpmon() {
     COMPREPLY=()
     if [ "${#words[@]}" -lt 2 ]; then
         options='--version -h --help'
-        [[ $cur == -* ]] || options='replay get next bulk walk set agent answer mib station report selftest rehearse help'
+        [[ $cur == -* ]] || options='replay get next bulk walk set settings agent answer mib station report selftest rehearse help'
         _snmpmon_offer "$options" "$cur"
         return
     fi
@@ -71,6 +71,12 @@ _snmpmon() {
             takes=([-m]='@*' [--module]='@*')
             operands=('-' '-' '-' 'integer string hex oid ip counter32 gauge32 timeticks counter64' '-')
             ;;
+        settings)
+            options=' --station --listen --file --window --wait-ms --tries --peer --only --up --match --thresholds --split -h --help '
+            again=' --peer '
+            takes=([--station]='-' [--listen]='-' [--file]='@*' [--window]='-' [--wait-ms]='-' [--tries]='-' [--peer]='-' [--only]='-' [--match]='-' [--thresholds]='-' [--split]='-')
+            operands=('-' '-')
+            ;;
         agent)
             options=' --boots --count -h --help '
             takes=([--boots]='-' [--count]='-')
@@ -107,7 +113,7 @@ _snmpmon() {
             options=' -h --help '
             operands=('@*.toml' '-')
             ;;
-        help) operands=('replay get next bulk walk set agent answer mib station report selftest rehearse') ;;
+        help) operands=('replay get next bulk walk set settings agent answer mib station report selftest rehearse') ;;
         *) return ;;
     esac
     local place=0 value=

@@ -26,6 +26,7 @@ use Rattle.mon_cli.specs.declared.meaning.AnswerArgs.{AnswerArgs}
 use Rattle.mon_cli.specs.declared.meaning.MibArgs.{MibArgs}
 use Rattle.mon_cli.specs.declared.meaning.StationArgs.{StationArgs}
 use Rattle.mon_cli.specs.declared.meaning.Scene.{Scene}
+use Rattle.mon_cli.specs.declared.meaning.SettingsArgs.{SettingsArgs}
 use Rattle.mon_cli.specs.declared.meaning.Timing.{Timing}
 use Rattle.mon_cli.specs.declared.meaning.Asked.{Asked}
 use Rattle.mon_cli.specs.declared.meaning.Asked.TheVariants as asked
@@ -136,6 +137,23 @@ IsStation rows w = IsSettings rows w.settings
     × (option_map (λ o. o.now) w.out ≡ first_of (codes "out") rows)
     × IsPrinted rows w.printed
 
+-- the arguments of `settings`
+abbrev pub IsSurvey : List Row → SettingsArgs → Type 0
+IsSurvey rows w = (w.address.now ≡ text_in (codes "ADDRESS") rows)
+    × (w.community.now ≡ text_in (codes "COMMUNITY") rows)
+    × IsNumberOr 32 1 (one_of (codes "station") rows) w.station
+    × (option_map (λ o. o.now) w.listen ≡ first_of (codes "listen") rows)
+    × (option_map (λ o. o.now) w.file ≡ first_of (codes "file") rows)
+    × IsNumberOr 32 32 (one_of (codes "window") rows) w.window
+    × IsNumberOr 32 1000 (one_of (codes "wait-ms") rows) w.wait_ms
+    × IsNumberOr 32 3 (one_of (codes "tries") rows) w.tries
+    × (texts w.peers.now ≡ all_in (codes "peer") rows)
+    × (option_map (λ o. o.now) w.only ≡ first_of (codes "only") rows)
+    × (w.up ≡ is_on (codes "up") rows)
+    × (w.part.now ≡ text_in (codes "match") rows)
+    × IsNumberOr 32 0 (one_of (codes "thresholds") rows) w.percent
+    × (option_map (λ o. o.now) w.split ≡ first_of (codes "split") rows)
+
 -- what the rows of a command's arguments ask for
 abbrev pub Says : Choice → List Row → Asked → Type 0
 Says commands.Replay rows (asked.Replay w) =
@@ -148,6 +166,7 @@ Says commands.Bulk rows (asked.Bulk w) = IsRequest rows w.request
 Says commands.Walk rows (asked.Walk request) = IsRequest rows request
 Says commands.Set rows (asked.Set w) =
     IsRequest rows w.request × (w.kind.now ≡ text_in (codes "KIND") rows) × (w.value.now ≡ text_in (codes "VALUE") rows)
+Says commands.Settings rows (asked.Settings w) = IsSurvey rows w
 Says commands.Agent rows (asked.Agent w) = IsAgent rows w
 Says commands.Answer rows (asked.Answer w) = IsAnswer rows w
 Says commands.Mib rows (asked.Mib w) = IsMib rows w
@@ -211,6 +230,11 @@ abbrev pub IsWithin : Asked → Type 0
 IsWithin (asked.Replay w) = IsIn (value_of commands.Replay (codes "N")) w.size
 IsWithin (asked.Bulk w) = IsSignedIn (value_of commands.Bulk (codes "non-repeaters")) w.non_repeaters
     × IsSignedIn (value_of commands.Bulk (codes "max-repetitions")) w.max_repetitions
+IsWithin (asked.Settings w) = IsIn (value_of commands.Settings (codes "station")) w.station
+    × IsIn (value_of commands.Settings (codes "window")) w.window
+    × IsIn (value_of commands.Settings (codes "wait-ms")) w.wait_ms
+    × IsIn (value_of commands.Settings (codes "tries")) w.tries
+    × ((w.percent ≡ 0) ⊎ IsIn (value_of commands.Settings (codes "thresholds")) w.percent)
 IsWithin (asked.Agent w) = IfSome w.boots (IsSignedIn (value_of commands.Agent (codes "boots"))) × IsIn (value_of commands.Agent (codes "count")) w.count
 IsWithin (asked.Answer w) = IfSome w.boots (IsSignedIn (value_of commands.Answer (codes "boots")))
     × IsIn (value_of commands.Answer (codes "at")) w.scene.at × IsIn (value_of commands.Answer (codes "times")) w.scene.times

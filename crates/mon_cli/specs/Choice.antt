@@ -11,6 +11,7 @@ word_of commands.Next = codes "next"
 word_of commands.Bulk = codes "bulk"
 word_of commands.Walk = codes "walk"
 word_of commands.Set = codes "set"
+word_of commands.Settings = codes "settings"
 word_of commands.Agent = codes "agent"
 word_of commands.Answer = codes "answer"
 word_of commands.Mib = codes "mib"
@@ -21,5 +22,5 @@ word_of commands.Rehearse = codes "rehearse"
 
 -- the commands, in the order of the list in help
 abbrev pub choices : List Choice
-choices = commands.Replay ∷ commands.Get ∷ commands.Next ∷ commands.Bulk ∷ commands.Walk ∷ commands.Set ∷ commands.Agent
+choices = commands.Replay ∷ commands.Get ∷ commands.Next ∷ commands.Bulk ∷ commands.Walk ∷ commands.Set ∷ commands.Settings ∷ commands.Agent
     ∷ commands.Answer ∷ commands.Mib ∷ commands.Station ∷ commands.Report ∷ commands.SelfTest ∷ commands.Rehearse ∷ []

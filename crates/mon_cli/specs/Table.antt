@@ -81,6 +81,19 @@ arguments commands.Bulk = addressed ++ words (codes "NAME") ∷ repeated (codes 
     ∷ lettered 109 (codes "max-repetitions") (up_to 0 2147483647) ∷ []
 arguments commands.Walk = addressed ++ word (codes "NAME") Text ∷ named
 arguments commands.Set = addressed ++ word (codes "NAME") Text ∷ word (codes "KIND") Kind ∷ word (codes "VALUE") Text ∷ named
+arguments commands.Settings = addressed
+    ++ option (codes "station") (up_to 1 4294967295)
+    ∷ option (codes "listen") Text
+    ∷ option (codes "file") Text
+    ∷ option (codes "window") (up_to 1 64)
+    ∷ option (codes "wait-ms") (up_to 1 60000)
+    ∷ option (codes "tries") (up_to 1 8)
+    ∷ repeated (codes "peer")
+    ∷ option (codes "only") Text
+    ∷ flag (codes "up")
+    ∷ option (codes "match") Text
+    ∷ option (codes "thresholds") (up_to 1 100)
+    ∷ option (codes "split") Text ∷ []
 arguments commands.Agent = settings ∷ boots ∷ needed (option (codes "count") (up_to 1 4294967295)) ∷ []
 arguments commands.Answer = settings ∷ boots
     ∷ option (codes "at") (Natural 0 214748364799)

@@ -347,6 +347,114 @@ const STATIONS: Line = Line {
     help: "How many stations, 1 to 16",
 };
 
+const OWN_NUMBER: Line = Line {
+    id: "station",
+    form: Form::Long,
+    takes: Takes::One(Value::Number(1, 4_294_967_295)),
+    needed: false,
+    shown: "station",
+    help: "The station's number, 1 to 4294967295; 1 if not given",
+};
+
+const LISTEN: Line = Line {
+    id: "listen",
+    form: Form::Long,
+    takes: Takes::One(Value::Text),
+    needed: false,
+    shown: "ADDRESS",
+    help: "Where the station listens, a.b.c.d:port; 0.0.0.0:16101 if not given",
+};
+
+const SAVED_FILE: Line = Line {
+    id: "file",
+    form: Form::Long,
+    takes: Takes::One(Value::Text),
+    needed: false,
+    shown: "FILE",
+    help: "The station's file; station.mon if not given",
+};
+
+const WINDOW: Line = Line {
+    id: "window",
+    form: Form::Long,
+    takes: Takes::One(Value::Number(1, 64)),
+    needed: false,
+    shown: "window",
+    help: "How many samples a window keeps, 1 to 64; 32 if not given",
+};
+
+const WAIT_MS: Line = Line {
+    id: "wait-ms",
+    form: Form::Long,
+    takes: Takes::One(Value::Number(1, 60_000)),
+    needed: false,
+    shown: "wait-ms",
+    help: "How many milliseconds nothing has to come before a round goes on, 1 to 60000; 1000 if not given",
+};
+
+const TRIES: Line = Line {
+    id: "tries",
+    form: Form::Long,
+    takes: Takes::One(Value::Number(1, 8)),
+    needed: false,
+    shown: "tries",
+    help: "How often a poll is sent in all, 1 to 8; 3 if not given",
+};
+
+const PEER: Line = Line {
+    id: "peer",
+    form: Form::Long,
+    takes: Takes::Each(Value::Text),
+    needed: false,
+    shown: "N=ADDRESS",
+    help: "Another station that shares with this one: its number, and where it listens; given as often as wanted",
+};
+
+const ONLY: Line = Line {
+    id: "only",
+    form: Form::Long,
+    takes: Takes::One(Value::Text),
+    needed: false,
+    shown: "KINDS",
+    help: "The kinds of counters, with commas between them: octets, packets, errors, discards; octets,errors if not given",
+};
+
+const UP: Line = Line {
+    id: "up",
+    form: Form::Long,
+    takes: Takes::Nothing,
+    needed: false,
+    shown: "",
+    help: "Takes interfaces that are up alone",
+};
+
+const MATCH: Line = Line {
+    id: "match",
+    form: Form::Long,
+    takes: Takes::One(Value::Text),
+    needed: false,
+    shown: "TEXT",
+    help: "Takes interfaces alone whose name or alias contains TEXT",
+};
+
+const THRESHOLDS: Line = Line {
+    id: "thresholds",
+    form: Form::Long,
+    takes: Takes::One(Value::Number(1, 100)),
+    needed: false,
+    shown: "thresholds",
+    help: "Writes an alarm on each counter of octets, raised at this percentage of the interface's speed, 1 to 100",
+};
+
+const SPLIT: Line = Line {
+    id: "split",
+    form: Form::Long,
+    takes: Takes::One(Value::Text),
+    needed: false,
+    shown: "FOLDER",
+    help: "Writes a file of settings into FOLDER for each 256 counters, with ports and files counted up, and prints their names",
+};
+
 /// The arguments before any command.
 pub(crate) static FIRST: [Line; 1] = [VERSION];
 
@@ -367,6 +475,11 @@ static BULK: [Line; 7] = [
 static WALK: [Line; 5] = [ADDRESS, COMMUNITY, NAME, MODULE, NAMES];
 
 static SET: [Line; 7] = [ADDRESS, COMMUNITY, NAME, KIND, VALUE, MODULE, NAMES];
+
+static SURVEY: [Line; 14] = [
+    ADDRESS, COMMUNITY, OWN_NUMBER, LISTEN, SAVED_FILE, WINDOW, WAIT_MS, TRIES, PEER, ONLY, UP,
+    MATCH, THRESHOLDS, SPLIT,
+];
 
 static AGENT: [Line; 3] = [AGENT_SETTINGS, BOOTS, COUNT];
 
@@ -403,6 +516,7 @@ pub(crate) fn lines_of(choice: Choice) -> &'static [Line]
         Choice::Bulk => BULK.as_slice(),
         Choice::Walk => WALK.as_slice(),
         Choice::Set => SET.as_slice(),
+        Choice::Settings => SURVEY.as_slice(),
         Choice::Agent => AGENT.as_slice(),
         Choice::Answer => ANSWER.as_slice(),
         Choice::Mib => MIB.as_slice(),

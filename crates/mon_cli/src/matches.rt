@@ -3,7 +3,7 @@
 ghost use Rattle.std.specs.Prelude.{◌≡◌, codes, option_map};
 ghost use Rattle.clap.specs.Words.{first_of, found_of, one_of, rows_of, subcommand_rows_of};
 ghost use Rattle.clap.specs.Walk.{texts};
-ghost use Rattle.mon_cli.specs.Asked.{AreAllowed, AreThere, AsksFor, IsAgent, IsAnswer, IsFormat, IsInteger, IsNamed, IsNumber, IsNumberOr, IsPrinted, IsRequest, IsScene, IsStation, IsTiming, IsWithin, Says, all_in, is_on, text_in, wants_report};
+ghost use Rattle.mon_cli.specs.Asked.{AreAllowed, AreThere, AsksFor, IsAgent, IsAnswer, IsFormat, IsInteger, IsNamed, IsNumber, IsNumberOr, IsPrinted, IsRequest, IsScene, IsStation, IsSurvey, IsTiming, IsWithin, Says, all_in, is_on, text_in, wants_report};
 ghost use Rattle.mon_cli.specs.Program.{IsParse};
 ghost use Rattle.mon_cli.specs.Table.{arguments};
 ghost use Rattle.mon_cli.specs.declared.choice.Choice.TheVariants as commands;
@@ -12,7 +12,7 @@ ghost use Rattle.mon_cli.specs.declared.meaning.Asked.TheVariants as asked;
 use crate::choice::Choice;
 use crate::meaning::{
     AgentArgs, AnswerArgs, Asked, BulkArgs, MibArgs, Named, Printed, RehearseArgs, ReplayArgs,
-    ReportArgs, Request, Scene, SetArgs, StationArgs, Timing,
+    ReportArgs, Request, Scene, SetArgs, SettingsArgs, StationArgs, Timing,
 };
 use clap::ArgMatches;
 use mon_formats::Format;
@@ -22,6 +22,15 @@ const USUAL_SIZE: u32 = 8;
 
 /// After how many rounds without a new sample an instance is stale if the arguments do not say.
 const USUAL_ROUNDS: u32 = 3;
+
+/// How many samples the window of a station keeps if the arguments do not say.
+const USUAL_WINDOW: u32 = 32;
+
+/// How many milliseconds a station waits if the arguments do not say.
+const USUAL_WAIT: u32 = 1000;
+
+/// How often a station sends a poll if the arguments do not say.
+const USUAL_TRIES: u32 = 3;
 
 /// The text of an argument, if it has one.
 fn find_value<'a>(matches: &ArgMatches<'a>, id: &str) -> Option<&'a str>
@@ -193,6 +202,30 @@ fn station<'m, 'a>(matches: &'m ArgMatches<'a>) -> StationArgs<'m, 'a>
     }
 }
 
+/// Returns the station whose settings are printed.
+fn survey<'m, 'a>(matches: &'m ArgMatches<'a>) -> SettingsArgs<'m, 'a>
+    requires { AreAllowed (arguments commands.Settings) (rows_of (found_of matches.now)) }
+    ensures says { IsSurvey (rows_of (found_of matches.now)) result }
+    ensures within { IsWithin (asked.Settings result) }
+{
+    SettingsArgs {
+        address: text(matches, "ADDRESS"),
+        community: text(matches, "COMMUNITY"),
+        station: number_or(matches, "station", 1),
+        listen: find_value(matches, "listen"),
+        file: find_value(matches, "file"),
+        window: number_or(matches, "window", USUAL_WINDOW),
+        wait_ms: number_or(matches, "wait-ms", USUAL_WAIT),
+        tries: number_or(matches, "tries", USUAL_TRIES),
+        peers: all(matches, "peer"),
+        only: find_value(matches, "only"),
+        up: is_on(matches, "up"),
+        part: text(matches, "match"),
+        percent: number_or(matches, "thresholds", 0),
+        split: find_value(matches, "split"),
+    }
+}
+
 /// Returns what is printed of recorded responses.
 fn replay<'m, 'a>(matches: &'m ArgMatches<'a>) -> ReplayArgs<'m, 'a>
     requires { AreAllowed (arguments commands.Replay) (rows_of (found_of matches.now)) }
@@ -228,6 +261,7 @@ fn asked_by<'m, 'a>(choice: Choice, matches: &'m ArgMatches<'a>) -> Asked<'m, 'a
             kind: text(matches, "KIND"),
             value: text(matches, "VALUE"),
         }),
+        Choice::Settings => Asked::Settings(survey(matches)),
         Choice::Mib => Asked::Mib(MibArgs {
             file: text(matches, "FILE"),
             modules: all(matches, "module"),

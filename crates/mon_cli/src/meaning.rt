@@ -80,6 +80,37 @@ pub struct SetArgs<'m, 'a> {
     pub value: &'a str,
 }
 
+/// The station whose settings `settings` prints, and what of an agent it polls.
+#[derive(Clone, Copy)]
+pub struct SettingsArgs<'m, 'a> {
+    pub address: &'a str,
+    pub community: &'a str,
+    /// The station's number.
+    pub station: u32,
+    /// Where it listens, if the arguments say so.
+    pub listen: Option<&'a str>,
+    /// Its file, if the arguments say so.
+    pub file: Option<&'a str>,
+    /// How many samples a window keeps.
+    pub window: u32,
+    /// How long nothing has to come before a round goes on, in milliseconds.
+    pub wait_ms: u32,
+    /// How often a poll is sent in all.
+    pub tries: u32,
+    /// The peers, each as N=ADDRESS.
+    pub peers: &'m [&'a str],
+    /// The kinds of counters, if the arguments say so.
+    pub only: Option<&'a str>,
+    /// `true` if interfaces that are up are taken alone.
+    pub up: bool,
+    /// What names or aliases contain; empty for any.
+    pub part: &'a str,
+    /// At which percentage of its speed an interface raises an alarm; 0 for never.
+    pub percent: u32,
+    /// The folder of several files of settings, if the arguments say so.
+    pub split: Option<&'a str>,
+}
+
 /// The agent that `agent` serves.
 #[derive(Clone, Copy)]
 pub struct AgentArgs<'a> {
@@ -152,6 +183,7 @@ pub enum Asked<'m, 'a> {
     Bulk(BulkArgs<'m, 'a>),
     Walk(Request<'m, 'a>),
     Set(SetArgs<'m, 'a>),
+    Settings(SettingsArgs<'m, 'a>),
     Agent(AgentArgs<'a>),
     Answer(AnswerArgs<'m, 'a>),
     Mib(MibArgs<'m, 'a>),

@@ -124,13 +124,14 @@ fn one<'a>(alloc: Global, lists: Lists<'a>, choice: Choice) -> Result<Command<'a
 }
 
 /// The commands, in the order of the list in help.
-const CHOICES: [Choice; 13] = [
+const CHOICES: [Choice; 14] = [
     Choice::Replay,
     Choice::Get,
     Choice::Next,
     Choice::Bulk,
     Choice::Walk,
     Choice::Set,
+    Choice::Settings,
     Choice::Agent,
     Choice::Answer,
     Choice::Mib,

@@ -95,6 +95,20 @@ with 8 BadText before anything is sent. A VALUE that begins with - stands after 
 Examples: snmpmon set 127.0.0.1:16100 private mib-2.1.5.0 string r2
           snmpmon set 127.0.0.1:16100 private mib-2.2.2.1.7.1 integer -- -1";
 
+const SETTINGS_MORE: &str =
+    "Asks the agent at ADDRESS for its engine and walks its tables of interfaces (GetBulkRequests), and prints the settings of a station
+that polls the counters that are chosen, as `station` reads them: 64-bit counters where the agent has them, each with its discontinuity
+mark where there is one, in targets of 16. The text is read back before it is printed, and nothing is printed if anything fails.
+
+An agent without the snmpEngine group ends it with mon_survey 2 NoEngine, since a station stamps each sample by it; no counter
+to poll with 5 NoCounter, more than 256 with 6 TooMany, an option that no settings can have with 8 Refused.
+
+With --split there may be more: FOLDER/station-1.toml has the first 256, station-2.toml the next, and so on, each the settings of a
+station of its own. From the second on the ports of --listen and --peer are counted up, and the number follows the name of its file.
+
+Examples: snmpmon settings 127.0.0.1:16100 public > station.toml
+          snmpmon settings 127.0.0.1:16100 public --up --only octets,packets --thresholds 80 > station.toml";
+
 const AGENT_MORE: &str =
     "Reads SETTINGS, a TOML file (examples/agent.toml explains each key), listens at the address in it, says on standard
 error where, and answers as many datagrams as --count says: Get, GetNext, GetBulk and Set requests of the communities in the settings.
@@ -200,6 +214,7 @@ pub(crate) fn about<'a>(choice: Choice) -> &'a str {
         Choice::Bulk => "Asks an agent for many variables after names (GetBulkRequest)",
         Choice::Walk => "Asks an agent for all variables under a name (GetNextRequests)",
         Choice::Set => "Has an agent assign a value to a variable (SetRequest)",
+        Choice::Settings => "Prints the settings of a station that polls an agent's interfaces",
         Choice::Agent => "Serves an agent over a simulated device",
         Choice::Answer => "Prints what an agent answers to recorded datagrams, without a socket",
         Choice::Mib => "Prints the names that a module defines",
@@ -221,6 +236,7 @@ pub(crate) fn more<'a>(choice: Choice) -> &'a str {
         Choice::Bulk => BULK_MORE,
         Choice::Walk => WALK_MORE,
         Choice::Set => SET_MORE,
+        Choice::Settings => SETTINGS_MORE,
         Choice::Agent => AGENT_MORE,
         Choice::Answer => ANSWER_MORE,
         Choice::Mib => MIB_MORE,

@@ -92,9 +92,9 @@ struct Query<'a> {
 
 /// An agent's address, and the word that gives it.
 #[derive(Clone, Copy)]
-struct AgentAt<'a> {
-    word: &'a str,
-    address: Addr,
+pub(crate) struct AgentAt<'a> {
+    pub(crate) word: &'a str,
+    pub(crate) address: Addr,
 }
 
 /// Reads whom the arguments ask, and about which variables. Their faults are found from left to
@@ -117,7 +117,7 @@ fn query_of<'a, R: Files + AllocGlobal>(
 }
 
 /// The agent's address that a word gives. It is never looked up.
-fn agent_at<'a>(alloc: Global, word: &'a str) -> Result<AgentAt<'a>, Failure> {
+pub(crate) fn agent_at<'a>(alloc: Global, word: &'a str) -> Result<AgentAt<'a>, Failure> {
     match Addr::parse(word) {
         Some(address) => Ok(AgentAt { word, address }),
         None => Err(Failure::text(alloc, word, "an address, a.b.c.d:port,")),
@@ -125,7 +125,7 @@ fn agent_at<'a>(alloc: Global, word: &'a str) -> Result<AgentAt<'a>, Failure> {
 }
 
 /// The octets of a community.
-fn community<'a>(alloc: Global, word: &'a str) -> Result<&'a [u8], Failure> {
+pub(crate) fn community<'a>(alloc: Global, word: &'a str) -> Result<&'a [u8], Failure> {
     if is_community(word) {
         return Ok(word.as_bytes());
     }
@@ -203,7 +203,7 @@ fn print_shown<'a, R: Clock + Net + Print + AllocGlobal, S: NameTexts>(
     };
     match answer_query(rt, query.agent.address, &question, names) {
         Ok(text) => print(rt, text.as_bytes()),
-        Err(fault) => Err(answer_failure(rt.alloc(), query, fault)),
+        Err(fault) => Err(answer_failure(rt.alloc(), query.agent.word, fault)),
     }
 }
 
@@ -247,7 +247,7 @@ fn walk_shown<R: Clock + Net + AllocGlobal, S: NameTexts, L: LineSink>(
     };
     match walk_agent(rt, query, start, names, lines) {
         Ok(()) => Ok(()),
-        Err(fault) => Err(answer_failure(rt.alloc(), query, fault)),
+        Err(fault) => Err(answer_failure(rt.alloc(), query.agent.word, fault)),
     }
 }
 
@@ -265,16 +265,14 @@ fn walk_agent<R: Clock + Net + AllocGlobal, S: NameTexts, L: LineSink>(
 }
 
 /// Why the agent gave no answer that is printed.
-fn answer_failure(alloc: Global, query: &Query<'_>, fault: AppFault) -> Failure {
+pub(crate) fn answer_failure(alloc: Global, agent: &str, fault: AppFault) -> Failure {
     match fault {
         AppFault::AgentStatus { status, index } => Failure::said(
             Fault::App(fault),
-            status_text(alloc, query.agent.word, status, index),
+            status_text(alloc, agent, status, index),
         ),
-        AppFault::SocketFault { reason } => {
-            Failure::without_socket(alloc, query.agent.word, reason)
-        }
-        _ => Failure::at(alloc, query.agent.word, Fault::App(fault)),
+        AppFault::SocketFault { reason } => { Failure::without_socket(alloc, agent, reason) }
+        _ => Failure::at(alloc, agent, Fault::App(fault)),
     }
 }
 

@@ -5,7 +5,7 @@ ghost use Rattle.mon_cli.specs.Asked.{IsWithin};
 use clap::error::ErrorKind;
 use mon_agent_commands::{print_answers, serve_agent};
 use mon_cli::{Asked, VERSION, read, read_command};
-use mon_client_commands::{bulk, get, next, set, walk};
+use mon_client_commands::{bulk, get, next, print_settings, set, walk};
 use mon_console::{Failure, print};
 use mon_rehearsal_commands::{print_rehearsal, run_self_test};
 use mon_station_commands::{print_saved_report, run_station};
@@ -99,6 +99,7 @@ fn run<R: Clock + Files<File = File> + Net + Input + Print + Eprint + AllocGloba
         Asked::Bulk(words) => bulk(rt, words),
         Asked::Walk(request) => walk(rt, request),
         Asked::Set(words) => set(rt, words),
+        Asked::Settings(words) => print_settings(rt, words),
         Asked::Agent(words) => serve_agent(rt, words),
         Asked::Answer(words) => print_answers(rt, words),
         Asked::Mib(words) => print_names(rt, words),

@@ -1,0 +1,9 @@
+pub mod Answers
+pub mod Column
+pub mod Counter
+pub mod Engine
+pub mod Fault
+pub mod Meant
+pub mod Plan
+pub mod Shown
+pub mod Text

@@ -1,0 +1,141 @@
+-- What the settings of a station that polls an agent's interfaces mean.
+use Rattle.std.specs.Prelude.{◌≡◌, ◌≢◌, ◌⊎◌, ℕ, ◌+◌, ◌*◌, ◌/◌, Bool, ◌==◌, ◌||◌, pos, List, [], ◌∷◌, ◌++◌, length, All, Option, Some, None, Ok, Err, string_bytes, if◌then◌else◌}
+use Rattle.std.specs.List.{AllZip, flat_map}
+use Rattle.std.specs.Option.{option_to_list}
+use Rattle.mon_alarms.specs.Rule.{Rule}
+use Rattle.mon_board.specs.declared.instance.Watched.{Watched}
+use Rattle.mon_poller.specs.declared.target.Object.{Object}
+use Rattle.mon_poller.specs.declared.target.Target.{Target}
+use Rattle.mon_settings.specs.declared.fault.SettingsFault.TheVariants as settings
+use Rattle.mon_settings.specs.Resolving.{resolution}
+use Rattle.mon_settings.specs.Station.{station_of}
+use Rattle.mon_settings.specs.StationAccepted.{IsStation, Station}
+use Rattle.mon_settings.specs.Text.{IsRefusal, Says}
+use Rattle.mon_smi.specs.declared.definition.Definition.{Definition}
+use Rattle.mon_udp.specs.Addr.{addr_of}
+use Rattle.mon_udp.specs.declared.addr.Addr.{Addr}
+use Rattle.mon_survey.specs.declared.answers.Cell.{Cell}
+use Rattle.mon_survey.specs.declared.choice.Choice.{Choice}
+use Rattle.mon_survey.specs.declared.column.Column.{Column}
+use Rattle.mon_survey.specs.declared.column.Column.TheVariants.{If, IfX}
+use Rattle.mon_survey.specs.declared.column.Spot.{Spot}
+use Rattle.mon_survey.specs.declared.column.Spot.TheVariants as spot
+use Rattle.mon_survey.specs.declared.comparing.Alarm.{Alarm}
+use Rattle.mon_survey.specs.declared.counter.Planned.{Planned}
+use Rattle.mon_survey.specs.declared.fault.SurveyFault.{SurveyFault}
+use Rattle.mon_survey.specs.declared.fault.SurveyFault.TheVariants as fault
+use Rattle.mon_survey.specs.declared.options.Options.{Options}
+use Rattle.mon_survey.specs.declared.options.Peer.{Peer}
+use Rattle.mon_survey.specs.declared.planning.Thresholds.{Thresholds}
+use Rattle.mon_survey.specs.Answers.{is_marked, number_in, value_at}
+use Rattle.mon_survey.specs.Column.{cell_name, spot_of}
+use Rattle.mon_survey.specs.Counter.{column_of}
+use Rattle.mon_survey.specs.Plan.{planned_of, thresholds_at}
+use Rattle.mon_survey.specs.Text.{draft_of}
+
+-- the name of an interface's mark, where it has one
+abbrev pub mark_of : List Cell → ℕ → Option (List ℕ)
+mark_of cells index = if is_marked cells index then Some (cell_name (IfX 19) index) else None
+
+-- an object is this counter: it has the name of its cell, and its interface's mark where there is one
+pub record IsCounter (cells : List Cell) (o : Object) (p : Planned) : Type 0 where
+  pub name : o.name ≡ cell_name (column_of p.counter p.wide) p.index
+  pub mark : o.discontinuity ≡ mark_of cells p.index
+
+-- a target is the agent
+pub record IsAgent (o : Options) (engine : List ℕ) (t : Target) : Type 0 where
+  pub address : addr_of o.address.now ≡ Some t.address
+  pub community : t.community ≡ o.community.now
+  pub engine_id : t.engine ≡ engine
+  pub tries : t.tries ≡ o.tries
+
+-- whether a column counts octets
+abbrev pub is_octets : Column → Bool
+is_octets (If c) = c == 10 || c == 16
+is_octets (IfX c) = c == 6 || c == 10
+
+-- the thresholds of a cell
+abbrev pub at_cell : List Cell → ℕ → Spot → Option Thresholds
+at_cell cells percent (spot.Cell column index) = if is_octets column then thresholds_at (number_in (value_at cells (IfX 15) index) * percent) else None
+at_cell cells percent spot.Ragged = None
+at_cell cells percent spot.Elsewhere = None
+
+-- the alarm on the instance of this number, where there are thresholds
+abbrev pub alarm_on : ℕ → Option Thresholds → Option Alarm
+alarm_on number None = None
+alarm_on number (Some at) = Some (record { instance = number; rising = at.rising; falling = at.falling })
+
+-- the alarms on instances, of which the first has this number: one on each counter of octets whose interface has a speed
+abbrev pub alarms_from : List Cell → ℕ → ℕ → List Watched → List Alarm
+alarms_from cells percent number [] = []
+alarms_from cells percent number (w ∷ ws) =
+    option_to_list (alarm_on number (at_cell cells percent (spot_of w.instance.name))) ++ alarms_from cells percent (number + 1) ws
+
+-- a rule is this alarm
+pub record IsAlarm (r : Rule) (a : Alarm) : Type 0 where
+  pub instance : r.instance ≡ a.instance
+  pub rising : r.rising ≡ pos a.rising
+  pub falling : r.falling ≡ pos a.falling
+
+-- what is outside of the lists
+pub record AreScalars (o : Options) (s : Station) : Type 0 where
+  pub station : s.core.station ≡ o.station
+  pub listen : addr_of o.listen.now ≡ Some s.listen
+  pub file : s.file ≡ o.file.now
+  pub wait_ms : s.wait_ms ≡ o.wait_ms
+  pub modules : s.modules ≡ []
+
+-- the targets: they are the agent, they poll the counters in their order, and there are as few of them as 16 objects each allow
+pub record AreTargets (o : Options) (engine : List ℕ) (cells : List Cell) (ps : List Planned) (targets : List Target) : Type 0 where
+  pub agent : All (IsAgent o engine) targets
+  pub counters : AllZip (IsCounter cells) (flat_map (λ t. t.objects) targets) ps
+  pub full : length targets ≡ (length ps + 15) / 16
+
+-- every window and its part of one snmpEngineBoots have the size that the options say
+pub record IsSized (o : Options) (w : Watched) : Type 0 where
+  pub window : w.window ≡ o.window
+  pub epoch : w.epoch ≡ o.window
+
+-- the peers are those of the options
+pub record ArePeers (peers : List Peer) (numbers : List ℕ) (addresses : List Addr) : Type 0 where
+  pub numbered : AllZip (λ n p. n ≡ p.station) numbers peers
+  pub placed : AllZip (λ a p. addr_of (string_bytes p.address) ≡ Some a) addresses peers
+
+-- The settings that were meant: of the station of the options, which polls these counters of the agent.
+pub record IsMeant (o : Options) (engine : List ℕ) (cells : List Cell) (ps : List Planned) (s : Station) : Type 0 where
+  pub scalars : AreScalars o s
+  pub targets : AreTargets o engine cells ps s.core.targets
+  pub windows : All (IsSized o) s.core.watch.instances
+  pub rules : AllZip IsAlarm s.core.watch.rules (alarms_from cells o.percent 0 s.core.watch.instances)
+  pub peers : ArePeers o.peers.now s.core.peers s.peer_addresses
+
+-- under these definitions a text is read as what was meant
+abbrev pub IsReadBack : List Definition → Options → List ℕ → List Cell → List Planned → List ℕ → Type 0
+IsReadBack defs o engine cells ps text = (station : Station) × Says (IsStation defs) text station × IsMeant o engine cells ps station
+
+-- The text of the settings: that of the counters that are planned, and under these definitions it is read as what was meant.
+pub record IsSettingsText (defs : List Definition) (choice : Choice) (o : Options) (engine : List ℕ) (cells : List Cell) (text : List ℕ) : Type 0 where
+  pub planned : List Planned
+  pub plan : planned_of choice cells ≡ Ok planned
+  pub drafted : draft_of o engine cells planned ≡ Ok text
+  pub read_back : IsReadBack defs o engine cells planned text
+
+-- why a text is not read as what was meant: it is refused for this reason, or it is read as something else
+abbrev pub IsNotReadBack : List Definition → Options → List ℕ → List Cell → List Planned → List ℕ → SurveyFault → Type 0
+IsNotReadBack defs o engine cells ps text fault.OutOfMemory = Unit {0}
+IsNotReadBack defs o engine cells ps text (fault.Refused e) = IsRefusal (station_of (resolution defs)) text e × (e ≢ settings.OutOfMemory)
+IsNotReadBack defs o engine cells ps text fault.Misread = (station : Station) × Says (IsStation defs) text station × ¬ (IsMeant o engine cells ps station)
+IsNotReadBack defs o engine cells ps text _ = ⊥
+
+-- there is no plan or no text, for this reason
+abbrev pub HasNone : Choice → Options → List ℕ → List Cell → SurveyFault → Type 0
+HasNone choice o engine cells e = (planned_of choice cells ≡ Err e) ⊎ ((ps : List Planned) × (planned_of choice cells ≡ Ok ps) × (draft_of o engine cells ps ≡ Err e))
+
+-- there is a text, which is not read as what was meant, for this reason
+abbrev pub HasText : List Definition → Choice → Options → List ℕ → List Cell → SurveyFault → Type 0
+HasText defs choice o engine cells e =
+    (ps : List Planned) × (text : List ℕ) × (planned_of choice cells ≡ Ok ps) × (draft_of o engine cells ps ≡ Ok text) × IsNotReadBack defs o engine cells ps text e
+
+-- why there are no settings
+abbrev pub IsFault : List Definition → Choice → Options → List ℕ → List Cell → SurveyFault → Type 0
+IsFault defs choice o engine cells e = (e ≡ fault.OutOfMemory) ⊎ (HasNone choice o engine cells e ⊎ HasText defs choice o engine cells e)

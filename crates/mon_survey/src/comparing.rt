@@ -1,0 +1,342 @@
+//! Whether settings that were read are those that were meant.
+
+ghost use Rattle.std.specs.Prelude.{◌≡◌, ◌↔◌, ◌≤◌, ◌++◌, [], All, IfOk, IsTrue, OnOk, Some, length, map, string_bytes};
+ghost use Rattle.std.specs.List.{AllZip, flat_map};
+ghost use Rattle.std.specs.Option.{option_to_list};
+ghost use Rattle.mon_settings.specs.StationAccepted.{station_view};
+ghost use Rattle.mon_udp.specs.Addr.{addr_of};
+ghost use Rattle.mon_survey.specs.Column.{cell_name, spot_of};
+ghost use Rattle.mon_survey.specs.Meant.{ArePeers, AreScalars, AreTargets, IsAgent, IsAlarm, IsCounter, IsMeant, IsSized, alarm_on, alarms_from, at_cell, is_octets, mark_of};
+
+use crate::answers::Answers;
+use crate::column::{Column, Spot};
+use crate::counter::Planned;
+use crate::options::{Options, Peer};
+use crate::planning::{Thresholds, thresholds_at};
+use mon_alarms::Rule;
+use mon_board::Watched;
+use mon_oid::Oid;
+use mon_poller::{Object, Target};
+use mon_settings::StationSettings;
+use mon_udp::Addr;
+use std::alloc::{AllocError, AllocFailed, Global};
+
+/// The most objects of a target.
+const MOST_OBJECTS: usize = 16;
+
+/// What settings are compared with.
+#[derive(Clone, Copy)]
+pub(crate) struct Wanted<'a> {
+    pub(crate) options: &'a Options<'a>,
+    pub(crate) engine: &'a [u8],
+    pub(crate) answers: &'a Answers,
+    pub(crate) planned: &'a [Planned],
+}
+
+/// An alarm on an instance, with its thresholds in thousandths.
+#[derive(Clone, Copy, Debug, PartialEq, Eq)]
+pub struct Alarm {
+    /// The number of the instance.
+    pub instance: usize,
+    /// The rising threshold.
+    pub rising: u64,
+    /// The falling threshold.
+    pub falling: u64,
+}
+
+/// Returns `true` if the text writes the address.
+fn is_address(address: Addr, text: &str) -> bool
+    ensures { IsTrue result ↔ (addr_of text.now ≡ Some address) }
+{
+    match Addr::parse(text) {
+        Some(other) => other == address,
+        None => false,
+    }
+}
+
+/// Returns `true` if the name is that of the cell.
+fn is_cell(name: &Oid, column: Column, index: u32) -> bool
+    ensures { IsTrue result ↔ (name.now ≡ cell_name column index) }
+{
+    match column {
+        Column::If(number) => name.parts() == [1, 3, 6, 1, 2, 1, 2, 2, 1, number, index].as_slice(),
+        Column::IfX(number) => name.parts()
+            == [1, 3, 6, 1, 2, 1, 31, 1, 1, 1, number, index].as_slice(),
+    }
+}
+
+/// Returns `true` if the object has the interface's mark, or none where it has none.
+fn has_mark(answers: &Answers, mark: &Option<Oid>, index: u32) -> bool
+    ensures { IsTrue result ↔ (mark.now ≡ mark_of answers.now index) }
+{
+    match mark {
+        Some(name) => answers.is_marked(index) && is_cell(name, Column::IfX(19), index),
+        None => !answers.is_marked(index),
+    }
+}
+
+/// Returns `true` if the object is the counter.
+fn is_counter(answers: &Answers, object: &Object, one: Planned) -> bool
+    ensures { IsTrue result ↔ IsCounter answers.now object.now one }
+{
+    is_cell(&object.name, one.column(), one.index)
+        && has_mark(answers, &object.discontinuity, one.index)
+}
+
+/// Returns `true` if the objects are the counters.
+fn are_counters(answers: &Answers, objects: &[Object], planned: &[Planned]) -> bool
+    ensures { IsTrue result ↔ AllZip (IsCounter answers.now) objects.now planned.now }
+{
+    if objects.len() != planned.len() {
+        return false;
+    }
+    for (place, one) in planned.iter().enumerate() {
+        if !is_counter(answers, &objects[place], *one) {
+            return false;
+        }
+    }
+    true
+}
+
+/// Adds copies of objects.
+fn add_objects(alloc: Global, all: &mut Vec<Object>, objects: &[Object]) -> Result<(), AllocError>
+    ensures { OnOk result (all.new.items ≡ all.old.items ++ objects.now) }
+{
+    for object in objects {
+        all.push(object.try_clone(alloc)?)?;
+    }
+    Ok(())
+}
+
+/// Copies of the objects of all targets, in their order.
+fn objects_of(alloc: Global, targets: &[Target]) -> Result<Vec<Object>, AllocError>
+    ensures { IfOk result (λ v. v.items ≡ flat_map (λ t. t.objects) targets.now) }
+{
+    let mut all = Vec::new(alloc);
+    for target in targets {
+        add_objects(alloc, &mut all, target.objects.as_slice())?;
+    }
+    Ok(all)
+}
+
+/// Returns `true` if the target is the agent.
+fn is_agent(wanted: &Wanted<'_>, target: &Target) -> bool
+    ensures { IsTrue result ↔ IsAgent wanted.now.options.now wanted.now.engine.now target.now }
+{
+    let options = wanted.options;
+    is_address(target.address, options.address)
+        && target.community.as_slice() == options.community.as_bytes()
+        && target.engine.as_slice() == wanted.engine
+        && target.tries == options.tries
+}
+
+fn are_agents(wanted: &Wanted<'_>, targets: &[Target]) -> bool
+    ensures { IsTrue result ↔ All (IsAgent wanted.now.options.now wanted.now.engine.now) targets.now }
+{
+    targets.iter().all(|target| is_agent(wanted, target))
+}
+
+/// Returns `true` if the targets are those that were meant.
+fn are_targets(alloc: Global, wanted: &Wanted<'_>, targets: &[Target]) -> Result<bool, AllocError>
+    requires { length wanted.now.planned.now ≤ 256 }
+    ensures { IfOk result (λ are. IsTrue are ↔ AreTargets wanted.now.options.now wanted.now.engine.now wanted.now.answers.now wanted.now.planned.now targets.now) }
+{
+    let objects = objects_of(alloc, targets)?;
+    Ok(
+        are_agents(wanted, targets)
+            && are_counters(wanted.answers, objects.as_slice(), wanted.planned)
+            && targets.len() == (wanted.planned.len() + MOST_OBJECTS - 1) / MOST_OBJECTS,
+    )
+}
+
+/// Returns `true` if the column counts octets.
+fn is_octets(column: Column) -> bool
+    ensures { result ≡ is_octets column }
+{
+    match column {
+        Column::If(number) => number == 10 || number == 16,
+        Column::IfX(number) => number == 6 || number == 10,
+    }
+}
+
+/// The thresholds of a cell.
+fn at_cell(answers: &Answers, percent: u8, spot: Spot) -> Option<Thresholds>
+    requires { percent ≤ 100 }
+    ensures { result ≡ at_cell answers.now percent spot }
+{
+    let Spot::Cell(column, index) = spot else {
+        return None;
+    };
+    if is_octets(column) {
+        thresholds_at(answers, percent, index)
+    } else {
+        None
+    }
+}
+
+/// The alarm on the instance of this number.
+fn alarm_on(answers: &Answers, percent: u8, number: usize, watched: &Watched) -> Option<Alarm>
+    requires { percent ≤ 100 }
+    ensures { result ≡ alarm_on number (at_cell answers.now percent (spot_of watched.now.instance.name)) }
+{
+    match at_cell(answers, percent, Spot::of(&watched.instance.name)) {
+        Some(at) => Some(Alarm {
+            instance: number,
+            rising: at.rising,
+            falling: at.falling,
+        }),
+        None => None,
+    }
+}
+
+/// Adds the alarm on the instance of this number.
+fn add_alarm(
+    alarms: &mut Vec<Alarm>,
+    wanted: &Wanted<'_>,
+    number: usize,
+    watched: &Watched,
+) -> Result<(), AllocFailed<Alarm>>
+    requires { wanted.now.options.now.percent ≤ 100 }
+    ensures { OnOk result (alarms.new.items ≡ alarms.old.items ++ option_to_list (alarm_on number (at_cell wanted.now.answers.now wanted.now.options.now.percent (spot_of watched.now.instance.name)))) }
+{
+    match alarm_on(wanted.answers, wanted.options.percent, number, watched) {
+        Some(alarm) => alarms.push(alarm),
+        None => Ok(()),
+    }
+}
+
+/// The alarms on all instances.
+fn alarms_of(
+    alloc: Global,
+    wanted: &Wanted<'_>,
+    instances: &[Watched],
+) -> Result<Vec<Alarm>, AllocError>
+    requires { wanted.now.options.now.percent ≤ 100 }
+    ensures { IfOk result (λ v. v.items ≡ alarms_from wanted.now.answers.now wanted.now.options.now.percent 0 instances.now) }
+{
+    let mut alarms = Vec::new(alloc);
+    for (number, watched) in instances.iter().enumerate() {
+        add_alarm(&mut alarms, wanted, number, watched)?;
+    }
+    Ok(alarms)
+}
+
+/// Returns `true` if the rule is the alarm.
+fn is_alarm(rule: Rule, alarm: Alarm) -> bool
+    ensures { IsTrue result ↔ IsAlarm rule alarm }
+{
+    usize::from(rule.instance()) == alarm.instance
+        && i128::from(rule.rising()) == i128::from(alarm.rising)
+        && i128::from(rule.falling()) == i128::from(alarm.falling)
+}
+
+/// Returns `true` if the rules are the alarms.
+fn are_alarms(rules: &[Rule], alarms: &[Alarm]) -> bool
+    ensures { IsTrue result ↔ AllZip IsAlarm rules.now alarms.now }
+{
+    if rules.len() != alarms.len() {
+        return false;
+    }
+    for (place, alarm) in alarms.iter().enumerate() {
+        if !is_alarm(rules[place], *alarm) {
+            return false;
+        }
+    }
+    true
+}
+
+/// Returns `true` if the numbers are those of the peers.
+fn are_numbered(numbers: &[u32], peers: &[Peer]) -> bool
+    ensures { IsTrue result ↔ AllZip (λ n p. n ≡ p.station) numbers.now peers.now }
+{
+    if numbers.len() != peers.len() {
+        return false;
+    }
+    for (place, peer) in peers.iter().enumerate() {
+        if numbers[place] != peer.station {
+            return false;
+        }
+    }
+    true
+}
+
+/// Returns `true` if the addresses are those of the peers.
+fn are_placed(addresses: &[Addr], peers: &[Peer]) -> bool
+    ensures { IsTrue result ↔ AllZip (λ a p. addr_of (string_bytes p.address) ≡ Some a) addresses.now peers.now }
+{
+    if addresses.len() != peers.len() {
+        return false;
+    }
+    for (place, peer) in peers.iter().enumerate() {
+        if !is_address(addresses[place], peer.address.as_str()) {
+            return false;
+        }
+    }
+    true
+}
+
+/// Returns `true` if the peers are those of the options.
+fn are_peers(peers: &[Peer], numbers: &[u32], addresses: &[Addr]) -> bool
+    ensures { IsTrue result ↔ ArePeers peers.now numbers.now addresses.now }
+{
+    are_numbered(numbers, peers) && are_placed(addresses, peers)
+}
+
+/// Returns `true` if the window has the size of the options.
+fn is_sized(options: &Options<'_>, watched: &Watched) -> bool
+    ensures { IsTrue result ↔ IsSized options.now watched.now }
+{
+    let window = options.window as usize;
+    watched.window == window && watched.epoch == window
+}
+
+fn are_sized(options: &Options<'_>, instances: &[Watched]) -> bool
+    ensures { IsTrue result ↔ All (IsSized options.now) instances.now }
+{
+    instances.iter().all(|watched| is_sized(options, watched))
+}
+
+/// Returns `true` if there are no texts.
+fn are_none(texts: &[String]) -> bool
+    ensures { IsTrue result ↔ (map string_bytes texts.now ≡ []) }
+{
+    texts.is_empty()
+}
+
+/// Returns `true` if what is outside of the lists is that of the options.
+fn are_scalars(options: &Options<'_>, station: &StationSettings) -> bool
+    ensures { IsTrue result ↔ AreScalars options.now (station_view station.now) }
+{
+    station.core.station() == options.station
+        && is_address(station.listen, options.listen)
+        && station.file.as_bytes() == options.file.as_bytes()
+        && station.wait_ms == options.wait_ms
+        && are_none(station.modules.as_slice())
+}
+
+/// Returns `true` if the settings are those that were meant.
+pub(crate) fn is_meant(
+    alloc: Global,
+    wanted: &Wanted<'_>,
+    station: &StationSettings,
+) -> Result<bool, AllocError>
+    requires few { length wanted.now.planned.now ≤ 256 }
+    requires percent { wanted.now.options.now.percent ≤ 100 }
+    ensures { IfOk result (λ is. IsTrue is ↔ IsMeant wanted.now.options.now wanted.now.engine.now wanted.now.answers.now wanted.now.planned.now (station_view station.now)) }
+{
+    let options = wanted.options;
+    let instances = station.core.watch().instances();
+    let targets = are_targets(alloc, wanted, station.core.targets())?;
+    let alarms = alarms_of(alloc, wanted, instances)?;
+    Ok(
+        are_scalars(options, station)
+            && targets
+            && are_sized(options, instances)
+            && are_alarms(station.core.watch().rules(), alarms.as_slice())
+            && are_peers(
+                options.peers,
+                station.core.peers(),
+                station.peer_addresses.as_slice(),
+            ),
+    )
+}

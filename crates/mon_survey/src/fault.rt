@@ -1,0 +1,94 @@
+//! Why there are no settings.
+
+ghost use Rattle.std.specs.Prelude.{◌≡◌};
+ghost use Rattle.mon_survey.specs.Fault.{number_of, name_of};
+ghost use Rattle.mon_survey.specs.declared.fault.SurveyFault.TheVariants.{OutOfMemory};
+
+use mon_settings::SettingsFault;
+use std::alloc::{AllocError, AllocFailed};
+use thiserror::Error;
+
+/// Why an agent's answers give no settings.
+#[derive(Clone, Copy, Debug, PartialEq, Eq, Error)]
+pub enum SurveyFault {
+    /// Memory was refused.
+    #[error("out of memory")]
+    OutOfMemory,
+    /// The agent has no snmpEngine group (RFC 3411 section 5), whose boots and time stamp each
+    /// sample, or an engine id that is not 5 to 32 octets.
+    #[error("the agent has no snmpEngine group, whose boots and time stamp each sample")]
+    NoEngine,
+    /// A name does not come after the one before it.
+    #[error("the agent's answers do not rise")]
+    NotRising,
+    /// A name in a column of interfaces whose index is not one number.
+    #[error("an interface's index is not one number")]
+    BadIndex,
+    /// No interface that is chosen has a counter of these kinds.
+    #[error("no interface that is chosen has a counter of these kinds")]
+    NoCounter,
+    /// More than 256 counters, which are this many.
+    #[error("{0} counters are more than the 256 of a station: choose fewer by --match, --up or --only, or have several settings by --split")]
+    TooMany(usize),
+    /// An option's text has a quote, a backslash or an octet outside 20 to 7E.
+    #[error("a text has a quote, a backslash or an octet outside 20 to 7E")]
+    BadText,
+    /// The text is no settings: an option is out of its range.
+    #[error("these are no settings: {0}")]
+    Refused(SettingsFault),
+    /// The text is read as other settings than those that were meant.
+    #[error("the settings are read as others than those that were meant")]
+    Misread,
+}
+
+impl SurveyFault {
+    /// The number of the fault, 1 to 9.
+    pub fn number(self) -> u8
+        ensures { result ≡ number_of self }
+    {
+        match self {
+            SurveyFault::OutOfMemory => 1,
+            SurveyFault::NoEngine => 2,
+            SurveyFault::NotRising => 3,
+            SurveyFault::BadIndex => 4,
+            SurveyFault::NoCounter => 5,
+            SurveyFault::TooMany(_) => 6,
+            SurveyFault::BadText => 7,
+            SurveyFault::Refused(_) => 8,
+            SurveyFault::Misread => 9,
+        }
+    }
+
+    /// The name of the fault, as a printed line gives it.
+    pub fn name(self) -> &'static str
+        ensures { result.now ≡ name_of self }
+    {
+        match self {
+            SurveyFault::OutOfMemory => "OutOfMemory",
+            SurveyFault::NoEngine => "NoEngine",
+            SurveyFault::NotRising => "NotRising",
+            SurveyFault::BadIndex => "BadIndex",
+            SurveyFault::NoCounter => "NoCounter",
+            SurveyFault::TooMany(_) => "TooMany",
+            SurveyFault::BadText => "BadText",
+            SurveyFault::Refused(_) => "Refused",
+            SurveyFault::Misread => "Misread",
+        }
+    }
+}
+
+impl From<AllocError> for SurveyFault {
+    ghost from_gives = { λ _ e. e ≡ OutOfMemory };
+
+    fn from(_e: AllocError) -> SurveyFault {
+        SurveyFault::OutOfMemory
+    }
+}
+
+impl<T: Drop> From<AllocFailed<T>> for SurveyFault {
+    ghost from_gives = { λ _ e. e ≡ OutOfMemory };
+
+    fn from(_e: AllocFailed<T>) -> SurveyFault {
+        SurveyFault::OutOfMemory
+    }
+}

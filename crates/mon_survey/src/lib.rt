@@ -1,0 +1,30 @@
+//! What an agent answers of its interfaces (RFC 2863), which of its counters a station is to poll,
+//! and the text of that station's settings. No socket, file or clock.
+//! Contract: the counters are those of a definition over the answers, and the text is one over the
+//! counters; no octet of a name or alias leaves its comment.
+#![tactic(auto)]
+
+mod answers;
+mod choice;
+mod column;
+mod comparing;
+mod counter;
+mod drafting;
+mod engine;
+mod fault;
+pub mod laws;
+mod options;
+mod planning;
+mod surveying;
+mod writing;
+
+pub use answers::{Answers, Cell};
+pub use choice::{Choice, Kinds};
+pub use column::{Column, Spot, columns};
+pub use counter::{Counter, Kind, Planned};
+pub use drafting::draft;
+pub use engine::engine_of;
+pub use fault::SurveyFault;
+pub use options::{Options, Peer};
+pub use planning::{Thresholds, plan, thresholds_of};
+pub use surveying::{Surveyed, settings};

@@ -1,0 +1,215 @@
+//! Which counters of an agent a station polls.
+
+ghost use Rattle.std.specs.Prelude.{◌≡◌, ◌⊎◌, ◌≤◌, ◌*◌, ◌++◌, Err, Ok, IfErr, IfOk, OnOk, drop, take};
+ghost use Rattle.std.specs.Option.{option_to_list};
+ghost use Rattle.mon_survey.specs.Plan.{counters_from, counters_of, interface_counters, limited, planned_by, group_of, planned_of, thresholds_at, thresholds_of, width_of};
+ghost use Rattle.mon_survey.specs.Answers.{number_in, value_at};
+
+use crate::answers::{Answers, Cell};
+use crate::choice::Choice;
+use crate::column::Column;
+use crate::counter::{Counter, Kind, Planned, column_of};
+use crate::fault::SurveyFault;
+use std::alloc::{AllocError, AllocFailed, Global};
+
+/// The most instances of a station.
+const MOST_INSTANCES: usize = 256;
+
+/// Returns `true` if the agent counts this by 64 bits, `false` if by 32, `None` if not at all.
+fn width_of(answers: &Answers, counter: Counter, index: u32) -> Option<bool>
+    ensures { result ≡ width_of answers.now counter index }
+{
+    if answers.is_counter64(column_of(counter, true), index) {
+        return Some(true);
+    }
+    if answers.is_counter32(column_of(counter, false), index) {
+        return Some(false);
+    }
+    None
+}
+
+/// The counter of an interface, if its kind is polled and the agent has it.
+fn planned(answers: &Answers, choice: &Choice<'_>, index: u32, counter: Counter) -> Option<Planned>
+    ensures { result ≡ planned_by choice.now answers.now index counter }
+{
+    if !choice.kinds.has(counter.kind()) {
+        return None;
+    }
+    match width_of(answers, counter, index) {
+        Some(wide) => Some(Planned {
+            counter,
+            wide,
+            index,
+        }),
+        None => None,
+    }
+}
+
+/// Adds the counter of an interface, if its kind is polled and the agent has it.
+fn add_counter(
+    counters: &mut Vec<Planned>,
+    answers: &Answers,
+    choice: &Choice<'_>,
+    index: u32,
+    counter: Counter,
+) -> Result<(), AllocFailed<Planned>>
+    ensures { OnOk result (counters.new.items ≡ counters.old.items ++ option_to_list (planned_by choice.now answers.now index counter)) }
+{
+    match planned(answers, choice, index, counter) {
+        Some(one) => counters.push(one),
+        None => Ok(()),
+    }
+}
+
+/// Adds the counters of an interface.
+fn add_interface(
+    counters: &mut Vec<Planned>,
+    answers: &Answers,
+    choice: &Choice<'_>,
+    index: u32,
+) -> Result<(), AllocFailed<Planned>>
+    ensures { OnOk result (counters.new.items ≡ counters.old.items ++ interface_counters choice.now answers.now index) }
+{
+    for counter in &Counter::every() {
+        add_counter(counters, answers, choice, index, *counter)?;
+    }
+    Ok(())
+}
+
+/// Adds the counters of the interface whose ifDescr a cell holds, if it is chosen.
+fn add_cell(
+    counters: &mut Vec<Planned>,
+    answers: &Answers,
+    choice: &Choice<'_>,
+    cell: &Cell,
+) -> Result<(), AllocFailed<Planned>>
+    ensures { OnOk result (counters.new.items ≡ counters.old.items ++ counters_from choice.now answers.now cell.now) }
+{
+    if cell.column != Column::If(2) {
+        return Ok(());
+    }
+    if !choice.takes(answers, cell.index) {
+        return Ok(());
+    }
+    add_interface(counters, answers, choice, cell.index)
+}
+
+/// The counters of all interfaces.
+fn counters_of(
+    alloc: Global,
+    answers: &Answers,
+    choice: &Choice<'_>,
+) -> Result<Vec<Planned>, SurveyFault>
+    ensures gives { IfOk result (λ v. v.items ≡ counters_of choice.now answers.now) }
+    ensures memory { IfErr result (λ e. e ≡ SurveyFault.OutOfMemory) }
+{
+    let mut counters = Vec::new(alloc);
+    for cell in answers.cells() {
+        add_cell(&mut counters, answers, choice, cell)?;
+    }
+    Ok(counters)
+}
+
+/// The first 256 counters, or all if there are fewer.
+fn front(counters: &[Planned]) -> &[Planned]
+    ensures { result.now ≡ take 256 counters.now }
+{
+    if counters.len() > MOST_INSTANCES {
+        &counters[..MOST_INSTANCES]
+    } else {
+        counters
+    }
+}
+
+/// At most 256 counters from a place on.
+fn part_of(counters: &[Planned], from: usize) -> &[Planned]
+    ensures { result.now ≡ take 256 (drop from counters.now) }
+{
+    if from >= counters.len() {
+        return &[];
+    }
+    front(&counters[from..])
+}
+
+/// The counters of a group, or all.
+fn group_of(
+    alloc: Global,
+    group: Option<u32>,
+    counters: Vec<Planned>,
+) -> Result<Vec<Planned>, AllocError>
+    ensures { IfOk result (λ v. v.items ≡ group_of group counters.items) }
+{
+    match group {
+        Some(number) => {
+            let from = MOST_INSTANCES * number as usize;
+            Vec::from_slice(alloc, part_of(&counters, from))
+        }
+        None => Ok(counters),
+    }
+}
+
+/// Returns the counters that a station polls: of each interface with an ifDescr that is chosen, in
+/// the order of their indexes, those of the kinds that are polled and that the agent has, each by 64
+/// bits where the agent has that, else by 32; and of these the group that is chosen.
+///
+/// # Errors
+/// `NoCounter` if there is no counter; `TooMany` with their number above 256; `OutOfMemory`.
+pub fn plan(
+    alloc: Global,
+    answers: &Answers,
+    choice: &Choice<'_>,
+) -> Result<Vec<Planned>, SurveyFault>
+    ensures gives { IfOk result (λ v. planned_of choice.now answers.now ≡ Ok v.items) }
+    ensures fault { IfErr result (λ e. (e ≡ SurveyFault.OutOfMemory) ⊎ (planned_of choice.now answers.now ≡ Err e)) }
+{
+    let all = counters_of(alloc, answers, choice)?;
+    let counters = group_of(alloc, choice.group, all)?;
+    if counters.is_empty() {
+        return Err(SurveyFault::NoCounter);
+    }
+    if counters.len() > MOST_INSTANCES {
+        return Err(SurveyFault::TooMany(counters.len()));
+    }
+    Ok(counters)
+}
+
+/// The thresholds of an alarm on a counter of octets, in thousandths of an octet a second.
+#[derive(Clone, Copy, Debug, PartialEq, Eq)]
+pub struct Thresholds {
+    /// Raised from here on: this part of the interface's speed.
+    pub rising: u64,
+    /// Cleared down from here: nine tenths of it.
+    pub falling: u64,
+}
+
+/// The thresholds at this percentage of an interface's speed; none where one of the two is 0.
+pub(crate) fn thresholds_at(answers: &Answers, percent: u8, index: u32) -> Option<Thresholds>
+    requires { percent ≤ 100 }
+    ensures { result ≡ thresholds_at (number_in (value_at answers.now (Column.IfX 15) index) * percent) }
+{
+    let part = u64::from(answers.speed(index)) * u64::from(percent);
+    if part == 0 {
+        return None;
+    }
+    Some(Thresholds {
+        rising: part * 1250000,
+        falling: part * 1125000,
+    })
+}
+
+/// Returns the thresholds at this percentage of the interface's speed; none for a counter that is
+/// not of octets, and none where the speed or the percentage is 0.
+pub fn thresholds_of(
+    answers: &Answers,
+    percent: u8,
+    counter: Counter,
+    index: u32,
+) -> Option<Thresholds>
+    requires { percent ≤ 100 }
+    ensures { result ≡ thresholds_of answers.now percent counter index }
+{
+    match counter.kind() {
+        Kind::Octets => thresholds_at(answers, percent, index),
+        Kind::Packets | Kind::Errors | Kind::Discards => None,
+    }
+}

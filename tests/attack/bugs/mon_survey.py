@@ -1,0 +1,144 @@
+"""Bugs of mon_survey for planted_bugs: by a name the file, what stands there once, and the bug in its place."""
+
+BUGS = {
+    "takes_a_name_again": (
+        "src/answers.rt",
+        "        Some(last) => last.key < key,",
+        "        Some(last) => last.key <= key,",
+    ),
+    "skips_a_ragged_index": (
+        "src/answers.rt",
+        "            Spot::Ragged => Err(SurveyFault::BadIndex),",
+        "            Spot::Ragged => Ok(()),",
+    ),
+    "calls_an_engine_short": (
+        "src/engine.rt",
+        "engine.len() < 5 ||",
+        "engine.len() < 6 ||",
+    ),
+    "polls_32_bits_first": (
+        "src/planning.rt",
+        "    if answers.is_counter64(column_of(counter, true), index) {\n        return Some(true);",
+        "    if answers.is_counter64(column_of(counter, true), index) && !answers.is_counter32(column_of(counter, false), index) {\n        return Some(true);",
+    ),
+    "polls_interfaces_that_are_down": (
+        "src/choice.rt",
+        "if self.up && !answers.is_up(index) {",
+        "if self.up && answers.is_up(index) {",
+    ),
+    "matches_names_alone": (
+        "src/choice.rt",
+        "has_part(answers.name(index), self.part) || has_part(answers.alias(index), self.part)",
+        "has_part(answers.name(index), self.part) || has_part(answers.name(index), self.part)",
+    ),
+    "plans_a_counter_too_many": (
+        "src/planning.rt",
+        "    if counters.len() > MOST_INSTANCES {\n        return Err",
+        "    if counters.len() > MOST_INSTANCES + 1 {\n        return Err",
+    ),
+    "polls_a_counter_in_two_groups": (
+        "src/planning.rt",
+        "            let from = MOST_INSTANCES * number as usize;",
+        "            let from = (MOST_INSTANCES - 1) * number as usize;",
+    ),
+    "asks_for_no_mark": (
+        "src/column.rt",
+        "        Column::IfX(18),\n        Column::IfX(19),\n",
+        "        Column::IfX(18),\n        Column::IfX(18),\n",
+    ),
+    "plans_nothing_for_no_counter": (
+        "src/planning.rt",
+        "        return Err(SurveyFault::NoCounter);",
+        "        return Ok(counters);",
+    ),
+    "has_thresholds_of_bits": (
+        "src/planning.rt",
+        "        rising: part * 1250000,",
+        "        rising: part * 10000000,",
+    ),
+    "shows_control_characters": (
+        "src/writing.rt",
+        "    if 32 <= octet && octet <= 126 && octet != 34 {",
+        "    if octet <= 126 && octet != 34 {",
+    ),
+    "shows_quotes": (
+        "src/writing.rt",
+        "    if 32 <= octet && octet <= 126 && octet != 34 {",
+        "    if 32 <= octet && octet <= 126 {",
+    ),
+    "writes_no_marks": (
+        "src/writing.rt",
+        "    if answers.is_marked(index) {",
+        "    if answers.is_marked(index) && index == 0 {",
+    ),
+    "fills_targets_with_17": (
+        "src/drafting.rt",
+        "const MOST_OBJECTS: usize = 16;",
+        "const MOST_OBJECTS: usize = 17;",
+    ),
+    "writes_texts_as_they_are": (
+        "src/drafting.rt",
+        "    if !options.are_plain() {",
+        "    if !options.are_plain() && options.percent == 0 {",
+    ),
+    "writes_no_alarms": (
+        "src/drafting.rt",
+        "    put_alarms(&mut text, answers, options.percent, engine, planned)?;",
+        "    put_alarms(&mut text, answers, 0, engine, planned)?;",
+    ),
+    "compares_no_marks": (
+        "src/comparing.rt",
+        "        None => !answers.is_marked(index),",
+        "        None => true,",
+    ),
+    "compares_no_communities": (
+        "src/comparing.rt",
+        "        && target.community.as_slice() == options.community.as_bytes()\n",
+        "",
+    ),
+    "compares_no_epochs": (
+        "src/comparing.rt",
+        "    watched.window == window && watched.epoch == window",
+        "    watched.window == window",
+    ),
+    "compares_the_first_alarms": (
+        "src/comparing.rt",
+        "    if rules.len() != alarms.len() {",
+        "    if rules.len() < alarms.len() {",
+    ),
+    "finds_every_text_misread": (
+        "src/comparing.rt",
+        "        are_scalars(options, station)\n            && targets",
+        "        options.percent > 100\n            && targets",
+    ),
+    "reads_nothing_back": (
+        "src/surveying.rt",
+        "    read_back(alloc, names, &wanted, text.as_str())?;\n    Ok(text)",
+        "    let _ = read_back(alloc, names, &wanted, text.as_str());\n    Ok(text)",
+    ),
+    "returns_another_text": (
+        "src/surveying.rt",
+        "    read_back(alloc, names, &wanted, text.as_str())?;\n    Ok(text)",
+        "    read_back(alloc, names, &wanted, text.as_str())?;\n    let mut text = text;\n    text.push_str(\"#\")?;\n    Ok(text)",
+    ),
+    "refuses_what_is_read": (
+        "src/surveying.rt",
+        "            if is_meant(alloc, wanted, &station)? {\n                Ok(())",
+        "            if is_meant(alloc, wanted, &station)? {\n                Err(SurveyFault::Misread)",
+    ),
+    "misreads_what_is_refused": (
+        "src/surveying.rt",
+        "        Err(fault) => Err(SurveyFault::Refused(fault)),",
+        "        Err(_) => Err(SurveyFault::Misread),",
+    ),
+}
+
+# what the gate tries: the function that each is in
+PROMISES = {
+    "polls_32_bits_first": "planning::width_of",
+    "polls_interfaces_that_are_down": "choice::Choice::takes",
+    "plans_nothing_for_no_counter": "planning::plan",
+    "shows_control_characters": "writing::shown",
+    "reads_nothing_back": "surveying::settings",
+    "refuses_what_is_read": "surveying::read_back",
+}
