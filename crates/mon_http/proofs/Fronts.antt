@@ -1,6 +1,6 @@
 -- Heads among the octets: what more octets change, and what they do not.
 use native.Mathlib.Omega.{arith}
-use Rattle.std.proofs.Common.{◌≡◌, ◌≤◌, ◌<◌, ◌+◌, ◌-◌, ◌∙◌, ap, sym, subst, refl, ℕ, suc, zero, Bool, true, false, ◌&&◌, ◌||◌, ◌==◌, List, [], ◌∷◌, ◌++◌, Option, Some, None, option_map, length, take, drop, get_or, cond}
+use Rattle.std.proofs.Common.{◌≡◌, ◌≤◌, ◌<◌, ◌+◌, ◌∙◌, ap, sym, subst, refl, ℕ, suc, Bool, true, false, ◌&&◌, ◌==◌, List, [], ◌∷◌, ◌++◌, Option, Some, None, option_map, length, drop, get_or, cond}
 use Rattle.std.proofs.lemmas.List.{drop_more, append-nil, append_assoc, drop-append-le, length-append, length-drop}
 use Rattle.mon_http.specs.Front.{head_length, blank_after, skip_line_ends, is_line_end}
 use Rattle.mon_http.specs.Scan.{after, IsScanned}

@@ -1,10 +1,10 @@
 -- Verdicts of heads.
 use native.Mathlib.Omega.{arith}
-use Rattle.std.proofs.Common.{◌≡◌, ◌≤◌, ◌<◌, ◌+◌, ◌⊎◌, inl, inr, ◌∙◌, ap, sym, subst, refl, ℕ, suc, Bool, true, false, List, [], ◌∷◌, ◌++◌, Option, Some, None, Result, Ok, Err, length, map, take, drop, nat_lt, cond}
+use Rattle.std.proofs.Common.{◌≡◌, ◌≤◌, ◌<◌, ◌+◌, ◌⊎◌, inl, inr, ◌∙◌, ap, sym, subst, refl, ℕ, Bool, true, false, List, [], ◌∷◌, ◌++◌, Option, Some, None, Result, Ok, Err, length, map, take, drop, nat_lt, cond}
 use Rattle.std.proofs.lemmas.Bool.Decides.{nat_tests}
-use Rattle.std.specs.Prelude.{MatchBool, bytes_eq, codes, ◌==◌}
+use Rattle.std.specs.Prelude.{MatchBool, ◌==◌}
 use Rattle.std.specs.List.{flat_map}
-use Rattle.std.proofs.lemmas.List.{append-nil, append_assoc, take_all, length-take, length-append}
+use Rattle.std.proofs.lemmas.List.{append-nil, append_assoc, take_all, length-take}
 use Rattle.std.proofs.lemmas.List.Sums.{sum_by-append}
 use Rattle.httparse.specs.Grammar.{RequestHead, Field, LineEnd, crlf, lf, print_field, print_end, print_blank, print_version, print_section, print_request, ReadsRequest}
 use Rattle.httparse.proofs.GrammarLemmas.{print_request-append, cons-append}
@@ -21,9 +21,8 @@ use Rattle.http1.specs.declared.fields.KnownFields.{KnownFields}
 use Rattle.mon_http.specs.declared.route.Route.{Route}
 use Rattle.mon_http.specs.declared.response.Status.TheVariants.{BadRequest, MethodNotAllowed, HeaderFieldsTooLarge}
 use Rattle.mon_http.specs.declared.request.Verdict.{Verdict}
-use Rattle.mon_http.specs.declared.request.Verdict.TheVariants.{Asked, Refused}
 use Rattle.mon_http.specs.Front.{head_length, line_count}
-use Rattle.mon_http.specs.Request.{judged, routed, served, is_served, has_good_fields, stays_open, refusal, verdict_of, bad_status, most_lines, most_octets, IsGood, IsBad, IsVerdict, IsQuiet, IsTooLong, HasVerdict, IsJudged}
+use Rattle.mon_http.specs.Request.{judged, routed, served, is_served, has_good_fields, stays_open, refusal, verdict_of, bad_status, most_lines, IsGood, IsBad, IsVerdict, IsJudged}
 use Rattle.mon_http.specs.Route.{path_of, route_at}
 use Rattle.mon_http.specs.Conversation.{len_of}
 use Rattle.mon_http.proofs.Fronts.{drop_all}
@@ -85,10 +84,10 @@ unfolding IsVerdict
 bad_verdict head v few many e =
     let test : nat_lt most_lines (line_count head) ≡ false = grind (arith, nat_tests) in
     let no : (h : RequestHead) → ReadsRequest head h [] → ⊥ = λ h x.
-        (let same : line_count head ≡ line_count (print_request h) = ap line_count (x.1 ∙ append-nil (print_request h)) in
-        let lines : length h.fields + 2 ≤ line_count (print_request h) = lines_request h in
-        let over : 32 < length h.fields = many h x in
-        omega arith) in
+    (let same : line_count head ≡ line_count (print_request h) = ap line_count (x.1 ∙ append-nil (print_request h)) in
+    let lines : length h.fields + 2 ≤ line_count (print_request h) = lines_request h in
+    let over : 32 < length h.fields = many h x in
+    omega arith) in
     let P : Bool → Type 0 = λ b. MatchBool b (v ≡ refusal HeaderFieldsTooLarge false (length head)) (IsGood head v ⊎ IsBad head v) in
     subst P (sym test) (inr (no, e))
 
@@ -164,6 +163,7 @@ not_whole head headers r found none h x =
   where
     cases_le : (a b : ℕ) → (a ≤ b) ⊎ (b < a)
     cases_le a b = grind arith
+
     never : (r : Result (Status RequestSpans) Error) → IsCompleteAnd r (λ spans. IsRequestAt head headers spans h) → whole_of r (length head) ≡ None → ⊥
     never (Ok (Complete spans)) at e =
         let len : spans.len ≡ length head = at.len ∙ ap length (sym (append-nil (print_request h)) ∙ sym x.1) in

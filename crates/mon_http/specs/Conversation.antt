@@ -1,5 +1,5 @@
 -- A connection, and what is answered to the octets that come on it.
-use Rattle.std.specs.Prelude.{◌≡◌, ◌≤◌, ◌+◌, ◌⊎◌, ℕ, Bool, true, false, List, [], not, ◌++◌, take, drop, length, Option, MatchOption}
+use Rattle.std.specs.Prelude.{◌≡◌, ◌≤◌, ◌+◌, ◌⊎◌, ℕ, Bool, true, false, List, [], not, ◌++◌, take, drop, length, Option}
 use Rattle.httpdate.specs.declared.date.HttpDate.{HttpDate as Date}
 use Rattle.mon_http.specs.declared.route.Route.{Route}
 use Rattle.mon_http.specs.declared.request.Request.{Request}
@@ -9,7 +9,7 @@ use Rattle.mon_http.specs.declared.request.Verdict.TheVariants.{Asked, Refused}
 use Rattle.mon_http.specs.declared.step.Step.{Step}
 use Rattle.mon_http.specs.declared.step.Step.TheVariants as St
 use Rattle.mon_http.specs.Front.{skip_line_ends}
-use Rattle.mon_http.specs.Request.{most_octets, IsQuiet, IsJudged}
+use Rattle.mon_http.specs.Request.{IsQuiet, IsJudged}
 use Rattle.mon_http.specs.Response.{Reply, response_text, refusal_text}
 
 -- what a connection holds: octets that came and were not answered, octets to be sent, and whether it closes after them
@@ -75,22 +75,22 @@ keeps (Refused refusal) = refusal.keep_alive
 pub data Talk (moments : ℕ → Moment) : ℕ → List ℕ → List ℕ → Bool → Type 0 where
   quiet : (k : ℕ) (octets : List ℕ) → IsQuiet octets → Talk moments k octets [] false
   closes : (k : ℕ) (octets : List ℕ) (v : Verdict) → IsJudged octets v → keeps v ≡ false
-    → Talk moments k octets (said (moments k) v) true
+      → Talk moments k octets (said (moments k) v) true
   goes_on : (k : ℕ) (octets : List ℕ) (v : Verdict) (text : List ℕ) (closed : Bool) → IsJudged octets v → keeps v ≡ true
-    → Talk moments (k + 1) (skip_line_ends (drop (len_of v) octets)) text closed
-    → Talk moments k octets (said (moments k) v ++ text) closed
+      → Talk moments (k + 1) (skip_line_ends (drop (len_of v) octets)) text closed
+      → Talk moments k octets (said (moments k) v ++ text) closed
 
 -- a history of a connection: how many heads were answered, the octets that were received and sent, and what it holds.
 -- Its steps are those of the methods of `Connection`
 pub data History (moments : ℕ → Moment) : ℕ → List ℕ → List ℕ → Conversation → Type 0 where
   began : History moments 0 [] [] start
   received : (k : ℕ) (received sent : List ℕ) (c : Conversation) (octets : List ℕ) → History moments k received sent c
-    → History moments k (received ++ octets) sent (with_octets octets c)
+      → History moments k (received ++ octets) sent (with_octets octets c)
   sent : (k : ℕ) (received sent : List ℕ) (c : Conversation) (n : ℕ) → History moments k received sent c
-    → n ≤ length c.unsent → History moments k received (sent ++ take n c.unsent) (with_sent n c)
+      → n ≤ length c.unsent → History moments k received (sent ++ take n c.unsent) (with_sent n c)
   answered : (k : ℕ) (received sent : List ℕ) (c : Conversation) (v : Verdict) → History moments k received sent c
-    → c.closing ≡ false → c.unsent ≡ [] → IsJudged c.unread v
-    → History moments (k + 1) received sent (with_text (len_of v) (keeps v) (said (moments k) v) c)
+      → c.closing ≡ false → c.unsent ≡ [] → IsJudged c.unread v
+      → History moments (k + 1) received sent (with_text (len_of v) (keeps v) (said (moments k) v) c)
 
 -- nothing is left to be done with what came
 abbrev pub IsAtRest : Conversation → Type 0

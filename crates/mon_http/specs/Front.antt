@@ -1,5 +1,5 @@
 -- Where the head of a request ends among the octets of a connection, and which version its request line names.
-use Rattle.std.specs.Prelude.{ℕ, ◌+◌, ◌-◌, Bool, true, ◌&&◌, ◌||◌, not, List, [], ◌∷◌, Option, Some, None, option_map, length, take, drop, codes, ◌==◌, bytes_eq, slice_index, count_by, if◌then◌else◌}
+use Rattle.std.specs.Prelude.{ℕ, ◌+◌, ◌-◌, Bool, ◌&&◌, ◌||◌, not, List, [], ◌∷◌, Option, Some, None, option_map, length, take, drop, codes, ◌==◌, bytes_eq, slice_index, count_by, if◌then◌else◌}
 use Rattle.std.specs.Char.{is_ascii_digit}
 use Rattle.mon_http.specs.Route.{before}
 

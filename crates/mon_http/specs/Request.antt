@@ -1,6 +1,6 @@
 -- What a request asks for, and what octets are answered by.
-use Rattle.std.specs.Prelude.{◌≡◌, ℕ, ◌≤◌, ◌<◌, ◌⊎◌, Bool, true, false, not, ◌&&◌, ◌||◌, List, [], length, map, take, drop, codes, ◌==◌, nat_lt, bytes_eq, Option, Some, None, MatchOption, MatchBool, if◌then◌else◌}
-use Rattle.httparse.specs.Grammar.{RequestHead, print_request, ReadsRequest}
+use Rattle.std.specs.Prelude.{◌≡◌, ℕ, ◌≤◌, ◌<◌, ◌⊎◌, Bool, true, false, not, ◌&&◌, ◌||◌, List, [], length, map, take, codes, ◌==◌, nat_lt, bytes_eq, Option, Some, None, MatchOption, MatchBool, if◌then◌else◌}
+use Rattle.httparse.specs.Grammar.{RequestHead, ReadsRequest}
 use Rattle.httparse.specs.Spans.{name_and_value}
 use Rattle.http1.specs.Fields.{known_fields}
 use Rattle.http1.specs.declared.fields.KnownFields.{KnownFields}
@@ -11,8 +11,6 @@ use Rattle.http1.specs.declared.fields.TransferEncoding.TheVariants as Coding
 use Rattle.mon_http.specs.declared.response.Status.{Status}
 use Rattle.mon_http.specs.declared.response.Status.TheVariants.{BadRequest, NotFound, MethodNotAllowed, HeaderFieldsTooLarge, VersionNotSupported}
 use Rattle.mon_http.specs.declared.route.Route.{Route}
-use Rattle.mon_http.specs.declared.request.Request.{Request}
-use Rattle.mon_http.specs.declared.request.Refusal.{Refusal}
 use Rattle.mon_http.specs.declared.request.Verdict.{Verdict}
 use Rattle.mon_http.specs.declared.request.Verdict.TheVariants.{Asked, Refused}
 use Rattle.mon_http.specs.Route.{path_of, route_at}

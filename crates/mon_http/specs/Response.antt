@@ -13,8 +13,6 @@ use Rattle.mon_http.specs.declared.route.Route.{Route}
 use Rattle.mon_http.specs.declared.route.Route.TheVariants.{Metrics, Report, Page, Health}
 use Rattle.mon_http.specs.declared.request.Request.{Request}
 use Rattle.mon_http.specs.declared.request.Refusal.{Refusal}
-use Rattle.mon_http.specs.declared.request.Verdict.{Verdict}
-use Rattle.mon_http.specs.declared.request.Verdict.TheVariants.{Asked, Refused}
 
 -- status code and reason phrase (RFC 9110, section 15; 431: RFC 6585, section 5)
 abbrev pub status_text : Status → List ℕ

@@ -1,5 +1,5 @@
 -- What is served at which request target.
-use Rattle.std.specs.Prelude.{ℕ, Bool, List, [], ◌∷◌, Option, Some, None, take, drop, length, codes, ◌||◌, ◌==◌, bytes_eq, if◌then◌else◌}
+use Rattle.std.specs.Prelude.{ℕ, List, [], ◌∷◌, Option, Some, None, take, drop, length, codes, ◌||◌, ◌==◌, bytes_eq, if◌then◌else◌}
 use Rattle.mon_http.specs.declared.route.Route.{Route}
 use Rattle.mon_http.specs.declared.route.Route.TheVariants.{Metrics, Report, Page, Health}
 

@@ -5,6 +5,7 @@ ghost use Rattle.mon_http.specs.Front.{skip_line_ends};
 ghost use Rattle.mon_http.specs.Conversation.{start, with_octets, with_sent, with_text, with_reply, with_refusal, IsStep};
 ghost use Rattle.mon_http.specs.Request.{IsJudged, IsProgress};
 ghost use Rattle.mon_http.specs.Response.{reply_of, fits, response_text, refusal_text, sent_body};
+ghost use Rattle.mon_http.specs.declared.request.Refusal.{Refusal as RefusalData};
 ghost use Rattle.mon_http.specs.declared.request.Verdict.TheVariants as Verdicts;
 
 use crate::answer::Answer;
@@ -197,6 +198,7 @@ impl Connection {
         requires sent { self.old.unsent ≡ [] }
         ensures done { IfOk result (λ step. IsStep date self.old step self.new) }
         ensures kept { OnErr result (self.new ≡ self.old) }
+        ensures cause { OnErr result ((refusal : RefusalData) × IsJudged self.old.unread (Verdicts.Refused refusal)) }
     {
         match self.progress() {
             None => Ok(Step::Wait),

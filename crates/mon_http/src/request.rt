@@ -129,11 +129,7 @@ fn whole(parsed: httparse::Result<RequestSpans>, len: usize) -> Option<RequestSp
 {
     match parsed {
         Ok(httparse::Status::Complete(found)) => {
-            if found.len == len {
-                Some(found)
-            } else {
-                None
-            }
+            if found.len == len { Some(found) } else { None }
         }
         Ok(httparse::Status::Partial) => None,
         Err(_) => None,

@@ -81,7 +81,8 @@ fn policy_field(media: Media) -> &'static [u8]
     ensures { result.now ≡ policy_field media }
 {
     match media {
-        Media::Html => b"Content-Security-Policy: default-src 'none'; style-src 'unsafe-inline'; base-uri 'none'; form-action 'none'; frame-ancestors 'none'\r\n",
+        Media::Html =>
+            b"Content-Security-Policy: default-src 'none'; style-src 'unsafe-inline'; base-uri 'none'; form-action 'none'; frame-ancestors 'none'\r\n",
         _ => b"",
     }
 }

@@ -1,5 +1,4 @@
-use native.Mathlib.Omega.{arith}
-use Rattle.std.proofs.Common.{◌≡◌, ◌≤◌, ◌<◌, ◌∙◌, ap, sym, length, rules}
+use Rattle.std.proofs.Common.{◌<◌, ◌∙◌, sym, length, rules}
 use Rattle.mon_http.proofs.Fronts.{skip_kept}
 use Rattle.mon_http.proofs.connection.add_octets.Goals as goal
 

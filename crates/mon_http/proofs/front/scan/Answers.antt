@@ -1,4 +1,4 @@
-use Rattle.std.proofs.Common.{◌≡◌, ◌≤◌, ◌∙◌, ap, sym, subst, ℕ, Bool, length, get_or, ◌==◌, ◌&&◌, true}
+use Rattle.std.proofs.Common.{◌≡◌, ◌∙◌, ap, sym, subst, ℕ, length, get_or, ◌==◌, ◌&&◌, true}
 use native.Mathlib.Omega.{arith}
 use Rattle.mon_http.specs.Scan.{IsScanned}
 use Rattle.mon_http.proofs.Fronts.{scanned_end, scanned_all}

@@ -1,6 +1,5 @@
-use Rattle.std.proofs.Common.{◌≡◌, ◌≤◌, ◌<◌, ◌∙◌, ap, sym, subst, ℕ, List, length, false, rules}
-use Rattle.httparse.specs.Spans.{span_bytes, header_bytes}
-use Rattle.http1.specs.Fields.{known_fields}
+use Rattle.std.proofs.Common.{◌≤◌, ◌<◌, ◌∙◌, ap, sym, subst, ℕ, List, length, false, rules}
+use Rattle.httparse.specs.Spans.{span_bytes}
 use Rattle.http1.specs.declared.fields.KnownFields.{KnownFields}
 use Rattle.mon_http.specs.declared.response.Status.{Status}
 use Rattle.mon_http.specs.Request.{refusal, judged}

@@ -1,5 +1,4 @@
-use native.Mathlib.Omega.{arith}
-use Rattle.std.proofs.Common.{◌≡◌, ◌≤◌, ◌∙◌, ap, sym, subst, ℕ, List, length, take, Some, None, Option, false, rules}
+use Rattle.std.proofs.Common.{◌≡◌, ◌∙◌, ap, sym, subst, ℕ, List, take, Some, None, Option, false, rules}
 use Rattle.mon_http.specs.Front.{head_length}
 use Rattle.mon_http.specs.Conversation.{Conversation}
 use Rattle.mon_http.specs.Request.{IsProgress, IsJudged, IsVerdict}
@@ -22,6 +21,6 @@ returns-after-len-lt-MAX_OCTETS-clause-progress c =
     let quiet : head_length false items ≡ None = ap (head_length false) (sym c.deref.ensures.value) ∙ sym c.scan-found.ensures.end ∙ c.in-None.is in
     subst (λ (s : Conversation). IsProgress s.unread c.if-len-lt-MAX_OCTETS.result) c.self.view_is
     (elim c.if-len-lt-MAX_OCTETS.branch as (λ _. IsProgress items c.if-len-lt-MAX_OCTETS.result) [
-      then-len-lt-MAX_OCTETS w ↦ subst (λ (p : Option Verdict). IsProgress items p) (sym w.result-is) (quiet, search rules)
-    | else-len-lt-MAX_OCTETS w ↦ subst (λ (p : Option Verdict). IsProgress items p) (sym w.result-is) (judged_long items w.refuse.result (search rules) (search rules) quiet w.refuse.ensures)
+      | then-len-lt-MAX_OCTETS w ↦ subst (λ (p : Option Verdict). IsProgress items p) (sym w.result-is) (quiet, search rules)
+      | else-len-lt-MAX_OCTETS w ↦ subst (λ (p : Option Verdict). IsProgress items p) (sym w.result-is) (judged_long items w.refuse.result (search rules) (search rules) quiet w.refuse.ensures)
     ])
