@@ -14,7 +14,7 @@ use Rattle.mon_http.proofs.Fronts.{head_at}
 use Rattle.mon_http.proofs.Verdicts.{good_verdict, lines_append}
 use Rattle.mon_http.proofs.Talks.{head_found}
 
--- the text is a head, from a line that has no octet but CR so far if `blank`, and has so many lines
+-- the text is a head, from a line that has no octet but CR so far if `blank`, and has that number of lines
 abbrev Ends : Bool → List ℕ → ℕ → Type 0
 Ends blank text lines = (head_length blank text ≡ Some (length text)) × (line_count text ≡ lines)
 

@@ -155,7 +155,7 @@ pub judged_long : (octets : List ℕ) (v : Verdict) → length octets ≤ 8192 �
 unfolding IsJudged
 judged_long octets v short long e same = inr ((ap (head_length false) (take_all 8192 octets short) ∙ e, long), same)
 
--- a head that was not read whole in 32 fields is not one of the grammar with so many
+-- a head that was not read whole in 32 fields is none of the grammar with at most 32
 pub not_whole : (head : List ℕ) (headers : List HeaderSpan) (r : Result (Status RequestSpans) Error) → FindsRequest head 32 headers r
     → whole_of r (length head) ≡ None → (h : RequestHead) → ReadsRequest head h [] → 32 < length h.fields
 not_whole head headers r found none h x =

@@ -26,7 +26,7 @@ start = record { unread = []; unsent = []; closing = false }
 abbrev pub with_octets : List ℕ → Conversation → Conversation
 with_octets octets c = record { unread = skip_line_ends (c.unread ++ octets); unsent = c.unsent; closing = c.closing }
 
--- the first n octets of what was to be sent are sent
+-- the first n of the unsent octets were sent
 abbrev pub with_sent : ℕ → Conversation → Conversation
 with_sent n c = record { unread = c.unread; unsent = drop n c.unsent; closing = c.closing }
 
@@ -50,7 +50,7 @@ IsStep date old (St.Asked request) new = IsJudged old.unread (Asked request) × 
 IsStep date old St.Refused new =
     (refusal : Refusal) × IsJudged old.unread (Refused refusal) × (new ≡ with_refusal date refusal old)
 
--- what the station answers at one moment: the date, if it has a clock, and the reply for each route
+-- what the station answers at one time: the date, if it has a clock, and the reply for each route
 pub record Moment : Type 0 where
   pub date : Option Date
   pub reply : Route → Reply
@@ -71,7 +71,7 @@ keeps (Asked request) = request.keep_alive
 keeps (Refused refusal) = refusal.keep_alive
 
 -- what is answered to a stream of octets, from the k-th head on, and whether the connection is closed at the end.
--- `moments` gives what the station answers at the time of each response
+-- Response k is what the station answers at the time `moments k`
 pub data Talk (moments : ℕ → Moment) : ℕ → List ℕ → List ℕ → Bool → Type 0 where
   quiet : (k : ℕ) (octets : List ℕ) → IsQuiet octets → Talk moments k octets [] false
   closes : (k : ℕ) (octets : List ℕ) (v : Verdict) → IsJudged octets v → keeps v ≡ false

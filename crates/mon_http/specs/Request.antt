@@ -43,7 +43,7 @@ is_served method = bytes_eq method (codes "GET") || bytes_eq method (codes "HEAD
 abbrev pub refusal : Status → Bool → ℕ → Verdict
 refusal status keep_alive len = Refused (record { status = status; keep_alive = keep_alive; len = len })
 
--- a request for a route, or 404 where there is none (RFC 9110, section 15.5.5); only GET is answered with the body
+-- a request for a route, or 404 if there is no route (RFC 9110, section 15.5.5); only GET is answered with the body
 abbrev pub routed : List ℕ → Bool → ℕ → Option Route → Verdict
 routed method keep_alive len None = refusal NotFound keep_alive len
 routed method keep_alive len (Some route) =
@@ -59,7 +59,7 @@ unfoldable pub judged : List ℕ → List ℕ → ℕ → KnownFields → ℕ �
 judged method target minor known len =
     if has_good_fields minor known then served method target (stays_open minor known) len else refusal BadRequest false len
 
--- the same of a request head
+-- what a request head of this length asks for, or why it is refused
 abbrev pub verdict_of : RequestHead → ℕ → Verdict
 verdict_of h len = judged h.method h.target h.minor (known_fields (map name_and_value h.fields)) len
 
@@ -108,6 +108,6 @@ unfoldable pub IsJudged : List ℕ → Verdict → Type 0
 IsJudged octets verdict =
     HasVerdict octets verdict ⊎ (IsTooLong octets × (verdict ≡ refusal HeaderFieldsTooLarge false 0))
 
--- the verdict, or None while more octets are wanted
+-- the verdict, or None while more octets are needed
 abbrev pub IsProgress : List ℕ → Option Verdict → Type 0
 IsProgress octets progress = MatchOption progress (IsQuiet octets) (λ verdict. IsJudged octets verdict)

@@ -94,7 +94,7 @@ pub record Reply : Type 0 where
   pub media : Media
   pub body : List ℕ
 
--- the reply that an answer stands for
+-- the reply that an answer means
 abbrev pub reply_of : Answer → Reply
 reply_of (An.Metrics text) = record { status = Success; media = Prometheus; body = text.now }
 reply_of (An.Report text) = record { status = Success; media = Json; body = text.now }

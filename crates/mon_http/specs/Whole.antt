@@ -5,7 +5,7 @@ use Rattle.httparse.specs.declared.Status.{Status}
 use Rattle.httparse.specs.declared.Status.TheVariants.{Complete, Partial}
 use Rattle.httparse.specs.declared.spans.RequestSpans.{RequestSpans}
 
--- what was read, if it is the whole of so many octets
+-- what was read, if it is the whole of `len` octets
 abbrev pub whole_of : Result (Status RequestSpans) Error → ℕ → Option RequestSpans
 whole_of (Ok (Complete found)) len = if found.len == len then Some found else None
 whole_of (Ok Partial) len = None

@@ -27,7 +27,7 @@ const HEAD_CAPACITY: usize = 512;
 #[derive(Drop)]
 pub struct Connection {
     input: Vec<u8>,
-    /// No head ends within so many octets of the input.
+    /// The number of octets within which no head ends.
     scanned: usize,
     /// The line there has no octet but CR so far.
     is_blank: bool,
@@ -234,7 +234,7 @@ impl Connection {
         Ok(())
     }
 
-    /// Returns what is to be sent.
+    /// Returns the octets that are not sent yet.
     pub fn pending(&self) -> &[u8]
         ensures { result.now ≡ self.now.unsent }
     {

@@ -1,4 +1,4 @@
-//! Laws over the words. Each is a function that does nothing; its clauses are the law.
+//! Laws over the definitions. Each is a function that does nothing; its clauses are the law.
 
 ghost use Rattle.std.specs.Prelude.{◌≡◌, ◌≤◌, ◌⊎◌, ◌++◌, ℕ, List, [], true, length};
 ghost use Rattle.httparse.specs.Grammar.{RequestHead, print_request, ReadsRequest};
@@ -25,7 +25,7 @@ pub fn requests()
         → IsJudged octets (verdict_of h (length (print_request h))) }
 {}
 
-/// Octets have one verdict at most, and none while more are wanted.
+/// Octets have one verdict at most, and none while more are needed.
 pub fn one_verdict()
     ensures same { (octets : List ℕ) (v w : Verdict) → IsJudged octets v → IsJudged octets w → v ≡ w }
     ensures apart { (octets : List ℕ) (v : Verdict) → IsJudged octets v → IsQuiet octets → ⊥ }

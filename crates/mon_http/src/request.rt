@@ -16,7 +16,7 @@ const MAX_FIELDS: usize = 32;
 /// The most lines of a head: the request line, the fields and the empty line.
 const MAX_LINES: usize = MAX_FIELDS + 2;
 
-/// A request that is to be answered.
+/// A request for something that is served.
 #[derive(Clone, Copy, Debug, PartialEq, Eq)]
 pub struct Request {
     pub route: Route,

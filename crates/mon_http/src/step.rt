@@ -5,9 +5,9 @@ use crate::request::Request;
 /// What a step of a connection comes to.
 #[derive(Clone, Copy, Debug, PartialEq, Eq)]
 pub enum Step {
-    /// More octets are wanted.
+    /// More octets are needed.
     Wait,
-    /// A request is to be answered.
+    /// A request waits for its answer.
     Asked(Request),
     /// A head was refused, and the refusal is pending.
     Refused,
