@@ -8,11 +8,9 @@ use Rattle.mon_formats.specs.declared.figures.TargetFigures.{TargetFigures}
 use Rattle.mon_formats.specs.Cells.{newest_of, rate_of}
 use Rattle.mon_formats.specs.Columns.{value_cell, rate_cell, alarm_cell, age_cell}
 use Rattle.mon_page.specs.Escape.{escaped}
+use Rattle.mon_page.specs.Between.{between}
+use Rattle.mon_page.specs.Plot.{plot_cell}
 use Rattle.mon_page.specs.Style.{style_text}
-
--- a text with something before and after it
-unfoldable pub between : List ℕ → List ℕ → List ℕ → List ℕ
-between before text after = before ++ text ++ after
 
 -- ---- what the station says
 -- a target's state as a word, which is its class too
@@ -68,7 +66,7 @@ figure_cells age e =
 
 -- the row of an instance
 unfoldable pub row_text : (List ℕ → List ℕ) → Option ℕ → Entry → List ℕ
-row_text shown age e = codes "<tr>" ++ name_cell shown e ++ figure_cells age e ++ codes "</tr>\n"
+row_text shown age e = codes "<tr>" ++ name_cell shown e ++ figure_cells age e ++ plot_cell e.items ++ codes "</tr>\n"
 
 -- the rows of instances from a place on
 abbrev pub rows_from : (List ℕ → List ℕ) → List ℕ → ℕ → List Entry → List ℕ
@@ -77,7 +75,7 @@ rows_from shown ages place (e ∷ es) = row_text shown (slice_get ages place) e 
 
 -- the titles of the table
 unfoldable pub table_head : List ℕ
-table_head = codes "<table>\n<thead><tr><th>Name</th><th>Value</th><th>Rate</th><th>Alarm</th><th>Age in rounds</th></tr></thead>\n<tbody>\n"
+table_head = codes "<table>\n<thead><tr><th>Name</th><th>Value</th><th>Rate</th><th>Alarm</th><th>Age in rounds</th><th>Window</th></tr></thead>\n<tbody>\n"
 
 -- the table, and how many instances there are
 unfoldable pub table_text : (List ℕ → List ℕ) → List ℕ → List Entry → List ℕ

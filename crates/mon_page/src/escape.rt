@@ -3,7 +3,7 @@
 ghost use Rattle.std.specs.Prelude.{◌≡◌, ◌++◌, OnOk};
 ghost use Rattle.std.specs.List.{flat_map};
 ghost use Rattle.mon_page.specs.Escape.{escaped};
-ghost use Rattle.mon_page.specs.Page.{between};
+ghost use Rattle.mon_page.specs.Between.{between};
 
 use std::alloc::AllocError;
 
@@ -31,7 +31,7 @@ fn put_octet(text: &mut Vec<u8>, octet: u8) -> Result<(), AllocError>
 }
 
 /// Adds octets with others before and after them.
-#[tactic(auto, unfolding(crate::specs::Page::between))]
+#[tactic(auto, unfolding(crate::specs::Between::between))]
 pub(crate) fn put_between(
     text: &mut Vec<u8>,
     before: &[u8],

@@ -6,6 +6,7 @@
 mod escape;
 pub mod laws;
 mod page;
+mod plot;
 mod rows;
 mod station;
 mod style;

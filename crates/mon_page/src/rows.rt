@@ -8,6 +8,7 @@ ghost use Rattle.mon_formats.specs.Columns.{value_cell, rate_cell, alarm_cell, a
 ghost use Rattle.mon_page.specs.Page.{name_cell, cell, figure_cells, row_text, rows_from, table_head, table_text};
 
 use crate::escape::{put_between, put_escaped};
+use crate::plot::put_plot;
 use itoa::Buffer;
 use mon_alarms::{AlarmState, Rule, state};
 use mon_report::{Entry, write_rate};
@@ -43,7 +44,7 @@ pub(crate) fn put_table<S: NameTexts>(
 fn table_head() -> &'static [u8]
     ensures { result.now ≡ table_head }
 {
-    b"<table>\n<thead><tr><th>Name</th><th>Value</th><th>Rate</th><th>Alarm</th><th>Age in rounds</th></tr></thead>\n<tbody>\n"
+    b"<table>\n<thead><tr><th>Name</th><th>Value</th><th>Rate</th><th>Alarm</th><th>Age in rounds</th><th>Window</th></tr></thead>\n<tbody>\n"
 }
 
 /// Adds the rows of instances with these ages.
@@ -83,6 +84,7 @@ fn put_row<S: NameTexts>(
     text.extend_from_slice(b"<tr>")?;
     put_name(alloc, text, names, entry)?;
     put_figures(alloc, text, entry, age)?;
+    put_plot(text, entry.samples())?;
     text.extend_from_slice(b"</tr>\n")
 }
 

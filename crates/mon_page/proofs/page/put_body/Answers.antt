@@ -1,5 +1,6 @@
 use Rattle.std.proofs.Common.{◌++◌, ◌∙◌, ap, refl, ℕ, List, [], codes, option_map}
-use Rattle.mon_page.specs.Page.{ages_of, between, body_text, station_if, table_text}
+use Rattle.mon_page.specs.Between.{between}
+use Rattle.mon_page.specs.Page.{ages_of, body_text, station_if, table_text}
 use Rattle.mon_page.proofs.Chains.{join, ends}
 use Rattle.mon_page.proofs.page.put_body.Goals as goal
 

@@ -1,5 +1,6 @@
 use Rattle.std.proofs.Common.{[], refl, codes}
-use Rattle.mon_page.specs.Page.{between, cell}
+use Rattle.mon_page.specs.Between.{between}
+use Rattle.mon_page.specs.Page.{cell}
 use Rattle.mon_page.proofs.Chains.{ends}
 use Rattle.mon_page.proofs.rows.put_cell.Goals as goal
 

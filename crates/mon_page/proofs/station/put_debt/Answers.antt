@@ -1,5 +1,6 @@
 use Rattle.std.proofs.Common.{◌++◌, ◌∙◌, ap, ℕ, List, [], codes, decimal}
-use Rattle.mon_page.specs.Page.{between, debt_item}
+use Rattle.mon_page.specs.Between.{between}
+use Rattle.mon_page.specs.Page.{debt_item}
 use Rattle.mon_page.proofs.Chains.{ends}
 use Rattle.mon_page.proofs.station.put_debt.Goals as goal
 

@@ -1,7 +1,8 @@
 use Rattle.std.proofs.Common.{◌++◌, ◌∙◌, ap, ℕ, List, [], codes, decimal, string_bytes}
 use Rattle.std.specs.List.{flat_map}
 use Rattle.mon_page.specs.Escape.{escaped}
-use Rattle.mon_page.specs.Page.{between, place_text, state_word}
+use Rattle.mon_page.specs.Between.{between}
+use Rattle.mon_page.specs.Page.{place_text, state_word}
 use Rattle.mon_page.proofs.Chains.{join, ends}
 use Rattle.mon_page.proofs.station.put_place.Goals as goal
 
