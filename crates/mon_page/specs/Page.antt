@@ -66,7 +66,7 @@ figure_cells age e =
 
 -- the row of an instance
 unfoldable pub row_text : (List ℕ → List ℕ) → Option ℕ → Entry → List ℕ
-row_text shown age e = codes "<tr>" ++ name_cell shown e ++ figure_cells age e ++ plot_cell e.items ++ codes "</tr>\n"
+row_text shown age e = codes "<tr>" ++ name_cell shown e ++ figure_cells age e ++ plot_cell e.items e.rules ++ codes "</tr>\n"
 
 -- the rows of instances from a place on
 abbrev pub rows_from : (List ℕ → List ℕ) → List ℕ → ℕ → List Entry → List ℕ

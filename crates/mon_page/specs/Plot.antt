@@ -1,8 +1,11 @@
 -- The plot of a window: a path through what was observed at each sample, 200 units wide and 40 high. Samples are evenly spaced, oldest first.
-use Rattle.std.specs.Prelude.{ℕ, ◌+◌, ◌-◌, ◌*◌, ◌/◌, ◌%◌, ◌^◌, min, max, Bool, true, false, ◌&&◌, ◌==◌, List, [], ◌∷◌, ◌++◌, Option, Some, None, is_some, codes, decimal, length, slice_get, if◌then◌else◌}
+use Rattle.std.specs.Prelude.{ℕ, ℤ, pos, nat_abs, int_lt, int_div, ◌+ℤ◌, ◌+◌, ◌-◌, ◌*◌, ◌/◌, ◌%◌, ◌^◌, min, max, Bool, true, false, ◌&&◌, ◌==◌, List, [], ◌∷◌, ◌++◌, Option, Some, None, is_some, codes, decimal, length, slice_get, if◌then◌else◌}
 use Rattle.mon_sample.specs.Key.{boots_of, discontinuity_of, kind_of, sample_value}
 use Rattle.mon_rates.specs.Part.{is_counter}
 use Rattle.mon_rates.specs.Totals.{between as part_between, thousandths}
+use Rattle.std.specs.List.{flat_map}
+use Rattle.mon_alarms.specs.Rule.{Rule}
+use Rattle.mon_formats.specs.Cells.{newest_of}
 use Rattle.mon_page.specs.declared.plot.Scale.{Scale}
 use Rattle.mon_page.specs.Between.{between}
 
@@ -63,13 +66,49 @@ points_from items s after place (x ∷ xs) =
     point_if s (length items) (after && joins (before_at place items) x) place (level (before_at place items) x)
     ++ points_from items s (is_some (level (before_at place items) x)) (place + 1) xs
 
--- what is before and after the points
+-- ---- thresholds
+-- a threshold in thousandths as a level: of a counter a rate, else a value, moved up as values are
+abbrev pub limit_level : Bool → ℤ → ℕ
+limit_level counted t = if counted then (if int_lt t (pos 0) then 0 else nat_abs t) else nat_abs (int_div t (pos 1000) +ℤ pos (2 ^ 63))
+
+-- the samples are a counter's
+abbrev pub is_counted : Option ℕ → Bool
+is_counted None = false
+is_counted (Some newest) = is_counter (kind_of newest)
+
+-- the scale with the thresholds of a rule
+abbrev pub with_rule : Bool → Scale → Rule → Scale
+with_rule counted s rule = widened (widened s (Some (limit_level counted rule.rising))) (Some (limit_level counted rule.falling))
+
+-- the scale with the thresholds of all rules
+abbrev pub with_rules : Bool → Scale → List Rule → Scale
+with_rules counted s [] = s
+with_rules counted s (rule ∷ rules) = with_rules counted (with_rule counted s rule) rules
+
+-- a line across the plot
+unfoldable pub limit_line : Scale → ℕ → List ℕ
+limit_line s n = between (codes "M0 ") (decimal (below_top s n)) (codes "H200")
+
+-- the lines of a rule
+unfoldable pub rule_lines : Bool → Scale → Rule → List ℕ
+rule_lines counted s rule = limit_line s (limit_level counted rule.rising) ++ limit_line s (limit_level counted rule.falling)
+
+-- ---- the cell
+-- what is before the points, between them and the thresholds, and after these
 unfoldable pub plot_start : List ℕ
 plot_start = codes "<td><svg viewBox=\"0 -2 200 44\" preserveAspectRatio=\"none\"><path d=\""
+
+unfoldable pub plot_middle : List ℕ
+plot_middle = codes "\"/><path class=\"limit\" d=\""
 
 unfoldable pub plot_end : List ℕ
 plot_end = codes "\"/></svg></td>"
 
--- the cell of the plot
-unfoldable pub plot_cell : List ℕ → List ℕ
-plot_cell items = plot_start ++ points_from items (scale_of items) false 0 items ++ plot_end
+-- the points and the thresholds in this scale
+unfoldable pub plot_text : Scale → List ℕ → List Rule → List ℕ
+plot_text s items rules =
+    plot_start ++ points_from items s false 0 items ++ plot_middle ++ flat_map (rule_lines (is_counted (newest_of items)) s) rules ++ plot_end
+
+-- the cell of the plot of samples with these rules
+abbrev pub plot_cell : List ℕ → List Rule → List ℕ
+plot_cell items rules = plot_text (with_rules (is_counted (newest_of items)) (scale_of items) rules) items rules

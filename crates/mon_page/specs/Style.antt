@@ -15,8 +15,12 @@ marks = codes ".down,.RAISED{color:var(--limit);font-weight:bold}svg{display:blo
 
 -- rows as blocks in a narrow window
 unfoldable pub narrow : List ℕ
-narrow = codes "@media (max-width:40rem){thead{display:none}tr{display:grid;grid-template-columns:1fr 1fr;border-top:1px solid var(--edge);padding:.5rem 0}td{border:0;padding:.1rem 0}td:first-child,td:last-child{grid-column:1/-1}}"
+narrow = codes "@media (max-width:40rem){thead{display:none}tr{display:grid;grid-template-columns:1fr 1fr;border-top:1px solid var(--edge);padding:.5rem 0}td{border:0;padding:.1rem .5rem .1rem 0}td:first-child,td:last-child{grid-column:1/-1}td::before{display:block;font-size:.8em;font-weight:normal;opacity:.7}"
+
+-- the titles of the table, before each figure of such a row
+unfoldable pub labels : List ℕ
+labels = codes "td:nth-child(2)::before{content:'Value'}td:nth-child(3)::before{content:'Rate'}td:nth-child(4)::before{content:'Alarm'}td:nth-child(5)::before{content:'Age in rounds'}}"
 
 -- all of it
 unfoldable pub style_text : List ℕ
-style_text = colours ++ layout ++ marks ++ narrow
+style_text = colours ++ layout ++ marks ++ narrow ++ labels

@@ -1,10 +1,13 @@
 //! The plot of a window.
 
 ghost use Rattle.std.specs.Prelude.{◌≡◌, ◌++◌, OnOk, true, false, option_copied};
-ghost use Rattle.mon_page.specs.Plot.{level, joins, before_at, widened, scale_of, across, below_top, point_text, point_if, points_from, plot_start, plot_end, plot_cell};
+ghost use Rattle.mon_page.specs.Plot.{level, joins, before_at, widened, scale_of, across, below_top, point_text, point_if, points_from, is_counted, limit_level, with_rule, with_rules, limit_line, rule_lines, plot_start, plot_middle, plot_end, plot_text, plot_cell};
+ghost use Rattle.std.specs.List.{flat_map};
+ghost use Rattle.mon_formats.specs.Cells.{newest_of};
 
 use crate::escape::put_between;
 use itoa::Buffer;
+use mon_alarms::Rule;
 use mon_rates::{Totals, is_counter};
 use mon_sample::Sample;
 use std::alloc::AllocError;
@@ -187,14 +190,120 @@ fn put_points(text: &mut Vec<u8>, scale: Scale, samples: &[Sample]) -> Result<()
     Ok(())
 }
 
-/// Adds the cell of the plot of samples.
-#[tactic(auto, unfolding(crate::specs::Plot::plot_cell))]
-pub(crate) fn put_plot(text: &mut Vec<u8>, samples: &[Sample]) -> Result<(), AllocError>
-    ensures { OnOk result (text.new.items ≡ text.old.items ++ plot_cell samples.now) }
+/// Returns `true` if the samples are a counter's.
+fn is_counted(samples: &[Sample]) -> bool
+    ensures { result ≡ is_counted (newest_of samples.now) }
+{
+    let Some(newest) = samples.last() else {
+        return false;
+    };
+    is_counter(newest.kind())
+}
+
+/// Returns a threshold in thousandths as a level: of a counter a rate, else a value, moved up as values are.
+fn limit_level(counted: bool, threshold: i64) -> u128
+    ensures { result ≡ limit_level counted threshold }
+{
+    if counted {
+        if threshold < 0 {
+            0
+        } else {
+            u128::from(threshold.unsigned_abs())
+        }
+    } else {
+        (i128::from(threshold / 1000) + (1 << 63)).unsigned_abs()
+    }
+}
+
+/// Returns the scale with the thresholds of a rule.
+fn with_rule(counted: bool, scale: Scale, rule: &Rule) -> Scale
+    ensures { result ≡ with_rule counted scale rule.now }
+{
+    let rising = limit_level(counted, rule.rising());
+    let falling = limit_level(counted, rule.falling());
+    widened(widened(scale, Some(rising)), Some(falling))
+}
+
+/// Returns the scale with the thresholds of all rules.
+fn with_rules(counted: bool, scale: Scale, rules: &[Rule]) -> Scale
+    ensures { result ≡ with_rules counted scale rules.now }
+{
+    let mut scale = scale;
+    for rule in rules {
+        scale = with_rule(counted, scale, rule);
+    }
+    scale
+}
+
+/// Adds a line across the plot.
+#[tactic(auto, unfolding(crate::specs::Plot::limit_line))]
+fn put_limit(text: &mut Vec<u8>, scale: Scale, level: u128) -> Result<(), AllocError>
+    ensures { OnOk result (text.new.items ≡ text.old.items ++ limit_line scale level) }
+{
+    let mut digits = Buffer::new();
+    let down = digits.format(below_top(scale, level));
+    put_between(text, b"M0 ", down.as_bytes(), b"H200")
+}
+
+/// Adds the lines of a rule.
+#[tactic(auto, unfolding(crate::specs::Plot::rule_lines))]
+fn put_rule(text: &mut Vec<u8>, counted: bool, scale: Scale, rule: &Rule) -> Result<(), AllocError>
+    ensures { OnOk result (text.new.items ≡ text.old.items ++ rule_lines counted scale rule.now) }
+{
+    put_limit(text, scale, limit_level(counted, rule.rising()))?;
+    put_limit(text, scale, limit_level(counted, rule.falling()))
+}
+
+/// Adds the lines of all rules.
+fn put_rules(
+    text: &mut Vec<u8>,
+    counted: bool,
+    scale: Scale,
+    rules: &[Rule],
+) -> Result<(), AllocError>
+    ensures { OnOk result (text.new.items ≡ text.old.items ++ flat_map (rule_lines counted scale) rules.now) }
+{
+    for rule in rules {
+        put_rule(text, counted, scale, rule)?;
+    }
+    Ok(())
+}
+
+/// Adds the cell of the plot of samples with these rules.
+pub(crate) fn put_plot(
+    text: &mut Vec<u8>,
+    samples: &[Sample],
+    rules: &[Rule],
+) -> Result<(), AllocError>
+    ensures { OnOk result (text.new.items ≡ text.old.items ++ plot_cell samples.now rules.now) }
+{
+    let scale = with_rules(is_counted(samples), scale_of(samples), rules);
+    put_plot_text(text, scale, samples, rules)
+}
+
+/// Adds the points and the thresholds in this scale.
+#[tactic(auto, unfolding(crate::specs::Plot::plot_text))]
+fn put_plot_text(
+    text: &mut Vec<u8>,
+    scale: Scale,
+    samples: &[Sample],
+    rules: &[Rule],
+) -> Result<(), AllocError>
+    ensures { OnOk result (text.new.items ≡ text.old.items ++ plot_text scale samples.now rules.now) }
 {
     text.extend_from_slice(plot_start())?;
-    put_points(text, scale_of(samples), samples)?;
+    put_points(text, scale, samples)?;
+    text.extend_from_slice(plot_middle())?;
+    put_rules(text, is_counted(samples), scale, rules)?;
     text.extend_from_slice(plot_end())
+}
+
+/// Returns what is between the points and the thresholds.
+#[tactic(auto, unfolding(crate::specs::Plot::plot_middle))]
+fn plot_middle() -> &'static [u8]
+    ensures { result.now ≡ plot_middle }
+{
+    b"\"/><path class=\"limit\" d=\""
 }
 
 /// Returns what is before the points.

@@ -5,6 +5,7 @@ ghost use Rattle.std.specs.List.{list_any};
 ghost use Rattle.mon_alarms.specs.Observed.{state_by};
 ghost use Rattle.mon_formats.specs.Cells.{newest_of, rate_of};
 ghost use Rattle.mon_formats.specs.Columns.{value_cell, rate_cell, alarm_cell, age_cell, is_raised};
+ghost use Rattle.mon_page.specs.Plot.{plot_cell};
 ghost use Rattle.mon_page.specs.Page.{name_cell, cell, figure_cells, row_text, rows_from, table_head, table_text};
 
 use crate::escape::{put_between, put_escaped};
@@ -84,8 +85,16 @@ fn put_row<S: NameTexts>(
     text.extend_from_slice(b"<tr>")?;
     put_name(alloc, text, names, entry)?;
     put_figures(alloc, text, entry, age)?;
-    put_plot(text, entry.samples())?;
+    put_window(alloc, text, entry)?;
     text.extend_from_slice(b"</tr>\n")
+}
+
+/// Adds the cell of the plot of a window.
+fn put_window(alloc: Global, text: &mut Vec<u8>, entry: &Entry) -> Result<(), AllocError>
+    ensures { OnOk result (text.new.items ≡ text.old.items ++ plot_cell entry.now.items entry.now.rules) }
+{
+    let rules = entry.rules(alloc)?;
+    put_plot(text, entry.samples(), rules.as_slice())
 }
 
 /// Adds the cell of a name, with the engine id below it.

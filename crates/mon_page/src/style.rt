@@ -1,7 +1,7 @@
 //! The style of the page.
 
 ghost use Rattle.std.specs.Prelude.{◌≡◌, ◌++◌, OnOk};
-ghost use Rattle.mon_page.specs.Style.{colours, layout, marks, narrow, style_text};
+ghost use Rattle.mon_page.specs.Style.{colours, layout, marks, narrow, labels, style_text};
 
 use std::alloc::AllocError;
 
@@ -34,7 +34,15 @@ fn marks() -> &'static [u8]
 fn narrow() -> &'static [u8]
     ensures { result.now ≡ narrow }
 {
-    b"@media (max-width:40rem){thead{display:none}tr{display:grid;grid-template-columns:1fr 1fr;border-top:1px solid var(--edge);padding:.5rem 0}td{border:0;padding:.1rem 0}td:first-child,td:last-child{grid-column:1/-1}}"
+    b"@media (max-width:40rem){thead{display:none}tr{display:grid;grid-template-columns:1fr 1fr;border-top:1px solid var(--edge);padding:.5rem 0}td{border:0;padding:.1rem .5rem .1rem 0}td:first-child,td:last-child{grid-column:1/-1}td::before{display:block;font-size:.8em;font-weight:normal;opacity:.7}"
+}
+
+/// Returns the titles of the table, before each figure of such a row.
+#[tactic(auto, unfolding(crate::specs::Style::labels))]
+fn labels() -> &'static [u8]
+    ensures { result.now ≡ labels }
+{
+    b"td:nth-child(2)::before{content:'Value'}td:nth-child(3)::before{content:'Rate'}td:nth-child(4)::before{content:'Alarm'}td:nth-child(5)::before{content:'Age in rounds'}}"
 }
 
 /// Adds the style.
@@ -45,5 +53,6 @@ pub(crate) fn put_style(text: &mut Vec<u8>) -> Result<(), AllocError>
     text.extend_from_slice(colours())?;
     text.extend_from_slice(layout())?;
     text.extend_from_slice(marks())?;
-    text.extend_from_slice(narrow())
+    text.extend_from_slice(narrow())?;
+    text.extend_from_slice(labels())
 }

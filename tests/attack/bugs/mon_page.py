@@ -86,6 +86,46 @@ BUGS = {
         "        Some(figures) => put_station(text, figures),",
         "        Some(_) => Ok(()),",
     ),
+    "joins_over_boots": (
+        "src/plot.rt",
+        "            before.boots() == sample.boots() && before.discontinuity() == sample.discontinuity()",
+        "            before.discontinuity() == sample.discontinuity()",
+    ),
+    "joins_over_discontinuities": (
+        "src/plot.rt",
+        "            before.boots() == sample.boots() && before.discontinuity() == sample.discontinuity()",
+        "            before.boots() == sample.boots()",
+    ),
+    "plots_counters_values": (
+        "src/plot.rt",
+        "    if !is_counter(sample.kind()) {\n        return Some",
+        "    if is_counter(sample.kind()) || before.is_none() {\n        return Some",
+    ),
+    "plots_upside_down": (
+        "src/plot.rt",
+        "    40 - (above * 40 / span).min(40)",
+        "    (above * 40 / span).min(40)",
+    ),
+    "always_joined": (
+        "src/plot.rt",
+        "        let joined = after && joins(before, sample);",
+        "        let joined = after || joins(before, sample);",
+    ),
+    "scale_without_thresholds": (
+        "src/plot.rt",
+        "        scale = with_rule(counted, scale, rule);",
+        "        let _ = with_rule(counted, scale, rule);",
+    ),
+    "one_threshold": (
+        "src/plot.rt",
+        "    put_limit(text, scale, limit_level(counted, rule.falling()))",
+        "    put_limit(text, scale, limit_level(counted, rule.rising()))",
+    ),
+    "plots_nothing": (
+        "src/plot.rt",
+        "        Some(level) => put_point(",
+        "        Some(_) if spot.count > 0 => Ok(()),\n        Some(level) => put_point(",
+    ),
 }
 
 PROMISES = {
