@@ -1,4 +1,4 @@
--- The plot of a window: a path through what was observed at each sample, 200 units wide and 40 high. Samples are evenly spaced, oldest first.
+-- The plot of a window: a path through what was observed at each sample, 1000 units wide and 200 high. Samples are evenly spaced, oldest first.
 use Rattle.std.specs.Prelude.{ℕ, ℤ, pos, nat_abs, int_lt, int_div, ◌+ℤ◌, ◌+◌, ◌-◌, ◌*◌, ◌/◌, ◌%◌, ◌^◌, min, max, Bool, true, false, ◌&&◌, ◌==◌, List, [], ◌∷◌, ◌++◌, Option, Some, None, is_some, codes, decimal, length, slice_get, if◌then◌else◌}
 use Rattle.mon_sample.specs.Key.{boots_of, discontinuity_of, kind_of, sample_value}
 use Rattle.mon_rates.specs.Part.{is_counter}
@@ -43,11 +43,11 @@ scale_of items = scale_from items (record { low = 2 ^ 128 - 1; high = 0 }) 0 ite
 
 -- how far from the left a place is
 abbrev pub across : ℕ → ℕ → ℕ
-across count place = place * 200 / max count 1
+across count place = place * 1000 / max count 1
 
 -- how far from the top a level is
 abbrev pub below_top : Scale → ℕ → ℕ
-below_top s n = 40 - min (min (n - s.low) (2 ^ 100) * 40 / max (s.high - s.low) 1) 40
+below_top s n = 200 - min (min (n - s.low) (2 ^ 100) * 200 / max (s.high - s.low) 1) 200
 
 -- a line to a point, or a dot there
 unfoldable pub point_text : Bool → ℕ → ℕ → List ℕ
@@ -87,7 +87,7 @@ with_rules counted s (rule ∷ rules) = with_rules counted (with_rule counted s 
 
 -- a line across the plot
 unfoldable pub limit_line : Scale → ℕ → List ℕ
-limit_line s n = between (codes "M0 ") (decimal (below_top s n)) (codes "H200")
+limit_line s n = between (codes "M0 ") (decimal (below_top s n)) (codes "H1000")
 
 -- the lines of a rule
 unfoldable pub rule_lines : Bool → Scale → Rule → List ℕ
@@ -96,7 +96,7 @@ rule_lines counted s rule = limit_line s (limit_level counted rule.rising) ++ li
 -- ---- the cell
 -- what is before the points, between them and the thresholds, and after these
 unfoldable pub plot_start : List ℕ
-plot_start = codes "<td><svg viewBox=\"0 -2 200 44\" preserveAspectRatio=\"none\"><path d=\""
+plot_start = codes "<td><svg viewBox=\"0 -10 1000 220\" preserveAspectRatio=\"none\"><path d=\""
 
 unfoldable pub plot_middle : List ℕ
 plot_middle = codes "\"/><path class=\"limit\" d=\""

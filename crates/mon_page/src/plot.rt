@@ -86,7 +86,7 @@ fn scale_of(samples: &[Sample]) -> Scale
 fn across(count: usize, place: usize) -> u128
     ensures { result ≡ across count place }
 {
-    (place as u128) * 200 / (count as u128).max(1)
+    (place as u128) * 1000 / (count as u128).max(1)
 }
 
 /// Returns how far from the top a level is.
@@ -95,7 +95,7 @@ fn below_top(scale: Scale, level: u128) -> u128
 {
     let above = level.saturating_sub(scale.low).min(1 << 100);
     let span = scale.high.saturating_sub(scale.low).max(1);
-    40 - (above * 40 / span).min(40)
+    200 - (above * 200 / span).min(200)
 }
 
 /// A place in a plot.
@@ -242,7 +242,7 @@ fn put_limit(text: &mut Vec<u8>, scale: Scale, level: u128) -> Result<(), AllocE
 {
     let mut digits = Buffer::new();
     let down = digits.format(below_top(scale, level));
-    put_between(text, b"M0 ", down.as_bytes(), b"H200")
+    put_between(text, b"M0 ", down.as_bytes(), b"H1000")
 }
 
 /// Adds the lines of a rule.
@@ -311,7 +311,7 @@ fn plot_middle() -> &'static [u8]
 fn plot_start() -> &'static [u8]
     ensures { result.now ≡ plot_start }
 {
-    b"<td><svg viewBox=\"0 -2 200 44\" preserveAspectRatio=\"none\"><path d=\""
+    b"<td><svg viewBox=\"0 -10 1000 220\" preserveAspectRatio=\"none\"><path d=\""
 }
 
 /// Returns what is after the points.

@@ -103,8 +103,8 @@ BUGS = {
     ),
     "plots_upside_down": (
         "src/plot.rt",
-        "    40 - (above * 40 / span).min(40)",
-        "    (above * 40 / span).min(40)",
+        "    200 - (above * 200 / span).min(200)",
+        "    (above * 200 / span).min(200)",
     ),
     "always_joined": (
         "src/plot.rt",
