@@ -1,0 +1,4 @@
+pub mod Fronts
+pub mod Verdicts
+pub mod Talks
+pub mod Grammar

@@ -1,0 +1,33 @@
+-- What is served at which request target.
+use Rattle.std.specs.Prelude.{ℕ, List, [], ◌∷◌, Option, Some, None, take, drop, length, codes, ◌||◌, ◌==◌, bytes_eq, if◌then◌else◌}
+use Rattle.mon_http.specs.declared.route.Route.{Route}
+use Rattle.mon_http.specs.declared.route.Route.TheVariants.{Metrics, Report, Page, Health}
+
+-- the octets before the first that is one of these two
+abbrev pub before : ℕ → ℕ → List ℕ → List ℕ
+before a b [] = []
+before a b (octet ∷ octets) = if (octet == a) || (octet == b) then [] else octet ∷ before a b octets
+
+-- a text, or "/" where it is empty or does not begin with one
+abbrev pub or_root : List ℕ → List ℕ
+or_root text = if bytes_eq (take 1 text) (codes "/") then text else codes "/"
+
+-- a target in origin form: an absolute one without its scheme and authority (RFC 9112, section 3.2.2), else the target itself
+abbrev pub origin_form : List ℕ → List ℕ
+origin_form target =
+    if bytes_eq (take 7 target) (codes "http://")
+    then or_root (drop (length (before 47 63 (drop 7 target))) (drop 7 target))
+    else target
+
+-- the path of a request target, without its query (RFC 3986, section 3.4)
+abbrev pub path_of : List ℕ → List ℕ
+path_of target = before 63 63 (origin_form target)
+
+-- what is served at a path
+unfoldable pub route_at : List ℕ → Option Route
+route_at path =
+    if bytes_eq path (codes "/metrics") then Some Metrics
+    else if bytes_eq path (codes "/report.json") then Some Report
+    else if bytes_eq path (codes "/") then Some Page
+    else if bytes_eq path (codes "/healthz") then Some Health
+    else None

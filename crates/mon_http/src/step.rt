@@ -1,0 +1,14 @@
+//! What a step of a connection comes to.
+
+use crate::request::Request;
+
+/// What a step of a connection comes to.
+#[derive(Clone, Copy, Debug, PartialEq, Eq)]
+pub enum Step {
+    /// More octets are needed.
+    Wait,
+    /// A request waits for its answer.
+    Asked(Request),
+    /// A head was refused, and the refusal is pending.
+    Refused,
+}

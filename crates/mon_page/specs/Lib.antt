@@ -1,0 +1,5 @@
+pub mod Escape
+pub mod Between
+pub mod Style
+pub mod Plot
+pub mod Page

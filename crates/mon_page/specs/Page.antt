@@ -1,0 +1,118 @@
+-- The page of a report: what the station says of its targets and its debts, and a row for each instance.
+use Rattle.std.specs.Prelude.{ℕ, ◌+◌, Bool, true, false, List, [], ◌∷◌, ◌++◌, Option, Some, None, codes, decimal, length, slice_get, String, string_bytes}
+use Rattle.std.specs.List.{flat_map}
+use Rattle.hex.specs.Hex.{encode_lower}
+use Rattle.mon_report.specs.Report.{Entry}
+use Rattle.mon_formats.specs.declared.figures.Figures.{Figures}
+use Rattle.mon_formats.specs.declared.figures.TargetFigures.{TargetFigures}
+use Rattle.mon_formats.specs.Cells.{newest_of, rate_of}
+use Rattle.mon_formats.specs.Columns.{value_cell, rate_cell, alarm_cell, age_cell}
+use Rattle.mon_page.specs.Escape.{escaped}
+use Rattle.mon_page.specs.Between.{between}
+use Rattle.mon_page.specs.Plot.{plot_cell}
+use Rattle.mon_page.specs.Style.{style_text}
+
+-- ---- what the station says
+-- a target's state as a word, which is its class too
+abbrev pub state_word : Bool → List ℕ
+state_word true = codes "up"
+state_word false = codes "down"
+
+-- why a target's last response was refused, if one was
+abbrev pub reason_text : {A : Type 0} → Option (String A) → List ℕ
+reason_text None = []
+reason_text (Some reason) = codes ": " ++ flat_map escaped (string_bytes reason)
+
+-- which target it is, where its agent is reached, and its state
+unfoldable pub place_text : TargetFigures → List ℕ
+place_text t =
+    between (codes "<li class=\"") (state_word t.up) (codes "\">target ") ++ between [] (decimal t.number) (codes " at ")
+    ++ flat_map escaped (string_bytes t.address) ++ between (codes " is ") (state_word t.up) []
+
+-- since when
+unfoldable pub since_text : TargetFigures → List ℕ
+since_text t = between (codes ", answered ") (decimal t.seconds) (codes " s ago, ") ++ between [] (decimal t.rounds) (codes " rounds ago")
+
+-- the line of a target
+unfoldable pub target_item : TargetFigures → List ℕ
+target_item t = place_text t ++ since_text t ++ reason_text t.refusal ++ codes "</li>\n"
+
+-- the line of a peer, by its number: how many samples the station owes it
+unfoldable pub debt_item : ℕ × ℕ → List ℕ
+debt_item d = between (codes "<li>") (decimal d.1) (codes " samples owed to peer ") ++ between [] (decimal d.0) (codes "</li>\n")
+
+-- the lines of targets and peers
+unfoldable pub station_list : Figures → List ℕ
+station_list f = codes "<ul>\n" ++ flat_map target_item f.targets.items ++ flat_map debt_item f.debts.items ++ codes "</ul>\n"
+
+-- nothing if there is no station
+abbrev pub station_if : Option Figures → List ℕ
+station_if None = []
+station_if (Some f) = station_list f
+
+-- ---- rows
+-- the cell of a name, with the engine id below it
+unfoldable pub name_cell : (List ℕ → List ℕ) → Entry → List ℕ
+name_cell shown e = codes "<td>" ++ flat_map escaped (shown e.name) ++ between (codes "<small>") (encode_lower e.engine) (codes "</small></td>")
+
+-- a cell whose text is its class too
+unfoldable pub cell : List ℕ → List ℕ
+cell text = between (codes "<td class=\"") text (codes "\">") ++ between [] text (codes "</td>")
+
+-- the cells after the name: value, rate, alarm, and in how many rounds there was no new sample
+unfoldable pub figure_cells : Option ℕ → Entry → List ℕ
+figure_cells age e =
+    cell (value_cell (newest_of e.items)) ++ cell (rate_cell (rate_of e.items)) ++ cell (alarm_cell e.items e.rules) ++ cell (age_cell age)
+
+-- the row of an instance
+unfoldable pub row_text : (List ℕ → List ℕ) → Option ℕ → Entry → List ℕ
+row_text shown age e = codes "<tr>" ++ name_cell shown e ++ figure_cells age e ++ plot_cell e.items e.rules ++ codes "</tr>\n"
+
+-- the rows of instances from a place on
+abbrev pub rows_from : (List ℕ → List ℕ) → List ℕ → ℕ → List Entry → List ℕ
+rows_from shown ages place [] = []
+rows_from shown ages place (e ∷ es) = row_text shown (slice_get ages place) e ++ rows_from shown ages (place + 1) es
+
+-- the titles of the table
+unfoldable pub table_head : List ℕ
+table_head = codes "<table>\n<thead><tr><th>Name</th><th>Value</th><th>Rate</th><th>Alarm</th><th>Age in rounds</th><th>Window</th></tr></thead>\n<tbody>\n"
+
+-- the table, and how many instances there are
+unfoldable pub table_text : (List ℕ → List ℕ) → List ℕ → List Entry → List ℕ
+table_text shown ages entries =
+    table_head ++ rows_from shown ages 0 entries ++ between (codes "</tbody>\n</table>\n<p>") (decimal (length entries)) (codes " instances</p>\n")
+
+-- ---- the document
+-- after how many seconds a browser loads the page again, if it is to
+abbrev pub refresh_text : Option ℕ → List ℕ
+refresh_text None = []
+refresh_text (Some seconds) = between (codes "<meta http-equiv=\"refresh\" content=\"") (decimal seconds) (codes "\">\n")
+
+-- the beginning of the document
+unfoldable pub first_lines : List ℕ
+first_lines = codes "<!DOCTYPE html>\n<html lang=\"en\">\n<head>\n<meta charset=\"utf-8\">\n"
+
+-- what is between the refresh and the style
+unfoldable pub title_lines : List ℕ
+title_lines = codes "<meta name=\"viewport\" content=\"width=device-width, initial-scale=1\">\n<title>snmpmon</title>\n<style>"
+
+-- what is between the style and the station
+unfoldable pub heading_lines : List ℕ
+heading_lines = codes "</style>\n</head>\n<body>\n<h1>snmpmon</h1>\n"
+
+-- the head of the document
+unfoldable pub head_text : Option ℕ → List ℕ
+head_text refresh = first_lines ++ refresh_text refresh ++ title_lines ++ style_text ++ heading_lines
+
+-- the ages that a station has of its instances
+abbrev pub ages_of : Option Figures → List ℕ
+ages_of None = []
+ages_of (Some f) = f.ages.items
+
+-- what follows the head: the station, and the table
+unfoldable pub body_text : (List ℕ → List ℕ) → List Entry → Option Figures → List ℕ
+body_text shown entries station = station_if station ++ table_text shown (ages_of station) entries ++ between (codes "</body>\n") (codes "</html>\n") []
+
+-- the page
+unfoldable pub page_text : (List ℕ → List ℕ) → List Entry → Option Figures → Option ℕ → List ℕ
+page_text shown entries station refresh = head_text refresh ++ body_text shown entries station

@@ -1,0 +1,121 @@
+//! The document.
+
+ghost use Rattle.std.specs.Prelude.{◌≡◌, ◌++◌, IfOk, OnOk, Some, option_map};
+ghost use Rattle.mon_page.specs.Page.{refresh_text, first_lines, title_lines, heading_lines, head_text, ages_of, body_text, page_text};
+
+use crate::escape::put_between;
+use crate::rows::put_table;
+use crate::station::put_station_if;
+use crate::style::put_style;
+use itoa::Buffer;
+use mon_formats::Figures;
+use mon_report::Entry;
+use mon_smi::NameTexts;
+use std::alloc::{AllocError, Global};
+
+/// Makes the page of a report, with the names of instances as `names` has them. A browser loads it again after
+/// `refresh` seconds, if given.
+///
+/// # Errors
+/// `AllocError` if there is no memory for it.
+#[tactic(auto, unfolding(crate::specs::Page::page_text))]
+pub fn page_report<S: NameTexts>(
+    alloc: Global,
+    names: &S,
+    entries: &[Entry],
+    station: Option<&Figures>,
+    refresh: Option<u32>,
+) -> Result<Vec<u8>, AllocError>
+    ensures { IfOk result (λ text. text.items ≡ page_text (S.shown names.now) entries.now (option_map (λ f. f.now) station.entry) refresh) }
+{
+    let mut text = Vec::new(alloc);
+    put_head(&mut text, refresh)?;
+    put_body(alloc, &mut text, names, entries, station)?;
+    Ok(text)
+}
+
+/// Adds what follows the head.
+#[tactic(auto, unfolding(crate::specs::Page::body_text))]
+fn put_body<S: NameTexts>(
+    alloc: Global,
+    text: &mut Vec<u8>,
+    names: &S,
+    entries: &[Entry],
+    station: Option<&Figures>,
+) -> Result<(), AllocError>
+    ensures { OnOk result (text.new.items ≡ text.old.items ++ body_text (S.shown names.now) entries.now (option_map (λ f. f.now) station.entry)) }
+{
+    put_station_if(text, station)?;
+    put_table(alloc, text, names, entries, ages_of(station))?;
+    put_between(text, b"</body>\n", b"</html>\n", b"")
+}
+
+/// Returns the ages that a station has of its instances.
+fn ages_of<'a>(station: Option<&'a Figures>) -> &'a [u32]
+    ensures { result.now ≡ ages_of (option_map (λ f. f.now) station.entry) }
+{
+    match station {
+        None => &[],
+        Some(figures) => figures.ages.as_slice(),
+    }
+}
+
+/// Adds the head of the document.
+#[tactic(auto, unfolding(crate::specs::Page::head_text))]
+fn put_head(text: &mut Vec<u8>, refresh: Option<u32>) -> Result<(), AllocError>
+    ensures { OnOk result (text.new.items ≡ text.old.items ++ head_text refresh) }
+{
+    text.extend_from_slice(first_lines())?;
+    put_refresh(text, refresh)?;
+    text.extend_from_slice(title_lines())?;
+    put_style(text)?;
+    text.extend_from_slice(heading_lines())
+}
+
+/// Returns the beginning of the document.
+#[tactic(auto, unfolding(crate::specs::Page::first_lines))]
+fn first_lines() -> &'static [u8]
+    ensures { result.now ≡ first_lines }
+{
+    b"<!DOCTYPE html>\n<html lang=\"en\">\n<head>\n<meta charset=\"utf-8\">\n"
+}
+
+/// Returns what is between the refresh and the style.
+#[tactic(auto, unfolding(crate::specs::Page::title_lines))]
+fn title_lines() -> &'static [u8]
+    ensures { result.now ≡ title_lines }
+{
+    b"<meta name=\"viewport\" content=\"width=device-width, initial-scale=1\">\n<title>snmpmon</title>\n<style>"
+}
+
+/// Returns what is between the style and the station.
+#[tactic(auto, unfolding(crate::specs::Page::heading_lines))]
+fn heading_lines() -> &'static [u8]
+    ensures { result.now ≡ heading_lines }
+{
+    b"</style>\n</head>\n<body>\n<h1>snmpmon</h1>\n"
+}
+
+/// Adds after how many seconds a browser loads the page again, if given.
+fn put_refresh(text: &mut Vec<u8>, refresh: Option<u32>) -> Result<(), AllocError>
+    ensures { OnOk result (text.new.items ≡ text.old.items ++ refresh_text refresh) }
+{
+    match refresh {
+        None => Ok(()),
+        Some(seconds) => put_seconds(text, seconds),
+    }
+}
+
+/// Adds the number of seconds.
+fn put_seconds(text: &mut Vec<u8>, seconds: u32) -> Result<(), AllocError>
+    ensures { OnOk result (text.new.items ≡ text.old.items ++ refresh_text (Some seconds)) }
+{
+    let mut digits = Buffer::new();
+    let number = digits.format(seconds);
+    put_between(
+        text,
+        b"<meta http-equiv=\"refresh\" content=\"",
+        number.as_bytes(),
+        b"\">\n",
+    )
+}

@@ -1,0 +1,128 @@
+//! What a station says of its targets and its debts.
+
+ghost use Rattle.std.specs.Prelude.{◌≡◌, ◌++◌, OnOk, codes, option_map};
+ghost use Rattle.std.specs.List.{flat_map};
+ghost use Rattle.mon_page.specs.Escape.{escaped};
+ghost use Rattle.mon_page.specs.Page.{state_word, reason_text, place_text, since_text, target_item, debt_item, station_list, station_if};
+
+use crate::escape::{put_between, put_escaped};
+use itoa::Buffer;
+use mon_formats::{Figures, TargetFigures};
+use std::alloc::AllocError;
+
+/// Adds the lines of a station, if there is one.
+pub(crate) fn put_station_if(
+    text: &mut Vec<u8>,
+    station: Option<&Figures>,
+) -> Result<(), AllocError>
+    ensures { OnOk result (text.new.items ≡ text.old.items ++ station_if (option_map (λ f. f.now) station.entry)) }
+{
+    match station {
+        None => Ok(()),
+        Some(figures) => put_station(text, figures),
+    }
+}
+
+/// Adds the lines of targets and peers.
+#[tactic(auto, unfolding(crate::specs::Page::station_list))]
+fn put_station(text: &mut Vec<u8>, figures: &Figures) -> Result<(), AllocError>
+    ensures { OnOk result (text.new.items ≡ text.old.items ++ station_list figures.now) }
+{
+    text.extend_from_slice(b"<ul>\n")?;
+    put_targets(text, figures.targets.as_slice())?;
+    put_debts(text, figures.debts.as_slice())?;
+    text.extend_from_slice(b"</ul>\n")
+}
+
+/// Adds a line for each target.
+fn put_targets(text: &mut Vec<u8>, targets: &[TargetFigures]) -> Result<(), AllocError>
+    ensures { OnOk result (text.new.items ≡ text.old.items ++ flat_map target_item targets.now) }
+{
+    for target in targets {
+        put_target(text, target)?;
+    }
+    Ok(())
+}
+
+/// Adds a line for each peer.
+fn put_debts(text: &mut Vec<u8>, debts: &[(u32, u32)]) -> Result<(), AllocError>
+    ensures { OnOk result (text.new.items ≡ text.old.items ++ flat_map debt_item debts.now) }
+{
+    for (peer, count) in debts {
+        put_debt(text, *peer, *count)?;
+    }
+    Ok(())
+}
+
+/// Returns a target's state as a word.
+fn state_word(up: bool) -> &'static [u8]
+    ensures { result.now ≡ state_word up }
+{
+    if up { b"up" } else { b"down" }
+}
+
+/// Adds the line of a target.
+#[tactic(auto, unfolding(crate::specs::Page::target_item))]
+fn put_target(text: &mut Vec<u8>, target: &TargetFigures) -> Result<(), AllocError>
+    ensures { OnOk result (text.new.items ≡ text.old.items ++ target_item target.now) }
+{
+    put_place(text, target)?;
+    put_since(text, target)?;
+    put_reason(text, &target.refusal)?;
+    text.extend_from_slice(b"</li>\n")
+}
+
+/// Adds which target it is, where its agent is reached, and its state.
+#[tactic(auto, unfolding(crate::specs::Page::place_text))]
+fn put_place(text: &mut Vec<u8>, target: &TargetFigures) -> Result<(), AllocError>
+    ensures { OnOk result (text.new.items ≡ text.old.items ++ place_text target.now) }
+{
+    let mut digits = Buffer::new();
+    let number = digits.format(target.number);
+    put_between(text, b"<li class=\"", state_word(target.up), b"\">target ")?;
+    put_between(text, b"", number.as_bytes(), b" at ")?;
+    put_escaped(text, target.address.as_bytes())?;
+    put_between(text, b" is ", state_word(target.up), b"")
+}
+
+/// Adds since when.
+#[tactic(auto, unfolding(crate::specs::Page::since_text))]
+fn put_since(text: &mut Vec<u8>, target: &TargetFigures) -> Result<(), AllocError>
+    ensures { OnOk result (text.new.items ≡ text.old.items ++ since_text target.now) }
+{
+    let mut digits = Buffer::new();
+    let seconds = digits.format(target.seconds);
+    put_between(text, b", answered ", seconds.as_bytes(), b" s ago, ")?;
+    let rounds = digits.format(target.rounds);
+    put_between(text, b"", rounds.as_bytes(), b" rounds ago")
+}
+
+/// Adds why a target's last response was refused, if one was.
+fn put_reason(text: &mut Vec<u8>, reason: &Option<String>) -> Result<(), AllocError>
+    ensures { OnOk result (text.new.items ≡ text.old.items ++ reason_text reason.now) }
+{
+    match reason {
+        None => Ok(()),
+        Some(reason) => put_reason_text(text, reason.as_bytes()),
+    }
+}
+
+/// Adds a reason.
+fn put_reason_text(text: &mut Vec<u8>, reason: &[u8]) -> Result<(), AllocError>
+    ensures { OnOk result (text.new.items ≡ text.old.items ++ (codes ": " ++ flat_map escaped reason.now)) }
+{
+    text.extend_from_slice(b": ")?;
+    put_escaped(text, reason)
+}
+
+/// Adds the line of a peer: how many samples the station owes it.
+#[tactic(auto, unfolding(crate::specs::Page::debt_item))]
+fn put_debt(text: &mut Vec<u8>, peer: u32, count: u32) -> Result<(), AllocError>
+    ensures { OnOk result (text.new.items ≡ text.old.items ++ debt_item (peer, count)) }
+{
+    let mut digits = Buffer::new();
+    let samples = digits.format(count);
+    put_between(text, b"<li>", samples.as_bytes(), b" samples owed to peer ")?;
+    let number = digits.format(peer);
+    put_between(text, b"", number.as_bytes(), b"</li>\n")
+}
