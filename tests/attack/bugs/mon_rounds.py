@@ -180,8 +180,8 @@ BUGS = {
     ),
     "a_targets_datagram_is_a_peers": (
         "src/reporting.rt",
-        "        RoundEvent::FromPeer(from) => from == address,\n        RoundEvent::FromAgent(..)\n",
-        "        RoundEvent::FromPeer(from) | RoundEvent::FromAgent(from, ()) => from == address,\n        RoundEvent::FromAgent(..)\n",
+        "        RoundEvent::FromPeer(from) => from == address,\n        RoundEvent::FromAgent(..)\n        | RoundEvent::StartPoll(_)",
+        "        RoundEvent::FromPeer(from) | RoundEvent::FromAgent(from, ()) => from == address,\n        RoundEvent::StartPoll(_)",
     ),
     "each_peer_was_heard": (
         "src/reporting.rt",
