@@ -55,14 +55,18 @@ station_if (Some f) = station_list f
 unfoldable pub name_cell : (List ℕ → List ℕ) → Entry → List ℕ
 name_cell shown e = codes "<td>" ++ flat_map escaped (shown e.name) ++ between (codes "<small>") (encode_lower e.engine) (codes "</small></td>")
 
--- a cell whose text is its class too
+-- a cell
 unfoldable pub cell : List ℕ → List ℕ
-cell text = between (codes "<td class=\"") text (codes "\">") ++ between [] text (codes "</td>")
+cell text = between (codes "<td>") text (codes "</td>")
+
+-- a cell whose text is its class too
+unfoldable pub class_cell : List ℕ → List ℕ
+class_cell text = between (codes "<td class=\"") text (codes "\">") ++ between [] text (codes "</td>")
 
 -- the cells after the name: value, rate, alarm, and in how many rounds there was no new sample
 unfoldable pub figure_cells : Option ℕ → Entry → List ℕ
 figure_cells age e =
-    cell (value_cell (newest_of e.items)) ++ cell (rate_cell (rate_of e.items)) ++ cell (alarm_cell e.items e.rules) ++ cell (age_cell age)
+    cell (value_cell (newest_of e.items)) ++ cell (rate_cell (rate_of e.items)) ++ class_cell (alarm_cell e.items e.rules) ++ cell (age_cell age)
 
 -- the row of an instance
 unfoldable pub row_text : (List ℕ → List ℕ) → Option ℕ → Entry → List ℕ

@@ -6,7 +6,7 @@ ghost use Rattle.mon_alarms.specs.Observed.{state_by};
 ghost use Rattle.mon_formats.specs.Cells.{newest_of, rate_of};
 ghost use Rattle.mon_formats.specs.Columns.{value_cell, rate_cell, alarm_cell, age_cell, is_raised};
 ghost use Rattle.mon_page.specs.Plot.{plot_cell};
-ghost use Rattle.mon_page.specs.Page.{name_cell, cell, figure_cells, row_text, rows_from, table_head, table_text};
+ghost use Rattle.mon_page.specs.Page.{name_cell, cell, class_cell, figure_cells, row_text, rows_from, table_head, table_text};
 
 use crate::escape::{put_between, put_escaped};
 use crate::plot::put_plot;
@@ -126,7 +126,7 @@ fn put_figures(
 {
     put_value(text, entry.samples())?;
     put_rate(alloc, text, entry)?;
-    put_cell(text, alarm_cell(alloc, entry)?)?;
+    put_class_cell(text, alarm_cell(alloc, entry)?)?;
     put_age(text, age)
 }
 
@@ -209,10 +209,18 @@ fn put_age(text: &mut Vec<u8>, age: Option<u32>) -> Result<(), AllocError>
     }
 }
 
-/// Adds a cell whose text is its class too.
+/// Adds a cell.
 #[tactic(auto, unfolding(crate::specs::Page::cell))]
 fn put_cell(text: &mut Vec<u8>, content: &[u8]) -> Result<(), AllocError>
     ensures { OnOk result (text.new.items ≡ text.old.items ++ cell content.now) }
+{
+    put_between(text, b"<td>", content, b"</td>")
+}
+
+/// Adds a cell whose text is its class too.
+#[tactic(auto, unfolding(crate::specs::Page::class_cell))]
+fn put_class_cell(text: &mut Vec<u8>, content: &[u8]) -> Result<(), AllocError>
+    ensures { OnOk result (text.new.items ≡ text.old.items ++ class_cell content.now) }
 {
     put_between(text, b"<td class=\"", content, b"\">")?;
     put_between(text, b"", content, b"</td>")

@@ -1,7 +1,7 @@
 use Rattle.std.proofs.Common.{◌≡◌, ◌++◌, ◌∙◌, ap, refl, ℕ, List}
 use Rattle.mon_formats.specs.Cells.{newest_of, rate_of}
 use Rattle.mon_formats.specs.Columns.{value_cell, rate_cell, alarm_cell, age_cell}
-use Rattle.mon_page.specs.Page.{cell, figure_cells}
+use Rattle.mon_page.specs.Page.{cell, class_cell, figure_cells}
 use Rattle.mon_page.proofs.Chains.{join, ends}
 use Rattle.mon_page.proofs.rows.put_figures.Goals as goal
 
@@ -12,12 +12,12 @@ returns c =
     let start = c.args.text.now.items in
     let a : List ℕ = cell (value_cell (newest_of e.items)) in
     let b : List ℕ = cell (rate_cell (rate_of e.items)) in
-    let d : List ℕ = cell (alarm_cell e.items e.rules) in
+    let d : List ℕ = class_cell (alarm_cell e.items e.rules) in
     let first : c.put_value.new.text.items ≡ start ++ a =
     c.in_ok-put_value.ensures ∙ ap (λ (s : List ℕ). start ++ cell (value_cell (newest_of s))) c.samples.ensures in
     let second : c.put_rate.new.text.items ≡ c.put_value.new.text.items ++ b = c.in_ok-put_rate.ensures in
-    let third : c.put_cell.new.text.items ≡ c.put_rate.new.text.items ++ d =
-    c.in_ok-put_cell.ensures ∙ ap (λ (w : List ℕ). c.put_rate.new.text.items ++ cell w) c.in_ok-alarm_cell.ensures in
-    ends c.put_age.result start c.put_cell.new.text.items c.put_age.new.text.items ((a ++ b) ++ d) (cell (age_cell c.args.age)) _
-    (join start c.put_rate.new.text.items c.put_cell.new.text.items (a ++ b) d (join start c.put_value.new.text.items c.put_rate.new.text.items a b first second) third)
+    let third : c.put_class_cell.new.text.items ≡ c.put_rate.new.text.items ++ d =
+    c.in_ok-put_class_cell.ensures ∙ ap (λ (w : List ℕ). c.put_rate.new.text.items ++ class_cell w) c.in_ok-alarm_cell.ensures in
+    ends c.put_age.result start c.put_class_cell.new.text.items c.put_age.new.text.items ((a ++ b) ++ d) (cell (age_cell c.args.age)) _
+    (join start c.put_rate.new.text.items c.put_class_cell.new.text.items (a ++ b) d (join start c.put_value.new.text.items c.put_rate.new.text.items a b first second) third)
     refl c.put_age.ensures

@@ -1,11 +1,11 @@
 use Rattle.std.proofs.Common.{[], refl, codes}
 use Rattle.mon_page.specs.Between.{between}
-use Rattle.mon_page.specs.Page.{cell}
+use Rattle.mon_page.specs.Page.{class_cell}
 use Rattle.mon_page.proofs.Chains.{ends}
-use Rattle.mon_page.proofs.rows.put_cell.Goals as goal
+use Rattle.mon_page.proofs.rows.put_class_cell.Goals as goal
 
 pub returns : goal.returns
-unfolding cell
+unfolding class_cell
 returns c =
     let text = c.args.content.now in
     ends c.put_between-2.result c.args.text.now.items c.put_between.new.text.items c.put_between-2.new.text.items
