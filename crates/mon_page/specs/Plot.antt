@@ -94,13 +94,15 @@ unfoldable pub rule_lines : Bool → Scale → Rule → List ℕ
 rule_lines counted s rule = limit_line s (limit_level counted rule.rising) ++ limit_line s (limit_level counted rule.falling)
 
 -- ---- the cell
--- what is before the points, between them and the thresholds, and after these
+-- what is before the points
 unfoldable pub plot_start : List ℕ
 plot_start = codes "<td><svg viewBox=\"0 -10 1000 220\" preserveAspectRatio=\"none\"><path d=\""
 
+-- what is between the points and the thresholds
 unfoldable pub plot_middle : List ℕ
 plot_middle = codes "\"/><path class=\"limit\" d=\""
 
+-- what is after the thresholds
 unfoldable pub plot_end : List ℕ
 plot_end = codes "\"/></svg></td>"
 
