@@ -35,7 +35,9 @@ pub fn instance_text<S: NameTexts>(
 {
     let engine = hex::encode(alloc, instance.engine.as_slice())?;
     let name = names.text(alloc, &instance.name)?;
-    format!(in alloc; "{engine} {name}")
+    let mut text = String::new(alloc);
+    write!(text, "{engine} {name}")?;
+    Ok(text)
 }
 
 /// Returns the line of a rule of a watch that has this state.
