@@ -29,7 +29,7 @@ loop-place-preserved g c =
           ap (λ t. t.items ++ rest) w.text-is
           ∙ (λ i. w.in_ok-put_entry.ensures i ++ rest)
           ∙ append_assoc text (lines x) rest
-          ∙ (λ i. text ++ lines (sym here i) ++ rest)
+          ∙ (λ i. text ++ (lines (sym here i) ++ rest))
           ∙ ap (λ l. text ++ flat_map lines l) (sym step)
           ∙ c.loop-place.invariant
       | else-is_fresh w ↦
