@@ -32,6 +32,18 @@ class Instance:
     samples: list = field(default_factory=list)
     alarms: list = field(default_factory=list)
 
+    # What is given for Prometheus: labels by their names, in the order target, ifName, ifAlias.
+    given: dict = field(default_factory=dict)
+
+    def labels(self):
+        """Its labels: a name by modules is split at its first dot, one in numbers at its last."""
+        if self.name[:1].isdigit():
+            object_, _, index = self.name.rpartition(".") if "." in self.name else (self.name, "", "")
+        else:
+            object_, _, index = self.name.partition(".")
+        given = [(name, self.given[name]) for name in ("target", "ifName", "ifAlias") if name in self.given]
+        return [("engine", self.engine), ("name", self.name), ("object", object_), ("index", index), *given]
+
     def totals(self):
         """What the counter counted from each sample to the next, and in how many seconds (RFC 2578 sections 7.1.6 and 7.1.10)."""
         delta = span = 0
@@ -181,7 +193,7 @@ class Station:
         for target in self.targets:
             for name, line in target.lines().items():
                 found.setdefault(name, []).append(line)
-        found["snmpmon_sample_age_rounds"] = [metric("snmpmon_sample_age_rounds", [("engine", it.engine), ("name", it.name)], age) for it, age in zip(instances, self.ages)]
+        found["snmpmon_sample_age_rounds"] = [metric("snmpmon_sample_age_rounds", it.labels(), age) for it, age in zip(instances, self.ages)]
         return found
 
 
@@ -195,7 +207,7 @@ def prometheus(instances, station=None):
     lines = {name: [] for name in METRICS}
     stale = [station is not None and age >= station.stale_after for age in station.ages] if station else [False] * len(instances)
     for it, is_stale in zip(instances, stale):
-        labels = [("engine", it.engine), ("name", it.name)]
+        labels = it.labels()
         lines["snmpmon_samples"].append(metric("snmpmon_samples", labels, len(it.samples)))
         if is_stale:
             continue

@@ -6,7 +6,9 @@ use crate::naming::KnownNames;
 use mon_alarms::AlarmChange;
 use mon_board::{Board, Instance, Watch};
 use mon_cli::Printed;
-use mon_formats::{Figures, Format, alarm_line, format_report, instance_text};
+use mon_formats::{
+    Extras, Figures, Format, InstanceLabels, alarm_line, format_report, instance_text,
+};
 use mon_report::{Entry, entries_of};
 use mon_smi::{InNumbers, Names};
 use std::alloc::{AllocError, Global};
@@ -18,6 +20,8 @@ use std::rt::Files;
 pub struct Printing {
     format: Format,
     names: Option<Names>,
+    /// Of each instance, as far as they are given.
+    labels: Vec<InstanceLabels>,
 }
 
 impl Printing {
@@ -38,7 +42,13 @@ impl Printing {
         Ok(Printing {
             format: printed.format,
             names: printed.named.shown.then_some(known.into_names()),
+            labels: Vec::new(rt.alloc()),
         })
+    }
+
+    /// Sets what Prometheus' text has as further labels of each instance, in their order.
+    pub fn set_labels(&mut self, labels: Vec<InstanceLabels>) {
+        self.labels = labels;
     }
 
     /// Returns `true` if the format is lines of text.
@@ -58,11 +68,15 @@ impl Printing {
         entries: &[Entry],
         station: Option<&Figures>,
     ) -> Result<Vec<u8>, AllocError> {
+        let extras = Extras {
+            station,
+            labels: self.labels.as_slice(),
+        };
         match &self.names {
-            None => format_report(alloc, self.format, &InNumbers, entries, station),
+            None => format_report(alloc, self.format, &InNumbers, entries, extras),
             Some(names) => {
                 let labels = names.labels(alloc)?;
-                format_report(alloc, self.format, &labels, entries, station)
+                format_report(alloc, self.format, &labels, entries, extras)
             }
         }
     }

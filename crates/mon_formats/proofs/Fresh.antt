@@ -1,12 +1,13 @@
 -- Instances that are not stale, and the lines of ages, from a place on.
-use Rattle.std.proofs.Common.{◌≡◌, ℕ, zero, suc, ◌+◌, ◌<◌, ◌≤◌, min, true, false, List, [], ◌∷◌, length, drop, get_or, slice_get, refl, ◌∙◌, arith}
+use Rattle.std.proofs.Common.{◌≡◌, ℕ, zero, suc, ◌+◌, ◌<◌, ◌≤◌, min, true, false, List, [], ◌∷◌, ◌++◌, length, drop, get_or, slice_get, ap, refl, ◌∙◌, arith}
 use Rattle.std.specs.Prelude.{if◌then◌else◌}
 use Rattle.std.proofs.lemmas.List.{drop_all, drop_more}
 use Rattle.mon_report.specs.Report.{Entry}
-use Rattle.mon_formats.specs.Prometheus.{age_lines, fresh, is_fresh}
+use Rattle.mon_formats.specs.declared.figures.InstanceLabels.{InstanceLabels}
+use Rattle.mon_formats.specs.Prometheus.{Labelled, age_line, age_lines, fresh, is_fresh, labelled}
 
 -- an instance that is not stale comes before the others
-step_fresh : (limit : ℕ) (ages : List ℕ) (es : List Entry) (i : ℕ) (e : Entry) → i < length es → is_fresh limit (slice_get ages i) ≡ true
+step_fresh : (limit : ℕ) (ages : List ℕ) (es : List Labelled) (i : ℕ) (e : Labelled) → i < length es → is_fresh limit (slice_get ages i) ≡ true
     → fresh limit (drop i ages) (drop i es) ≡ get_or es i e ∷ fresh limit (drop (suc i) ages) (drop (suc i) es)
 step_fresh limit [] es i e lt h =
     (λ k. fresh limit (drop_all i [] (omega arith) k) (drop i es))
@@ -17,7 +18,7 @@ step_fresh limit (a ∷ ages) (x ∷ es) zero e lt h = λ k. if h k then x ∷ f
 step_fresh limit (a ∷ ages) (x ∷ es) (suc i) e lt h = step_fresh limit ages es i e (omega arith) h
 
 -- a stale one is passed over
-step_stale : (limit : ℕ) (ages : List ℕ) (es : List Entry) (i : ℕ) → i < length es → is_fresh limit (slice_get ages i) ≡ false
+step_stale : (limit : ℕ) (ages : List ℕ) (es : List Labelled) (i : ℕ) → i < length es → is_fresh limit (slice_get ages i) ≡ false
     → fresh limit (drop i ages) (drop i es) ≡ fresh limit (drop (suc i) ages) (drop (suc i) es)
 step_stale limit [] es i lt h = absurd cc
 step_stale limit (a ∷ ages) [] i lt h = absurd (omega arith)
@@ -25,18 +26,18 @@ step_stale limit (a ∷ ages) (x ∷ es) zero lt h = λ k. if h k then x ∷ fre
 step_stale limit (a ∷ ages) (x ∷ es) (suc i) lt h = step_stale limit ages es i (omega arith) h
 
 -- from the end on there is none
-pub fresh_end : (limit : ℕ) (ages : List ℕ) (es : List Entry) (i : ℕ) → length es ≤ i → fresh limit (drop i ages) (drop i es) ≡ []
+pub fresh_end : (limit : ℕ) (ages : List ℕ) (es : List Labelled) (i : ℕ) → length es ≤ i → fresh limit (drop i ages) (drop i es) ≡ []
 fresh_end limit ages es i past = (λ k. fresh limit (drop i ages) (drop_all i es past k)) ∙ none (drop i ages) where
   none : (left : List ℕ) → fresh limit left [] ≡ []
   none [] = refl
   none (a ∷ left) = refl
 
-pub one_fresh : (limit : ℕ) (ages : List ℕ) (es : List Entry) (i : ℕ) (e : Entry) → i < length es → is_fresh limit (slice_get ages i) ≡ true
+pub one_fresh : (limit : ℕ) (ages : List ℕ) (es : List Labelled) (i : ℕ) (e : Labelled) → i < length es → is_fresh limit (slice_get ages i) ≡ true
     → fresh limit (drop i ages) (drop i es) ≡ get_or es i e ∷ fresh limit (drop (i + 1) ages) (drop (i + 1) es)
 one_fresh limit ages es i e lt h =
     let on : suc i ≡ i + 1 = omega arith in step_fresh limit ages es i e lt h ∙ (λ k. get_or es i e ∷ fresh limit (drop (on k) ages) (drop (on k) es))
 
-pub one_stale : (limit : ℕ) (ages : List ℕ) (es : List Entry) (i : ℕ) → i < length es → is_fresh limit (slice_get ages i) ≡ false
+pub one_stale : (limit : ℕ) (ages : List ℕ) (es : List Labelled) (i : ℕ) → i < length es → is_fresh limit (slice_get ages i) ≡ false
     → fresh limit (drop i ages) (drop i es) ≡ fresh limit (drop (i + 1) ages) (drop (i + 1) es)
 one_stale limit ages es i lt h =
     let on : suc i ≡ i + 1 = omega arith in step_stale limit ages es i lt h ∙ (λ k. fresh limit (drop (on k) ages) (drop (on k) es))
@@ -46,9 +47,39 @@ no_lines shown [] = refl
 no_lines shown (a ∷ ages) = refl
 
 -- from the end on there are no ages
-pub ages_end : (shown : List ℕ → List ℕ) (ages : List ℕ) (es : List Entry) (i : ℕ) → min (length es) (length ages) ≤ i
+pub ages_end : (shown : List ℕ → List ℕ) (ages : List ℕ) (es : List Labelled) (i : ℕ) → min (length es) (length ages) ≤ i
     → age_lines shown (drop i ages) (drop i es) ≡ []
 ages_end shown [] es i past = λ k. age_lines shown (drop_all i [] (omega arith) k) (drop i es)
 ages_end shown (a ∷ ages) [] i past = (λ k. age_lines shown (drop i (a ∷ ages)) (drop_all i [] (omega arith) k)) ∙ no_lines shown (drop i (a ∷ ages))
 ages_end shown (a ∷ ages) (e ∷ es) zero past = absurd (omega (arith, past))
 ages_end shown (a ∷ ages) (e ∷ es) (suc i) past = ages_end shown ages es i (omega (arith, past))
+
+-- there are as many instances with their labels as instances
+pub length-labelled : (labels : List InstanceLabels) (es : List Entry) → length (labelled labels es) ≡ length es
+length-labelled labels [] = refl
+length-labelled [] (e ∷ es) = ap suc (length-labelled [] es)
+length-labelled (l ∷ labels) (e ∷ es) = ap suc (length-labelled labels es)
+
+-- the instance at a place has the labels at that place
+pub labelled-at : (labels : List InstanceLabels) (es : List Entry) (i : ℕ) (e : Entry) (other : Labelled) → i < length es
+    → get_or (labelled labels es) i other ≡ (get_or es i e, slice_get labels i)
+labelled-at labels [] i e other lt = absurd (omega arith)
+labelled-at [] (x ∷ es) zero e other lt = refl
+labelled-at [] (x ∷ es) (suc i) e other lt = labelled-at [] es i e other (omega arith)
+labelled-at (l ∷ labels) (x ∷ es) zero e other lt = refl
+labelled-at (l ∷ labels) (x ∷ es) (suc i) e other lt = labelled-at labels es i e other (omega arith)
+
+next_age : (shown : List ℕ → List ℕ) (ages : List ℕ) (es : List Labelled) (i : ℕ) (e : Labelled) → i < length es → i < length ages
+    → age_lines shown (drop i ages) (drop i es) ≡ age_line shown (get_or es i e) (get_or ages i 0) ++ age_lines shown (drop (suc i) ages) (drop (suc i) es)
+next_age shown [] es i e lt inside = absurd (omega arith)
+next_age shown (a ∷ ages) [] i e lt inside = absurd (omega arith)
+next_age shown (a ∷ ages) (x ∷ es) zero e lt inside = refl
+next_age shown (a ∷ ages) (x ∷ es) (suc i) e lt inside = next_age shown ages es i e (omega arith) (omega arith)
+
+-- an instance's age comes before the others'
+pub one_age : (shown : List ℕ → List ℕ) (ages : List ℕ) (es : List Labelled) (i : ℕ) (e : Labelled) → i < length es → i < length ages
+    → age_lines shown (drop i ages) (drop i es) ≡ age_line shown (get_or es i e) (get_or ages i 0) ++ age_lines shown (drop (i + 1) ages) (drop (i + 1) es)
+one_age shown ages es i e lt inside =
+    let on : suc i ≡ i + 1 = omega arith in
+    next_age shown ages es i e lt inside
+    ∙ (λ k. age_line shown (get_or es i e) (get_or ages i 0) ++ age_lines shown (drop (on k) ages) (drop (on k) es))

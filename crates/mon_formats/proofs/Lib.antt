@@ -3,5 +3,6 @@ pub mod Depths
 pub mod Entries
 pub mod Fresh
 pub mod Labels
+pub mod LastDot
 pub mod NoFloats
 pub mod Tables

@@ -1,5 +1,5 @@
 -- The formats of a report. Each is a function of the instances' windows and rules, of how names are shown, and for Prometheus and the
--- table of what the station says of itself.
+-- table of what the station says of itself; for Prometheus also of the labels that are given for instances.
 use Rattle.std.specs.Prelude.{ℕ, List, Option}
 use Rattle.mon_board.specs.Watch.{Watch}
 use Rattle.mon_window.specs.Window.{Samples}
@@ -9,16 +9,17 @@ use Rattle.mon_formats.specs.declared.format.Format.TheVariants.{Text, Json, Pro
 use Rattle.mon_formats.specs.Named.{named_report}
 use Rattle.mon_formats.specs.Json.{json_report}
 use Rattle.mon_formats.specs.declared.figures.Figures.{Figures}
-use Rattle.mon_formats.specs.Prometheus.{prometheus_report}
+use Rattle.mon_formats.specs.declared.figures.InstanceLabels.{InstanceLabels}
+use Rattle.mon_formats.specs.Prometheus.{labelled, prometheus_report}
 use Rattle.mon_formats.specs.Columns.{columns_report}
 
 -- the report of some instances
-abbrev pub formatted : Format → (List ℕ → List ℕ) → List Entry → Option Figures → List ℕ
-formatted Text shown entries station = named_report shown entries
-formatted Json shown entries station = json_report shown entries station
-formatted Prometheus shown entries station = prometheus_report shown entries station
-formatted Columns shown entries station = columns_report shown entries station
+abbrev pub formatted : Format → (List ℕ → List ℕ) → List Entry → Option Figures → List InstanceLabels → List ℕ
+formatted Text shown entries station labels = named_report shown entries
+formatted Json shown entries station labels = json_report shown entries station
+formatted Prometheus shown entries station labels = prometheus_report shown (labelled labels entries) station
+formatted Columns shown entries station labels = columns_report shown entries station
 
 -- the report of a watch and a window for each of its instances
-abbrev pub report_in : Format → (List ℕ → List ℕ) → Watch → (ℕ → Samples) → Option Figures → List ℕ
-report_in format shown watch windows station = formatted format shown (entries_from watch.rules windows 0 watch.instances) station
+abbrev pub report_in : Format → (List ℕ → List ℕ) → Watch → (ℕ → Samples) → Option Figures → List InstanceLabels → List ℕ
+report_in format shown watch windows station labels = formatted format shown (entries_from watch.rules windows 0 watch.instances) station labels

@@ -1,9 +1,11 @@
 -- A report as Prometheus reads it: the text exposition format, version 0.0.4. Each metric has a line `# HELP`, a line `# TYPE`, and then
 -- its lines together.
-use Rattle.std.specs.Prelude.{ℕ, ℤ, Bool, true, false, List, [], ◌∷◌, ◌++◌, Option, Some, None, codes, decimal, length, nat_lt, ◌==◌, if◌then◌else◌, String, string_bytes}
+use Rattle.std.specs.Prelude.{ℕ, ℤ, Bool, true, false, List, [], ◌∷◌, ◌++◌, Option, Some, None, codes, decimal, length, nat_lt, ◌==◌, if◌then◌else◌, slice_index, String, string_bytes}
+use Rattle.std.specs.Char.{is_ascii_digit}
 use Rattle.std.specs.Fmt.{signed_decimal}
-use Rattle.std.specs.List.{flat_map}
-use Rattle.std.specs.Option.{option_map}
+use Rattle.std.specs.List.{after_first, before_first, flat_map}
+use Rattle.std.specs.Option.{option_map, unwrap_or}
+use Rattle.std.specs.Path.{dot, rsplit_once}
 use Rattle.hex.specs.Hex.{encode_lower}
 use Rattle.mon_sample.specs.Key.{kind_of}
 use Rattle.mon_rates.specs.Part.{is_counter}
@@ -13,6 +15,7 @@ use Rattle.mon_alarms.specs.declared.alarm.AlarmState.{AlarmState}
 use Rattle.mon_alarms.specs.declared.alarm.AlarmState.TheVariants.{Clear, Raised}
 use Rattle.mon_report.specs.Report.{Entry, rate_text}
 use Rattle.mon_formats.specs.declared.figures.Figures.{Figures}
+use Rattle.mon_formats.specs.declared.figures.InstanceLabels.{InstanceLabels}
 use Rattle.mon_formats.specs.declared.figures.TargetFigures.{TargetFigures}
 use Rattle.mon_formats.specs.declared.prometheus.metric.Metric.{Metric}
 use Rattle.mon_formats.specs.declared.prometheus.metric.Metric.TheVariants.{Counted, Number, Samples, Rate, Alarm}
@@ -77,9 +80,59 @@ type_of Samples = codes "gauge"
 type_of Rate = codes "gauge"
 type_of Alarm = codes "gauge"
 
--- the labels of an instance: its engine id in hex digits and its name as it is shown
-unfoldable pub instance_labels : (List ℕ → List ℕ) → Entry → List ℕ
-instance_labels shown e = label_text (codes "engine") (encode_lower e.engine) ++ codes "," ++ label_text (codes "name") (shown e.name)
+-- one more label with its value
+unfoldable pub more_label : List ℕ → List ℕ → List ℕ
+more_label label value = codes "," ++ label_text label value
+
+-- the name of an instance, as it is shown, is in numbers
+abbrev pub is_in_numbers : List ℕ → Bool
+is_in_numbers name = is_ascii_digit (slice_index name 0)
+
+-- the object and the index of a name by modules: before and behind its first dot; all of it and nothing, where it has no dot
+unfoldable pub at_first_dot : List ℕ → List ℕ × List ℕ
+at_first_dot name = (before_first (λ c. c == dot) name, after_first (λ c. c == dot) name)
+
+-- those of a name in numbers: before and behind its last dot
+unfoldable pub at_last_dot : List ℕ → List ℕ × List ℕ
+at_last_dot name = unwrap_or (rsplit_once dot name) (name, [])
+
+-- the object and the index of an instance, from its name as it is shown
+abbrev pub object_and_index : List ℕ → List ℕ × List ℕ
+object_and_index name = if is_in_numbers name then at_last_dot name else at_first_dot name
+
+-- the labels of an object and an index
+unfoldable pub object_labels : List ℕ × List ℕ → List ℕ
+object_labels parts = more_label (codes "object") parts.0 ++ more_label (codes "index") parts.1
+
+-- one more label, where there is a value
+abbrev pub label_if : {A : Type 0} → List ℕ → Option (String A) → List ℕ
+label_if label None = []
+label_if label (Some value) = more_label label (string_bytes value)
+
+-- the labels that are given for an instance: its target's address, and its interface's ifName and ifAlias
+unfoldable pub joined_labels : InstanceLabels → List ℕ
+joined_labels l = label_if (codes "target") l.target ++ label_if (codes "ifName") l.if_name ++ label_if (codes "ifAlias") l.if_alias
+
+-- those labels, where any are given
+abbrev pub given_labels : Option InstanceLabels → List ℕ
+given_labels None = []
+given_labels (Some l) = joined_labels l
+
+-- an instance, and the labels that are given for it
+abbrev pub Labelled : Type 0
+Labelled = Entry × Option InstanceLabels
+
+-- the instances, each with the labels at its place
+abbrev pub labelled : List InstanceLabels → List Entry → List Labelled
+labelled labels [] = []
+labelled [] (e ∷ es) = (e, None) ∷ labelled [] es
+labelled (l ∷ labels) (e ∷ es) = (e, Some l) ∷ labelled labels es
+
+-- the labels of an instance: its engine id in hex digits, its name as it is shown, its object and index, and what is given for it
+unfoldable pub instance_labels : (List ℕ → List ℕ) → Labelled → List ℕ
+instance_labels shown i =
+    label_text (codes "engine") (encode_lower i.0.engine) ++ more_label (codes "name") (shown i.0.name)
+    ++ object_labels (object_and_index (shown i.0.name)) ++ given_labels i.1
 
 -- a threshold as one more label
 unfoldable pub threshold_text : List ℕ → ℤ → List ℕ
@@ -130,17 +183,17 @@ lines_of Rate labels e = rate_line labels (rate_of e.items)
 lines_of Alarm labels e = flat_map (alarm_line labels e.items) e.rules
 
 -- the lines of a metric for an instance whose name is shown so
-abbrev pub entry_lines : Metric → (List ℕ → List ℕ) → Entry → List ℕ
-entry_lines metric shown e = lines_of metric (instance_labels shown e) e
+abbrev pub entry_lines : Metric → (List ℕ → List ℕ) → Labelled → List ℕ
+entry_lines metric shown i = lines_of metric (instance_labels shown i) i.0
 
 -- a metric: what it is, and its lines of all instances
-unfoldable pub metric_text : Metric → (List ℕ → List ℕ) → List Entry → List ℕ
-metric_text metric shown entries = head_text (name_of metric) (help_of metric) (type_of metric) ++ flat_map (entry_lines metric shown) entries
+unfoldable pub metric_text : Metric → (List ℕ → List ℕ) → List Labelled → List ℕ
+metric_text metric shown instances = head_text (name_of metric) (help_of metric) (type_of metric) ++ flat_map (entry_lines metric shown) instances
 
 -- all lines of the instances, metric by metric: of each how many samples it has, and the values, rates and alarms of some
-unfoldable pub instances_text : (List ℕ → List ℕ) → List Entry → List Entry → List ℕ
-instances_text shown entries some =
-    metric_text Counted shown some ++ metric_text Number shown some ++ metric_text Samples shown entries ++ metric_text Rate shown some
+unfoldable pub instances_text : (List ℕ → List ℕ) → List Labelled → List Labelled → List ℕ
+instances_text shown all some =
+    metric_text Counted shown some ++ metric_text Number shown some ++ metric_text Samples shown all ++ metric_text Rate shown some
     ++ metric_text Alarm shown some
 
 -- what a metric of the station itself is called
@@ -280,18 +333,18 @@ station_text f =
 
 -- ---- ages of instances
 -- the line of an instance that had no new sample in this many rounds
-abbrev pub age_line : (List ℕ → List ℕ) → Entry → ℕ → List ℕ
-age_line shown e age = metric_line (station_name Age) (instance_labels shown e) (decimal age)
+abbrev pub age_line : (List ℕ → List ℕ) → Labelled → ℕ → List ℕ
+age_line shown i age = metric_line (station_name Age) (instance_labels shown i) (decimal age)
 
 -- the lines of instances with these ages, for as many as have one
-abbrev pub age_lines : (List ℕ → List ℕ) → List ℕ → List Entry → List ℕ
-age_lines shown [] es = []
+abbrev pub age_lines : (List ℕ → List ℕ) → List ℕ → List Labelled → List ℕ
+age_lines shown [] is = []
 age_lines shown (age ∷ ages) [] = []
-age_lines shown (age ∷ ages) (e ∷ es) = age_line shown e age ++ age_lines shown ages es
+age_lines shown (age ∷ ages) (i ∷ is) = age_line shown i age ++ age_lines shown ages is
 
 -- the ages of all instances
-unfoldable pub ages_text : (List ℕ → List ℕ) → List ℕ → List Entry → List ℕ
-ages_text shown ages entries = station_head Age ++ age_lines shown ages entries
+unfoldable pub ages_text : (List ℕ → List ℕ) → List ℕ → List Labelled → List ℕ
+ages_text shown ages instances = station_head Age ++ age_lines shown ages instances
 
 -- whether an instance of this age is not stale: its age is below the limit, or it has none
 abbrev pub is_fresh : ℕ → Option ℕ → Bool
@@ -299,22 +352,22 @@ is_fresh limit None = true
 is_fresh limit (Some age) = nat_lt age limit
 
 -- the instances that are not stale, by their ages
-abbrev pub fresh : ℕ → List ℕ → List Entry → List Entry
-fresh limit [] es = es
+abbrev pub fresh : ℕ → List ℕ → List Labelled → List Labelled
+fresh limit [] is = is
 fresh limit (age ∷ ages) [] = []
-fresh limit (age ∷ ages) (e ∷ es) = if is_fresh limit (Some age) then e ∷ fresh limit ages es else fresh limit ages es
+fresh limit (age ∷ ages) (i ∷ is) = if is_fresh limit (Some age) then i ∷ fresh limit ages is else fresh limit ages is
 
 -- the instances whose values are reported: of a running station those that are fresh, else all
-abbrev pub fresh_by : Option Figures → List Entry → List Entry
-fresh_by None entries = entries
-fresh_by (Some f) entries = fresh f.stale_after f.ages.items entries
+abbrev pub fresh_by : Option Figures → List Labelled → List Labelled
+fresh_by None instances = instances
+fresh_by (Some f) instances = fresh f.stale_after f.ages.items instances
 
 -- nothing if there is no station
-abbrev pub station_text_if : (List ℕ → List ℕ) → List Entry → Option Figures → List ℕ
-station_text_if shown entries None = []
-station_text_if shown entries (Some f) = station_text f ++ ages_text shown f.ages.items entries
+abbrev pub station_text_if : (List ℕ → List ℕ) → List Labelled → Option Figures → List ℕ
+station_text_if shown instances None = []
+station_text_if shown instances (Some f) = station_text f ++ ages_text shown f.ages.items instances
 
 -- The instances, metric by metric, and then the station, where there is one. Values, rates and alarms are those of fresh instances: so
 -- Prometheus marks what is left out as stale by itself.
-unfoldable pub prometheus_report : (List ℕ → List ℕ) → List Entry → Option Figures → List ℕ
-prometheus_report shown entries station = instances_text shown entries (fresh_by station entries) ++ station_text_if shown entries station
+unfoldable pub prometheus_report : (List ℕ → List ℕ) → List Labelled → Option Figures → List ℕ
+prometheus_report shown instances station = instances_text shown instances (fresh_by station instances) ++ station_text_if shown instances station

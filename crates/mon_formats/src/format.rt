@@ -7,7 +7,7 @@ ghost use Rattle.mon_formats.specs.Json.{ReadsAsReport};
 ghost use Rattle.mon_formats.specs.declared.format.Format.TheVariants.{Json};
 
 use crate::columns::columns_report;
-use crate::figures::Figures;
+use crate::figures::Extras;
 use crate::json::json_report;
 use crate::named::named_report;
 use crate::prometheus::prometheus_report;
@@ -45,22 +45,22 @@ impl Format {
 }
 
 /// Makes the report of instances in a format, with their names as `names` has them. All but
-/// the lines of text also have what the station says of itself.
+/// the lines of text also have what the station says of itself; Prometheus' text has the labels.
 pub fn format_report<S: NameTexts>(
     alloc: Global,
     format: Format,
     names: &S,
     entries: &[Entry],
-    station: Option<&Figures>,
+    extras: Extras<'_>,
 ) -> Result<Vec<u8>, AllocError>
-    ensures text { IfOk result (λ text. text.items ≡ formatted format (S.shown names.now) entries.now (option_map (λ f. f.now) station.entry)) }
+    ensures text { IfOk result (λ text. text.items ≡ formatted format (S.shown names.now) entries.now (option_map (λ f. f.now) extras.entry.station) extras.entry.labels.now) }
     // JSON reads back as the value of the report (RFC 8259).
-    ensures read_back { format ≡ Json → IfOk result (λ text. ReadsAsReport (S.shown names.now) entries.now (option_map (λ f. f.now) station.entry) text.items) }
+    ensures read_back { format ≡ Json → IfOk result (λ text. ReadsAsReport (S.shown names.now) entries.now (option_map (λ f. f.now) extras.entry.station) text.items) }
 {
     match format {
         Format::Text => named_report(alloc, names, entries),
-        Format::Json => json_report(alloc, names, entries, station),
-        Format::Prometheus => prometheus_report(alloc, names, entries, station),
-        Format::Columns => columns_report(alloc, names, entries, station),
+        Format::Json => json_report(alloc, names, entries, extras.station),
+        Format::Prometheus => prometheus_report(alloc, names, entries, extras),
+        Format::Columns => columns_report(alloc, names, entries, extras.station),
     }
 }

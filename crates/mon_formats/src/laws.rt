@@ -8,6 +8,7 @@ ghost use Rattle.mon_board.specs.Windows.{IsPartOf, window};
 ghost use Rattle.mon_window.specs.Window.{Samples};
 ghost use Rattle.mon_report.specs.Report.{Entry, report_of};
 ghost use Rattle.mon_formats.specs.declared.figures.Figures.{Figures};
+ghost use Rattle.mon_formats.specs.declared.figures.InstanceLabels.{InstanceLabels};
 ghost use Rattle.mon_formats.specs.declared.format.Format.{Format};
 ghost use Rattle.mon_formats.specs.Columns.{row_cells, title_cells, widths_of};
 ghost use Rattle.mon_formats.specs.Formats.{report_in};
@@ -19,16 +20,16 @@ pub fn names_in_numbers()
     ensures { (entries : List Entry) → named_report dotted entries ≡ report_of entries }
 {}
 
-/// Equal watches with equal windows have equal reports in each format, where names are shown alike and the station says the same.
+/// Equal watches with equal windows have equal reports in each format, where names are shown alike, the station says the same and the same labels are given.
 pub fn equal_windows()
-    ensures { (format : Format) (shown : List ℕ → List ℕ) (watch : Watch) (some others : ℕ → Samples) (station : Option Figures) → ((i : ℕ) → some i ≡ others i)
-        → report_in format shown watch some station ≡ report_in format shown watch others station }
+    ensures { (format : Format) (shown : List ℕ → List ℕ) (watch : Watch) (some others : ℕ → Samples) (station : Option Figures) (labels : List InstanceLabels) → ((i : ℕ) → some i ≡ others i)
+        → report_in format shown watch some station labels ≡ report_in format shown watch others station labels }
 {}
 
 /// Equal watches that took the same samples, in whatever order and however often, have equal reports in each format.
 pub fn equal_samples()
-    ensures { (format : Format) (shown : List ℕ → List ℕ) (watch : Watch) (some others : List (ℕ × ℕ)) (station : Option Figures) → IsPartOf some others → IsPartOf others some
-        → report_in format shown watch (window watch some) station ≡ report_in format shown watch (window watch others) station }
+    ensures { (format : Format) (shown : List ℕ → List ℕ) (watch : Watch) (some others : List (ℕ × ℕ)) (station : Option Figures) (labels : List InstanceLabels) → IsPartOf some others → IsPartOf others some
+        → report_in format shown watch (window watch some) station labels ≡ report_in format shown watch (window watch others) station labels }
 {
     mon_board::laws::windows_meet();
 }

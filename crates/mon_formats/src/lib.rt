@@ -13,5 +13,5 @@ mod named;
 mod prometheus;
 
 pub use changes::{alarm_line, instance_text};
-pub use figures::{Figures, TargetFigures};
+pub use figures::{Extras, Figures, InstanceLabels, TargetFigures};
 pub use format::{Format, format_report};

@@ -1,17 +1,20 @@
 //! A report as Prometheus reads it.
 
-ghost use Rattle.std.specs.Prelude.{◌≡◌, ◌++◌, [], IfOk, OnOk, Some, option_map, slice_get};
+ghost use Rattle.std.specs.Prelude.{◌≡◌, ◌<◌, ◌++◌, [], IfOk, OnOk, Some, get_or, length, option_map, slice_get};
 ghost use Rattle.std.specs.Fmt.{signed_decimal};
 ghost use Rattle.std.specs.List.{flat_map};
+ghost use Rattle.mon_report.specs.Report.{Entry as AnEntry};
 ghost use Rattle.mon_formats.specs.Cells.{newest_of, value_of, rate_of};
-ghost use Rattle.mon_formats.specs.Prometheus.{prometheus_report, ages_text, age_line, fresh, is_fresh, instances_text, metric_text, entry_lines, lines_of, counted_line, number_line, samples_line, rate_line, alarm_line, alarm_labels, instance_labels, state_digit, name_of, metric_line, threshold_text};
+ghost use Rattle.mon_formats.specs.Prometheus.{prometheus_report, ages_text, age_line, fresh, is_fresh, instances_text, labelled, metric_text, entry_lines, lines_of, counted_line, number_line, samples_line, rate_line, alarm_line, alarm_labels, state_digit, name_of, metric_line, threshold_text};
 
+mod instance;
 mod metric;
 mod station;
 mod target;
 mod text;
 
-use crate::figures::Figures;
+use crate::figures::{Extras, Figures, InstanceLabels};
+use instance::{Labelled, labels_of};
 use itoa::Buffer;
 use metric::Metric;
 use mon_alarms::{AlarmState, Rule, state};
@@ -23,10 +26,12 @@ use station::{StationMetric, put_station};
 use std::alloc::{AllocError, Global};
 use text::{put_head, put_label, put_line};
 
-/// Instances, and of a running station in how many rounds each had no new sample.
+/// Instances with their labels, and of a running station in how many rounds each had no new sample.
 #[derive(Clone, Copy)]
 struct Listing<'a, 'e> {
     entries: &'a [Entry<'e>],
+    /// Of each instance, as far as they are given.
+    labels: &'a [InstanceLabels],
     /// Empty if there is no station.
     ages: &'a [u32],
     /// From which age on an instance is stale.
@@ -37,9 +42,22 @@ impl<'a, 'e> Listing<'a, 'e> {
     /// The same instances, of which none is stale.
     fn all(self) -> Self
         ensures entries { result.entries.now ≡ self.entry.entries.now }
+        ensures labels { result.labels.now ≡ self.entry.labels.now }
         ensures ages { result.ages.now ≡ [] }
     {
         Listing { ages: &[], ..self }
+    }
+
+    /// The instance at this place, with its labels.
+    fn at(self, place: usize) -> Labelled<'a, 'e>
+        requires { place < length self.entries.now }
+        ensures instance { (other : AnEntry) → result.instance.now ≡ get_or self.entry.entries.now place other }
+        ensures labels { option_map (λ l. l.now) result.labels ≡ slice_get self.entry.labels.now place }
+    {
+        Labelled {
+            instance: &self.entries[place],
+            labels: self.labels.get(place),
+        }
     }
 
     /// Returns `true` if the instance at this place is not stale.
@@ -58,12 +76,12 @@ pub(crate) fn prometheus_report<S: NameTexts>(
     alloc: Global,
     names: &S,
     entries: &[Entry],
-    station: Option<&Figures>,
+    extras: Extras<'_>,
 ) -> Result<Vec<u8>, AllocError>
-    ensures { IfOk result (λ text. text.items ≡ prometheus_report (S.shown names.now) entries.now (option_map (λ f. f.now) station.entry)) }
+    ensures { IfOk result (λ text. text.items ≡ prometheus_report (S.shown names.now) (labelled extras.entry.labels.now entries.now) (option_map (λ f. f.now) extras.entry.station)) }
 {
     let mut text = Vec::new(alloc);
-    put_report(alloc, &mut text, names, entries, station)?;
+    put_report(alloc, &mut text, names, entries, extras)?;
     Ok(text)
 }
 
@@ -74,22 +92,19 @@ fn put_report<S: NameTexts>(
     text: &mut Vec<u8>,
     names: &S,
     entries: &[Entry],
-    station: Option<&Figures>,
+    extras: Extras<'_>,
 ) -> Result<(), AllocError>
-    ensures { OnOk result (text.new.items ≡ text.old.items ++ prometheus_report (S.shown names.now) entries.now (option_map (λ f. f.now) station.entry)) }
+    ensures { OnOk result (text.new.items ≡ text.old.items ++ prometheus_report (S.shown names.now) (labelled extras.entry.labels.now entries.now) (option_map (λ f. f.now) extras.entry.station)) }
 {
-    match station {
-        None => put_instances(
-            alloc,
-            text,
-            names,
-            Listing {
-                entries,
-                ages: &[],
-                limit: 0,
-            },
-        ),
-        Some(figures) => put_running(alloc, text, names, entries, figures),
+    let plain = Listing {
+        entries,
+        labels: extras.labels,
+        ages: &[],
+        limit: 0,
+    };
+    match extras.station {
+        None => put_instances(alloc, text, names, plain),
+        Some(figures) => put_running(alloc, text, names, plain, figures),
     }
 }
 
@@ -99,21 +114,19 @@ fn put_running<S: NameTexts>(
     alloc: Global,
     text: &mut Vec<u8>,
     names: &S,
-    entries: &[Entry],
+    plain: Listing,
     figures: &Figures,
 ) -> Result<(), AllocError>
-    ensures { OnOk result (text.new.items ≡ text.old.items ++ prometheus_report (S.shown names.now) entries.now (Some figures.now)) }
+    ensures { OnOk result (text.new.items ≡ text.old.items ++ prometheus_report (S.shown names.now) (labelled plain.entry.labels.now plain.entry.entries.now) (Some figures.now)) }
 {
-    let ages = figures.ages.as_slice();
-    let limit = figures.stale_after;
     let listing = Listing {
-        entries,
-        ages,
-        limit,
+        ages: figures.ages.as_slice(),
+        limit: figures.stale_after,
+        ..plain
     };
     put_instances(alloc, text, names, listing)?;
     put_station(alloc, text, figures)?;
-    put_ages(alloc, text, names, entries, ages)
+    put_ages(alloc, text, names, listing)
 }
 
 /// Adds what the report says of the instances, metric by metric.
@@ -124,7 +137,7 @@ fn put_instances<S: NameTexts>(
     names: &S,
     listing: Listing,
 ) -> Result<(), AllocError>
-    ensures { OnOk result (text.new.items ≡ text.old.items ++ instances_text (S.shown names.now) listing.entry.entries.now (fresh listing.entry.limit listing.entry.ages.now listing.entry.entries.now)) }
+    ensures { OnOk result (text.new.items ≡ text.old.items ++ instances_text (S.shown names.now) (labelled listing.entry.labels.now listing.entry.entries.now) (fresh listing.entry.limit listing.entry.ages.now (labelled listing.entry.labels.now listing.entry.entries.now))) }
 {
     put_metric(alloc, text, names, listing, Metric::Counted)?;
     put_metric(alloc, text, names, listing, Metric::Number)?;
@@ -142,12 +155,12 @@ fn put_metric<S: NameTexts>(
     listing: Listing,
     metric: Metric,
 ) -> Result<(), AllocError>
-    ensures { OnOk result (text.new.items ≡ text.old.items ++ metric_text metric (S.shown names.now) (fresh listing.entry.limit listing.entry.ages.now listing.entry.entries.now)) }
+    ensures { OnOk result (text.new.items ≡ text.old.items ++ metric_text metric (S.shown names.now) (fresh listing.entry.limit listing.entry.ages.now (labelled listing.entry.labels.now listing.entry.entries.now))) }
 {
     put_head(text, metric.name(), metric.help(), metric.kind())?;
     for place in 0..listing.entries.len() {
         if listing.is_fresh(place) {
-            put_entry(alloc, text, names, &listing.entries[place], metric)?;
+            put_entry(alloc, text, names, listing.at(place), metric)?;
         }
     }
     Ok(())
@@ -159,15 +172,14 @@ fn put_ages<S: NameTexts>(
     alloc: Global,
     text: &mut Vec<u8>,
     names: &S,
-    entries: &[Entry],
-    ages: &[u32],
+    listing: Listing,
 ) -> Result<(), AllocError>
-    ensures { OnOk result (text.new.items ≡ text.old.items ++ ages_text (S.shown names.now) ages.now entries.now) }
+    ensures { OnOk result (text.new.items ≡ text.old.items ++ ages_text (S.shown names.now) listing.entry.ages.now (labelled listing.entry.labels.now listing.entry.entries.now)) }
 {
     let metric = StationMetric::Age;
     put_head(text, metric.name(), metric.help(), metric.kind())?;
-    for place in 0..entries.len().min(ages.len()) {
-        put_age(alloc, text, names, &entries[place], ages[place])?;
+    for place in 0..listing.entries.len().min(listing.ages.len()) {
+        put_age(alloc, text, names, listing.at(place), listing.ages[place])?;
     }
     Ok(())
 }
@@ -177,12 +189,12 @@ fn put_age<S: NameTexts>(
     alloc: Global,
     text: &mut Vec<u8>,
     names: &S,
-    entry: &Entry,
+    labelled: Labelled,
     age: u32,
 ) -> Result<(), AllocError>
-    ensures { OnOk result (text.new.items ≡ text.old.items ++ age_line (S.shown names.now) entry.now age) }
+    ensures { OnOk result (text.new.items ≡ text.old.items ++ age_line (S.shown names.now) (labelled.entry.instance.now, option_map (λ l. l.now) labelled.entry.labels) age) }
 {
-    let labels = labels_of(alloc, names, entry)?;
+    let labels = labels_of(alloc, names, labelled)?;
     let mut buffer = Buffer::new();
     let number = buffer.format(age);
     let name = StationMetric::Age.name();
@@ -194,27 +206,13 @@ fn put_entry<S: NameTexts>(
     alloc: Global,
     text: &mut Vec<u8>,
     names: &S,
-    entry: &Entry,
+    labelled: Labelled,
     metric: Metric,
 ) -> Result<(), AllocError>
-    ensures { OnOk result (text.new.items ≡ text.old.items ++ entry_lines metric (S.shown names.now) entry.now) }
+    ensures { OnOk result (text.new.items ≡ text.old.items ++ entry_lines metric (S.shown names.now) (labelled.entry.instance.now, option_map (λ l. l.now) labelled.entry.labels)) }
 {
-    let labels = labels_of(alloc, names, entry)?;
-    put_lines(alloc, text, labels.as_slice(), entry, metric)
-}
-
-/// The labels of an instance: its engine id in hex digits, and its name.
-#[tactic(auto, unfolding(crate::specs::Prometheus::instance_labels))]
-fn labels_of<S: NameTexts>(alloc: Global, names: &S, entry: &Entry) -> Result<Vec<u8>, AllocError>
-    ensures { IfOk result (λ labels. labels.items ≡ instance_labels (S.shown names.now) entry.now) }
-{
-    let engine = hex::encode(alloc, entry.engine())?;
-    let name = names.text(alloc, entry.name())?;
-    let mut labels = Vec::new(alloc);
-    put_label(&mut labels, "engine", engine.as_bytes())?;
-    labels.extend_from_slice(b",")?;
-    put_label(&mut labels, "name", name.as_bytes())?;
-    Ok(labels)
+    let labels = labels_of(alloc, names, labelled)?;
+    put_lines(alloc, text, labels.as_slice(), labelled.instance, metric)
 }
 
 /// Adds the lines of a metric for an instance with these labels.

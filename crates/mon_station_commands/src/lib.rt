@@ -2,6 +2,7 @@
 #![tactic(auto)]
 
 mod figures;
+mod labels;
 mod limits;
 mod live;
 mod opening;

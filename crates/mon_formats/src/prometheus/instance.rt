@@ -1,0 +1,129 @@
+//! The labels of an instance.
+
+ghost use Rattle.std.specs.Prelude.{◌≡◌, ◌++◌, IfOk, OnOk, option_map};
+ghost use Rattle.mon_formats.specs.Prometheus.{at_first_dot, at_last_dot, given_labels, instance_labels, is_in_numbers, joined_labels, label_if, more_label, object_and_index, object_labels};
+
+use crate::figures::InstanceLabels;
+use crate::prometheus::text::put_label;
+use mon_report::Entry;
+use mon_smi::NameTexts;
+use std::alloc::{AllocError, Global};
+
+/// An instance with its labels, if any are given.
+#[derive(Clone, Copy)]
+pub(crate) struct Labelled<'a, 'e> {
+    pub(crate) instance: &'a Entry<'e>,
+    pub(crate) labels: Option<&'a InstanceLabels>,
+}
+
+/// The labels of an instance: its engine id in hex digits, its name, its object and index, and
+/// those that are given.
+#[tactic(auto, unfolding(crate::specs::Prometheus::instance_labels))]
+pub(crate) fn labels_of<S: NameTexts>(
+    alloc: Global,
+    names: &S,
+    labelled: Labelled,
+) -> Result<Vec<u8>, AllocError>
+    ensures { IfOk result (λ labels. labels.items ≡ instance_labels (S.shown names.now) (labelled.entry.instance.now, option_map (λ l. l.now) labelled.entry.labels)) }
+{
+    let engine = hex::encode(alloc, labelled.instance.engine())?;
+    let name = names.text(alloc, labelled.instance.name())?;
+    let mut labels = Vec::new(alloc);
+    put_label(&mut labels, "engine", engine.as_bytes())?;
+    put_more(&mut labels, "name", name.as_bytes())?;
+    put_object(&mut labels, name.as_str())?;
+    put_given(&mut labels, labelled.labels)?;
+    Ok(labels)
+}
+
+/// Adds one more label.
+#[tactic(auto, unfolding(crate::specs::Prometheus::more_label))]
+fn put_more(labels: &mut Vec<u8>, label: &str, value: &[u8]) -> Result<(), AllocError>
+    ensures { OnOk result (labels.new.items ≡ labels.old.items ++ more_label label.now value.now) }
+{
+    labels.extend_from_slice(b",")?;
+    put_label(labels, label, value)
+}
+
+/// Adds the object and the index of the instance with this name.
+#[tactic(auto, unfolding(crate::specs::Prometheus::object_labels))]
+fn put_object(labels: &mut Vec<u8>, name: &str) -> Result<(), AllocError>
+    ensures { OnOk result (labels.new.items ≡ labels.old.items ++ object_labels (object_and_index name.now)) }
+{
+    let (object, index) = object_and_index(name);
+    put_more(labels, "object", object.as_bytes())?;
+    put_more(labels, "index", index.as_bytes())
+}
+
+/// The object and the index of the instance with this name.
+fn object_and_index(name: &str) -> (&str, &str)
+    ensures { (result.0.now, result.1.now) ≡ object_and_index name.now }
+{
+    if is_in_numbers(name) {
+        at_last_dot(name)
+    } else {
+        at_first_dot(name)
+    }
+}
+
+/// Returns `true` if a name begins with a digit.
+fn is_in_numbers(name: &str) -> bool
+    ensures { result ≡ is_in_numbers name.now }
+{
+    match name.as_bytes() {
+        [first, ..] => first.is_ascii_digit(),
+        [] => false,
+    }
+}
+
+/// What is before and behind the last dot.
+#[tactic(auto, unfolding(crate::specs::Prometheus::at_last_dot))]
+fn at_last_dot(name: &str) -> (&str, &str)
+    ensures { (result.0.now, result.1.now) ≡ at_last_dot name.now }
+{
+    match name.rsplit_once('.') {
+        Some(parts) => parts,
+        None => (name, ""),
+    }
+}
+
+/// What is before and behind the first dot.
+#[tactic(auto, unfolding(crate::specs::Prometheus::at_first_dot))]
+fn at_first_dot(name: &str) -> (&str, &str)
+    ensures { (result.0.now, result.1.now) ≡ at_first_dot name.now }
+{
+    match name.split_once('.') {
+        Some(parts) => parts,
+        None => (name, ""),
+    }
+}
+
+/// Adds the labels that are given, if any are.
+fn put_given(labels: &mut Vec<u8>, given: Option<&InstanceLabels>) -> Result<(), AllocError>
+    ensures { OnOk result (labels.new.items ≡ labels.old.items ++ given_labels (option_map (λ l. l.now) given.entry)) }
+{
+    match given {
+        None => Ok(()),
+        Some(given) => put_joined(labels, given),
+    }
+}
+
+/// Adds the labels that are given.
+#[tactic(auto, unfolding(crate::specs::Prometheus::joined_labels))]
+fn put_joined(labels: &mut Vec<u8>, given: &InstanceLabels) -> Result<(), AllocError>
+    ensures { OnOk result (labels.new.items ≡ labels.old.items ++ joined_labels given.now) }
+{
+    put_if(labels, "target", &given.target)?;
+    put_if(labels, "ifName", &given.if_name)?;
+    put_if(labels, "ifAlias", &given.if_alias)
+}
+
+/// Adds one more label, if there is a value.
+fn put_if(labels: &mut Vec<u8>, label: &str, value: &Option<String>) -> Result<(), AllocError>
+    ensures { OnOk result (labels.new.items ≡ labels.old.items ++ label_if label.now value.now) }
+{
+    match value {
+        None => Ok(()),
+        Some(value) => put_more(labels, label, value.as_bytes()),
+    }
+}
