@@ -121,7 +121,9 @@ pub(crate) fn or_socket_failure<T: Drop>(
 }
 
 /// Why a station's file gave no report.
-fn file_failure(alloc: Global, path: &str, fault: StationFault) -> Failure {
+fn file_failure(alloc: Global, path: &str, fault: StationFault) -> Failure
+    ensures { result.fault ≡ station_fault fault }
+{
     Failure::at(alloc, path, Fault::from(fault))
 }
 

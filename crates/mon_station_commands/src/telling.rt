@@ -4,7 +4,9 @@ use crate::live::Live;
 use mon_alarms::AlarmChange;
 use mon_disk::KeeperFault;
 use mon_poller::ResponseFault;
-use mon_rounds::{Addresses, Change, Notice, Receiver, RoundReport, Trouble, explain_stale};
+use mon_rounds::{
+    Addresses, Change, Notice, Receiver, RoundReport, TargetAge, Trouble, explain_stale,
+};
 use mon_station::{Outbox, StationFault};
 use mon_udp::Addr;
 use std::alloc::AllocError;
@@ -132,6 +134,11 @@ pub(crate) fn tell_change<R: Eprint + AllocGlobal, S: Receiver + Drop, O: Outbox
     Ok(())
 }
 
+/// Returns a target's number, from 1, and its address.
+fn place_of(target: &TargetAge) -> (u32, Addr) {
+    (u32::from(target.number) + 1, target.address)
+}
+
 /// Says that a target does not answer, or answers again.
 fn silent_target<R: AllocGlobal, S: Receiver + Drop, O: Outbox + Drop>(
     rt: &R,
@@ -141,7 +148,7 @@ fn silent_target<R: AllocGlobal, S: Receiver + Drop, O: Outbox + Drop>(
     let Some(target) = live.freshness.targets().get(change.number) else {
         return Ok(String::new(rt.alloc()));
     };
-    let (number, at) = (u32::from(target.number) + 1, target.address);
+    let (number, at) = place_of(target);
     match target.refusal {
         _ if !change.begins => format!(in rt.alloc(); "target {number} at {at} answers"),
         None => format!(in rt.alloc(); "target {number} at {at} gave up"),
@@ -165,7 +172,7 @@ fn other_engine<R: AllocGlobal, S: Receiver + Drop, O: Outbox + Drop>(
     else {
         return Ok(String::new(alloc));
     };
-    let (number, at) = (u32::from(target.number) + 1, target.address);
+    let (number, at) = place_of(target);
     let own = hex::encode(alloc, engine.as_slice())?;
     let latest = live.transport.rounds.latest();
     match latest.other_engine(alloc, at, engine.as_slice())? {
