@@ -6,9 +6,7 @@ use crate::naming::KnownNames;
 use mon_alarms::AlarmChange;
 use mon_board::{Board, Instance, Watch};
 use mon_cli::Printed;
-use mon_formats::{
-    Extras, Figures, Format, InstanceLabels, alarm_line, format_report, instance_text,
-};
+use mon_formats::{Extras, Figures, Format, alarm_line, format_report, instance_text};
 use mon_report::{Entry, entries_of};
 use mon_smi::{InNumbers, Names};
 use std::alloc::{AllocError, Global};
@@ -20,8 +18,6 @@ use std::rt::Files;
 pub struct Printing {
     format: Format,
     names: Option<Names>,
-    /// Of each instance, as far as they are given.
-    labels: Vec<InstanceLabels>,
 }
 
 impl Printing {
@@ -42,13 +38,7 @@ impl Printing {
         Ok(Printing {
             format: printed.format,
             names: printed.named.shown.then_some(known.into_names()),
-            labels: Vec::new(rt.alloc()),
         })
-    }
-
-    /// Sets what Prometheus' text has as further labels of each instance, in their order.
-    pub fn set_labels(&mut self, labels: Vec<InstanceLabels>) {
-        self.labels = labels;
     }
 
     /// Returns `true` if the format is lines of text.
@@ -70,7 +60,7 @@ impl Printing {
     ) -> Result<Vec<u8>, AllocError> {
         let extras = Extras {
             station,
-            labels: self.labels.as_slice(),
+            labels: &[],
         };
         match &self.names {
             None => format_report(alloc, self.format, &InNumbers, entries, extras),

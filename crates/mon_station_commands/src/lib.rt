@@ -2,7 +2,6 @@
 #![tactic(auto)]
 
 mod figures;
-mod labels;
 mod limits;
 mod live;
 mod opening;

@@ -4,9 +4,8 @@ ghost use Rattle.std.specs.Prelude.{◌≡◌, ◌↔◌, ◌<◌, ◌≤◌, Is
 ghost use Rattle.mon_faults.specs.Fault.{station_fault};
 
 use mon_board::Board;
-use crate::labels::instance_labels;
-use mon_cli::{Printed, ReportArgs};
-use mon_console::{Failure, Fault, Printing, print, read_first, read_station_file};
+use mon_cli::ReportArgs;
+use mon_console::{Failure, Fault, print, read_first, read_station_file};
 use mon_disk::{Disk, DiskError, FileDisk, KeeperFault, SLOT_SIZE};
 use mon_settings::StationSettings;
 use mon_station::{StationFault, board_in};
@@ -16,18 +15,6 @@ use std::fs::File;
 use std::net::Net;
 use std::rt::Files;
 use std::{fs, io};
-
-/// Returns what the file of a station's settings says, and how its reports are printed: in
-/// Prometheus' text with the address of its target at each instance.
-pub(crate) fn read_settings<R: Files + AllocGlobal>(
-    rt: &R,
-    path: &str,
-    printed: Printed<'_, '_>,
-) -> Result<(StationSettings, Printing), Failure> {
-    let (settings, mut printing) = read_station_file(rt, path, printed)?;
-    printing.set_labels(instance_labels(rt.alloc(), &settings.core)?);
-    Ok((settings, printing))
-}
 
 /// Opens the file and the socket of the settings. The socket is taken first, so that of two processes
 /// with the same settings the second neither makes the file nor writes it; yet the faults of an
@@ -79,7 +66,7 @@ pub fn print_saved_report<R: Files<File = File> + Print + AllocGlobal>(
     rt: &R,
     words: ReportArgs<'_, '_>,
 ) -> Result<(), Failure> {
-    let (settings, printing) = read_settings(rt, words.settings, words.printed)?;
+    let (settings, printing) = read_station_file(rt, words.settings, words.printed)?;
     let alloc = rt.alloc();
     let board = saved_in(rt, &settings)?;
     let text = printing.report(alloc, &board, None)?;

@@ -2,11 +2,11 @@
 
 use crate::limits::print_limits;
 use crate::live::{Live, Place, Reports, open_transport, run_span, start_station};
-use crate::opening::{open_file_and_socket, or_socket_failure, read_settings, unsaved};
+use crate::opening::{open_file_and_socket, or_socket_failure, unsaved};
 use crate::pace::{now, start_pace, wait_for_next};
 use crate::printing::{print_between, print_report, write_out};
 use mon_cli::{StationArgs, Timing};
-use mon_console::Failure;
+use mon_console::{Failure, read_station_file};
 use mon_rounds::{Receiver, Span, is_due};
 use mon_station::Outbox;
 use std::alloc::Global;
@@ -20,7 +20,7 @@ pub fn run_station<R: Clock + Files<File = File> + Net + Print + Eprint + AllocG
     rt: &R,
     words: StationArgs<'_, '_>,
 ) -> Result<(), Failure> {
-    let (settings, printing) = read_settings(rt, words.settings, words.printed)?;
+    let (settings, printing) = read_station_file(rt, words.settings, words.printed)?;
     if words.checks {
         return print_limits(rt, &settings, words.timing.interval);
     }
