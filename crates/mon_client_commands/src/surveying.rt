@@ -51,6 +51,7 @@ pub fn print_settings<R: Clock + Files + Net + Print + AllocGlobal>(
         community: community(alloc, words.community)?,
         kinds: kinds_of(alloc, words.only)?,
     };
+    require_addresses(alloc, &words)?;
     let survey = ask_agent(rt, asked)?;
     match words.split {
         Some(folder) => write_parts(rt, &words, asked, &survey, folder),
@@ -59,6 +60,13 @@ pub fn print_settings<R: Clock + Files + Net + Print + AllocGlobal>(
             print(rt, text.as_bytes())
         }
     }
+}
+
+/// Requires that the arguments' station and peers have addresses, before the agent is asked.
+fn require_addresses(alloc: Global, words: &SettingsArgs<'_, '_>) -> Result<(), Failure> {
+    address_up(alloc, words.listen.unwrap_or(LISTEN), 0)?;
+    peers_of(alloc, words.peers, 0)?;
+    Ok(())
 }
 
 /// What the arguments say of the agent, once it was read.
