@@ -4,7 +4,6 @@ use Rattle.std.specs.List.{filter_map}
 use Rattle.std.specs.Option.{option_map}
 use Rattle.std.specs.Str.{bytes_eq}
 use Rattle.hex.specs.Hex.{decode_of}
-use Rattle.mon_ber.specs.declared.value.Value.{Value}
 use Rattle.mon_pdu.specs.declared.message.Binding.{Binding}
 use Rattle.mon_pdu.specs.declared.message.Body.{Body}
 use Rattle.mon_pdu.specs.declared.message.Body.TheVariants.{Pdu, Bulk}
@@ -12,9 +11,6 @@ use Rattle.mon_pdu.specs.declared.message.Message.{Message}
 use Rattle.mon_pdu.specs.declared.message.PduKind.TheVariants as pdu
 use Rattle.mon_pdu.specs.Reading.{message_at}
 use Rattle.mon_pdu.specs.Kinds.{octet_of}
-use Rattle.mon_sample.specs.declared.kind.Kind.{Kind}
-use Rattle.mon_sample.specs.Kind.{kind_tag}
-use Rattle.mon_sample.specs.Key.{key}
 use Rattle.mon_board.specs.Instance.{named}
 use Rattle.mon_poller.specs.Stamp.{Stamp, engine_id_name, engine_boots_name, engine_time_name, stamp_of_values}
 use Rattle.mon_poller.specs.Verdict.{sampled_at}

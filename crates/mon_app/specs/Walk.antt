@@ -8,21 +8,25 @@ use Rattle.mon_ber.specs.declared.value.Value.TheVariants.{EndOfMibView}
 use Rattle.mon_pdu.specs.declared.message.Binding.{Binding}
 use Rattle.mon_app.specs.declared.fault.AppFault.{AppFault}
 use Rattle.mon_app.specs.declared.fault.AppFault.TheVariants.{OutOfMemory, NotIncreasing}
-use Rattle.mon_app.specs.declared.question.Asking.TheVariants.{GetNext}
+use Rattle.mon_app.specs.declared.question.Asking.{Asking}
+use Rattle.mon_app.specs.declared.question.Asking.TheVariants.{GetNext, GetBulk}
 use Rattle.mon_app.specs.declared.walking.Step.{Step}
 use Rattle.mon_app.specs.declared.walking.Step.TheVariants.{On, Past, Back}
+use Rattle.mon_app.specs.declared.walking.Stride.{Stride}
+use Rattle.mon_app.specs.declared.walking.Stride.TheVariants.{Next, Bulk}
+use Rattle.mon_app.specs.declared.walking.WalkPlan.{WalkPlan}
 use Rattle.mon_app.specs.AtWire.{AtWire}
 use Rattle.mon_app.specs.Printed.{IsQuestionAnswered, binding_line}
 use Rattle.mon_app.specs.Question.{Asked}
 
--- the question for the variable after a name
-abbrev pub question_after : List ℕ → ℕ → List ℕ → Asked
-question_after community request_id name = record { asking = GetNext; request_id = pos request_id; community = community; names = name ∷ [] }
+-- the request of a walk (RFC 3416 sections 4.2.2 and 4.2.3)
+abbrev pub asking_by : Stride → Asking
+asking_by Next = GetNext
+asking_by (Bulk n) = GetBulk (record { non_repeaters = pos 0; max_repetitions = n })
 
--- the question was answered by one variable binding, this one, or a fault came of it; and this happened at the wire
-abbrev pub IsNextAsked : Asked → List AtWire → Result Binding AppFault → Type 0
-IsNextAsked q log (Ok b) = IsQuestionAnswered q log (Ok (b ∷ []))
-IsNextAsked q log (Err fault) = IsQuestionAnswered q log (Err fault)
+-- the question of a walk for what comes after a name
+abbrev pub question_after : WalkPlan → ℕ → List ℕ → Asked
+question_after w request_id name = record { asking = asking_by w.stride; request_id = pos request_id; community = w.community.now; names = name ∷ [] }
 
 -- the walk is over: the agent has no further variable, or this one is not under the start
 abbrev pub IsPast : List ℕ → Binding → Type 0
@@ -47,46 +51,64 @@ abbrev pub IsSaid : {A : Type 0} → (AppFault → Type 0) → (List ℕ → Lis
 IsSaid Refuses show b said (Ok done) = said ≡ binding_line show b
 IsSaid Refuses show b said (Err fault) = (said ≡ []) × ((fault ≡ OutOfMemory) ⊎ Refuses fault)
 
--- the turn failed before its line was refused: memory ran out, the name does not increase, or the question came to this fault
-abbrev pub IsFailed : Asked → List ℕ → List ℕ → List AtWire → AppFault → Type 0
-IsFailed q start last log OutOfMemory = (answer : Result Binding AppFault) × IsNextAsked q log answer
-IsFailed q start last log NotIncreasing = (b : Binding) × IsNextAsked q log (Ok b) × IsWalkStep start last b Back
-IsFailed q start last log other = IsNextAsked q log (Err other)
+-- The walk ends at this variable binding, whose line is not said: well where it is past the walk; else its name does not increase,
+-- memory ran out, or what takes the lines refused its line.
+abbrev pub EndsAt : (AppFault → Type 0) → List ℕ → List ℕ → Binding → Result (Option (List ℕ)) AppFault → Type 0
+EndsAt Refuses start last b (Ok None) = IsWalkStep start last b Past
+EndsAt Refuses start last b (Ok (Some name)) = ⊥
+EndsAt Refuses start last b (Err fault) =
+    (IsWalkStep start last b Back × (fault ≡ NotIncreasing)) ⊎ (IsWalkStep start last b On × ((fault ≡ OutOfMemory) ⊎ Refuses fault))
 
--- there was one more variable, and what takes the lines refused its line with this fault
-abbrev pub IsRefused : (AppFault → Type 0) → Asked → List ℕ → List ℕ → List AtWire → AppFault → Type 0
-IsRefused Refuses q start last log fault = (b : Binding) × IsNextAsked q log (Ok b) × IsWalkStep start last b On × Refuses fault
+-- What is said of variable bindings that answer, in their order: a line for each up to the one at which the walk ends. Where it goes
+-- on after all of them, the last one's name is given, if memory is left for it.
+abbrev pub IsAlong : (AppFault → Type 0) → (List ℕ → List ℕ) → List ℕ → List ℕ → List Binding → List ℕ → Result (Option (List ℕ)) AppFault → Type 0
+IsAlong Refuses show start last [] said result = (said ≡ []) × ((result ≡ Ok (Some last)) ⊎ (result ≡ Err OutOfMemory))
+IsAlong Refuses show start last (b ∷ bs) said result =
+    ((said ≡ []) × EndsAt Refuses start last b result)
+    ⊎ (IsWalkStep start last b On × ((rest : List ℕ) × (said ≡ binding_line show b ++ rest) × IsAlong Refuses show start b.name bs rest result))
 
--- A turn of a walk, with what was said in it: the line of one more variable, whose name is given; nothing at the walk's end, nor
--- where it failed or its line was refused.
-abbrev pub IsTurn : (AppFault → Type 0) → (List ℕ → List ℕ) → Asked → List ℕ → List ℕ → List ℕ → List AtWire → Result (Option (List ℕ)) AppFault → Type 0
-IsTurn Refuses show q start last said log (Ok (Some name)) =
-    (b : Binding) × IsNextAsked q log (Ok b) × IsWalkStep start last b On × (name ≡ b.name) × (said ≡ binding_line show b)
-IsTurn Refuses show q start last said log (Ok None) = (b : Binding) × IsNextAsked q log (Ok b) × IsWalkStep start last b Past × (said ≡ [])
-IsTurn Refuses show q start last said log (Err fault) = (said ≡ []) × (IsFailed q start last log fault ⊎ IsRefused Refuses q start last log fault)
+-- the same; an answer without a variable doesn't increase either
+abbrev pub EndsInLines : (AppFault → Type 0) → (List ℕ → List ℕ) → List ℕ → List ℕ → List Binding → List ℕ → Result (Option (List ℕ)) AppFault → Type 0
+EndsInLines Refuses show start last [] said result = (said ≡ []) × (result ≡ Err NotIncreasing)
+EndsInLines Refuses show start last (b ∷ bs) said result = IsAlong Refuses show start last (b ∷ bs) said result
 
--- After this many turns, each with one more line: what happened at the wire, what was said, and the last name. The first question
--- is for the variable after the start, and each other one for the variable after the name that was answered.
-abbrev pub HasWalked : (AppFault → Type 0) → (List ℕ → List ℕ) → List ℕ → List ℕ → ℕ → List AtWire → List ℕ → List ℕ → Type 0
-HasWalked Refuses show community start zero log said last = (log ≡ []) × (said ≡ []) × (last ≡ start)
-HasWalked Refuses show community start (suc n) log said last =
-    (earlier : List AtWire) × (others : List AtWire) × (lines : List ℕ) × (line : List ℕ) × (name : List ℕ) × HasWalked Refuses show community start n earlier lines name
-    × IsTurn Refuses show (question_after community n name) start name line others (Ok (Some last)) × (log ≡ earlier ++ others) × (said ≡ lines ++ line)
+-- the answer to a question, if there is one, is said; its fault is the turn's
+abbrev pub Follows : (AppFault → Type 0) → (List ℕ → List ℕ) → List ℕ → List ℕ → Result (List Binding) AppFault → List ℕ → Result (Option (List ℕ)) AppFault → Type 0
+Follows Refuses show start last (Ok found) said result = EndsInLines Refuses show start last found said result
+Follows Refuses show start last (Err fault) said result = (said ≡ []) × (result ≡ Err fault)
+
+-- A turn of a walk: the question was answered so, this happened at the wire, and this was said. Where the walk goes on, the turn
+-- gives the last name; where it ends, None.
+pub record IsTurn (Refuses : AppFault → Type 0) (show : List ℕ → List ℕ) (q : Asked) (start last said : List ℕ) (log : List AtWire) (result : Result (Option (List ℕ)) AppFault) : Type 0 where
+  pub answer : Result (List Binding) AppFault
+  pub answered : IsQuestionAnswered q log answer
+  pub follows : Follows Refuses show start last answer said result
+
+-- After this many turns, by which the walk went on: what happened at the wire, what was said, and the last name. The first question
+-- is for what comes after the start, and each other one for what comes after the last name that was answered.
+abbrev pub HasWalked : (AppFault → Type 0) → (List ℕ → List ℕ) → (ℕ → List ℕ → Asked) → List ℕ → ℕ → List AtWire → List ℕ → List ℕ → Type 0
+HasWalked Refuses show after start zero log said last = (log ≡ []) × (said ≡ []) × (last ≡ start)
+HasWalked Refuses show after start (suc n) log said last =
+    (earlier : List AtWire) × (others : List AtWire) × (lines : List ℕ) × (more : List ℕ) × (name : List ℕ) × HasWalked Refuses show after start n earlier lines name
+    × IsTurn Refuses show (after n name) start name more others (Ok (Some last)) × (log ≡ earlier ++ others) × (said ≡ lines ++ more)
 
 -- a walk's answer as that of its last turn
 abbrev pub last_answer : {A : Type 0} → Result A AppFault → Result (Option (List ℕ)) AppFault
 last_answer (Ok done) = Ok None
 last_answer (Err fault) = Err fault
 
--- A whole walk: turns with a line each, which is all that is said, and then a turn that ends it and says nothing; or 65536 turns.
--- It may run out of memory before its first turn.
-pub record IsWalk {A : Type 0} (Refuses : AppFault → Type 0) (show : List ℕ → List ℕ) (community start : List ℕ) (log : List AtWire) (said : List ℕ) (result : Result A AppFault) : Type 0 where
+-- A whole walk: turns by which it went on, and then a turn that ends it; or 65536 turns. It may run out of memory before its first
+-- turn.
+pub record IsWalk {A : Type 0} (Refuses : AppFault → Type 0) (show : List ℕ → List ℕ) (after : ℕ → List ℕ → Asked) (start : List ℕ) (log : List AtWire) (said : List ℕ) (result : Result A AppFault) : Type 0 where
   pub turns : ℕ
   pub earlier : List AtWire
+  pub lines : List ℕ
   pub last : List ℕ
-  pub walked : HasWalked Refuses show community start turns earlier said last
+  pub walked : HasWalked Refuses show after start turns earlier lines last
   pub others : List AtWire
+  pub more : List ℕ
   pub log_is : log ≡ earlier ++ others
-  pub ended : ((turns < 65536) × IsTurn Refuses show (question_after community turns last) start last [] others (last_answer result))
-      ⊎ (((turns ≡ 65536) × (others ≡ []) × IsOk result)
+  pub said_is : said ≡ lines ++ more
+  pub ended : ((turns < 65536) × IsTurn Refuses show (after turns last) start last more others (last_answer result))
+      ⊎ (((turns ≡ 65536) × (others ≡ []) × (more ≡ []) × IsOk result)
       ⊎ ((log ≡ []) × (said ≡ []) × (result ≡ Err OutOfMemory)))

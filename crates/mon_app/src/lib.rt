@@ -51,5 +51,5 @@ pub use socket_port::SocketPort;
 pub use status::status_name;
 pub use untaken::Untaken;
 pub use value::{ValueKind, value_of};
-pub use walking::walk;
+pub use walking::{Stride, WalkPlan, walk};
 pub use wire::{Heard, Wire};

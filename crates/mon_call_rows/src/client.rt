@@ -3,7 +3,7 @@
 use crate::memory::Memory;
 use crate::small_agent::question;
 use crate::walked;
-use mon_app::{AppFault, Asking, Repeats, answer_text, request};
+use mon_app::{AppFault, Asking, Repeats, Stride, answer_text, request};
 use mon_ber::{Octets, Value};
 use mon_oid::Oid;
 use mon_pdu::write_message;
@@ -23,7 +23,8 @@ pub(crate) fn answer(alloc: Global, line: &str) -> Option<String> {
         "bulk" => bulk(alloc, rest),
         "set" => assigning(alloc, rest),
         "asks" => asked(alloc, rest),
-        "walks" => walked::row(alloc, rest),
+        "walks" => walked::row(alloc, Stride::Next, rest),
+        "strides" => walked::row(alloc, Stride::Bulk(10), rest),
         _ => None,
     }
 }

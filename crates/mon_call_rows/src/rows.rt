@@ -15,6 +15,7 @@
 //!                               something else before each of these datagrams, and what it sends
 //!     client walks NAME HEX     what a walk from a name prints where each request is answered by
 //!                               this message under the request's id, and why it ends
+//!     client strides NAME HEX   the same of a walk by GetBulk
 //!     mib next MANY MOST NAME   the name after another one on a device of MANY interfaces, and
 //!                               whether the device was asked 1 to MOST times
 //!     mib changes CHANGE; ..    changes of a device, `alias INDEX TEXT` or `admin INDEX STATUS

@@ -1,6 +1,6 @@
 //! A walk through an agent whose names do not increase.
 
-use mon_app::{AppFault, Heard, SocketFault, Wire, walk};
+use mon_app::{AppFault, Heard, SocketFault, Stride, WalkPlan, Wire, walk};
 use mon_oid::Oid;
 use mon_row_texts::octets;
 use mon_smi::InNumbers;
@@ -41,30 +41,35 @@ impl Wire for Same {
     }
 }
 
-/// Walks, without the clauses of the call.
+/// Walks in the community `public`, without the clauses of the call.
 fn walked<W: Wire>(
     alloc: Global,
     wire: &mut W,
-    community: &[u8],
     start: &Oid,
+    stride: Stride,
     text: &mut String,
 ) -> Result<(), AppFault> {
-    walk(alloc, wire, community, start, &InNumbers, text)
+    let asked = WalkPlan {
+        community: b"public",
+        start,
+        stride,
+    };
+    walk(alloc, wire, &asked, &InNumbers, text)
 }
 
 /// Returns what the walk of a line `NAME HEX` prints, and why it ends.
-pub(crate) fn row(alloc: Global, line: &str) -> Option<String> {
+pub(crate) fn row(alloc: Global, stride: Stride, line: &str) -> Option<String> {
     let (name, reply) = line.split_once(' ')?;
     let start = Oid::parse(alloc, name).ok()?;
     let mut wire = Same {
         reply: octets(alloc, reply)?,
     };
-    shown(alloc, &mut wire, &start)
+    shown(alloc, &mut wire, &start, stride)
 }
 
-fn shown(alloc: Global, wire: &mut Same, start: &Oid) -> Option<String> {
+fn shown(alloc: Global, wire: &mut Same, start: &Oid, stride: Stride) -> Option<String> {
     let mut text = String::new(alloc);
-    match walked(alloc, wire, b"public", start, &mut text) {
+    match walked(alloc, wire, start, stride, &mut text) {
         Ok(()) => format!(in alloc; "{text:?}").ok(),
         Err(why) => format!(in alloc; "{text:?}, {} {}", why.number(), why.name()).ok(),
     }

@@ -228,7 +228,7 @@ BUGS = {
     ),
     "walks_under_one_request_id": (
         "src/walking.rt",
-        "        request_id: request_id as i32,",
+        "        request_id: turn.request_id as i32,",
         "        request_id: 0,",
     ),
     "asks_for_the_same_name_again": (
@@ -388,13 +388,43 @@ BUGS = {
     ),
     "forgets_the_last_line": (
         "src/walking.rt",
-        "            put_found(alloc, &found, names, lines)?;",
-        "            if request_id < 65_535 {\n                put_found(alloc, &found, names, lines)?;\n            }",
+        "            Step::On => put_line_of(alloc, binding, names, lines)?,",
+        "            Step::On => {\n                if found.len() < 65_535 {\n                    put_line_of(alloc, binding, names, lines)?;\n                }\n            }",
+    ),
+    "strides_by_one": (
+        "src/walking.rt",
+        "                max_repetitions,\n            }),",
+        "                max_repetitions: 1.min(max_repetitions),\n            }),",
+    ),
+    "strides_by_next": (
+        "src/walking.rt",
+        "            Stride::Bulk(max_repetitions) => Asking::GetBulk(Repeats {\n                non_repeaters: 0,\n                max_repetitions,\n            }),",
+        "            Stride::Bulk(_) => Asking::GetNext,",
+    ),
+    "puts_the_first_of_an_answer": (
+        "src/walking.rt",
+        "    put_found(alloc, at, found.as_slice(), names, lines)",
+        "    put_found(alloc, at, &found.as_slice()[..found.as_slice().len().min(1)], names, lines)",
+    ),
+    "goes_on_from_the_first_of_an_answer": (
+        "src/walking.rt",
+        "        last = &binding.name;",
+        "        last = &found[0].name;",
+    ),
+    "ends_well_at_an_empty_answer": (
+        "src/walking.rt",
+        "        return Err(AppFault::NotIncreasing);\n    }\n    put_lines",
+        "        return Ok(None);\n    }\n    put_lines",
+    ),
+    "passes_over_names_outside_its_start": (
+        "src/walking.rt",
+        "            Step::Past => return Ok(None),",
+        "            Step::Past => continue,",
     ),
     "ends_well_at_a_refused_line": (
         "src/walking.rt",
-        "            put_found(alloc, &found, names, lines)?;",
-        "            if put_found(alloc, &found, names, lines).is_err() {\n                return Ok(None);\n            }",
+        "            Step::On => put_line_of(alloc, binding, names, lines)?,",
+        "            Step::On => {\n                if put_line_of(alloc, binding, names, lines).is_err() {\n                    return Ok(None);\n                }\n            }",
     ),
     "a_text_keeps_no_line": (
         "src/sink.rt",
