@@ -19,6 +19,7 @@ use mon_web::{Door, Site, Web};
 use mon_web_receiver::{PolledSocket, Shows, WebReceiver};
 use std::alloc::Global;
 use std::fs::File;
+use std::io;
 use std::net::{Net, SocketAddr};
 use std::rt::{Clock, Files};
 
@@ -55,12 +56,9 @@ fn run_unseen<R: Clock + Files<File = File> + Net + Print + Eprint + AllocGlobal
 ) -> Result<(), Failure> {
     let alloc = rt.alloc();
     let socket = or_no_socket(rt, &settings, Socket::open(rt, settings.listen))?;
-    let disk = open_file(rt, &settings)?;
-    let at = or_socket_failure(alloc, settings.listen, socket.address())?;
+    let place = open_place(rt, &settings, socket.address())?;
     let receiver = SocketReceiver::new(rt, alloc, &socket);
     let transport = open_transport(alloc, &settings, &socket, receiver)?;
-    let origin = now(rt)?;
-    let place = Place { disk, at, origin };
     let mut live = start_station(rt, settings, place, transport, reports)?;
     run_rounds(rt, &mut live, timing)
 }
@@ -76,16 +74,25 @@ fn run_shown<R: Clock + Files<File = File> + Net + Print + Eprint + AllocGlobal>
     let alloc = rt.alloc();
     let socket = or_no_socket(rt, &settings, PolledSocket::open(rt, settings.listen))?;
     let (web, shown_at) = open_web(rt, door, timing)?;
-    let disk = open_file(rt, &settings)?;
-    let at = or_socket_failure(alloc, settings.listen, socket.address())?;
-    let origin = now(rt)?;
-    let receiver = WebReceiver::new(rt, &socket, web, origin);
+    let place = open_place(rt, &settings, socket.address())?;
+    let receiver = WebReceiver::new(rt, &socket, web, place.origin);
     let transport = open_transport(alloc, &settings, &socket, receiver)?;
-    let place = Place { disk, at, origin };
     let mut live = start_station(rt, settings, place, transport, reports)?;
     let _ = eprintln!(rt; "snmpmon: HTTP at {shown_at}");
     show(alloc, &mut live);
     run_rounds(rt, &mut live, timing)
+}
+
+/// Opens the file of the settings, for a station whose socket is there.
+fn open_place<R: Clock + Files<File = File> + Eprint + AllocGlobal>(
+    rt: &R,
+    settings: &StationSettings,
+    address: io::Result<SocketAddr>,
+) -> Result<Place, Failure> {
+    let disk = open_file(rt, settings)?;
+    let at = or_socket_failure(rt.alloc(), settings.listen, address)?;
+    let origin = now(rt)?;
+    Ok(Place { disk, at, origin })
 }
 
 /// Listens for HTTP at this address, and returns where that is too.
