@@ -61,7 +61,7 @@ impl Printing {
         self.text_in(alloc, self.format, entries, station)
     }
 
-    /// The same in this format.
+    /// The report of these instances in this format, and for Prometheus of what the station says of itself.
     pub fn text_in(
         &self,
         alloc: Global,

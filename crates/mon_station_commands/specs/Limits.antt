@@ -16,7 +16,7 @@ abbrev pub has_some : List ℕ → Bool
 has_some [] = false
 has_some (x ∷ xs) = true
 
--- Within how many milliseconds of one another rounds have to end if a station is to be healthy: three
--- intervals of so many seconds, or half a minute if rounds follow one another at once.
+-- Within how many milliseconds of one another rounds must end if a station is healthy: three
+-- intervals of this many seconds, or half a minute if rounds follow one another at once.
 abbrev pub longest_gap : ℕ → ℕ
 longest_gap interval = if interval == 0 then 30000 else interval * 3000

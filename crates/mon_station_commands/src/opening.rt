@@ -15,8 +15,8 @@ use std::fs::File;
 use std::rt::Files;
 use std::{fs, io};
 
-/// Returns the socket of the settings, which is taken before the file, so that of two processes with
-/// the same settings the second neither makes the file nor writes it; yet the faults of an existing
+/// Returns the socket of the settings, which is taken before the file, so that of two processes over
+/// one file the second neither makes the file nor writes it; yet the faults of an existing
 /// file are reported before the socket's.
 pub(crate) fn or_no_socket<T: Drop, R: Files<File = File> + AllocGlobal>(
     rt: &R,

@@ -13,7 +13,7 @@ limit_of Idle = Some 10000
 limit_of Sending = Some 10000
 limit_of Closing = Some 2000
 
--- this long after it began
+-- this long after its start
 abbrev pub IsOver : Option ℕ → ℕ → ℕ → Type 0
 IsOver None since now = ⊥
 IsOver (Some limit) since now = since + limit ≤ now
@@ -27,7 +27,7 @@ abbrev pub is_free : Stage → Bool
 is_free Free = true
 is_free _ = false
 
--- 100 milliseconds or more after it began
+-- 100 milliseconds or more after its start
 abbrev pub is_spent : ℕ → ℕ → Bool
 is_spent now since = nat_le 100 (now - since)
 

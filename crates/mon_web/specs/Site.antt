@@ -22,19 +22,19 @@ abbrev pub health_reply : Bool → Reply
 health_reply true = record { status = Success; media = Plain; body = codes "ok\n" }
 health_reply false = record { status = ServiceUnavailable; media = Plain; body = codes "no round ended in time\n" }
 
--- the reply that gives the figures
+-- the reply with the figures
 abbrev pub metrics_reply : Texts → Reply
 metrics_reply texts = record { status = Success; media = Prometheus; body = texts.metrics.items }
 
--- the reply that gives the report
+-- the reply with the report
 abbrev pub report_reply : Texts → Reply
 report_reply texts = record { status = Success; media = Json; body = texts.report.items }
 
--- the reply that gives the page
+-- the reply with the page
 abbrev pub page_reply : Texts → Reply
 page_reply texts = record { status = Success; media = Html; body = texts.page.items }
 
--- the reply that gives one of the texts, or 503 if there was no memory for them
+-- the reply with one of the texts, or 503 if there was no memory for them
 abbrev pub text_reply : (Texts → Reply) → Option Texts → Reply
 text_reply reply None = out_of_memory
 text_reply reply (Some texts) = reply texts

@@ -29,7 +29,7 @@ pub(crate) enum Turn {
     Waits,
     /// Something was done.
     GoesOn,
-    /// A stage began.
+    /// A stage starts.
     Begins(Stage),
     /// It is over.
     Ends,
@@ -84,7 +84,7 @@ impl Client {
         }
     }
 
-    /// Takes note that so many octets were sent.
+    /// Takes note that `n` octets were sent.
     fn take_note(&mut self, n: usize) -> Turn
         requires { n ≤ length self.old.connection.unsent }
     {
@@ -101,7 +101,7 @@ impl Client {
         }
     }
 
-    /// Reads as much as there is room for.
+    /// Reads as much as the connection has capacity for.
     fn read(&mut self, buffer: &mut [u8]) -> Turn {
         let room = self.connection.room().min(buffer.len());
         match self.stream.read(&mut buffer[..room]) {

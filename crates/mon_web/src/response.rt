@@ -18,7 +18,7 @@ use std::alloc::{AllocError, Global};
 pub struct Moment {
     /// In milliseconds since the station's start.
     pub now: u64,
-    /// By the wall clock, if that gives a date.
+    /// By the wall clock, if that is in range of a date.
     pub date: Option<HttpDate>,
 }
 

@@ -13,7 +13,7 @@ const ASKING_MS: u64 = 10_000;
 /// How long a client has for closing after its last response, in milliseconds.
 const CLOSING_MS: u64 = 2_000;
 
-/// How long a client that was not answered yet is spared if a newcomer wants its place, in
+/// How long a client that was not answered yet is spared if a newcomer needs its place, in
 /// milliseconds.
 pub(crate) const SPARED_MS: u64 = 100;
 
@@ -59,7 +59,7 @@ impl Stage {
 #[derive(Clone, Copy, Debug, PartialEq, Eq)]
 pub struct Seat {
     pub stage: Stage,
-    /// When this stage began, in milliseconds since the station's start.
+    /// When this stage started, in milliseconds since the station's start.
     pub since: u64,
 }
 

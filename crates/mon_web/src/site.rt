@@ -30,7 +30,7 @@ pub struct Site {
 }
 
 impl Site {
-    /// A site without texts, of a station whose rounds have to end within so many milliseconds of
+    /// A site without texts, of a station whose rounds have to end within `limit` milliseconds of
     /// one another.
     pub fn new(limit: u64) -> Self
         ensures texts { result.texts ≡ None }

@@ -12,7 +12,7 @@ use std::time::Duration;
 /// The number of the listener's events. Those of connections have their places' numbers.
 pub(crate) const DOOR: usize = SEATS;
 
-/// How many octets are read at once at most: a connection has room for no more.
+/// How many octets are read at once at most: a connection has capacity for no more.
 const BUFFER: usize = 8192;
 
 /// How long a wait lasts at most while there are clients, in milliseconds: after that it is looked
@@ -32,7 +32,7 @@ pub(crate) struct Table {
     listener: TcpListener,
     seats: Vec<Seat>,
     clients: Vec<Option<Client>>,
-    /// Whether something may be done for each place, and for a newcomer.
+    /// `true` for each place, and last for a newcomer, if something may be done.
     ready: Vec<bool>,
     /// Whose turn is next.
     next: usize,
@@ -151,7 +151,7 @@ impl Table {
         }
     }
 
-    /// Gives a place to a newcomer. If memory is refused for it, it is closed.
+    /// Seats a newcomer. If memory is refused for it, it is closed.
     fn seat(&mut self, registry: &Registry, place: usize, stream: TcpStream, now: u64) {
         self.clear(place);
         if let Ok(client) = Client::new(self.alloc, registry, stream, Token(place)) {

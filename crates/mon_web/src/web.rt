@@ -13,7 +13,7 @@ use std::alloc::Global;
 use std::io;
 use std::time::Duration;
 
-/// The number of the events of what is waited for beside HTTP.
+/// The number of the events of the source that is not HTTP.
 const OTHER: usize = DOOR + 1;
 
 /// How many events are taken at once: at most one of each connection, the listener and the other.
@@ -73,7 +73,7 @@ impl Web {
     }
 
     /// Closes who is late; then does one thing for one client, or if there is nothing to do waits for
-    /// what comes, at most so long.
+    /// what comes, for `left` at most.
     ///
     /// # Errors
     /// That of the system, if it cannot be waited.
@@ -85,7 +85,7 @@ impl Web {
         self.wait(left)
     }
 
-    /// Waits for what comes, at most so long.
+    /// Waits for what comes, for `left` at most.
     fn wait(&mut self, left: Duration) -> io::Result<()> {
         let longest = self.table.longest_wait().unwrap_or(left);
         self.poll.poll(&mut self.events, Some(left.min(longest)))?;

@@ -142,7 +142,7 @@ impl<R: Clock> Shows for WebReceiver<'_, R> {
     }
 }
 
-/// Returns what is left now of a wait that began then and lasts this long.
+/// Returns what is left now of a wait that started then and lasts this long.
 fn left_of(length: Duration, began: Instant, now: Instant) -> Duration
     ensures { as_nanos result ≡ as_nanos length - (instant_nanos now - instant_nanos began) }
 {

@@ -32,7 +32,7 @@ impl PolledSocket {
 }
 
 impl Sends for PolledSocket {
-    /// Sends a datagram to this address. If the socket has no room for it, that is an error: the
+    /// Sends a datagram to this address. If the socket's buffer is full, that is an error: the
     /// datagram is lost.
     fn send(&self, octets: &[u8], to: Addr) -> io::Result<()> {
         self.udp.send_to(octets, to.socket())?;
