@@ -95,9 +95,9 @@ _snmpmon() {
             operands=('@*')
             ;;
         station)
-            options=' --rounds --check --interval --phase --report-every --stale-after --out --format --columns -m --module --names -h --help '
+            options=' --rounds --check --interval --phase --report-every --stale-after --out --http --format --columns -m --module --names -h --help '
             again=' -m --module '
-            takes=([--rounds]='-' [--interval]='-' [--phase]='-' [--report-every]='-' [--stale-after]='-' [--out]='@*' [--format]='text json prometheus columns' [-m]='@*' [--module]='@*')
+            takes=([--rounds]='-' [--interval]='-' [--phase]='-' [--report-every]='-' [--stale-after]='-' [--out]='@*' [--http]='-' [--format]='text json prometheus columns' [-m]='@*' [--module]='@*')
             operands=('@*.toml')
             ;;
         report)

@@ -135,6 +135,7 @@ IsStation rows w = IsSettings rows w.settings
     × IsTiming rows w.timing
     × IsNumberOr 32 3 (one_of (codes "stale-after") rows) w.stale_after
     × (option_map (λ o. o.now) w.out ≡ first_of (codes "out") rows)
+    × (option_map (λ o. o.now) w.http ≡ first_of (codes "http") rows)
     × IsPrinted rows w.printed
 
 -- the arguments of `settings`

@@ -109,6 +109,7 @@ arguments commands.Station = settings
     ∷ option (codes "report-every") (up_to 1 1000000)
     ∷ option (codes "stale-after") (up_to 1 1000000)
     ∷ option (codes "out") Text
+    ∷ option (codes "http") Text
     ∷ printed
 arguments commands.Report = settings ∷ printed
 arguments commands.SelfTest = []

@@ -338,6 +338,15 @@ const OUT: Line = Line {
     help: "Each round's report is written to FILE too, which is replaced whole",
 };
 
+const HTTP: Line = Line {
+    id: "http",
+    form: Form::Long,
+    takes: Takes::One(Value::Text),
+    needed: false,
+    shown: "ADDRESS",
+    help: "Serves /metrics, /report.json, / and /healthz over HTTP at ADDRESS, a.b.c.d:port, without authentication",
+};
+
 const STATIONS: Line = Line {
     id: "K",
     form: Form::Place,
@@ -487,7 +496,7 @@ static ANSWER: [Line; 7] = [AGENT_SETTINGS, BOOTS, AT, FUSES, TIMES, MODULE, NAM
 
 static MIB: [Line; 2] = [FILE, MODULE];
 
-static STATION: [Line; 12] = [
+static STATION: [Line; 13] = [
     SETTINGS,
     ROUNDS,
     CHECK,
@@ -496,6 +505,7 @@ static STATION: [Line; 12] = [
     REPORT_EVERY,
     STALE_AFTER,
     OUT,
+    HTTP,
     FORMAT,
     COLUMNS,
     MODULE,

@@ -198,6 +198,7 @@ fn station<'m, 'a>(matches: &'m ArgMatches<'a>) -> StationArgs<'m, 'a>
         timing: timing(matches),
         stale_after: number_or(matches, "stale-after", USUAL_ROUNDS),
         out: find_value(matches, "out"),
+        http: find_value(matches, "http"),
         printed: read_printed(matches),
     }
 }

@@ -152,6 +152,8 @@ pub struct StationArgs<'m, 'a> {
     pub stale_after: u32,
     /// The file that each round's report is written to.
     pub out: Option<&'a str>,
+    /// The address at which its report is served over HTTP.
+    pub http: Option<&'a str>,
     pub printed: Printed<'m, 'a>,
 }
 

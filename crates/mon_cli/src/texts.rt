@@ -154,6 +154,7 @@ const STATION_MORE: &str =
     "Reads SETTINGS, a TOML file (examples/station.toml explains each key), reads the file in it or makes it, listens at its address and runs
 rounds. In a round the station polls each target, offers each peer the samples that it is owed, answers its peers and saves. At the
 end it prints the report of its windows, as `report` does; --out writes it to a file after each round, where Prometheus finds it (docs/OPERATING.md).
+--http serves it to Prometheus and browsers while the station runs.
 
 With --interval rounds begin at fixed times, and stations with peers poll one after another by the wall clock; --phase sets when. A report
 that cannot be written and a last save that failed end the command with status 1 once all rounds are done. --check prints how long a round
@@ -167,6 +168,7 @@ that is shorter than a station's, or in which no save was ever finished, counts 
 
 Examples: snmpmon station examples/station.toml --rounds 6 --interval 10
           snmpmon station examples/station.toml --rounds 6 --interval 10 --format prometheus --out snmpmon.prom
+          snmpmon station examples/station.toml --rounds 1000000 --interval 10 --http 127.0.0.1:9732
           snmpmon station examples/station.toml --check";
 
 const REPORT_FILE_MORE: &str =

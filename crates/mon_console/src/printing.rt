@@ -58,15 +58,26 @@ impl Printing {
         entries: &[Entry],
         station: Option<&Figures>,
     ) -> Result<Vec<u8>, AllocError> {
+        self.text_in(alloc, self.format, entries, station)
+    }
+
+    /// The report of these instances in this format, and for Prometheus of what the station says of itself.
+    pub fn text_in(
+        &self,
+        alloc: Global,
+        format: Format,
+        entries: &[Entry],
+        station: Option<&Figures>,
+    ) -> Result<Vec<u8>, AllocError> {
         let extras = Extras {
             station,
             labels: &[],
         };
         match &self.names {
-            None => format_report(alloc, self.format, &InNumbers, entries, extras),
+            None => format_report(alloc, format, &InNumbers, entries, extras),
             Some(names) => {
                 let labels = names.labels(alloc)?;
-                format_report(alloc, self.format, &labels, entries, extras)
+                format_report(alloc, format, &labels, entries, extras)
             }
         }
     }

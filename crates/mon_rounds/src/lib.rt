@@ -32,5 +32,5 @@ pub use polled::polled_targets;
 pub use receiver::{Arrival, Receiver, ReceiverFault, Wait};
 pub use reporting::{Notice, RoundReport};
 pub use round::{Phase, Round, RoundEvent, Span};
-pub use socket::{SocketOutbox, SocketReceiver};
+pub use socket::{Sends, SocketOutbox, SocketReceiver, arrival_of};
 pub use source::Rounds;

@@ -49,16 +49,25 @@ impl<R: Clock> SocketReceiver<'_, R> {
             .receive(self.socket, self.buffer.as_mut_slice())
     }
 
-    /// Returns the datagram at the front of the buffer.
-    fn arrival(&self, len: usize, from: SocketAddr) -> Result<Arrival, ReceiverFault>
-        ensures { IfOk result (IsArrival self.now.buffer.items len from) }
-    {
-        let address = Addr::of(from).ok_or(ReceiverFault)?;
-        let datagram = self.buffer.get(..len).ok_or(ReceiverFault)?;
-        match Octets::from_slice(self.alloc, datagram) {
-            Ok(octets) => Ok(Arrival::Datagram(address, octets)),
-            Err(_) => Err(ReceiverFault),
-        }
+}
+
+/// Returns the datagram of this length at the front of a buffer, which came from this address.
+///
+/// # Errors
+/// `ReceiverFault` if the address is of IPv6, the buffer is shorter, or there is no memory for it.
+pub fn arrival_of(
+    alloc: Global,
+    buffer: &[u8],
+    len: usize,
+    from: SocketAddr,
+) -> Result<Arrival, ReceiverFault>
+    ensures { IfOk result (IsArrival buffer.now len from) }
+{
+    let address = Addr::of(from).ok_or(ReceiverFault)?;
+    let datagram = buffer.get(..len).ok_or(ReceiverFault)?;
+    match Octets::from_slice(alloc, datagram) {
+        Ok(octets) => Ok(Arrival::Datagram(address, octets)),
+        Err(_) => Err(ReceiverFault),
     }
 }
 
@@ -73,7 +82,7 @@ impl<R: Clock> Receiver for SocketReceiver<'_, R> {
     fn receive(&mut self, wait: Wait) -> Result<Arrival, ReceiverFault> {
         let failures = self.failures;
         let received = match self.receive_in(wait) {
-            Ok(Some((len, from))) => self.arrival(len, from),
+            Ok(Some((len, from))) => arrival_of(self.alloc, self.buffer.as_slice(), len, from),
             Ok(None) => Ok(Arrival::Quiet),
             Err(_) => Err(ReceiverFault),
         };
@@ -82,17 +91,29 @@ impl<R: Clock> Receiver for SocketReceiver<'_, R> {
     }
 }
 
+/// What a station's datagrams are sent by.
+pub trait Sends {
+    /// Sends a datagram to this address.
+    fn send(&self, octets: &[u8], to: Addr) -> io::Result<()>;
+}
+
+impl Sends for Socket {
+    fn send(&self, octets: &[u8], to: Addr) -> io::Result<()> {
+        Socket::send(self, octets, to)
+    }
+}
+
 /// Sends a station's datagrams by its socket.
 #[derive(Drop)]
-pub struct SocketOutbox<'a> {
-    socket: &'a Socket,
+pub struct SocketOutbox<'a, S: Sends> {
+    socket: &'a S,
     addresses: Addresses,
     failures: u64,
 }
 
-impl<'a> SocketOutbox<'a> {
+impl<'a, S: Sends> SocketOutbox<'a, S> {
     /// An outbox by this socket, to these addresses.
-    pub fn new(socket: &'a Socket, addresses: Addresses) -> Self {
+    pub fn new(socket: &'a S, addresses: Addresses) -> Self {
         SocketOutbox {
             socket,
             addresses,
@@ -121,7 +142,7 @@ impl<'a> SocketOutbox<'a> {
     }
 }
 
-impl Outbox for SocketOutbox<'_> {
+impl<S: Sends> Outbox for SocketOutbox<'_, S> {
     ghost use Rattle.std.specs.Prelude.{None};
 
     // What happens at a socket is not known.

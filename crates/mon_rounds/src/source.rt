@@ -75,6 +75,13 @@ impl<R: Receiver + Drop> Rounds<R> {
         &self.receiver
     }
 
+    /// The receiver, to be changed between two receptions.
+    pub fn receiver_mut(&mut self) -> &mut R
+        ensures value { result.now ≡ self.old.receiver }
+    {
+        &mut self.receiver
+    }
+
     /// Begins a round, or the time between two.
     pub fn begin(&mut self, span: Span)
         ensures round { self.new.round ≡ begun span self.old.round }

@@ -7,6 +7,7 @@ mod live;
 mod opening;
 mod pace;
 mod printing;
+mod showing;
 mod station;
 mod telling;
 

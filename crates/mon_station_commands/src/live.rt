@@ -5,18 +5,20 @@ ghost use Rattle.mon_disk.specs.Fault.{number_of};
 
 use crate::opening::{or_socket_failure, unopened};
 use crate::pace::passed;
+use crate::showing::show_span;
 use crate::telling::{tell_alarm, tell_change, tell_notices};
 use mon_console::{Failure, Printing};
 use mon_disk::{FileDisk, KeeperFault};
 use mon_poller::Target;
 use mon_rounds::{
-    Addresses, Course, Freshness, Notice, Receiver, RoundReport, Rounds, SocketOutbox,
-    SocketReceiver, Span, Spell, Troubles, polled_targets,
+    Addresses, Course, Freshness, Notice, Receiver, RoundReport, Rounds, Sends, SocketOutbox, Span,
+    Spell, Troubles, polled_targets,
 };
 use mon_settings::StationSettings;
 use mon_station::{Outbox, Run, Station};
-use mon_udp::Socket;
+use mon_web_receiver::Shows;
 use std::alloc::{AllocError, Global};
+use std::io;
 use std::net::SocketAddr;
 use std::rt::Clock;
 use std::time::Instant;
@@ -77,18 +79,14 @@ pub(crate) struct Place {
     pub(crate) origin: Instant,
 }
 
-/// Makes what the station of the settings receives and sends by, over this socket.
-pub(crate) fn open_transport<'a, R: Clock + AllocGlobal>(
-    rt: &'a R,
+/// Makes what the station of the settings receives and sends by, of this receiver over this socket.
+pub(crate) fn open_transport<'a, W: Sends, S: Receiver + Drop>(
+    alloc: Global,
     settings: &StationSettings,
-    socket: &'a Socket,
-) -> Result<Transport<SocketReceiver<'a, R>, SocketOutbox<'a>>, Failure> {
-    let alloc = rt.alloc();
-    let receiver = or_socket_failure(
-        alloc,
-        settings.listen,
-        SocketReceiver::new(rt, alloc, socket),
-    )?;
+    socket: &'a W,
+    receiver: io::Result<S>,
+) -> Result<Transport<S, SocketOutbox<'a, W>>, Failure> {
+    let receiver = or_socket_failure(alloc, settings.listen, receiver)?;
     let outbox = SocketOutbox::new(socket, addresses_of(alloc, settings)?);
     Ok(make_transport(alloc, settings, receiver, outbox)?)
 }
@@ -196,7 +194,7 @@ fn watched<S: Receiver + Drop, O: Outbox + Drop>(
 
 /// Runs a round or the time after it, and prints its notices. If memory runs out that is reported,
 /// and the station goes on.
-pub(crate) fn run_span<R: Clock + Eprint + AllocGlobal, S: Receiver + Drop, O: Outbox + Drop>(
+pub(crate) fn run_span<R: Clock + Eprint + AllocGlobal, S: Shows + Drop, O: Outbox + Drop>(
     rt: &R,
     live: &mut Live<S, O>,
     number: u32,
@@ -223,6 +221,7 @@ pub(crate) fn run_span<R: Clock + Eprint + AllocGlobal, S: Receiver + Drop, O: O
     if let Err(failure) = told {
         failure.tell(rt);
     }
+    show_span(rt.alloc(), live, span);
     Ok(())
 }
 

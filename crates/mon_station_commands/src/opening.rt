@@ -9,37 +9,43 @@ use mon_console::{Failure, Fault, print, read_first, read_station_file};
 use mon_disk::{Disk, DiskError, FileDisk, KeeperFault, SLOT_SIZE};
 use mon_settings::StationSettings;
 use mon_station::{StationFault, board_in};
-use mon_udp::{Addr, Socket};
+use mon_udp::Addr;
 use std::alloc::Global;
 use std::fs::File;
-use std::net::Net;
 use std::rt::Files;
 use std::{fs, io};
 
-/// Opens the file and the socket of the settings. The socket is taken first, so that of two processes
-/// with the same settings the second neither makes the file nor writes it; yet the faults of an
-/// existing file are reported before the socket's.
-pub(crate) fn open_file_and_socket<R: Files<File = File> + Net + Eprint + AllocGlobal>(
+/// Returns the socket of the settings, which is taken before the file, so that of two processes over
+/// one file the second neither makes the file nor writes it; yet the faults of an existing
+/// file are reported before the socket's.
+pub(crate) fn or_no_socket<T: Drop, R: Files<File = File> + AllocGlobal>(
     rt: &R,
     settings: &StationSettings,
-) -> Result<(FileDisk, Socket), Failure> {
-    let alloc = rt.alloc();
-    let socket = match Socket::open(rt, settings.listen) {
-        Ok(socket) => socket,
+    given: io::Result<T>,
+) -> Result<T, Failure> {
+    match given {
+        Ok(socket) => Ok(socket),
         Err(error) => {
             if fs::exists(rt, settings.file.as_str()).unwrap_or(true) {
                 saved_in(rt, settings)?;
             }
-            return Err(Failure::socket(alloc, settings.listen, error));
+            Err(Failure::socket(rt.alloc(), settings.listen, error))
         }
-    };
+    }
+}
+
+/// Opens the file of the settings.
+pub(crate) fn open_file<R: Files<File = File> + Eprint + AllocGlobal>(
+    rt: &R,
+    settings: &StationSettings,
+) -> Result<FileDisk, Failure> {
     let mut disk = in_file(
-        alloc,
+        rt.alloc(),
         &settings.file,
         FileDisk::open_or_create(rt, &settings.file),
     )?;
     warn_of_short(rt, &settings.file, disk.size());
-    Ok((disk, socket))
+    Ok(disk)
 }
 
 /// Says of a file that is shorter than a station's, and not empty, that it will be laid out.

@@ -5,6 +5,7 @@ use mon_cli::Timing;
 use mon_console::Failure;
 use mon_rounds::{Receiver, Span, left_of, milliseconds, next_start, phase_of};
 use mon_station::Outbox;
+use mon_web_receiver::Shows;
 use std::rt::Clock;
 use std::time::{Duration, Instant, SystemTime, UNIX_EPOCH};
 
@@ -24,7 +25,7 @@ const MOST_RESTS: u32 = u32::MAX;
 /// Returns when the rounds begin, the first one now. With a phase it waits for that by the wall clock;
 /// so does a station with peers for its share of the interval, so that they poll one after another.
 /// Until then it answers its peers.
-pub(crate) fn start_pace<R: Clock + Eprint + AllocGlobal, S: Receiver + Drop, O: Outbox + Drop>(
+pub(crate) fn start_pace<R: Clock + Eprint + AllocGlobal, S: Shows + Drop, O: Outbox + Drop>(
     rt: &R,
     live: &mut Live<S, O>,
     timing: Timing,
@@ -69,7 +70,7 @@ fn phase<S: Receiver + Drop, O: Outbox + Drop>(
 }
 
 /// Hands the station what comes until the round after this one begins. Returns when that was due.
-pub(crate) fn wait_for_next<R: Clock + Eprint + AllocGlobal, S: Receiver + Drop, O: Outbox + Drop>(
+pub(crate) fn wait_for_next<R: Clock + Eprint + AllocGlobal, S: Shows + Drop, O: Outbox + Drop>(
     rt: &R,
     live: &mut Live<S, O>,
     number: u32,
@@ -97,7 +98,7 @@ fn tell_outrun<R: Eprint>(rt: &R, number: u32, pace: Pace, passed: u64) {
 }
 
 /// Hands the station what comes until the next round is due.
-fn pause<R: Clock + Eprint + AllocGlobal, S: Receiver + Drop, O: Outbox + Drop>(
+fn pause<R: Clock + Eprint + AllocGlobal, S: Shows + Drop, O: Outbox + Drop>(
     rt: &R,
     live: &mut Live<S, O>,
     number: u32,

@@ -1,17 +1,26 @@
 //! The command `station`.
 
+ghost use Rattle.std.specs.Prelude.{◌≡◌};
+ghost use Rattle.mon_station_commands.specs.Limits.{longest_gap};
+
 use crate::limits::print_limits;
 use crate::live::{Live, Place, Reports, open_transport, run_span, start_station};
-use crate::opening::{open_file_and_socket, or_socket_failure, unsaved};
+use crate::opening::{open_file, or_no_socket, or_socket_failure, unsaved};
 use crate::pace::{now, start_pace, wait_for_next};
 use crate::printing::{print_between, print_report, write_out};
+use crate::showing::show;
 use mon_cli::{StationArgs, Timing};
 use mon_console::{Failure, read_station_file};
-use mon_rounds::{Receiver, Span, is_due};
+use mon_rounds::{Receiver, SocketReceiver, Span, is_due};
+use mon_settings::StationSettings;
 use mon_station::Outbox;
+use mon_udp::{Addr, Socket};
+use mon_web::{Door, Site, Web};
+use mon_web_receiver::{PolledSocket, Shows, WebReceiver};
 use std::alloc::Global;
 use std::fs::File;
-use std::net::Net;
+use std::io;
+use std::net::{Net, SocketAddr};
 use std::rt::{Clock, Files};
 
 /// Runs the station of the settings through its rounds, and prints its report; or only prints what
@@ -24,27 +33,106 @@ pub fn run_station<R: Clock + Files<File = File> + Net + Print + Eprint + AllocG
     if words.checks {
         return print_limits(rt, &settings, words.timing.interval);
     }
-    let out = out_of(rt.alloc(), words.out)?;
-    let (disk, socket) = open_file_and_socket(rt, &settings)?;
-    let listen = settings.listen;
-    let at = or_socket_failure(rt.alloc(), listen, socket.address())?;
-    let transport = open_transport(rt, &settings, &socket)?;
     let reports = Reports {
         printing,
-        out,
+        out: out_of(rt.alloc(), words.out)?,
         stale_after: words.stale_after,
     };
-    let origin = now(rt)?;
-    let place = Place { disk, at, origin };
+    match words.http {
+        None => run_unseen(rt, settings, reports, words.timing),
+        Some(text) => {
+            let door = address_of(rt.alloc(), text)?;
+            run_shown(rt, settings, reports, words.timing, door)
+        }
+    }
+}
+
+/// Runs a station that serves no HTTP.
+fn run_unseen<R: Clock + Files<File = File> + Net + Print + Eprint + AllocGlobal>(
+    rt: &R,
+    settings: StationSettings,
+    reports: Reports,
+    timing: Timing,
+) -> Result<(), Failure> {
+    let alloc = rt.alloc();
+    let socket = or_no_socket(rt, &settings, Socket::open(rt, settings.listen))?;
+    let place = open_place(rt, &settings, socket.address())?;
+    let receiver = SocketReceiver::new(rt, alloc, &socket);
+    let transport = open_transport(alloc, &settings, &socket, receiver)?;
     let mut live = start_station(rt, settings, place, transport, reports)?;
-    run_rounds(rt, &mut live, words.timing)
+    run_rounds(rt, &mut live, timing)
+}
+
+/// Runs a station that serves HTTP at this address.
+fn run_shown<R: Clock + Files<File = File> + Net + Print + Eprint + AllocGlobal>(
+    rt: &R,
+    settings: StationSettings,
+    reports: Reports,
+    timing: Timing,
+    door: Addr,
+) -> Result<(), Failure> {
+    let alloc = rt.alloc();
+    let socket = or_no_socket(rt, &settings, PolledSocket::open(rt, settings.listen))?;
+    let (web, shown_at) = open_web(rt, door, timing)?;
+    let place = open_place(rt, &settings, socket.address())?;
+    let receiver = WebReceiver::new(rt, &socket, web, place.origin);
+    let transport = open_transport(alloc, &settings, &socket, receiver)?;
+    let mut live = start_station(rt, settings, place, transport, reports)?;
+    let _ = eprintln!(rt; "snmpmon: HTTP at {shown_at}");
+    show(alloc, &mut live);
+    run_rounds(rt, &mut live, timing)
+}
+
+/// Opens the file of the settings, for a station whose socket is there.
+fn open_place<R: Clock + Files<File = File> + Eprint + AllocGlobal>(
+    rt: &R,
+    settings: &StationSettings,
+    address: io::Result<SocketAddr>,
+) -> Result<Place, Failure> {
+    let disk = open_file(rt, settings)?;
+    let at = or_socket_failure(rt.alloc(), settings.listen, address)?;
+    let origin = now(rt)?;
+    Ok(Place { disk, at, origin })
+}
+
+/// Listens for HTTP at this address, and returns where that is too.
+fn open_web<R: Net + AllocGlobal>(
+    rt: &R,
+    at: Addr,
+    timing: Timing,
+) -> Result<(Web, SocketAddr), Failure> {
+    let alloc = rt.alloc();
+    let door = or_socket_failure(alloc, at, Door::open(rt, at.socket()))?;
+    let place = or_socket_failure(alloc, at, door.address())?;
+    let site = Site::new(longest_gap(timing.interval));
+    let web = or_socket_failure(alloc, at, Web::new(alloc, door, site))?;
+    Ok((web, place))
+}
+
+/// Returns within how many milliseconds of one another rounds have to end: three intervals, or half a
+/// minute if rounds follow one another at once.
+fn longest_gap(interval: u32) -> u64
+    ensures { result ≡ longest_gap interval }
+{
+    if interval == 0 {
+        return 30_000;
+    }
+    u64::from(interval) * 3000
+}
+
+/// Returns the address that `--http` gives.
+fn address_of(alloc: Global, text: &str) -> Result<Addr, Failure> {
+    match Addr::parse(text) {
+        Some(address) => Ok(address),
+        None => Err(Failure::text(alloc, text, "an address, a.b.c.d:port,")),
+    }
 }
 
 /// Runs a station through its rounds, and prints its report. If a report between two rounds could not
 /// be printed, or the last save failed, that is the failure.
 fn run_rounds<
     R: Clock + Files<File = File> + Print + Eprint + AllocGlobal,
-    S: Receiver + Drop,
+    S: Shows + Drop,
     O: Outbox + Drop,
 >(rt: &R, live: &mut Live<S, O>, timing: Timing) -> Result<(), Failure> {
     let mut pace = start_pace(rt, live, timing)?;

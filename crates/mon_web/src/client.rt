@@ -1,0 +1,134 @@
+//! A client: its stream, and what came and goes on it.
+
+ghost use Rattle.std.specs.Prelude.{◌≡◌, ◌≤◌, [], false, length};
+
+use crate::response::{Moment, respond};
+use crate::seat::Stage;
+use crate::site::Site;
+use mio::net::TcpStream;
+use mio::{Interest, Registry, Token};
+use mon_http::Connection;
+use std::alloc::Global;
+use std::io::{self, ErrorKind, Read, Write};
+use std::net::Shutdown;
+
+/// How many octets are sent in a turn at most.
+const MAX_SENT: usize = 65_536;
+
+/// A client.
+#[derive(Drop)]
+pub(crate) struct Client {
+    stream: TcpStream,
+    connection: Connection,
+}
+
+/// What a client's turn came to.
+#[derive(Clone, Copy, Debug, PartialEq, Eq)]
+pub(crate) enum Turn {
+    /// Nothing could be done: it waits for the client.
+    Waits,
+    /// Something was done.
+    GoesOn,
+    /// A stage starts.
+    Begins(Stage),
+    /// It is over.
+    Ends,
+}
+
+impl Client {
+    /// A client that nothing came from yet. Its stream is registered under this token.
+    pub(crate) fn new(
+        alloc: Global,
+        registry: &Registry,
+        stream: TcpStream,
+        token: Token,
+    ) -> io::Result<Self> {
+        let mut stream = stream;
+        registry.register(&mut stream, token, Interest::READABLE | Interest::WRITABLE)?;
+        let _ = stream.set_nodelay(true);
+        Ok(Client {
+            stream,
+            connection: Connection::new(alloc)?,
+        })
+    }
+
+    /// Does one thing for the client: sends a part of its response, or answers it, or reads once. Octets
+    /// are read into the buffer.
+    pub(crate) fn turn(
+        &mut self,
+        alloc: Global,
+        site: &Site,
+        buffer: &mut [u8],
+        at: Moment,
+    ) -> Turn {
+        if !self.connection.pending().is_empty() {
+            return self.send();
+        }
+        if self.connection.is_closing() {
+            return self.drain(buffer);
+        }
+        match respond(&mut self.connection, alloc, site, at) {
+            Ok(true) => Turn::Begins(Stage::Sending),
+            Ok(false) => self.read(buffer),
+            Err(_) => Turn::Ends,
+        }
+    }
+
+    /// Sends a part of what is pending.
+    fn send(&mut self) -> Turn {
+        let pending = self.connection.pending();
+        let len = pending.len().min(MAX_SENT);
+        match self.stream.write(&pending[..len]) {
+            Ok(n) => self.take_note(n),
+            Err(error) => after_error(error),
+        }
+    }
+
+    /// Takes note that `n` octets were sent.
+    fn take_note(&mut self, n: usize) -> Turn
+        requires { n ≤ length self.old.connection.unsent }
+    {
+        self.connection.sent(n);
+        if !self.connection.pending().is_empty() {
+            return Turn::GoesOn;
+        }
+        if !self.connection.is_closing() {
+            return Turn::Begins(Stage::Idle);
+        }
+        match self.stream.shutdown(Shutdown::Write) {
+            Ok(()) => Turn::Begins(Stage::Closing),
+            Err(_) => Turn::Ends,
+        }
+    }
+
+    /// Reads as much as the connection has capacity for.
+    fn read(&mut self, buffer: &mut [u8]) -> Turn {
+        let room = self.connection.room().min(buffer.len());
+        match self.stream.read(&mut buffer[..room]) {
+            Ok(0) => Turn::Ends,
+            Ok(n) => {
+                self.connection.receive(&buffer[..n]);
+                Turn::GoesOn
+            }
+            Err(error) => after_error(error),
+        }
+    }
+
+    /// Reads what still comes after the last response, which is not looked at.
+    fn drain(&mut self, buffer: &mut [u8]) -> Turn {
+        match self.stream.read(buffer) {
+            Ok(0) => Turn::Ends,
+            Ok(_) => Turn::GoesOn,
+            Err(error) => after_error(error),
+        }
+    }
+}
+
+/// What a turn comes to if a call failed so.
+fn after_error(error: io::Error) -> Turn {
+    match error.kind() {
+        ErrorKind::WouldBlock => Turn::Waits,
+        ErrorKind::Interrupted => Turn::GoesOn,
+        _ => Turn::Ends,
+    }
+}

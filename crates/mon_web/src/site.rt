@@ -1,0 +1,128 @@
+//! What a station shows over HTTP.
+
+ghost use Rattle.std.specs.Prelude.{◌≡◌, ◌↔◌, ◌+◌, IsTrue, None, Some};
+ghost use Rattle.mon_http.specs.Response.{fits, reply_of};
+ghost use Rattle.mon_http.specs.declared.route.Route.TheVariants as Route;
+ghost use Rattle.mon_web.specs.Site.{health_reply, is_healthy, metrics_reply, page_reply, reply_for, report_reply, text_reply};
+
+use mon_http::{Answer, Route};
+
+/// The texts that are shown. They are made once after each round, and copied for a request.
+#[derive(Drop)]
+pub struct Texts {
+    /// The figures in Prometheus' text format.
+    pub metrics: Vec<u8>,
+    /// The report as JSON.
+    pub report: Vec<u8>,
+    /// The page for a browser.
+    pub page: Vec<u8>,
+}
+
+/// What is shown: the texts, and whether rounds end in time.
+#[derive(Drop)]
+pub struct Site {
+    /// None if there was no memory for them.
+    pub(crate) texts: Option<Texts>,
+    /// When the last round ended, in milliseconds since the station's start.
+    pub(crate) ended: Option<u64>,
+    /// How long after that the station is healthy, in milliseconds.
+    pub(crate) limit: u64,
+}
+
+impl Site {
+    /// A site without texts, of a station whose rounds have to end within `limit` milliseconds of
+    /// one another.
+    pub fn new(limit: u64) -> Self
+        ensures texts { result.texts ≡ None }
+        ensures ended { result.ended ≡ None }
+        ensures limit { result.limit ≡ limit }
+    {
+        Site {
+            texts: None,
+            ended: None,
+            limit,
+        }
+    }
+
+    /// Replaces the texts; by nothing if there was no memory for them.
+    pub fn show(&mut self, texts: Option<Texts>)
+        ensures texts { self.new.texts ≡ texts }
+        ensures ended { self.new.ended ≡ self.old.ended }
+        ensures limit { self.new.limit ≡ self.old.limit }
+    {
+        self.texts = texts;
+    }
+
+    /// Takes note that a round ended at this time.
+    pub fn note_round(&mut self, at: u64)
+        ensures ended { self.new.ended ≡ Some at }
+        ensures texts { self.new.texts ≡ self.old.texts }
+        ensures limit { self.new.limit ≡ self.old.limit }
+    {
+        self.ended = Some(at);
+    }
+
+    /// Returns `true` if a round ended within the limit before now.
+    pub fn is_healthy(&self, now: u64) -> bool
+        ensures { result ≡ is_healthy self.now.ended self.now.limit now }
+    {
+        match self.ended {
+            Some(ended) => now.saturating_sub(ended) <= self.limit,
+            None => false,
+        }
+    }
+
+    /// Returns what is answered to a request for this route at this time.
+    pub fn answer(&self, route: Route, now: u64) -> Answer<'_>
+        ensures reply { reply_of result ≡ reply_for self.now now route }
+        ensures fits { IsTrue (fits route result) }
+    {
+        match route {
+            Route::Metrics => self.metrics(),
+            Route::Report => self.report(),
+            Route::Page => self.page(),
+            Route::Health => self.health(now),
+        }
+    }
+
+    fn metrics(&self) -> Answer<'_>
+        ensures reply { reply_of result ≡ text_reply metrics_reply self.now.texts }
+        ensures fits { IsTrue (fits Route.Metrics result) }
+    {
+        match &self.texts {
+            Some(texts) => Answer::Metrics(texts.metrics.as_slice()),
+            None => Answer::OutOfMemory,
+        }
+    }
+
+    fn report(&self) -> Answer<'_>
+        ensures reply { reply_of result ≡ text_reply report_reply self.now.texts }
+        ensures fits { IsTrue (fits Route.Report result) }
+    {
+        match &self.texts {
+            Some(texts) => Answer::Report(texts.report.as_slice()),
+            None => Answer::OutOfMemory,
+        }
+    }
+
+    fn page(&self) -> Answer<'_>
+        ensures reply { reply_of result ≡ text_reply page_reply self.now.texts }
+        ensures fits { IsTrue (fits Route.Page result) }
+    {
+        match &self.texts {
+            Some(texts) => Answer::Page(texts.page.as_slice()),
+            None => Answer::OutOfMemory,
+        }
+    }
+
+    fn health(&self, now: u64) -> Answer<'_>
+        ensures reply { reply_of result ≡ health_reply (is_healthy self.now.ended self.now.limit now) }
+        ensures fits { IsTrue (fits Route.Health result) }
+    {
+        if self.is_healthy(now) {
+            Answer::Healthy
+        } else {
+            Answer::Unhealthy
+        }
+    }
+}

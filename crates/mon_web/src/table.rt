@@ -1,0 +1,197 @@
+//! The connections.
+
+use crate::client::{Client, Turn};
+use crate::response::Moment;
+use crate::seat::{SEATS, SPARED_MS, Seat, Stage, choose_seat, is_late};
+use crate::site::Site;
+use mio::net::{TcpListener, TcpStream};
+use mio::{Registry, Token};
+use std::alloc::{AllocError, Global};
+use std::time::Duration;
+
+/// The number of the listener's events. Those of connections have their places' numbers.
+pub(crate) const DOOR: usize = SEATS;
+
+/// How many octets are read at once at most: a connection has capacity for no more.
+const BUFFER: usize = 8192;
+
+/// How long a wait lasts at most while there are clients, in milliseconds: after that it is looked
+/// who is late.
+const TICK_MS: u64 = 1000;
+
+/// A place without a client.
+const EMPTY: Seat = Seat {
+    stage: Stage::Free,
+    since: 0,
+};
+
+/// The connections, and the listener that they come by.
+#[derive(Drop)]
+pub(crate) struct Table {
+    alloc: Global,
+    listener: TcpListener,
+    seats: Vec<Seat>,
+    clients: Vec<Option<Client>>,
+    /// `true` for each place, and last for a newcomer, if something may be done.
+    ready: Vec<bool>,
+    /// Whose turn is next.
+    next: usize,
+    buffer: Vec<u8>,
+    pub(crate) site: Site,
+}
+
+impl Table {
+    /// No connections yet.
+    pub(crate) fn new(
+        alloc: Global,
+        listener: TcpListener,
+        site: Site,
+    ) -> Result<Self, AllocError> {
+        let mut clients = Vec::with_capacity(alloc, SEATS)?;
+        for _ in 0..SEATS {
+            clients.push(None)?;
+        }
+        Ok(Table {
+            alloc,
+            listener,
+            seats: vec![in alloc; EMPTY; SEATS]?,
+            clients,
+            ready: vec![in alloc; true; SEATS + 1]?,
+            next: 0,
+            buffer: vec![in alloc; 0u8; BUFFER]?,
+            site,
+        })
+    }
+
+    /// Takes note that something may be done for the one of this token.
+    pub(crate) fn mark(&mut self, token: Token) {
+        self.set_ready(token.0, true);
+    }
+
+    fn set_ready(&mut self, place: usize, ready: bool) {
+        if let Some(flag) = self.ready.get_mut(place) {
+            *flag = ready;
+        }
+    }
+
+    fn is_ready(&self, place: usize) -> bool {
+        match self.ready.get(place) {
+            Some(flag) => *flag,
+            None => false,
+        }
+    }
+
+    /// Does one thing for one client, or lets a newcomer in. Returns `false` if there was nothing to do.
+    pub(crate) fn turn(&mut self, registry: &Registry, at: Moment) -> bool {
+        for _ in 0..=SEATS {
+            let place = self.next;
+            self.next = if place < SEATS { place + 1 } else { 0 };
+            if self.is_ready(place) && self.give_turn(registry, place, at) {
+                return true;
+            }
+        }
+        false
+    }
+
+    fn give_turn(&mut self, registry: &Registry, place: usize, at: Moment) -> bool {
+        if place == DOOR {
+            return self.admit(registry, at.now);
+        }
+        let turn = match self.clients.get_mut(place) {
+            Some(Some(client)) =>
+                client.turn(self.alloc, &self.site, self.buffer.as_mut_slice(), at),
+            _ => Turn::Waits,
+        };
+        self.settle(place, turn, at.now);
+        turn != Turn::Waits
+    }
+
+    /// Does what a client's turn came to.
+    fn settle(&mut self, place: usize, turn: Turn, now: u64) {
+        match turn {
+            Turn::Waits => self.set_ready(place, false),
+            Turn::GoesOn => {}
+            Turn::Begins(stage) => self.set_seat(place, Seat { stage, since: now }),
+            Turn::Ends => self.clear(place),
+        }
+    }
+
+    fn set_seat(&mut self, place: usize, seat: Seat) {
+        if let Some(kept) = self.seats.get_mut(place) {
+            *kept = seat;
+        }
+    }
+
+    fn set_client(&mut self, place: usize, client: Option<Client>) {
+        if let Some(kept) = self.clients.get_mut(place) {
+            *kept = client;
+        }
+    }
+
+    /// Closes the connection of a place.
+    fn clear(&mut self, place: usize) {
+        self.set_client(place, None);
+        self.set_seat(place, EMPTY);
+    }
+
+    /// Lets a newcomer in, if there is one and a place for it. Returns `true` if one came.
+    fn admit(&mut self, registry: &Registry, now: u64) -> bool {
+        let Some(place) = choose_seat(self.seats.as_slice(), now) else {
+            return false;
+        };
+        match self.listener.accept() {
+            Ok((stream, _)) => {
+                self.seat(registry, place, stream, now);
+                true
+            }
+            Err(_) => {
+                self.set_ready(DOOR, false);
+                false
+            }
+        }
+    }
+
+    /// Seats a newcomer. If memory is refused for it, it is closed.
+    fn seat(&mut self, registry: &Registry, place: usize, stream: TcpStream, now: u64) {
+        self.clear(place);
+        if let Ok(client) = Client::new(self.alloc, registry, stream, Token(place)) {
+            self.set_client(place, Some(client));
+            self.set_seat(
+                place,
+                Seat {
+                    stage: Stage::Asking,
+                    since: now,
+                },
+            );
+            self.set_ready(place, true);
+        }
+    }
+
+    /// Closes the connections of clients that are late.
+    pub(crate) fn close_late(&mut self, now: u64) {
+        for place in 0..SEATS {
+            if self.is_late(place, now) {
+                self.clear(place);
+            }
+        }
+    }
+
+    fn is_late(&self, place: usize, now: u64) -> bool {
+        match self.seats.get(place) {
+            Some(seat) => is_late(*seat, now),
+            None => false,
+        }
+    }
+
+    /// Returns how long a wait may last until it is looked again who is late or gives place to a
+    /// newcomer.
+    pub(crate) fn longest_wait(&self) -> Option<Duration> {
+        if self.is_ready(DOOR) {
+            return Some(Duration::from_millis(SPARED_MS));
+        }
+        if self.seats.iter().all(|seat| seat.stage.is_free()) {
+            return None;
+        }
+        Some(Duration::from_millis(TICK_MS))
+    }
+}

@@ -1,0 +1,48 @@
+//! What a station shows over HTTP, by its receiver.
+
+use mon_rounds::{Receiver, SocketReceiver};
+use mon_web::Texts;
+use std::rt::Clock;
+
+/// What a station receives datagrams by, and may show its texts by.
+pub trait Shows: Receiver {
+    ghost use Rattle.std.specs.Prelude.{◌≡◌, Option, option_map};
+    ghost use Rattle.std.specs.Option.{is_some};
+    ghost use Rattle.mon_web.specs.Site.{with_round, with_texts};
+    ghost use Rattle.mon_web.specs.declared.site.Site.{Site};
+
+    // What it shows, if it shows anything.
+    ghost shown: { Self → Option Site };
+
+    /// Returns `true` if it shows anything.
+    fn is_shown(&self) -> bool
+        ensures { result ≡ is_some (shown self.now) };
+
+    /// Replaces the texts that it shows; by nothing if there was no memory for them.
+    fn show(&mut self, texts: Option<Texts>)
+        ensures shown { shown self.new ≡ option_map (with_texts texts) (shown self.old) }
+        ensures failures { Self.failures self.new ≡ Self.failures self.old };
+
+    /// Takes note that a round ended at this time, in milliseconds since the station's start.
+    fn note_round(&mut self, at: u64)
+        ensures shown { shown self.new ≡ option_map (with_round at) (shown self.old) }
+        ensures failures { Self.failures self.new ≡ Self.failures self.old };
+}
+
+impl<R: Clock> Shows for SocketReceiver<'_, R> {
+    ghost use Rattle.std.specs.Prelude.{None};
+
+    ghost shown = { λ _. None };
+
+    fn is_shown(&self) -> bool {
+        false
+    }
+
+    fn show(&mut self, texts: Option<Texts>) {
+        let _ = texts;
+    }
+
+    fn note_round(&mut self, at: u64) {
+        let _ = at;
+    }
+}
