@@ -1,0 +1,11 @@
+//! The command `settings`: walks an agent's interfaces and prints the settings of a station that polls
+//! them.
+#![tactic(auto)]
+
+mod asking;
+mod failing;
+mod parts;
+mod settings;
+mod words;
+
+pub use settings::print_settings;
