@@ -1,5 +1,7 @@
 //! What the options of `settings` say.
 
+ghost use Rattle.std.specs.Prelude.{◌≤◌, IfOk};
+
 use mon_console::Failure;
 use mon_survey::{Kinds, Peer};
 use mon_udp::Addr;
@@ -47,6 +49,19 @@ pub(crate) fn kinds_of(alloc: Global, only: Option<&str>) -> Result<Kinds, Failu
         }
     }
     Ok(kinds)
+}
+
+/// The percentage that a text gives, with a percent sign or without; 0 if there is none.
+pub(crate) fn percent_of(alloc: Global, text: Option<&str>) -> Result<u8, Failure>
+    ensures { IfOk result (λ percent. percent ≤ 100) }
+{
+    let Some(text) = text else {
+        return Ok(0);
+    };
+    match text.strip_suffix('%').unwrap_or(text).parse::<u8>() {
+        Ok(percent) if 1 <= percent && percent <= 100 => Ok(percent),
+        _ => Err(Failure::text(alloc, text, "a percentage, 1 to 100,")),
+    }
 }
 
 /// The peers that texts name, with their ports counted up.
