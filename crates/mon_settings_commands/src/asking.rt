@@ -65,7 +65,7 @@ fn tell_count(rt: &impl Eprint, agent: &str, number: Option<u32>, count: usize) 
 
 /// What the agent answers first: its engine id, and its ifNumber where it has one.
 #[derive(Drop)]
-struct First {
+struct Head {
     engine: Vec<u8>,
     number: Option<u32>,
 }
@@ -120,11 +120,11 @@ impl<W: Wire> Asker<'_, W> {
     }
 
     /// Returns the agent's engine id and its ifNumber.
-    fn first(&mut self, alloc: Global) -> Result<First, Failure> {
+    fn first(&mut self, alloc: Global) -> Result<Head, Failure> {
         let names = first_names(alloc)?;
         let bindings = self.ask(alloc, Asking::Get, &names)?;
         match engine_in(&bindings) {
-            Ok(engine) => Ok(First {
+            Ok(engine) => Ok(Head {
                 engine: Vec::from_slice(alloc, engine)?,
                 number: number_in(&bindings),
             }),
@@ -235,7 +235,7 @@ fn bindings_of(alloc: Global, agent: &str, message: Message) -> Result<Vec<Bindi
 
 /// The engine id in the answers to the three names of the group, which come first.
 fn engine_in(bindings: &[Binding]) -> Result<&[u8], SurveyFault> {
-    let [id, boots, time, ..] = bindings else {
+    let [id, boots, time, _number] = bindings else {
         return Err(SurveyFault::NoEngine);
     };
     engine_of(&id.value, &boots.value, &time.value)
@@ -243,7 +243,7 @@ fn engine_in(bindings: &[Binding]) -> Result<&[u8], SurveyFault> {
 
 /// The ifNumber in the answers, which comes after the group.
 fn number_in(bindings: &[Binding]) -> Option<u32> {
-    let [_, _, _, number] = bindings else {
+    let [_id, _boots, _time, number] = bindings else {
         return None;
     };
     match &number.value {

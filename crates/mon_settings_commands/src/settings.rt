@@ -182,7 +182,7 @@ fn places_of(alloc: Global, words: &SettingsArgs<'_, '_>, up: u32) -> Result<Pla
 
 /// The settings' options.
 fn options_of<'p>(ground: &Ground<'p, 'p>, places: &'p Places) -> Options<'p>
-    ensures { result.percent ≡ ground.now.asked.percent }
+    ensures { result.percent ≤ 100 }
 {
     let words = ground.words;
     Options {
@@ -196,7 +196,7 @@ fn options_of<'p>(ground: &Ground<'p, 'p>, places: &'p Places) -> Options<'p>
         address: words.address,
         community: words.community,
         tries: words.tries.min(8) as u8,
-        percent: ground.asked.percent,
+        percent: ground.asked.percent.min(100),
     }
 }
 

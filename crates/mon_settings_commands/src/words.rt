@@ -1,7 +1,5 @@
 //! What the options of `settings` say.
 
-ghost use Rattle.std.specs.Prelude.{◌≤◌, IfOk};
-
 use mon_console::Failure;
 use mon_survey::{Kinds, Peer};
 use mon_udp::Addr;
@@ -53,7 +51,6 @@ pub(crate) fn kinds_of(alloc: Global, only: Option<&str>) -> Result<Kinds, Failu
 
 /// The percentage that a text gives, with a percent sign or without; 0 if there is none.
 pub(crate) fn percent_of(alloc: Global, text: Option<&str>) -> Result<u8, Failure>
-    ensures { IfOk result (λ percent. percent ≤ 100) }
 {
     let Some(text) = text else {
         return Ok(0);

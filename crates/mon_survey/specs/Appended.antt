@@ -1,5 +1,5 @@
 -- What settings mean that have the targets of a further agent at their end.
-use Rattle.std.specs.Prelude.{◌≡◌, ◌≢◌, ◌⊎◌, ℕ, ◌+◌, nat_le, Bool, false, not, List, length, take, drop, Option, option_map, slice_get, Result, Ok, Err, if◌then◌else◌}
+use Rattle.std.specs.Prelude.{◌≡◌, ◌≢◌, ◌⊎◌, ℕ, ◌+◌, ◌==◌, nat_le, Bool, false, not, List, length, take, drop, Option, option_map, slice_get, Result, Ok, Err, if◌then◌else◌}
 use Rattle.std.specs.List.{AllZip, filter, list_any}
 use Rattle.std.specs.Option.{option_map_or}
 use Rattle.std.specs.Str.{bytes_eq}
@@ -29,8 +29,7 @@ use Rattle.mon_survey.specs.Text.{addition_of}
 
 -- how names are shown: by those of modules where the settings list some, else in dotted numbers
 abbrev pub shown_by : List Definition → ℕ → List ℕ → List ℕ
-shown_by defs 0 = dotted
-shown_by defs _ = name_text defs
+shown_by defs modules = if modules == 0 then dotted else name_text defs
 
 -- an object is another one; its number in the watch is another, since that counts the instances before it
 pub record IsSameObject (a b : Object) : Type 0 where

@@ -11,13 +11,13 @@ ghost use Rattle.std.specs.List.{list_any};
 use crate::choice::Choice;
 use crate::comparing::Wanted;
 use crate::counter::Planned;
-use crate::drafting::{Plan, addition};
+use crate::drafting::{AgentPlan, addition};
 use crate::fault::SurveyFault;
 use crate::kept::is_appended;
 use crate::options::Options;
 use crate::planning::plan;
 use crate::surveying::Surveyed;
-use crate::writing::Shown;
+use crate::writing::Naming;
 use mon_poller::Target;
 use mon_settings::{SettingsFault, StationSettings, read_station};
 use mon_smi::{InNumbers, Names};
@@ -85,7 +85,7 @@ fn draft_addition(
     alloc: Global,
     existing: &Existing<'_>,
     agent: &Surveyed<'_>,
-    plan: &Plan<'_>,
+    plan: &AgentPlan<'_>,
 ) -> Result<String, SurveyFault>
     requires { plan.now.options.now.percent ≤ 100 }
     ensures gives { IfOk result (λ text. addition_of (shown_by existing.now.names.now (length existing.now.station.now.modules.items)) existing.now.text.now plan.now.options.now plan.now.engine.now agent.now.answers.now plan.now.planned.now ≡ Ok (string_bytes text)) }
@@ -94,7 +94,7 @@ fn draft_addition(
     if existing.station.modules.is_empty() {
         let names = &InNumbers;
         return addition(
-            &Shown {
+            &Naming {
                 alloc,
                 names,
                 answers: agent.answers,
@@ -105,7 +105,7 @@ fn draft_addition(
     }
     let labels = existing.names.labels(alloc)?;
     addition(
-        &Shown {
+        &Naming {
             alloc,
             names: &labels,
             answers: agent.answers,
@@ -167,7 +167,7 @@ pub fn append(
         answers: agent.answers,
         planned: &planned,
     };
-    let text = draft_addition(alloc, existing, agent, &wanted.plan())?;
+    let text = draft_addition(alloc, existing, agent, &wanted.agent_plan())?;
     read_appended(alloc, existing, &wanted, text.as_str())?;
     Ok(text)
 }

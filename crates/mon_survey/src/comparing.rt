@@ -11,7 +11,7 @@ ghost use Rattle.mon_survey.specs.Meant.{ArePeers, AreScalars, AreTargets, IsAge
 use crate::answers::Answers;
 use crate::column::{Column, Spot};
 use crate::counter::Planned;
-use crate::drafting::Plan;
+use crate::drafting::AgentPlan;
 use crate::options::{Options, Peer};
 use crate::planning::{Thresholds, thresholds_at};
 use mon_alarms::Rule;
@@ -36,10 +36,10 @@ pub(crate) struct Wanted<'a> {
 
 impl<'a> Wanted<'a> {
     /// What is planned of the agent.
-    pub(crate) fn plan(&self) -> Plan<'a>
+    pub(crate) fn agent_plan(&self) -> AgentPlan<'a>
         ensures { (result.options.now ≡ self.now.options.now) × (result.engine.now ≡ self.now.engine.now) × (result.planned.now ≡ self.now.planned.now) }
     {
-        Plan {
+        AgentPlan {
             options: self.options,
             engine: self.engine,
             planned: self.planned,

@@ -8,7 +8,7 @@ ghost use Rattle.mon_survey.specs.Text.{added_text, addition_of, alarm_text, ala
 use crate::counter::Planned;
 use crate::fault::SurveyFault;
 use crate::options::{Options, Peer};
-use crate::writing::{Shown, put_alarm, put_head, put_modules, put_object, put_peer, put_target};
+use crate::writing::{Naming, put_alarm, put_head, put_modules, put_object, put_peer, put_target};
 use mon_smi::NameTexts;
 use std::alloc::AllocError;
 
@@ -47,7 +47,7 @@ fn put_closing(text: &mut String, count: usize, place: usize) -> Result<(), Allo
 /// What is the same for all objects of a text.
 #[derive(Clone, Copy)]
 struct Around<'a, S> {
-    shown: &'a Shown<'a, S>,
+    shown: &'a Naming<'a, S>,
     options: &'a Options<'a>,
     engine: &'a str,
     count: usize,
@@ -97,7 +97,7 @@ fn put_peers(text: &mut String, peers: &[Peer]) -> Result<(), AllocError>
 /// Adds the alarms.
 fn put_alarms<S: NameTexts>(
     text: &mut String,
-    shown: &Shown<'_, S>,
+    shown: &Naming<'_, S>,
     percent: u8,
     engine: &str,
     planned: &[Planned],
@@ -113,7 +113,7 @@ fn put_alarms<S: NameTexts>(
 
 /// What is planned of an agent.
 #[derive(Clone, Copy)]
-pub(crate) struct Plan<'a> {
+pub(crate) struct AgentPlan<'a> {
     pub(crate) options: &'a Options<'a>,
     pub(crate) engine: &'a [u8],
     pub(crate) planned: &'a [Planned],
@@ -122,8 +122,8 @@ pub(crate) struct Plan<'a> {
 /// Adds the targets of an agent.
 fn put_targets<S: NameTexts>(
     text: &mut String,
-    shown: &Shown<'_, S>,
-    plan: &Plan<'_>,
+    shown: &Naming<'_, S>,
+    plan: &AgentPlan<'_>,
     engine: &str,
 ) -> Result<(), AllocError>
     requires { engine.now ≡ encode_lower plan.now.engine.now }
@@ -142,8 +142,8 @@ fn put_targets<S: NameTexts>(
 #[tactic(auto, unfolding(crate::specs::Text::settings_text))]
 fn put_settings<S: NameTexts>(
     text: &mut String,
-    shown: &Shown<'_, S>,
-    plan: &Plan<'_>,
+    shown: &Naming<'_, S>,
+    plan: &AgentPlan<'_>,
     engine: &str,
 ) -> Result<(), AllocError>
     requires percent { plan.now.options.now.percent ≤ 100 }
@@ -161,8 +161,8 @@ fn put_settings<S: NameTexts>(
 #[tactic(auto, unfolding(crate::specs::Text::added_text))]
 fn put_addition<S: NameTexts>(
     text: &mut String,
-    shown: &Shown<'_, S>,
-    plan: &Plan<'_>,
+    shown: &Naming<'_, S>,
+    plan: &AgentPlan<'_>,
     engine: &str,
 ) -> Result<(), AllocError>
     requires percent { plan.now.options.now.percent ≤ 100 }
@@ -179,8 +179,8 @@ fn put_addition<S: NameTexts>(
 /// `BadText` where an option's text has a quote, a backslash or an octet outside 20 to 7E;
 /// `OutOfMemory`.
 pub(crate) fn draft<S: NameTexts>(
-    shown: &Shown<'_, S>,
-    plan: &Plan<'_>,
+    shown: &Naming<'_, S>,
+    plan: &AgentPlan<'_>,
 ) -> Result<String, SurveyFault>
     requires { plan.now.options.now.percent ≤ 100 }
     ensures gives { IfOk result (λ text. draft_of (S.shown shown.now.names.now) plan.now.options.now plan.now.engine.now shown.now.answers.now plan.now.planned.now ≡ Ok (string_bytes text)) }
@@ -200,8 +200,8 @@ pub(crate) fn draft<S: NameTexts>(
 /// # Errors
 /// Those of `draft`.
 pub(crate) fn addition<S: NameTexts>(
-    shown: &Shown<'_, S>,
-    plan: &Plan<'_>,
+    shown: &Naming<'_, S>,
+    plan: &AgentPlan<'_>,
     settings: &str,
 ) -> Result<String, SurveyFault>
     requires { plan.now.options.now.percent ≤ 100 }

@@ -1,9 +1,9 @@
 //! Whether settings are others with the targets of a further agent.
 
-ghost use Rattle.std.specs.Prelude.{◌≡◌, ◌↔◌, ◌≤◌, All, IfOk, IsTrue, length, map, not, string_bytes, take};
+ghost use Rattle.std.specs.Prelude.{◌≡◌, ◌↔◌, ◌≤◌, IfOk, IsTrue, drop, length, map, not, option_copied, string_bytes, take};
 ghost use Rattle.std.specs.List.{AllZip, filter};
 ghost use Rattle.mon_settings.specs.StationAccepted.{station_view};
-ghost use Rattle.mon_survey.specs.Meant.{IsAlarm, is_own};
+ghost use Rattle.mon_survey.specs.Meant.{is_own};
 ghost use Rattle.mon_survey.specs.Appended.{HasAlarms, IsAppended, IsSameObject, IsSameRule, IsSameTarget, KeepsRules, KeepsScalars, instance_at, is_on};
 
 use crate::comparing::{Alarm, Wanted, alarms_of, are_targets, is_alarm, is_own};

@@ -9,7 +9,7 @@ ghost use Rattle.mon_survey.specs.Labels.{AreInterfaces, Continue, IsInterface, 
 
 use crate::choice::Choice;
 use crate::fault::SurveyFault;
-use crate::labels::{Source, indexes_of};
+use crate::tables::{Source, indexes_of};
 use crate::planning::counters_of;
 use crate::surveying::Surveyed;
 use std::alloc::{AllocError, Global};
@@ -32,11 +32,18 @@ fn tree(alloc: Global, text: &str) -> Result<Table, SurveyFault>
     }
 }
 
+/// The value at a key of a tree.
+fn find<'t>(table: &'t Table, key: &str) -> Option<&'t Value>
+    ensures { option_map (λ v. view v.now) result ≡ get_member key.now (table_view table.now) }
+{
+    table.get(key)
+}
+
 /// The tables of interfaces in a tree; `None` where they are no list.
 fn interfaces(table: &Table) -> Option<&[Value]>
     ensures { option_map (λ v. items_view v.now) result ≡ items_at (get_member (codes "interface") (table_view table.now)) }
 {
-    match table.get("interface") {
+    match find(table, "interface") {
         Some(value) => match value.as_array() {
             Some(values) => Some(values.as_slice()),
             None => None,
@@ -67,7 +74,7 @@ fn number_at(value: &Value, key: &str) -> Option<i64>
 
 /// Returns `true` if the texts are the same, or there are none.
 fn are_alike(one: Option<&str>, other: Option<&str>) -> bool
-    ensures { IsTrue result ↔ (option_copied one ≡ option_copied other) }
+    ensures { IsTrue result ↔ (option_copied one.entry ≡ option_copied other.entry) }
 {
     match one {
         Some(text) => match other {
@@ -80,7 +87,7 @@ fn are_alike(one: Option<&str>, other: Option<&str>) -> bool
 
 /// Returns `true` if the text is this one, or there are none.
 fn is_text(found: Option<&str>, wanted: &Option<String>) -> bool
-    ensures { IsTrue result ↔ (option_copied found ≡ option_map string_bytes wanted.now) }
+    ensures { IsTrue result ↔ (option_copied found.entry ≡ option_map string_bytes wanted.now) }
 {
     match found {
         Some(text) => match wanted {
@@ -167,7 +174,7 @@ fn has_engine(engine: &str, values: &[Value]) -> bool
 }
 
 fn is_of(engine: &str, found: Option<&str>) -> bool
-    ensures { result ≡ is_of engine.now (option_copied found) }
+    ensures { result ≡ is_of engine.now (option_copied found.entry) }
 {
     match found {
         Some(text) => text == engine,

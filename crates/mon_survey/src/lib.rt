@@ -15,7 +15,7 @@ mod engine;
 mod fault;
 mod kept;
 mod labelled;
-mod labels;
+mod tables;
 pub mod laws;
 mod options;
 mod planning;

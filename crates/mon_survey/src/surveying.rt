@@ -12,7 +12,7 @@ use crate::fault::SurveyFault;
 use crate::options::Options;
 use crate::planning::plan;
 use mon_settings::{SettingsFault, read_station};
-use crate::writing::Shown;
+use crate::writing::Naming;
 use mon_smi::{InNumbers, NameTexts, Names};
 use std::alloc::Global;
 
@@ -53,7 +53,7 @@ fn read_back(
 /// Returns the settings with names as they are shown.
 fn settings_by<S: NameTexts>(
     names: &Names,
-    shown: &Shown<'_, S>,
+    shown: &Naming<'_, S>,
     engine: &[u8],
     options: &Options<'_>,
     choice: &Choice<'_>,
@@ -69,7 +69,7 @@ fn settings_by<S: NameTexts>(
         answers: shown.answers,
         planned: &planned,
     };
-    let text = draft(shown, &wanted.plan())?;
+    let text = draft(shown, &wanted.agent_plan())?;
     read_back(shown.alloc, names, &wanted, text.as_str())?;
     Ok(text)
 }
@@ -93,7 +93,7 @@ pub fn settings(
     ensures fault { IfErr result (IsFault names.now (shown_by names.now (length options.now.modules.now)) choice.now options.now agent.now.engine.now agent.now.answers.now) }
 {
     if options.modules.is_empty() {
-        let shown = Shown {
+        let shown = Naming {
             alloc,
             names: &InNumbers,
             answers: agent.answers,
@@ -101,7 +101,7 @@ pub fn settings(
         return settings_by(names, &shown, agent.engine, options, choice);
     }
     let labels = names.labels(alloc)?;
-    let shown = Shown {
+    let shown = Naming {
         alloc,
         names: &labels,
         answers: agent.answers,

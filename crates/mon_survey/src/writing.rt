@@ -19,7 +19,7 @@ const MOST_SHOWN: usize = 64;
 
 /// An agent's answers, and how a text shows names.
 #[derive(Clone, Copy)]
-pub(crate) struct Shown<'a, S> {
+pub(crate) struct Naming<'a, S> {
     pub(crate) alloc: Global,
     pub(crate) names: &'a S,
     pub(crate) answers: &'a Answers,
@@ -68,7 +68,7 @@ fn put_cleaned(text: &mut String, octets: &[u8]) -> Result<(), AllocError>
 
 /// The name of a cell, as it is shown.
 fn cell_text<S: NameTexts>(
-    shown: &Shown<'_, S>,
+    shown: &Naming<'_, S>,
     column: Column,
     index: u32,
 ) -> Result<String, AllocError>
@@ -83,7 +83,7 @@ fn cell_text<S: NameTexts>(
 /// Adds the name of a cell, as it is shown.
 fn put_cell<S: NameTexts>(
     text: &mut String,
-    shown: &Shown<'_, S>,
+    shown: &Naming<'_, S>,
     column: Column,
     index: u32,
 ) -> Result<(), AllocError>
@@ -124,7 +124,7 @@ fn put_comment(text: &mut String, answers: &Answers, one: Planned) -> Result<(),
 /// Adds the end of a counter's table, with the mark of its interface's counters, where it has one.
 fn put_mark<S: NameTexts>(
     text: &mut String,
-    shown: &Shown<'_, S>,
+    shown: &Naming<'_, S>,
     index: u32,
 ) -> Result<(), AllocError>
     ensures { OnOk result (string_bytes text.new ≡ string_bytes text.old ++ mark_text (S.shown shown.now.names.now) shown.now.answers.now index) }
@@ -140,7 +140,7 @@ fn put_mark<S: NameTexts>(
 #[tactic(auto, unfolding(crate::specs::Text::object_text))]
 pub(crate) fn put_object<S: NameTexts>(
     text: &mut String,
-    shown: &Shown<'_, S>,
+    shown: &Naming<'_, S>,
     one: Planned,
 ) -> Result<(), AllocError>
     ensures { OnOk result (string_bytes text.new ≡ string_bytes text.old ++ object_text (S.shown shown.now.names.now) shown.now.answers.now one) }
@@ -230,7 +230,7 @@ pub(crate) fn put_peer(text: &mut String, peer: &Peer) -> Result<(), AllocError>
 #[tactic(auto, unfolding(crate::specs::Text::rule_text))]
 fn put_rule<S: NameTexts>(
     text: &mut String,
-    shown: &Shown<'_, S>,
+    shown: &Naming<'_, S>,
     engine: &str,
     one: Planned,
     at: Thresholds,
@@ -247,7 +247,7 @@ fn put_rule<S: NameTexts>(
 /// Adds the alarm on a counter, where there is one.
 pub(crate) fn put_alarm<S: NameTexts>(
     text: &mut String,
-    shown: &Shown<'_, S>,
+    shown: &Naming<'_, S>,
     percent: u8,
     engine: &str,
     one: Planned,

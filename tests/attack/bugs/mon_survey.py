@@ -137,17 +137,17 @@ BUGS = {
         "    one.instance() == other.instance()",
     ),
     "labels_each_counter": (
-        "src/labels.rt",
+        "src/tables.rt",
         "    if before == Some(index) {",
         "    if before == Some(index) && index == 0 {",
     ),
     "escapes_no_backslash": (
-        "src/labels.rt",
+        "src/tables.rt",
         "    if octet == b'\"' || octet == b'\\\\' {",
         "    if octet == b'\"' {",
     ),
     "labels_by_ifdescr": (
-        "src/labels.rt",
+        "src/tables.rt",
         "self.answers.octets(Column::IfX(1), index)",
         "self.answers.octets(Column::If(2), index)",
     ),

@@ -1,7 +1,7 @@
 use Rattle.std.proofs.Common.{◌≡◌, ◌++◌, take}
 use Rattle.std.specs.List.{flat_map}
 use Rattle.mon_survey.specs.Labels.{interface_text}
-use Rattle.mon_survey.proofs.labels.Source.put_interfaces.Given as goal
+use Rattle.mon_survey.proofs.tables.Source.put_interfaces.Given as goal
 
 -- the tables so far
 abbrev pub invariant-loop-index : goal.invariant-loop-index
