@@ -1,24 +1,18 @@
 //! The client commands: `get`, `next`, `bulk`, `walk` and `set`.
 
-ghost use Rattle.std.specs.Prelude.{◌↔◌, ◌≤◌, IsTrue, length};
-
 use crate::output::Output;
 use mon_app::{
-    AppFault, Asking, LineSink, Question, Repeats, SocketWire, ValueKind, answer_text, status_name,
-    value_of,
+    AppFault, Asking, LineSink, Question, Repeats, SocketWire, ValueKind, answer_text, value_of,
 };
 use mon_ber::Value;
 use mon_cli::{BulkArgs, Request, SetArgs};
-use mon_console::{Failure, Fault, asked_for, names_of, print};
+use mon_console::{AgentAt, Failure, agent_at, answer_failure, asked_for, community, names_of, print};
 use mon_oid::Oid;
 use mon_smi::{InNumbers, NameTexts, Names};
 use mon_udp::Addr;
-use std::alloc::{AllocError, Global};
+use std::alloc::Global;
 use std::net::Net;
 use std::rt::{Clock, Files};
-
-/// The maximum length of a community, in octets.
-const MAX_COMMUNITY: usize = 512;
 
 /// Prints variables of an agent.
 pub fn get<R: Clock + Files + Net + Print + AllocGlobal>(
@@ -90,13 +84,6 @@ struct Query<'a> {
     prints_names: bool,
 }
 
-/// An agent's address, and the word that gives it.
-#[derive(Clone, Copy)]
-pub(crate) struct AgentAt<'a> {
-    pub(crate) word: &'a str,
-    pub(crate) address: Addr,
-}
-
 /// Reads whom the arguments ask, and about which variables. Their faults are found from left to
 /// right, then those of the modules, then those of the names.
 fn query_of<'a, R: Files + AllocGlobal>(
@@ -114,29 +101,6 @@ fn query_of<'a, R: Files + AllocGlobal>(
         asked,
         prints_names: request.named.shown,
     })
-}
-
-/// The agent's address that a word gives. It is never looked up.
-pub(crate) fn agent_at<'a>(alloc: Global, word: &'a str) -> Result<AgentAt<'a>, Failure> {
-    match Addr::parse(word) {
-        Some(address) => Ok(AgentAt { word, address }),
-        None => Err(Failure::text(alloc, word, "an address, a.b.c.d:port,")),
-    }
-}
-
-/// The octets of a community.
-pub(crate) fn community<'a>(alloc: Global, word: &'a str) -> Result<&'a [u8], Failure> {
-    if is_community(word) {
-        return Ok(word.as_bytes());
-    }
-    Err(Failure::text(alloc, "COMMUNITY", "a text of 1 to 512 octets"))
-}
-
-/// Returns `true` if the word can be a community, which has 1 to 512 octets.
-fn is_community(word: &str) -> bool
-    ensures { IsTrue result ↔ ((1 ≤ length word.now) × (length word.now ≤ 512)) }
-{
-    1 <= word.len() && word.len() <= MAX_COMMUNITY
 }
 
 /// The identifiers that words name.
@@ -262,25 +226,4 @@ fn walk_agent<R: Clock + Net + AllocGlobal, S: NameTexts, L: LineSink>(
 {
     let mut wire = SocketWire::open(rt, query.agent.address)?;
     mon_app::walk(rt.alloc(), &mut wire, query.community, start, names, lines)
-}
-
-/// Why the agent gave no answer that is printed.
-pub(crate) fn answer_failure(alloc: Global, agent: &str, fault: AppFault) -> Failure {
-    match fault {
-        AppFault::AgentStatus { status, index } => Failure::said(
-            Fault::App(fault),
-            status_text(alloc, agent, status, index),
-        ),
-        AppFault::SocketFault { reason } => { Failure::without_socket(alloc, agent, reason) }
-        _ => Failure::at(alloc, agent, Fault::App(fault)),
-    }
-}
-
-/// The error-status of an agent's reply, and the variable binding that it names.
-fn status_text(alloc: Global, agent: &str, status: i32, index: i32) -> Result<String, AllocError> {
-    let name = status_name(status).unwrap_or("an unknown error-status");
-    if index == 0 {
-        return format!(in alloc; "{agent}: the agent answered {name} ({status})");
-    }
-    format!(in alloc; "{agent}: the agent answered {name} ({status}) for variable binding {index}")
 }

@@ -1,0 +1,63 @@
+//! The agent that a command asks, and why it gave no answer.
+
+ghost use Rattle.std.specs.Prelude.{◌↔◌, ◌≤◌, IsTrue, length};
+
+use crate::failure::Failure;
+use mon_app::{AppFault, status_name};
+use mon_faults::Fault;
+use mon_udp::Addr;
+use std::alloc::{AllocError, Global};
+
+/// The maximum length of a community, in octets.
+const MAX_COMMUNITY: usize = 512;
+
+/// An agent's address, and the word that gives it.
+#[derive(Clone, Copy)]
+pub struct AgentAt<'a> {
+    pub word: &'a str,
+    pub address: Addr,
+}
+
+/// The agent's address that a word gives. It is never looked up.
+pub fn agent_at<'a>(alloc: Global, word: &'a str) -> Result<AgentAt<'a>, Failure> {
+    match Addr::parse(word) {
+        Some(address) => Ok(AgentAt { word, address }),
+        None => Err(Failure::text(alloc, word, "an address, a.b.c.d:port,")),
+    }
+}
+
+/// The octets of a community.
+pub fn community<'a>(alloc: Global, word: &'a str) -> Result<&'a [u8], Failure> {
+    if is_community(word) {
+        return Ok(word.as_bytes());
+    }
+    Err(Failure::text(alloc, "COMMUNITY", "a text of 1 to 512 octets"))
+}
+
+/// Returns `true` if the word can be a community, which has 1 to 512 octets.
+fn is_community(word: &str) -> bool
+    ensures { IsTrue result ↔ ((1 ≤ length word.now) × (length word.now ≤ 512)) }
+{
+    1 <= word.len() && word.len() <= MAX_COMMUNITY
+}
+
+/// Why the agent gave no answer that is printed.
+pub fn answer_failure(alloc: Global, agent: &str, fault: AppFault) -> Failure {
+    match fault {
+        AppFault::AgentStatus { status, index } => Failure::said(
+            Fault::App(fault),
+            status_text(alloc, agent, status, index),
+        ),
+        AppFault::SocketFault { reason } => { Failure::without_socket(alloc, agent, reason) }
+        _ => Failure::at(alloc, agent, Fault::App(fault)),
+    }
+}
+
+/// The error-status of an agent's reply, and the variable binding that it names.
+fn status_text(alloc: Global, agent: &str, status: i32, index: i32) -> Result<String, AllocError> {
+    let name = status_name(status).unwrap_or("an unknown error-status");
+    if index == 0 {
+        return format!(in alloc; "{agent}: the agent answered {name} ({status})");
+    }
+    format!(in alloc; "{agent}: the agent answered {name} ({status}) for variable binding {index}")
+}

@@ -1,0 +1,279 @@
+//! Questions to one agent: its engine, and the cells of its tables of interfaces.
+
+use crate::failing::survey_failure;
+use crate::settings::Asked;
+use mon_app::{AppFault, Asking, Question, Repeats, SocketWire, Wire, send_request};
+use mon_ber::Value;
+use mon_console::{Failure, Fault, answer_failure};
+use mon_oid::Oid;
+use mon_pdu::{Binding, Body, Message};
+use mon_survey::{Answers, Column, Kinds, SurveyFault, columns, engine_of};
+use std::alloc::Global;
+use std::net::Net;
+use std::rt::{Clock, Files};
+use std::slice;
+
+/// How many rounds a GetBulk asks for.
+const REPETITIONS: i32 = 32;
+
+/// How many requests the walk of a column makes at most.
+const REQUESTS: u32 = 65_536;
+
+/// snmpEngineID.0, snmpEngineBoots.0 and snmpEngineTime.0 (RFC 3411 section 5).
+const ENGINE_GROUP: [[u32; 11]; 3] = [
+    [1, 3, 6, 1, 6, 3, 10, 2, 1, 1, 0],
+    [1, 3, 6, 1, 6, 3, 10, 2, 1, 2, 0],
+    [1, 3, 6, 1, 6, 3, 10, 2, 1, 3, 0],
+];
+
+/// ifNumber.0 (RFC 2863 section 6).
+const IF_NUMBER: [u32; 9] = [1, 3, 6, 1, 2, 1, 2, 1, 0];
+
+/// What the agent answered.
+#[derive(Drop)]
+pub(crate) struct Survey {
+    pub(crate) engine: Vec<u8>,
+    pub(crate) answers: Answers,
+}
+
+/// Asks the agent for its engine and its interfaces. Where its ifNumber is another number than that of
+/// ifTable's interfaces, a line on standard error says so.
+pub(crate) fn ask_agent<R: Clock + Files + Net + Eprint + AllocGlobal>(
+    rt: &R,
+    asked: Asked<'_>,
+) -> Result<Survey, Failure> {
+    let alloc = rt.alloc();
+    let mut asker = Asker::open(rt, asked)?;
+    let first = asker.first(alloc)?;
+    let answers = asker.interfaces(alloc, asked.kinds)?;
+    tell_count(rt, asked.agent.word, first.number, answers.count());
+    Ok(Survey {
+        engine: first.engine,
+        answers,
+    })
+}
+
+/// Says that ifNumber is another number than that of ifTable's interfaces, where it is.
+fn tell_count(rt: &impl Eprint, agent: &str, number: Option<u32>, count: usize) {
+    let Some(number) = number else {
+        return;
+    };
+    if number as usize != count {
+        let _ = eprintln!(rt; "{agent}: ifNumber is {number}, and ifTable has {count} interfaces");
+    }
+}
+
+/// What the agent answers first: its engine id, and its ifNumber where it has one.
+#[derive(Drop)]
+struct Head {
+    engine: Vec<u8>,
+    number: Option<u32>,
+}
+
+/// Asks one agent question after question.
+#[derive(Drop)]
+struct Asker<'a, W> {
+    wire: W,
+    agent: &'a str,
+    community: &'a [u8],
+    /// How many questions there were, the last one's request-id.
+    asked: u32,
+}
+
+impl<'a, R: Clock + Net> Asker<'a, SocketWire<'a, R>> {
+    /// Opens a socket to ask the agent from.
+    fn open(rt: &'a R, asked: Asked<'a>) -> Result<Self, Failure>
+    where
+        R: AllocGlobal,
+    {
+        match SocketWire::open(rt, asked.agent.address) {
+            Ok(wire) => Ok(Asker {
+                wire,
+                agent: asked.agent.word,
+                community: asked.community,
+                asked: 0,
+            }),
+            Err(fault) => Err(answer_failure(rt.alloc(), asked.agent.word, fault)),
+        }
+    }
+}
+
+impl<W: Wire> Asker<'_, W> {
+    /// Asks, and returns the variable bindings of the reply.
+    fn ask(
+        &mut self,
+        alloc: Global,
+        asking: Asking<'_>,
+        names: &[Oid],
+    ) -> Result<Vec<Binding>, Failure> {
+        self.asked = self.asked.wrapping_add(1) & 0x7fff_ffff;
+        let question = Question {
+            asking,
+            request_id: self.asked as i32,
+            community: self.community,
+            names,
+        };
+        match send_request(alloc, &mut self.wire, &question) {
+            Ok(message) => bindings_of(alloc, self.agent, message),
+            Err(fault) => Err(answer_failure(alloc, self.agent, fault)),
+        }
+    }
+
+    /// Returns the agent's engine id and its ifNumber.
+    fn first(&mut self, alloc: Global) -> Result<Head, Failure> {
+        let names = first_names(alloc)?;
+        let bindings = self.ask(alloc, Asking::Get, &names)?;
+        match engine_in(&bindings) {
+            Ok(engine) => Ok(Head {
+                engine: Vec::from_slice(alloc, engine)?,
+                number: number_in(&bindings),
+            }),
+            Err(fault) => Err(survey_failure(alloc, self.agent, fault)),
+        }
+    }
+
+    /// Returns what the agent answers of its interfaces, for these kinds of counters.
+    fn interfaces(&mut self, alloc: Global, kinds: Kinds) -> Result<Answers, Failure> {
+        let mut answers = Answers::new(alloc);
+        for column in columns() {
+            if kinds.needs(column) {
+                self.walk(alloc, column, &mut answers)?;
+            }
+        }
+        Ok(answers)
+    }
+
+    /// Takes the cells of a column.
+    fn walk(
+        &mut self,
+        alloc: Global,
+        column: Column,
+        answers: &mut Answers,
+    ) -> Result<(), Failure> {
+        let start = column_name(alloc, column)?;
+        let mut last = start.try_clone(alloc)?;
+        for _ in 0..REQUESTS {
+            let asking = Asking::GetBulk(Repeats {
+                non_repeaters: 0,
+                max_repetitions: REPETITIONS,
+            });
+            let bindings = self.ask(alloc, asking, slice::from_ref(&last))?;
+            match self.take(alloc, &start, last, bindings, answers)? {
+                Some(name) => last = name,
+                None => return Ok(()),
+            }
+        }
+        Err(self.unending(alloc))
+    }
+
+    /// Takes the cells under the start, and returns the last one's name, or None where the column is at
+    /// its end.
+    fn take(
+        &self,
+        alloc: Global,
+        start: &Oid,
+        last: Oid,
+        bindings: Vec<Binding>,
+        answers: &mut Answers,
+    ) -> Result<Option<Oid>, Failure> {
+        if bindings.is_empty() {
+            return Err(answer_failure(alloc, self.agent, AppFault::NotIncreasing));
+        }
+        let mut last = last;
+        for binding in bindings {
+            if is_past(start, &binding) {
+                return Ok(None);
+            }
+            if !last.compare(&binding.name).is_lt() {
+                return Err(answer_failure(alloc, self.agent, AppFault::NotIncreasing));
+            }
+            last = self.put(alloc, binding, answers)?;
+        }
+        Ok(Some(last))
+    }
+
+    /// Takes a cell, and returns its name.
+    fn put(&self, alloc: Global, binding: Binding, answers: &mut Answers) -> Result<Oid, Failure> {
+        let Binding { name, value } = binding;
+        match answers.take(&name, value) {
+            Ok(()) => Ok(name),
+            Err(fault) => Err(survey_failure(alloc, self.agent, fault)),
+        }
+    }
+
+    /// A walk that found no end.
+    fn unending(&self, alloc: Global) -> Failure {
+        let agent = self.agent;
+        Failure::said(
+            Fault::App(AppFault::Timeout),
+            format!(in alloc; "{agent}: a column had no end after {REQUESTS} requests"),
+        )
+    }
+}
+
+/// Returns `true` if the variable is not under the start, or there is none.
+fn is_past(start: &Oid, binding: &Binding) -> bool {
+    matches!(binding.value, Value::EndOfMibView) || !start.is_prefix_of(&binding.name)
+}
+
+/// The variable bindings of a reply without an error.
+fn bindings_of(alloc: Global, agent: &str, message: Message) -> Result<Vec<Binding>, Failure> {
+    let Message { body, .. } = message;
+    match body {
+        Body::Pdu(pdu) if pdu.error_status == 0 => Ok(pdu.bindings.into_vec()),
+        Body::Pdu(pdu) => Err(answer_failure(
+            alloc,
+            agent,
+            AppFault::AgentStatus {
+                status: pdu.error_status,
+                index: pdu.error_index,
+            },
+        )),
+        Body::Bulk(bulk) => Ok(bulk.bindings.into_vec()),
+    }
+}
+
+/// The engine id in the answers to the three names of the group, which come first.
+fn engine_in(bindings: &[Binding]) -> Result<&[u8], SurveyFault> {
+    let [id, boots, time, _number] = bindings else {
+        return Err(SurveyFault::NoEngine);
+    };
+    engine_of(&id.value, &boots.value, &time.value)
+}
+
+/// The ifNumber in the answers, which comes after the group.
+fn number_in(bindings: &[Binding]) -> Option<u32> {
+    let [_id, _boots, _time, number] = bindings else {
+        return None;
+    };
+    match &number.value {
+        Value::Integer(count) => u32::try_from(*count).ok(),
+        _ => None,
+    }
+}
+
+/// The names that are asked for first: those of the snmpEngine group, and ifNumber.
+fn first_names(alloc: Global) -> Result<Vec<Oid>, Failure> {
+    let mut names = Vec::new(alloc);
+    for parts in &ENGINE_GROUP {
+        names.push(name_of(alloc, parts.as_slice())?)?;
+    }
+    names.push(name_of(alloc, IF_NUMBER.as_slice())?)?;
+    Ok(names)
+}
+
+/// The name of these numbers.
+fn name_of(alloc: Global, parts: &[u32]) -> Result<Oid, Failure> {
+    match Oid::from_parts(alloc, parts) {
+        Ok(name) => Ok(name),
+        Err(_) => Err(Failure::from(AppFault::OutOfMemory)),
+    }
+}
+
+/// The name of a column.
+fn column_name(alloc: Global, column: Column) -> Result<Oid, Failure> {
+    match column.name(alloc) {
+        Ok(name) => Ok(name),
+        Err(_) => Err(Failure::from(AppFault::OutOfMemory)),
+    }
+}

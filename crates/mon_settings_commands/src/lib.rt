@@ -1,0 +1,13 @@
+//! The command `settings`: walks an agent's interfaces and prints the settings of a station that polls
+//! them.
+#![tactic(auto)]
+
+mod asking;
+mod existing;
+mod failing;
+mod labelling;
+mod parts;
+mod settings;
+mod words;
+
+pub use settings::print_settings;
