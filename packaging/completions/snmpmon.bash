@@ -38,7 +38,7 @@ _snmpmon() {
         replay)
             options=' --report --format --columns -m --module --names -h --help '
             again=' -m --module '
-            takes=([--format]='text json prometheus columns' [-m]='@*' [--module]='@*')
+            takes=([--format]='text json prometheus columns html' [-m]='@*' [--module]='@*')
             operands=('-')
             ;;
         get)
@@ -95,15 +95,15 @@ _snmpmon() {
             operands=('@*')
             ;;
         station)
-            options=' --rounds --check --interval --phase --report-every --stale-after --out --format --columns -m --module --names -h --help '
+            options=' --rounds --check --interval --phase --report-every --stale-after --out --labels --format --columns -m --module --names -h --help '
             again=' -m --module '
-            takes=([--rounds]='-' [--interval]='-' [--phase]='-' [--report-every]='-' [--stale-after]='-' [--out]='@*' [--format]='text json prometheus columns' [-m]='@*' [--module]='@*')
+            takes=([--rounds]='-' [--interval]='-' [--phase]='-' [--report-every]='-' [--stale-after]='-' [--out]='@*' [--labels]='@*' [--format]='text json prometheus columns html' [-m]='@*' [--module]='@*')
             operands=('@*.toml')
             ;;
         report)
-            options=' --format --columns -m --module --names -h --help '
+            options=' --labels --format --columns -m --module --names -h --help '
             again=' -m --module '
-            takes=([--format]='text json prometheus columns' [-m]='@*' [--module]='@*')
+            takes=([--labels]='@*' [--format]='text json prometheus columns html' [-m]='@*' [--module]='@*')
             operands=('@*.toml')
             ;;
         selftest)

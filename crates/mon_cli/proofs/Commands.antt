@@ -271,8 +271,8 @@ fits lists commands.Settings = (tt, (tt, ((λ v e. or_false _ e, by_sign), (tt, 
 fits lists commands.Agent = (tt, ((λ v e. or_false _ e, by_sign), ((λ v e. or_false _ e, by_sign), tt)))
 fits lists commands.Answer = (tt, ((λ v e. or_false _ e, by_sign), ((λ v e. or_false _ e, by_itself), ((λ v e. or_false _ e, by_itself), ((λ v e. or_false _ e, by_sign), (tt, (tt, tt)))))))
 fits lists commands.Mib = (tt, (tt, tt))
-fits lists commands.Station = (tt, ((λ v e. or_false _ e, by_sign), (tt, ((λ v e. or_false _ e, by_sign), ((λ v e. or_false _ e, by_sign), ((λ v e. or_false _ e, by_sign), ((λ v e. or_false _ e, by_sign), (tt, (tt, (tt, (tt, (tt, tt))))))))))))
-fits lists commands.Report = (tt, (tt, (tt, (tt, (tt, tt)))))
+fits lists commands.Station = (tt, ((λ v e. or_false _ e, by_sign), (tt, ((λ v e. or_false _ e, by_sign), ((λ v e. or_false _ e, by_sign), ((λ v e. or_false _ e, by_sign), ((λ v e. or_false _ e, by_sign), (tt, (tt, (tt, (tt, (tt, (tt, tt)))))))))))))
+fits lists commands.Report = (tt, (tt, (tt, (tt, (tt, (tt, tt))))))
 fits lists commands.SelfTest = tt
 fits lists commands.Rehearse = (tt, ((λ v e. or_false _ e, by_sign), tt))
 

@@ -135,6 +135,7 @@ IsStation rows w = IsSettings rows w.settings
     × IsTiming rows w.timing
     × IsNumberOr 32 3 (one_of (codes "stale-after") rows) w.stale_after
     × (option_map (λ o. o.now) w.out ≡ first_of (codes "out") rows)
+    × (option_map (λ o. o.now) w.labels ≡ first_of (codes "labels") rows)
     × IsPrinted rows w.printed
 
 -- the arguments of `settings`
@@ -171,7 +172,8 @@ Says commands.Agent rows (asked.Agent w) = IsAgent rows w
 Says commands.Answer rows (asked.Answer w) = IsAnswer rows w
 Says commands.Mib rows (asked.Mib w) = IsMib rows w
 Says commands.Station rows (asked.Station w) = IsStation rows w
-Says commands.Report rows (asked.Report w) = IsSettings rows w.settings × IsPrinted rows w.printed
+Says commands.Report rows (asked.Report w) =
+    IsSettings rows w.settings × (option_map (λ o. o.now) w.labels ≡ first_of (codes "labels") rows) × IsPrinted rows w.printed
 Says commands.SelfTest rows asked.SelfTest = ⊤
 Says commands.Rehearse rows (asked.Rehearse w) = IsSettings rows w.settings × IsNumberOr 32 1 (one_of (codes "K") rows) w.stations
 Says _ rows _ = ⊥

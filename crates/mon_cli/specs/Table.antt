@@ -109,8 +109,9 @@ arguments commands.Station = settings
     ∷ option (codes "report-every") (up_to 1 1000000)
     ∷ option (codes "stale-after") (up_to 1 1000000)
     ∷ option (codes "out") Text
+    ∷ option (codes "labels") Text
     ∷ printed
-arguments commands.Report = settings ∷ printed
+arguments commands.Report = settings ∷ option (codes "labels") Text ∷ printed
 arguments commands.SelfTest = []
 arguments commands.Rehearse = settings ∷ word (codes "K") (up_to 1 16) ∷ []
 

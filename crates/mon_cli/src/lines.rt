@@ -338,6 +338,15 @@ const OUT: Line = Line {
     help: "Each round's report is written to FILE too, which is replaced whole",
 };
 
+const LABELS: Line = Line {
+    id: "labels",
+    form: Form::Long,
+    takes: Takes::One(Value::Text),
+    needed: false,
+    shown: "FILE",
+    help: "A TOML file of ifName and ifAlias by engine id and ifIndex, which --format prometheus has as labels",
+};
+
 const STATIONS: Line = Line {
     id: "K",
     form: Form::Place,
@@ -487,7 +496,7 @@ static ANSWER: [Line; 7] = [AGENT_SETTINGS, BOOTS, AT, FUSES, TIMES, MODULE, NAM
 
 static MIB: [Line; 2] = [FILE, MODULE];
 
-static STATION: [Line; 12] = [
+static STATION: [Line; 13] = [
     SETTINGS,
     ROUNDS,
     CHECK,
@@ -496,13 +505,14 @@ static STATION: [Line; 12] = [
     REPORT_EVERY,
     STALE_AFTER,
     OUT,
+    LABELS,
     FORMAT,
     COLUMNS,
     MODULE,
     NAMES,
 ];
 
-static SAVED: [Line; 5] = [SETTINGS, FORMAT, COLUMNS, MODULE, NAMES];
+static SAVED: [Line; 6] = [SETTINGS, LABELS, FORMAT, COLUMNS, MODULE, NAMES];
 
 static REHEARSE: [Line; 2] = [SETTINGS, STATIONS];
 

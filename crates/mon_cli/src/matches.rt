@@ -198,6 +198,7 @@ fn station<'m, 'a>(matches: &'m ArgMatches<'a>) -> StationArgs<'m, 'a>
         timing: timing(matches),
         stale_after: number_or(matches, "stale-after", USUAL_ROUNDS),
         out: find_value(matches, "out"),
+        labels: find_value(matches, "labels"),
         printed: read_printed(matches),
     }
 }
@@ -272,6 +273,7 @@ fn asked_by<'m, 'a>(choice: Choice, matches: &'m ArgMatches<'a>) -> Asked<'m, 'a
         Choice::Station => Asked::Station(station(matches)),
         Choice::Report => Asked::Report(ReportArgs {
             settings: text(matches, "SETTINGS"),
+            labels: find_value(matches, "labels"),
             printed: read_printed(matches),
         }),
         Choice::Rehearse => Asked::Rehearse(RehearseArgs {

@@ -152,6 +152,8 @@ pub struct StationArgs<'m, 'a> {
     pub stale_after: u32,
     /// The file that each round's report is written to.
     pub out: Option<&'a str>,
+    /// The file of labels of interfaces, if the arguments say so.
+    pub labels: Option<&'a str>,
     pub printed: Printed<'m, 'a>,
 }
 
@@ -160,6 +162,8 @@ pub struct StationArgs<'m, 'a> {
 pub struct ReportArgs<'m, 'a> {
     /// The file of its settings.
     pub settings: &'a str,
+    /// The file of labels of interfaces, if the arguments say so.
+    pub labels: Option<&'a str>,
     pub printed: Printed<'m, 'a>,
 }
 

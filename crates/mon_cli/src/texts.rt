@@ -36,8 +36,8 @@ sample, the newest value, and for a counter what it counted from each sample to 
 
   8000000001 1.3.6.1.2.1.2.2.1.10.1 n=3 3:100..3:110 Counter32=9 delta=2 span=10 rate=0.200
 
---format prints such a report in another format: json, prometheus or columns, a table for people; then refused lines are named on
-standard error. With --names names stand as ifInOctets.1, by the modules that -m gives.
+--format prints such a report in another format: json, prometheus, columns, a table for people, or html, a page for a browser;
+then refused lines are named on standard error. With --names names stand as ifInOctets.1, by the modules that -m gives.
 
 Examples: snmpmon replay 8 < examples/three-responses.hex
           snmpmon replay 8 --report < examples/three-responses.hex
@@ -173,11 +173,13 @@ const REPORT_FILE_MORE: &str =
     "Reads SETTINGS as `station` does, and prints for each instance a line of what stands in the station's file, as
 `replay --report` does, with the alarms at its end. The station is not started: its incarnation stays.
 
---format json prints an object, --format prometheus the text that Prometheus reads, --columns a table for people. With --names names
-stand as ifInOctets.1, by the modules of the settings and those that -m gives.
+--format json prints an object, --format prometheus the text that Prometheus reads, --format html a page for a browser, --columns a
+table for people. With --names names stand as ifInOctets.1, by the modules of the settings and those that -m gives. With --labels
+FILE Prometheus' text has ifName and ifAlias of each interface that FILE lists.
 
 Examples: snmpmon report examples/station.toml
-          snmpmon report examples/station.toml --columns --names -m examples/served.mib";
+          snmpmon report examples/station.toml --columns --names -m examples/served.mib
+          snmpmon report examples/station.toml --format html > page.html";
 
 const SELFTEST_MORE: &str =
     "Polls an agent in memory three times, saves what was taken, finds it again, and prints the report and `selftest: ok`.

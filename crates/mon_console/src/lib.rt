@@ -5,12 +5,14 @@
 
 mod failure;
 mod files;
+mod labels;
 mod naming;
 mod printing;
 mod settings;
 
 pub use failure::Failure;
 pub use files::{print, read_first, read_input, read_input_text, read_text};
+pub use labels::read_labelled_station;
 pub use mon_faults::Fault;
 pub use naming::{KnownNames, asked_for, known_names, name_failure, names_of, no_module};
 pub use printing::Printing;

@@ -6,7 +6,7 @@ use crate::opening::{open_file_and_socket, or_socket_failure, unsaved};
 use crate::pace::{now, start_pace, wait_for_next};
 use crate::printing::{print_between, print_report, write_out};
 use mon_cli::{StationArgs, Timing};
-use mon_console::{Failure, read_station_file};
+use mon_console::{Failure, read_labelled_station};
 use mon_rounds::{Receiver, Span, is_due};
 use mon_station::Outbox;
 use std::alloc::Global;
@@ -20,7 +20,12 @@ pub fn run_station<R: Clock + Files<File = File> + Net + Print + Eprint + AllocG
     rt: &R,
     words: StationArgs<'_, '_>,
 ) -> Result<(), Failure> {
-    let (settings, printing) = read_station_file(rt, words.settings, words.printed)?;
+    let (settings, printing) = read_labelled_station(
+        rt,
+        words.settings,
+        words.labels,
+        words.printed,
+    )?;
     if words.checks {
         return print_limits(rt, &settings, words.timing.interval);
     }
@@ -33,6 +38,7 @@ pub fn run_station<R: Clock + Files<File = File> + Net + Print + Eprint + AllocG
         printing,
         out,
         stale_after: words.stale_after,
+        interval: words.timing.interval,
     };
     let origin = now(rt)?;
     let place = Place { disk, at, origin };
