@@ -10,6 +10,7 @@ TYPES = [
     ("mon_smi", "mon_smi/src/text_fault.rt", "TextFault"),
     ("mon_smi", "mon_smi/src/fault.rt", "NamesFault"),
     ("mon_settings", "mon_settings/src/fault.rt", "SettingsFault"),
+    ("mon_labels", "mon_labels/src/fault.rt", "LabelsFault"),
     ("mon_survey", "mon_survey/src/fault.rt", "SurveyFault"),
     ("mon_mib", "mon_mib/src/fault.rt", "DeviceFault"),
     ("mon_disk", "mon_disk/src/fault.rt", "KeeperFault"),

@@ -38,7 +38,7 @@ _snmpmon() {
         replay)
             options=' --report --format --columns -m --module --names -h --help '
             again=' -m --module '
-            takes=([--format]='text json prometheus columns' [-m]='@*' [--module]='@*')
+            takes=([--format]='text json prometheus columns html' [-m]='@*' [--module]='@*')
             operands=('-')
             ;;
         get)
@@ -101,9 +101,9 @@ _snmpmon() {
             operands=('@*.toml')
             ;;
         report)
-            options=' --format --columns -m --module --names -h --help '
+            options=' --labels --format --columns -m --module --names -h --help '
             again=' -m --module '
-            takes=([--format]='text json prometheus columns' [-m]='@*' [--module]='@*')
+            takes=([--labels]='@*' [--format]='text json prometheus columns html' [-m]='@*' [--module]='@*')
             operands=('@*.toml')
             ;;
         selftest)

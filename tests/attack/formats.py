@@ -162,7 +162,7 @@ class Target:
 
     def lines(self):
         """Its metrics, by their names."""
-        labels = [("target", self.number), ("address", self.address), ("engine", self.engine)]
+        labels = [("target", self.address), ("number", self.number), ("engine", self.engine)]
         said = {"up": int(self.up), "answer_age_rounds": self.rounds, "answer_age_seconds": self.seconds, "polls_given_up_total": self.given_up}
         found = {f"snmpmon_target_{name}": metric(f"snmpmon_target_{name}", labels, value) for name, value in said.items()}
         if self.refusal is not None:

@@ -218,7 +218,7 @@ def built(program, folder, **environment):
 def try_first_run(root, sandbox):
     """The unit polls, reports and saves, each where the unit says."""
     figures, log = figures_of_run(root, sandbox)
-    up = re.search(r'^snmpmon_target_up\{target="1".*\} 1$', figures, re.M)
+    up = re.search(r'^snmpmon_target_up\{.*,number="1",.*\} 1$', figures, re.M)
     holds(f"the target is not up: {figures}", up)
     same("metrics of a running station", metrics_of(figures), metrics_of(SAMPLE.read_text()))
     holds(f"no incarnation 1: {log}", ", incarnation 1, " in log)

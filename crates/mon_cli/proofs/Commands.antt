@@ -265,14 +265,14 @@ fits lists commands.Replay = ((λ v e. or_false _ e, by_sign), (tt, (tt, (tt, (t
 fits lists commands.Get = (tt, (tt, (tt, (tt, (tt, tt)))))
 fits lists commands.Next = (tt, (tt, (tt, (tt, (tt, tt)))))
 fits lists commands.Bulk = (tt, (tt, (tt, (tt, (tt, ((λ v e. or_false _ e, by_sign), ((λ v e. or_false _ e, by_sign), tt)))))))
-fits lists commands.Walk = (tt, (tt, (tt, (tt, (tt, tt)))))
+fits lists commands.Walk = (tt, (tt, (tt, ((λ v e. or_false _ e, by_sign), (tt, (tt, tt))))))
 fits lists commands.Set = (tt, (tt, (tt, (tt, (tt, (tt, (tt, tt)))))))
 fits lists commands.Settings = (tt, (tt, ((λ v e. or_false _ e, by_sign), (tt, (tt, ((λ v e. or_false _ e, by_sign), ((λ v e. or_false _ e, by_sign), ((λ v e. or_false _ e, by_sign), (tt, (tt, (tt, (tt, (tt, (tt, (tt, (tt, (tt, tt)))))))))))))))))
 fits lists commands.Agent = (tt, ((λ v e. or_false _ e, by_sign), ((λ v e. or_false _ e, by_sign), tt)))
 fits lists commands.Answer = (tt, ((λ v e. or_false _ e, by_sign), ((λ v e. or_false _ e, by_itself), ((λ v e. or_false _ e, by_itself), ((λ v e. or_false _ e, by_sign), (tt, (tt, tt)))))))
 fits lists commands.Mib = (tt, (tt, tt))
-fits lists commands.Station = (tt, ((λ v e. or_false _ e, by_sign), (tt, ((λ v e. or_false _ e, by_sign), ((λ v e. or_false _ e, by_sign), ((λ v e. or_false _ e, by_sign), ((λ v e. or_false _ e, by_sign), (tt, (tt, (tt, (tt, (tt, tt))))))))))))
-fits lists commands.Report = (tt, (tt, (tt, (tt, (tt, tt)))))
+fits lists commands.Station = (tt, ((λ v e. or_false _ e, by_sign), (tt, ((λ v e. or_false _ e, by_sign), ((λ v e. or_false _ e, by_sign), ((λ v e. or_false _ e, by_sign), ((λ v e. or_false _ e, by_sign), (tt, (tt, (tt, (tt, (tt, (tt, (tt, tt))))))))))))))
+fits lists commands.Report = (tt, (tt, (tt, (tt, (tt, (tt, tt))))))
 fits lists commands.SelfTest = tt
 fits lists commands.Rehearse = (tt, ((λ v e. or_false _ e, by_sign), tt))
 

@@ -136,6 +136,7 @@ IsStation rows w = IsSettings rows w.settings
     × IsNumberOr 32 3 (one_of (codes "stale-after") rows) w.stale_after
     × (option_map (λ o. o.now) w.out ≡ first_of (codes "out") rows)
     × (option_map (λ o. o.now) w.http ≡ first_of (codes "http") rows)
+    × (option_map (λ o. o.now) w.labels ≡ first_of (codes "labels") rows)
     × IsPrinted rows w.printed
 
 -- the arguments of `settings`
@@ -167,7 +168,7 @@ Says commands.Next rows (asked.Next request) = IsRequest rows request
 Says commands.Bulk rows (asked.Bulk w) = IsRequest rows w.request
     × IsIntegerOr (pos 0) (one_of (codes "non-repeaters") rows) w.non_repeaters
     × IsIntegerOr (pos 0) (one_of (codes "max-repetitions") rows) w.max_repetitions
-Says commands.Walk rows (asked.Walk request) = IsRequest rows request
+Says commands.Walk rows (asked.Walk w) = IsRequest rows w.request × IsNumberOr 32 0 (one_of (codes "bulk") rows) w.bulk
 Says commands.Set rows (asked.Set w) =
     IsRequest rows w.request × (w.kind.now ≡ text_in (codes "KIND") rows) × (w.value.now ≡ text_in (codes "VALUE") rows)
 Says commands.Settings rows (asked.Settings w) = IsSurvey rows w
@@ -175,7 +176,8 @@ Says commands.Agent rows (asked.Agent w) = IsAgent rows w
 Says commands.Answer rows (asked.Answer w) = IsAnswer rows w
 Says commands.Mib rows (asked.Mib w) = IsMib rows w
 Says commands.Station rows (asked.Station w) = IsStation rows w
-Says commands.Report rows (asked.Report w) = IsSettings rows w.settings × IsPrinted rows w.printed
+Says commands.Report rows (asked.Report w) =
+    IsSettings rows w.settings × (option_map (λ o. o.now) w.labels ≡ first_of (codes "labels") rows) × IsPrinted rows w.printed
 Says commands.SelfTest rows asked.SelfTest = ⊤
 Says commands.Rehearse rows (asked.Rehearse w) = IsSettings rows w.settings × IsNumberOr 32 1 (one_of (codes "K") rows) w.stations
 Says _ rows _ = ⊥
@@ -234,6 +236,7 @@ abbrev pub IsWithin : Asked → Type 0
 IsWithin (asked.Replay w) = IsIn (value_of commands.Replay (codes "N")) w.size
 IsWithin (asked.Bulk w) = IsSignedIn (value_of commands.Bulk (codes "non-repeaters")) w.non_repeaters
     × IsSignedIn (value_of commands.Bulk (codes "max-repetitions")) w.max_repetitions
+IsWithin (asked.Walk w) = (w.bulk ≡ 0) ⊎ IsIn (value_of commands.Walk (codes "bulk")) w.bulk
 IsWithin (asked.Settings w) = IsIn (value_of commands.Settings (codes "station")) w.station
     × IsIn (value_of commands.Settings (codes "window")) w.window
     × IsIn (value_of commands.Settings (codes "wait-ms")) w.wait_ms

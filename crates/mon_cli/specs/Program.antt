@@ -28,7 +28,7 @@ use Rattle.mon_cli.specs.declared.lines.Form.TheVariants.{Place, Long, Short, Bo
 
 -- the texts for the formats and for the kinds
 abbrev pub IsLists : Lists → Type 0
-IsLists lists = (texts lists.formats.now ≡ codes "text" ∷ codes "json" ∷ codes "prometheus" ∷ codes "columns" ∷ [])
+IsLists lists = (texts lists.formats.now ≡ codes "text" ∷ codes "json" ∷ codes "prometheus" ∷ codes "columns" ∷ codes "html" ∷ [])
     × (texts lists.kinds.now ≡ codes "integer" ∷ codes "string" ∷ codes "hex" ∷ codes "oid" ∷ codes "ip"
     ∷ codes "counter32" ∷ codes "gauge32" ∷ codes "timeticks" ∷ codes "counter64" ∷ [])
 

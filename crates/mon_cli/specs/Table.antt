@@ -79,7 +79,7 @@ arguments commands.Next = addressed ++ words (codes "NAME") ∷ named
 arguments commands.Bulk = addressed ++ words (codes "NAME") ∷ repeated (codes "module") ∷ flag (codes "names")
     ∷ lettered 110 (codes "non-repeaters") (up_to 0 2147483647)
     ∷ lettered 109 (codes "max-repetitions") (up_to 0 2147483647) ∷ []
-arguments commands.Walk = addressed ++ word (codes "NAME") Text ∷ named
+arguments commands.Walk = addressed ++ word (codes "NAME") Text ∷ option (codes "bulk") (up_to 1 1000) ∷ named
 arguments commands.Set = addressed ++ word (codes "NAME") Text ∷ word (codes "KIND") Kind ∷ word (codes "VALUE") Text ∷ named
 arguments commands.Settings = addressed
     ++ option (codes "station") (up_to 1 4294967295)
@@ -113,8 +113,9 @@ arguments commands.Station = settings
     ∷ option (codes "stale-after") (up_to 1 1000000)
     ∷ option (codes "out") Text
     ∷ option (codes "http") Text
+    ∷ option (codes "labels") Text
     ∷ printed
-arguments commands.Report = settings ∷ printed
+arguments commands.Report = settings ∷ option (codes "labels") Text ∷ printed
 arguments commands.SelfTest = []
 arguments commands.Rehearse = settings ∷ word (codes "K") (up_to 1 16) ∷ []
 

@@ -12,6 +12,6 @@ pub use choice::Choice;
 pub use matches::read_command;
 pub use meaning::{
     AgentArgs, AnswerArgs, Asked, BulkArgs, MibArgs, Named, Printed, RehearseArgs, ReplayArgs,
-    ReportArgs, Request, Scene, SetArgs, SettingsArgs, StationArgs, Timing,
+    ReportArgs, Request, Scene, SetArgs, SettingsArgs, StationArgs, Timing, WalkArgs,
 };
 pub use parser::{VERSION, read};

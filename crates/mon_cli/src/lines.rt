@@ -185,6 +185,15 @@ const MAX_REPETITIONS: Line = Line {
     help: "How many rounds of the others are asked for",
 };
 
+const AT_ONCE: Line = Line {
+    id: "bulk",
+    form: Form::Long,
+    takes: Takes::One(Value::Number(1, 1000)),
+    needed: false,
+    shown: "bulk",
+    help: "Asks by GetBulk, for so many variables at once, 1 to 1000; by GetNext for one if not given",
+};
+
 const KIND: Line = Line {
     id: "KIND",
     form: Form::Place,
@@ -347,6 +356,15 @@ const HTTP: Line = Line {
     help: "Serves /metrics, /report.json, / and /healthz over HTTP at ADDRESS, a.b.c.d:port, without authentication",
 };
 
+const LABELS: Line = Line {
+    id: "labels",
+    form: Form::Long,
+    takes: Takes::One(Value::Text),
+    needed: false,
+    shown: "FILE",
+    help: "A TOML file of ifName and ifAlias by engine id and ifIndex, which --format prometheus has as labels",
+};
+
 const STATIONS: Line = Line {
     id: "K",
     form: Form::Place,
@@ -499,7 +517,7 @@ static BULK: [Line; 7] = [
     MAX_REPETITIONS,
 ];
 
-static WALK: [Line; 5] = [ADDRESS, COMMUNITY, NAME, MODULE, NAMES];
+static WALK: [Line; 6] = [ADDRESS, COMMUNITY, NAME, AT_ONCE, MODULE, NAMES];
 
 static SET: [Line; 7] = [ADDRESS, COMMUNITY, NAME, KIND, VALUE, MODULE, NAMES];
 
@@ -529,7 +547,7 @@ static ANSWER: [Line; 7] = [AGENT_SETTINGS, BOOTS, AT, FUSES, TIMES, MODULE, NAM
 
 static MIB: [Line; 2] = [FILE, MODULE];
 
-static STATION: [Line; 13] = [
+static STATION: [Line; 14] = [
     SETTINGS,
     ROUNDS,
     CHECK,
@@ -539,13 +557,14 @@ static STATION: [Line; 13] = [
     STALE_AFTER,
     OUT,
     HTTP,
+    LABELS,
     FORMAT,
     COLUMNS,
     MODULE,
     NAMES,
 ];
 
-static SAVED: [Line; 5] = [SETTINGS, FORMAT, COLUMNS, MODULE, NAMES];
+static SAVED: [Line; 6] = [SETTINGS, LABELS, FORMAT, COLUMNS, MODULE, NAMES];
 
 static REHEARSE: [Line; 2] = [SETTINGS, STATIONS];
 

@@ -12,7 +12,7 @@ ghost use Rattle.mon_cli.specs.declared.meaning.Asked.TheVariants as asked;
 use crate::choice::Choice;
 use crate::meaning::{
     AgentArgs, AnswerArgs, Asked, BulkArgs, MibArgs, Named, Printed, RehearseArgs, ReplayArgs,
-    ReportArgs, Request, Scene, SetArgs, SettingsArgs, StationArgs, Timing,
+    ReportArgs, Request, Scene, SetArgs, SettingsArgs, StationArgs, Timing, WalkArgs,
 };
 use clap::ArgMatches;
 use mon_formats::Format;
@@ -199,6 +199,7 @@ fn station<'m, 'a>(matches: &'m ArgMatches<'a>) -> StationArgs<'m, 'a>
         stale_after: number_or(matches, "stale-after", USUAL_ROUNDS),
         out: find_value(matches, "out"),
         http: find_value(matches, "http"),
+        labels: find_value(matches, "labels"),
         printed: read_printed(matches),
     }
 }
@@ -243,6 +244,18 @@ fn replay<'m, 'a>(matches: &'m ArgMatches<'a>) -> ReplayArgs<'m, 'a>
     }
 }
 
+/// Returns what a walk goes through.
+fn walk<'m, 'a>(matches: &'m ArgMatches<'a>) -> WalkArgs<'m, 'a>
+    requires { AreAllowed (arguments commands.Walk) (rows_of (found_of matches.now)) }
+    ensures says { Says commands.Walk (rows_of (found_of matches.now)) (asked.Walk result) }
+    ensures within { IsWithin (asked.Walk result) }
+{
+    WalkArgs {
+        request: request(matches),
+        bulk: number_or(matches, "bulk", 0),
+    }
+}
+
 /// Returns what the arguments of a command ask for.
 fn asked_by<'m, 'a>(choice: Choice, matches: &'m ArgMatches<'a>) -> Asked<'m, 'a>
     requires allowed { AreAllowed (arguments choice) (rows_of (found_of matches.now)) }
@@ -259,7 +272,7 @@ fn asked_by<'m, 'a>(choice: Choice, matches: &'m ArgMatches<'a>) -> Asked<'m, 'a
             non_repeaters: small_number(matches, "non-repeaters").unwrap_or(0),
             max_repetitions: small_number(matches, "max-repetitions").unwrap_or(0),
         }),
-        Choice::Walk => Asked::Walk(request(matches)),
+        Choice::Walk => Asked::Walk(walk(matches)),
         Choice::Set => Asked::Set(SetArgs {
             request: request(matches),
             kind: text(matches, "KIND"),
@@ -276,6 +289,7 @@ fn asked_by<'m, 'a>(choice: Choice, matches: &'m ArgMatches<'a>) -> Asked<'m, 'a
         Choice::Station => Asked::Station(station(matches)),
         Choice::Report => Asked::Report(ReportArgs {
             settings: text(matches, "SETTINGS"),
+            labels: find_value(matches, "labels"),
             printed: read_printed(matches),
         }),
         Choice::Rehearse => Asked::Rehearse(RehearseArgs {

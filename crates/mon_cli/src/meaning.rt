@@ -72,6 +72,14 @@ pub struct BulkArgs<'m, 'a> {
     pub max_repetitions: i32,
 }
 
+/// What `walk` goes through.
+#[derive(Clone, Copy)]
+pub struct WalkArgs<'m, 'a> {
+    pub request: Request<'m, 'a>,
+    /// For how many variables a GetBulk asks; 0 if GetNext asks for one.
+    pub bulk: u32,
+}
+
 /// What `set` assigns to which variable.
 #[derive(Clone, Copy)]
 pub struct SetArgs<'m, 'a> {
@@ -160,6 +168,8 @@ pub struct StationArgs<'m, 'a> {
     pub out: Option<&'a str>,
     /// The address at which its report is served over HTTP.
     pub http: Option<&'a str>,
+    /// The file of labels of interfaces, if the arguments say so.
+    pub labels: Option<&'a str>,
     pub printed: Printed<'m, 'a>,
 }
 
@@ -168,6 +178,8 @@ pub struct StationArgs<'m, 'a> {
 pub struct ReportArgs<'m, 'a> {
     /// The file of its settings.
     pub settings: &'a str,
+    /// The file of labels of interfaces, if the arguments say so.
+    pub labels: Option<&'a str>,
     pub printed: Printed<'m, 'a>,
 }
 
@@ -189,7 +201,7 @@ pub enum Asked<'m, 'a> {
     Get(Request<'m, 'a>),
     Next(Request<'m, 'a>),
     Bulk(BulkArgs<'m, 'a>),
-    Walk(Request<'m, 'a>),
+    Walk(WalkArgs<'m, 'a>),
     Set(SetArgs<'m, 'a>),
     Settings(SettingsArgs<'m, 'a>),
     Agent(AgentArgs<'a>),

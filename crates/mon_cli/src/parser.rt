@@ -16,7 +16,7 @@ use std::convert::AsStr;
 /// The name and the version, as `--version` prints them.
 pub const VERSION: &str = "snmpmon 0.1.0\n";
 
-static FORMATS: [&str; 4] = ["text", "json", "prometheus", "columns"];
+static FORMATS: [&str; 5] = ["text", "json", "prometheus", "columns", "html"];
 
 /// The names of the kinds of values.
 static KINDS: [&str; 9] = [

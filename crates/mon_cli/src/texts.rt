@@ -36,8 +36,8 @@ sample, the newest value, and for a counter what it counted from each sample to 
 
   8000000001 1.3.6.1.2.1.2.2.1.10.1 n=3 3:100..3:110 Counter32=9 delta=2 span=10 rate=0.200
 
---format prints such a report in another format: json, prometheus or columns, a table for people; then refused lines are named on
-standard error. With --names names stand as ifInOctets.1, by the modules that -m gives.
+--format prints such a report in another format: json, prometheus, columns, a table for people, or html, a page for a browser;
+then refused lines are named on standard error. With --names names stand as ifInOctets.1, by the modules that -m gives.
 
 Examples: snmpmon replay 8 < examples/three-responses.hex
           snmpmon replay 8 --report < examples/three-responses.hex
@@ -68,11 +68,13 @@ Example: snmpmon bulk -n 0 -m 10 127.0.0.1:16100 public mib-2.2.2.1.10";
 
 const WALK_MORE: &str =
     "Asks the agent at ADDRESS for the variable after NAME, then for the one after that, and so on, and prints each as `get`
-does. It ends at the first variable that is not under NAME, at the agent's last one, or after 65536 requests.
+does. It ends at the first variable that is not under NAME, at the agent's last one, or after 65536 requests. With --bulk each
+request is a GetBulkRequest, which the agent answers with as many variables as fit, so that there are fewer requests.
 
 An agent whose names do not increase ends it with 5 NotIncreasing, after what was printed so far.
 
 Examples: snmpmon walk 127.0.0.1:16100 public mib-2.2
+          snmpmon walk --bulk 20 127.0.0.1:16100 public mib-2
           snmpmon walk -m examples/served.mib --names 127.0.0.1:16100 public ifTable";
 
 const SET_MORE: &str =
@@ -181,11 +183,13 @@ const REPORT_FILE_MORE: &str =
     "Reads SETTINGS as `station` does, and prints for each instance a line of what stands in the station's file, as
 `replay --report` does, with the alarms at its end. The station is not started: its incarnation stays.
 
---format json prints an object, --format prometheus the text that Prometheus reads, --columns a table for people. With --names names
-stand as ifInOctets.1, by the modules of the settings and those that -m gives.
+--format json prints an object, --format prometheus the text that Prometheus reads, --format html a page for a browser, --columns a
+table for people. With --names names stand as ifInOctets.1, by the modules of the settings and those that -m gives. With --labels
+FILE Prometheus' text has ifName and ifAlias of each interface that FILE lists.
 
 Examples: snmpmon report examples/station.toml
-          snmpmon report examples/station.toml --columns --names -m examples/served.mib";
+          snmpmon report examples/station.toml --columns --names -m examples/served.mib
+          snmpmon report examples/station.toml --format html > page.html";
 
 const SELFTEST_MORE: &str =
     "Polls an agent in memory three times, saves what was taken, finds it again, and prints the report and `selftest: ok`.
@@ -220,7 +224,7 @@ pub(crate) fn about<'a>(choice: Choice) -> &'a str {
         Choice::Get => "Asks an agent for variables by their names (GetRequest)",
         Choice::Next => "Asks an agent for the variables after names (GetNextRequest)",
         Choice::Bulk => "Asks an agent for many variables after names (GetBulkRequest)",
-        Choice::Walk => "Asks an agent for all variables under a name (GetNextRequests)",
+        Choice::Walk => "Asks an agent for all variables under a name (GetNextRequests, GetBulkRequests)",
         Choice::Set => "Has an agent assign a value to a variable (SetRequest)",
         Choice::Settings => "Prints the settings of a station that polls an agent's interfaces",
         Choice::Agent => "Serves an agent over a simulated device",

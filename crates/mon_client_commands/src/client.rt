@@ -1,11 +1,14 @@
 //! The client commands: `get`, `next`, `bulk`, `walk` and `set`.
 
+ghost use Rattle.std.specs.Prelude.{◌≡◌, ◌≤◌, pos};
+
 use crate::output::Output;
 use mon_app::{
-    AppFault, Asking, LineSink, Question, Repeats, SocketWire, ValueKind, answer_text, value_of,
+    AppFault, Asking, LineSink, Question, Repeats, SocketWire, Stride, ValueKind, WalkPlan,
+    answer_text, value_of,
 };
 use mon_ber::Value;
-use mon_cli::{BulkArgs, Request, SetArgs};
+use mon_cli::{BulkArgs, Request, SetArgs, WalkArgs};
 use mon_console::{AgentAt, Failure, agent_at, answer_failure, asked_for, community, names_of, print};
 use mon_oid::Oid;
 use mon_smi::{InNumbers, NameTexts, Names};
@@ -56,12 +59,23 @@ pub fn set<R: Clock + Files + Net + Print + AllocGlobal>(
 /// be printed.
 pub fn walk<R: Clock + Files + Net + Print + AllocGlobal>(
     rt: &R,
-    request: Request<'_, '_>,
+    words: WalkArgs<'_, '_>,
 ) -> Result<(), Failure> {
-    let query = query_of(rt, request)?;
+    let query = query_of(rt, words.request)?;
     let mut output = Output::new(rt);
-    let walked = walk_through(rt, &query, &mut output);
+    let walked = walk_through(rt, &query, stride_of(words.bulk), &mut output);
     output.end(walked)
+}
+
+/// By which request a walk asks for so many variables at once: 0 for GetNext.
+fn stride_of(bulk: u32) -> Stride
+    ensures next { bulk ≡ 0 → result ≡ Stride.Next }
+    ensures many { 1 ≤ bulk → bulk ≤ 1000 → result ≡ Stride.Bulk (pos bulk) }
+{
+    match i32::try_from(bulk) {
+        Ok(most) if most > 0 => Stride::Bulk(most),
+        _ => Stride::Next,
+    }
 }
 
 /// Asks the agent that the arguments name, and prints its answer.
@@ -186,14 +200,15 @@ fn answer_query<R: Clock + Net + AllocGlobal, S: NameTexts>(
 fn walk_through<R: Clock + Net + AllocGlobal, L: LineSink>(
     rt: &R,
     query: &Query<'_>,
+    stride: Stride,
     lines: &mut L,
 ) -> Result<(), Failure>
     requires { L.is_ready lines.old }
 {
     if query.prints_names {
-        walk_shown(rt, query, &query.known.labels(rt.alloc())?, lines)
+        walk_shown(rt, query, stride, &query.known.labels(rt.alloc())?, lines)
     } else {
-        walk_shown(rt, query, &InNumbers, lines)
+        walk_shown(rt, query, stride, &InNumbers, lines)
     }
 }
 
@@ -201,6 +216,7 @@ fn walk_through<R: Clock + Net + AllocGlobal, L: LineSink>(
 fn walk_shown<R: Clock + Net + AllocGlobal, S: NameTexts, L: LineSink>(
     rt: &R,
     query: &Query<'_>,
+    stride: Stride,
     names: &S,
     lines: &mut L,
 ) -> Result<(), Failure>
@@ -209,7 +225,12 @@ fn walk_shown<R: Clock + Net + AllocGlobal, S: NameTexts, L: LineSink>(
     let [start] = query.asked.as_slice() else {
         return Ok(());
     };
-    match walk_agent(rt, query, start, names, lines) {
+    let asked = WalkPlan {
+        community: query.community,
+        start,
+        stride,
+    };
+    match walk_agent(rt, query.agent.address, &asked, names, lines) {
         Ok(()) => Ok(()),
         Err(fault) => Err(answer_failure(rt.alloc(), query.agent.word, fault)),
     }
@@ -217,13 +238,13 @@ fn walk_shown<R: Clock + Net + AllocGlobal, S: NameTexts, L: LineSink>(
 
 fn walk_agent<R: Clock + Net + AllocGlobal, S: NameTexts, L: LineSink>(
     rt: &R,
-    query: &Query<'_>,
-    start: &Oid,
+    agent: Addr,
+    asked: &WalkPlan<'_>,
     names: &S,
     lines: &mut L,
 ) -> Result<(), AppFault>
     requires { L.is_ready lines.old }
 {
-    let mut wire = SocketWire::open(rt, query.agent.address)?;
-    mon_app::walk(rt.alloc(), &mut wire, query.community, start, names, lines)
+    let mut wire = SocketWire::open(rt, agent)?;
+    mon_app::walk(rt.alloc(), &mut wire, asked, names, lines)
 }

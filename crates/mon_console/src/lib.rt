@@ -6,6 +6,7 @@
 mod agents;
 mod failure;
 mod files;
+mod labels;
 mod naming;
 mod printing;
 mod settings;
@@ -13,6 +14,7 @@ mod settings;
 pub use agents::{AgentAt, agent_at, answer_failure, community};
 pub use failure::Failure;
 pub use files::{print, read_first, read_input, read_input_text, read_text, replace_file};
+pub use labels::read_labelled_station;
 pub use mon_faults::Fault;
 pub use naming::{KnownNames, asked_for, known_names, name_failure, names_of, no_module};
 pub use printing::Printing;

@@ -6,7 +6,9 @@ use crate::naming::KnownNames;
 use mon_alarms::AlarmChange;
 use mon_board::{Board, Instance, Watch};
 use mon_cli::Printed;
-use mon_formats::{Extras, Figures, Format, alarm_line, format_report, instance_text};
+use mon_formats::{
+    Extras, Figures, Format, InstanceLabels, alarm_line, format_report, instance_text,
+};
 use mon_report::{Entry, entries_of};
 use mon_smi::{InNumbers, Names};
 use std::alloc::{AllocError, Global};
@@ -18,6 +20,8 @@ use std::rt::Files;
 pub struct Printing {
     format: Format,
     names: Option<Names>,
+    /// Of each instance, in their order, what Prometheus' text has as further labels.
+    labels: Vec<InstanceLabels>,
 }
 
 impl Printing {
@@ -38,7 +42,17 @@ impl Printing {
         Ok(Printing {
             format: printed.format,
             names: printed.named.shown.then_some(known.into_names()),
+            labels: Vec::new(rt.alloc()),
         })
+    }
+
+    /// The same, with these labels of the instances.
+    pub(crate) fn with_labels(self, labels: Vec<InstanceLabels>) -> Self {
+        Printing {
+            format: self.format,
+            names: self.names,
+            labels,
+        }
     }
 
     /// Returns `true` if the format is lines of text.
@@ -71,7 +85,7 @@ impl Printing {
     ) -> Result<Vec<u8>, AllocError> {
         let extras = Extras {
             station,
-            labels: &[],
+            labels: self.labels.as_slice(),
         };
         match &self.names {
             None => format_report(alloc, format, &InNumbers, entries, extras),

@@ -39,7 +39,7 @@ pub enum Fault {
     /// Of a station.
     #[error("{0}")]
     Station(StationFault),
-    /// Of a crate that only one command calls: its line.
+    /// Of a crate that few commands call: its line.
     #[error("{0}")]
     Other(Innermost),
 }

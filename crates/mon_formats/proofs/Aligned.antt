@@ -7,9 +7,9 @@ use Rattle.std.proofs.lemmas.List.Elements.{All-cons, All-nil}
 use Rattle.mon_alarms.specs.Rule.{Rule}
 use Rattle.mon_alarms.specs.Observed.{state_by}
 use Rattle.mon_report.specs.Report.{Entry}
-use Rattle.mon_formats.specs.Cells.{newest_of, rate_of}
+use Rattle.mon_page.specs.Cells.{alarm_cell, is_raised, newest_of, rate_cell, rate_of, value_cell}
 use Rattle.mon_formats.specs.declared.columns.Widths.{Widths}
-use Rattle.mon_formats.specs.Columns.{alarm_cell, cells_text, is_raised, rate_cell, row_cells, spaces, title_cells, to_left, to_right, value_cell, widest, widths_of}
+use Rattle.mon_formats.specs.Columns.{cells_text, row_cells, spaces, title_cells, to_left, to_right, widest, widths_of}
 
 length-spaces : (n : ℕ) → length (spaces n) ≡ n
 length-spaces zero = refl

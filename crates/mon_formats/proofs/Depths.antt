@@ -10,10 +10,10 @@ use Rattle.mon_alarms.specs.declared.alarm.AlarmState.{AlarmState}
 use Rattle.mon_alarms.specs.declared.alarm.AlarmState.TheVariants.{Clear, Raised}
 use Rattle.mon_rates.specs.Totals.{totals}
 use Rattle.mon_report.specs.Report.{Entry, samples_in}
-use Rattle.mon_formats.specs.Cells.{value_of, rate_of}
+use Rattle.mon_page.specs.Cells.{value_of, rate_of}
 use Rattle.mon_formats.specs.Json.{exact, exact_signed, sample_data, raised_data, alarm_data, rate_data, totals_data, age_data, debt_data, refusal_data, target_data, station_data, entry_data, report_data}
-use Rattle.mon_formats.specs.declared.figures.Figures.{Figures}
-use Rattle.mon_formats.specs.declared.figures.TargetFigures.{TargetFigures}
+use Rattle.mon_page.specs.declared.figures.Figures.{Figures}
+use Rattle.mon_page.specs.declared.figures.TargetFigures.{TargetFigures}
 
 both : (a b n : ℕ) → a ≤ n → b ≤ n → max a b ≤ n
 both a b n p q = omega (arith, p, q)

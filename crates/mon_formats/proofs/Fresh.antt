@@ -3,7 +3,7 @@ use Rattle.std.proofs.Common.{◌≡◌, ℕ, zero, suc, ◌+◌, ◌<◌, ◌�
 use Rattle.std.specs.Prelude.{if◌then◌else◌}
 use Rattle.std.proofs.lemmas.List.{drop_all, drop_more}
 use Rattle.mon_report.specs.Report.{Entry}
-use Rattle.mon_formats.specs.declared.figures.InstanceLabels.{InstanceLabels}
+use Rattle.mon_formats.specs.declared.extras.InstanceLabels.{InstanceLabels}
 use Rattle.mon_formats.specs.Prometheus.{Labelled, age_line, age_lines, fresh, is_fresh, labelled}
 
 -- an instance that is not stale comes before the others

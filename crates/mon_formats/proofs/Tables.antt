@@ -12,9 +12,9 @@ use Rattle.std.proofs.lemmas.Bool.Decides.{nat_tests}
 use Rattle.mon_alarms.specs.Rule.{Rule}
 use Rattle.mon_alarms.specs.Observed.{state_by}
 use Rattle.mon_report.specs.Report.{Entry}
-use Rattle.mon_formats.specs.Cells.{newest_of}
+use Rattle.mon_page.specs.Cells.{newest_of}
 use Rattle.mon_formats.specs.declared.columns.Widths.{Widths}
-use Rattle.mon_formats.specs.Columns.{alarm_cell, cells_text, engine_if_new, is_raised, row_line, rows_from, to_left, to_right, widest}
+use Rattle.mon_formats.specs.Columns.{cells_text, engine_if_new, row_line, rows_from, to_left, to_right, widest}
 
 -- a text, and one more behind it
 pub text-then : (a b c x y : List ℕ) → b ≡ a ++ x → c ≡ b ++ y → c ≡ a ++ (x ++ y)
@@ -50,18 +50,6 @@ pub widest-more : (heading : ℕ) (f : Entry → List ℕ) (es : List Entry) (i 
     → widest heading (map f (take (i + 1) es)) ≡ max (widest heading (map f (take i es))) (length (f (get_or es i e)))
 widest-more heading f es i e lt =
     ap (widest heading) (map_more f es i e lt) ∙ fold_push (λ w text. max w (length text)) heading (map f (take i es)) (f (get_or es i e))
-
-pub some-rules : (n : ℕ) (b : Bool) → b ≡ (n == 0) → b ≡ false → 0 < n
-some-rules n b e f = grind (arith, nat_tests)
-
--- an alarm that is raised, and none that is
-pub raised : (items : List ℕ) (rules : List Rule) → list_any (λ rule. is_raised (state_by rule items)) rules ≡ true → codes "RAISED" ≡ alarm_cell items rules
-raised items [] e = absurd (true≢false (sym e))
-raised items (r ∷ rs) e = sym (ap (λ b. if b then codes "RAISED" else codes "clear") e)
-
-pub clear : (items : List ℕ) (rules : List Rule) → 0 < length rules → list_any (λ rule. is_raised (state_by rule items)) rules ≡ false → codes "clear" ≡ alarm_cell items rules
-clear items [] some e = absurd (omega arith)
-clear items (r ∷ rs) some e = sym (ap (λ b. if b then codes "RAISED" else codes "clear") e)
 
 -- the line of one instance more, and its engine's above it
 pub one-row : (w : Widths) (shown : List ℕ → List ℕ) (aged : Bool) (ages : List ℕ) (at : ℕ) (before : Option (List ℕ)) (e : Entry) (es : List Entry) (t0 t1 t2 total : List ℕ)

@@ -9,10 +9,10 @@ use Rattle.mon_alarms.specs.Observed.{state_by}
 use Rattle.mon_alarms.specs.declared.alarm.AlarmState.{AlarmState}
 use Rattle.mon_alarms.specs.declared.alarm.AlarmState.TheVariants.{Clear, Raised}
 use Rattle.mon_report.specs.Report.{Entry, rate_text, samples_in}
+use Rattle.mon_page.specs.declared.figures.Figures.{Figures}
+use Rattle.mon_page.specs.declared.figures.TargetFigures.{TargetFigures}
+use Rattle.mon_page.specs.Cells.{newest_of, rate_of, value_cell, rate_cell, alarm_cell, age_cell}
 use Rattle.mon_formats.specs.declared.columns.Widths.{Widths}
-use Rattle.mon_formats.specs.declared.figures.Figures.{Figures}
-use Rattle.mon_formats.specs.declared.figures.TargetFigures.{TargetFigures}
-use Rattle.mon_formats.specs.Cells.{newest_of, value_of, rate_of}
 
 -- N spaces
 abbrev pub spaces : ℕ → List ℕ
@@ -25,26 +25,6 @@ to_right width text = spaces (width - length text) ++ text ++ codes "  "
 -- a text at the left end of a column
 abbrev pub to_left : ℕ → List ℕ → List ℕ
 to_left width text = text ++ spaces (width - length text) ++ codes "  "
-
--- the newest value; a dash if there is no sample
-abbrev pub value_cell : Option ℕ → List ℕ
-value_cell None = codes "-"
-value_cell (Some s) = signed_decimal (value_of s)
-
--- the rate a second; a dash if there is none
-abbrev pub rate_cell : Option ℕ → List ℕ
-rate_cell None = codes "-"
-rate_cell (Some q) = rate_text (Some q) ++ codes "/s"
-
--- whether the alarm is raised
-abbrev pub is_raised : AlarmState → Bool
-is_raised Clear = false
-is_raised (Raised boots time) = true
-
--- whether an alarm is raised, of those that there are; a dash if there are none
-abbrev pub alarm_cell : List ℕ → List Rule → List ℕ
-alarm_cell items [] = codes "-"
-alarm_cell items (r ∷ rs) = if list_any (λ rule. is_raised (state_by rule items)) (r ∷ rs) then codes "RAISED" else codes "clear"
 
 -- a heading's width, or that of the widest of some texts, if it is wider
 abbrev pub widest : ℕ → List (List ℕ) → ℕ
@@ -64,11 +44,6 @@ cells_text w value rate alarm samples = to_right w.value value ++ to_right w.rat
 -- the titles of the columns before the names
 abbrev pub title_cells : Widths → List ℕ
 title_cells w = cells_text w (codes "VALUE") (codes "RATE") (codes "ALARM") (codes "SAMPLES")
-
--- in how many rounds an instance had no new sample; a dash where that is not known
-abbrev pub age_cell : Option ℕ → List ℕ
-age_cell None = codes "-"
-age_cell (Some age) = decimal age
 
 -- the title of the column of ages, where there is one
 abbrev pub age_title : Bool → List ℕ

@@ -14,9 +14,9 @@ use Rattle.mon_alarms.specs.Observed.{state_by}
 use Rattle.mon_alarms.specs.declared.alarm.AlarmState.{AlarmState}
 use Rattle.mon_alarms.specs.declared.alarm.AlarmState.TheVariants.{Clear, Raised}
 use Rattle.mon_report.specs.Report.{Entry, samples_in}
-use Rattle.mon_formats.specs.Cells.{value_of, rate_of}
-use Rattle.mon_formats.specs.declared.figures.Figures.{Figures}
-use Rattle.mon_formats.specs.declared.figures.TargetFigures.{TargetFigures}
+use Rattle.mon_page.specs.Cells.{value_of, rate_of}
+use Rattle.mon_page.specs.declared.figures.Figures.{Figures}
+use Rattle.mon_page.specs.declared.figures.TargetFigures.{TargetFigures}
 
 -- a whole number: as a number up to 2^53, else as a text
 abbrev pub exact : ℕ → Data

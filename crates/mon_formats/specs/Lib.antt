@@ -1,4 +1,3 @@
-pub mod Cells
 pub mod Changes
 pub mod Named
 pub mod Json

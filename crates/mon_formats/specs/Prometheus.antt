@@ -14,16 +14,16 @@ use Rattle.mon_alarms.specs.Observed.{state_by}
 use Rattle.mon_alarms.specs.declared.alarm.AlarmState.{AlarmState}
 use Rattle.mon_alarms.specs.declared.alarm.AlarmState.TheVariants.{Clear, Raised}
 use Rattle.mon_report.specs.Report.{Entry, rate_text}
-use Rattle.mon_formats.specs.declared.figures.Figures.{Figures}
-use Rattle.mon_formats.specs.declared.figures.InstanceLabels.{InstanceLabels}
-use Rattle.mon_formats.specs.declared.figures.TargetFigures.{TargetFigures}
+use Rattle.mon_page.specs.declared.figures.Figures.{Figures}
+use Rattle.mon_formats.specs.declared.extras.InstanceLabels.{InstanceLabels}
+use Rattle.mon_page.specs.declared.figures.TargetFigures.{TargetFigures}
 use Rattle.mon_formats.specs.declared.prometheus.metric.Metric.{Metric}
 use Rattle.mon_formats.specs.declared.prometheus.metric.Metric.TheVariants.{Counted, Number, Samples, Rate, Alarm}
 use Rattle.mon_formats.specs.declared.prometheus.station.StationMetric.{StationMetric}
 use Rattle.mon_formats.specs.declared.prometheus.station.StationMetric.TheVariants.{Incarnation, Taken, GivenUp, Debt, FailedSaves, Strangers, Duration, Age}
 use Rattle.mon_formats.specs.declared.prometheus.target.TargetMetric.{TargetMetric}
 use Rattle.mon_formats.specs.declared.prometheus.target.TargetMetric.TheVariants.{Up, Rounds, Seconds, PollsGivenUp, Refusal}
-use Rattle.mon_formats.specs.Cells.{newest_of, value_of, rate_of}
+use Rattle.mon_page.specs.Cells.{newest_of, value_of, rate_of}
 
 -- a character of a label's value: a backslash, a quote and a line feed have a backslash before them
 abbrev pub escaped : ℕ → List ℕ
@@ -278,10 +278,10 @@ target_type Refusal = codes "gauge"
 abbrev pub target_head : TargetMetric → List ℕ
 target_head metric = head_text (target_name metric) (target_help metric) (target_type metric)
 
--- the labels of a target: its number, where its agent is reached, and its engine id in hex digits
+-- the labels of a target: where its agent is reached, its number, which keeps targets at one address apart, and its engine id in hex digits
 unfoldable pub target_labels : TargetFigures → List ℕ
 target_labels t =
-    label_text (codes "target") (decimal t.number) ++ codes "," ++ label_text (codes "address") (string_bytes t.address)
+    label_text (codes "target") (string_bytes t.address) ++ codes "," ++ label_text (codes "number") (decimal t.number)
     ++ codes "," ++ label_text (codes "engine") (encode_lower t.engine.items)
 
 -- 1 for true, 0 for false

@@ -1,13 +1,12 @@
 //! A report as a table for people.
 
 ghost use Rattle.std.specs.Prelude.{◌≡◌, ◌++◌, None, codes, true, IfOk, OnOk, option_copied, option_map, slice_get, string_bytes};
-ghost use Rattle.std.specs.List.{flat_map, list_any};
-ghost use Rattle.mon_alarms.specs.Observed.{state_by};
-ghost use Rattle.mon_formats.specs.Columns.{to_right, to_left, value_cell, rate_cell, alarm_cell, is_raised, widths_of, title_cells, title_line, row_cells, row_line, engine_line, engine_if_new, rows_from, count_line, columns_report, age_cell, age_if, age_title, down_if, down_line, place_text, reason_text, silence_text, table_text};
+ghost use Rattle.std.specs.List.{flat_map};
+ghost use Rattle.mon_page.specs.Cells.{value_cell, rate_cell, age_cell};
+ghost use Rattle.mon_formats.specs.Columns.{to_right, to_left, widths_of, title_cells, title_line, row_cells, row_line, engine_line, engine_if_new, rows_from, count_line, columns_report, age_if, age_title, down_if, down_line, place_text, reason_text, silence_text, table_text};
 
 use crate::cells::count_samples;
-use crate::figures::{Figures, TargetFigures};
-use mon_alarms::{AlarmState, Rule, state};
+use mon_page::{Figures, TargetFigures, alarm_cell};
 use mon_report::{Entry, write_rate};
 use mon_sample::Sample;
 use mon_smi::NameTexts;
@@ -357,34 +356,6 @@ fn rate_text(alloc: Global, rate: u128) -> Result<String, AllocError>
         Ok(text) => Ok(text),
         Err(_) => unreachable!(),
     }
-}
-
-/// Says whether an alarm is raised, of those of the rules on an instance; a dash if there are none.
-fn alarm_cell(alloc: Global, entry: &Entry) -> Result<&'static str, AllocError>
-    ensures { IfOk result (λ text. text.now ≡ alarm_cell entry.now.items entry.now.rules) }
-{
-    let rules = entry.rules(alloc)?;
-    if rules.is_empty() {
-        return Ok("-");
-    }
-    if is_any_raised(entry.samples(), &rules) {
-        return Ok("RAISED");
-    }
-    Ok("clear")
-}
-
-/// Returns `true` if the alarm of a rule is raised over the samples.
-fn is_any_raised(samples: &[Sample], rules: &[Rule]) -> bool
-    ensures { result ≡ list_any (λ rule. is_raised (state_by rule samples.now)) rules.now }
-{
-    rules.iter().any(|rule| is_raised(state(rule, samples)))
-}
-
-/// Returns `true` if an alarm is raised.
-fn is_raised(alarm: AlarmState) -> bool
-    ensures { result ≡ is_raised alarm }
-{
-    matches!(alarm, AlarmState::Raised { .. })
 }
 
 /// Adds the last line: how many instances and samples there are.

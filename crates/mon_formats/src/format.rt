@@ -7,10 +7,11 @@ ghost use Rattle.mon_formats.specs.Json.{ReadsAsReport};
 ghost use Rattle.mon_formats.specs.declared.format.Format.TheVariants.{Json};
 
 use crate::columns::columns_report;
-use crate::figures::Extras;
+use crate::extras::Extras;
 use crate::json::json_report;
 use crate::named::named_report;
 use crate::prometheus::prometheus_report;
+use mon_page::page_report;
 use mon_report::Entry;
 use mon_smi::NameTexts;
 use std::alloc::{AllocError, Global};
@@ -26,6 +27,8 @@ pub enum Format {
     Prometheus,
     /// A table for people.
     Columns,
+    /// A page for a browser.
+    Html,
 }
 
 impl Format {
@@ -39,6 +42,7 @@ impl Format {
             "json" => Some(Format::Json),
             "prometheus" => Some(Format::Prometheus),
             "columns" => Some(Format::Columns),
+            "html" => Some(Format::Html),
             _ => None,
         }
     }
@@ -62,5 +66,6 @@ pub fn format_report<S: NameTexts>(
         Format::Json => json_report(alloc, names, entries, extras.station),
         Format::Prometheus => prometheus_report(alloc, names, entries, extras),
         Format::Columns => columns_report(alloc, names, entries, extras.station),
+        Format::Html => page_report(alloc, names, entries, extras.station),
     }
 }

@@ -4,11 +4,11 @@ ghost use Rattle.std.specs.Prelude.{◌≡◌, IfOk, None, Some, map, option_map
 ghost use Rattle.serde_json.specs.Data.{array, string};
 ghost use Rattle.serde_json.specs.View.{view, items_of};
 ghost use Rattle.mon_report.specs.Report.{samples_in};
-ghost use Rattle.mon_formats.specs.Cells.{rate_of};
+ghost use Rattle.mon_page.specs.Cells.{rate_of};
 ghost use Rattle.mon_formats.specs.Json.{exact, exact_signed, sample_data, raised_data, alarm_data, rate_data, totals_data, age_data, debt_data, target_data, refusal_data, station_data, entry_data, report_data, json_report, ReadsAsReport};
 
-use crate::figures::{Figures, TargetFigures};
 use mon_alarms::{AlarmState, Rule, state};
+use mon_page::{Figures, TargetFigures};
 use mon_report::Entry;
 use mon_sample::Sample;
 use mon_smi::NameTexts;

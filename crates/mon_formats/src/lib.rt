@@ -1,11 +1,11 @@
-//! The formats of a report: lines of text, JSON, Prometheus' text format, and a table for people.
+//! The formats of a report: lines of text, JSON, Prometheus' text format, a table for people, and a page for a browser.
 //! Contract: each is a function of the instances' windows and rules, and of how names are shown; so equal windows give equal octets.
 #![tactic(auto)]
 
 mod cells;
 mod changes;
 mod columns;
-mod figures;
+mod extras;
 mod format;
 mod json;
 pub mod laws;
@@ -13,5 +13,6 @@ mod named;
 mod prometheus;
 
 pub use changes::{alarm_line, instance_text};
-pub use figures::{Extras, Figures, InstanceLabels, TargetFigures};
+pub use extras::{Extras, InstanceLabels};
 pub use format::{Format, format_report};
+pub use mon_page::{Figures, TargetFigures};

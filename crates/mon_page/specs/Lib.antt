@@ -1,5 +1,6 @@
 pub mod Escape
 pub mod Between
 pub mod Style
+pub mod Cells
 pub mod Plot
 pub mod Page

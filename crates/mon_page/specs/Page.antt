@@ -1,12 +1,11 @@
 -- The page of a report: what the station says of its targets and its debts, and a row for each instance.
-use Rattle.std.specs.Prelude.{ℕ, ◌+◌, Bool, true, false, List, [], ◌∷◌, ◌++◌, Option, Some, None, codes, decimal, length, slice_get, String, string_bytes}
+use Rattle.std.specs.Prelude.{ℕ, ◌+◌, Bool, true, false, List, [], ◌∷◌, ◌++◌, Option, Some, None, codes, decimal, length, slice_get, String, string_bytes, ◌==◌, if◌then◌else◌}
 use Rattle.std.specs.List.{flat_map}
 use Rattle.hex.specs.Hex.{encode_lower}
 use Rattle.mon_report.specs.Report.{Entry}
-use Rattle.mon_formats.specs.declared.figures.Figures.{Figures}
-use Rattle.mon_formats.specs.declared.figures.TargetFigures.{TargetFigures}
-use Rattle.mon_formats.specs.Cells.{newest_of, rate_of}
-use Rattle.mon_formats.specs.Columns.{value_cell, rate_cell, alarm_cell, age_cell}
+use Rattle.mon_page.specs.declared.figures.Figures.{Figures}
+use Rattle.mon_page.specs.declared.figures.TargetFigures.{TargetFigures}
+use Rattle.mon_page.specs.Cells.{newest_of, rate_of, value_cell, rate_cell, alarm_cell, age_cell}
 use Rattle.mon_page.specs.Escape.{escaped}
 use Rattle.mon_page.specs.Between.{between}
 use Rattle.mon_page.specs.Plot.{plot_cell}
@@ -104,6 +103,11 @@ title_lines = codes "<meta name=\"viewport\" content=\"width=device-width, initi
 unfoldable pub heading_lines : List ℕ
 heading_lines = codes "</style>\n</head>\n<body>\n<h1>snmpmon</h1>\n"
 
+-- after how many seconds a page of a station is loaded again: after its interval, if it has one
+abbrev pub refresh_of : Option Figures → Option ℕ
+refresh_of None = None
+refresh_of (Some f) = if f.interval == 0 then None else Some f.interval
+
 -- the head of the document
 unfoldable pub head_text : Option ℕ → List ℕ
 head_text refresh = first_lines ++ refresh_text refresh ++ title_lines ++ style_text ++ heading_lines
@@ -117,6 +121,6 @@ ages_of (Some f) = f.ages.items
 unfoldable pub body_text : (List ℕ → List ℕ) → List Entry → Option Figures → List ℕ
 body_text shown entries station = station_if station ++ table_text shown (ages_of station) entries ++ between (codes "</body>\n") (codes "</html>\n") []
 
--- the page
-unfoldable pub page_text : (List ℕ → List ℕ) → List Entry → Option Figures → Option ℕ → List ℕ
-page_text shown entries station refresh = head_text refresh ++ body_text shown entries station
+-- the page, of instances and what a running station says of itself
+unfoldable pub page_text : (List ℕ → List ℕ) → List Entry → Option Figures → List ℕ
+page_text shown entries station = head_text (refresh_of station) ++ body_text shown entries station

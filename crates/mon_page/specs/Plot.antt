@@ -5,7 +5,7 @@ use Rattle.mon_rates.specs.Part.{is_counter}
 use Rattle.mon_rates.specs.Totals.{between as part_between, thousandths}
 use Rattle.std.specs.List.{flat_map}
 use Rattle.mon_alarms.specs.Rule.{Rule}
-use Rattle.mon_formats.specs.Cells.{newest_of}
+use Rattle.mon_page.specs.Cells.{newest_of}
 use Rattle.mon_page.specs.declared.plot.Scale.{Scale}
 use Rattle.mon_page.specs.Between.{between}
 

@@ -3,7 +3,9 @@
 //! Each text that comes from an agent, a module or the settings is escaped. It reads nothing but its arguments.
 #![tactic(auto)]
 
+pub(crate) mod cells;
 mod escape;
+mod figures;
 pub mod laws;
 mod page;
 mod plot;
@@ -11,4 +13,6 @@ mod rows;
 mod station;
 mod style;
 
+pub use cells::alarm_cell;
+pub use figures::{Figures, TargetFigures};
 pub use page::page_report;

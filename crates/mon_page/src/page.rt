@@ -1,20 +1,20 @@
 //! The document.
 
-ghost use Rattle.std.specs.Prelude.{◌≡◌, ◌++◌, IfOk, OnOk, Some, option_map};
-ghost use Rattle.mon_page.specs.Page.{refresh_text, first_lines, title_lines, heading_lines, head_text, ages_of, body_text, page_text};
+ghost use Rattle.std.specs.Prelude.{◌≡◌, ◌++◌, IfOk, OnOk, None, Some, ◌==◌, if◌then◌else◌, option_map};
+ghost use Rattle.mon_page.specs.Page.{refresh_text, first_lines, title_lines, heading_lines, head_text, refresh_of, ages_of, body_text, page_text};
 
 use crate::escape::put_between;
+use crate::figures::Figures;
 use crate::rows::put_table;
 use crate::station::put_station_if;
 use crate::style::put_style;
 use itoa::Buffer;
-use mon_formats::Figures;
 use mon_report::Entry;
 use mon_smi::NameTexts;
 use std::alloc::{AllocError, Global};
 
-/// Makes the page of a report, with the names of instances as `names` has them. A browser loads it again after
-/// `refresh` seconds, if given.
+/// Makes the page of a report, with the names of instances as `names` has them. A browser loads the page of a
+/// running station again after the station's interval.
 ///
 /// # Errors
 /// `AllocError` if there is no memory for it.
@@ -24,12 +24,11 @@ pub fn page_report<S: NameTexts>(
     names: &S,
     entries: &[Entry],
     station: Option<&Figures>,
-    refresh: Option<u32>,
 ) -> Result<Vec<u8>, AllocError>
-    ensures { IfOk result (λ text. text.items ≡ page_text (S.shown names.now) entries.now (option_map (λ f. f.now) station.entry) refresh) }
+    ensures { IfOk result (λ text. text.items ≡ page_text (S.shown names.now) entries.now (option_map (λ f. f.now) station.entry)) }
 {
     let mut text = Vec::new(alloc);
-    put_head(&mut text, refresh)?;
+    put_head(&mut text, refresh_of(station))?;
     put_body(alloc, &mut text, names, entries, station)?;
     Ok(text)
 }
@@ -58,6 +57,26 @@ fn ages_of<'a>(station: Option<&'a Figures>) -> &'a [u32]
         None => &[],
         Some(figures) => figures.ages.as_slice(),
     }
+}
+
+/// Returns after how many seconds a browser loads the page again, or `None` if it does not.
+fn refresh_of(station: Option<&Figures>) -> Option<u32>
+    ensures { result ≡ refresh_of (option_map (λ f. f.now) station.entry) }
+{
+    match station {
+        None => None,
+        Some(figures) => refresh_after(figures.interval),
+    }
+}
+
+/// Returns the interval in seconds, or `None` if it is 0.
+fn refresh_after(interval: u32) -> Option<u32>
+    ensures { result ≡ (if interval == 0 then None else Some interval) }
+{
+    if interval == 0 {
+        return None;
+    }
+    Some(interval)
 }
 
 /// Adds the head of the document.

@@ -3,7 +3,7 @@
 ghost use Rattle.std.specs.Prelude.{◌≡◌, ◌++◌, OnOk, true, false, option_copied};
 ghost use Rattle.mon_page.specs.Plot.{level, joins, before_at, widened, scale_of, across, below_top, point_text, point_if, points_from, is_counted, limit_level, with_rule, with_rules, limit_line, rule_lines, plot_start, plot_middle, plot_end, plot_text, plot_cell};
 ghost use Rattle.std.specs.List.{flat_map};
-ghost use Rattle.mon_formats.specs.Cells.{newest_of};
+ghost use Rattle.mon_page.specs.Cells.{newest_of};
 
 use crate::escape::put_between;
 use itoa::Buffer;

@@ -1,17 +1,14 @@
 //! The table of instances.
 
-ghost use Rattle.std.specs.Prelude.{◌≡◌, ◌++◌, IfOk, OnOk, Some, slice_get};
-ghost use Rattle.std.specs.List.{list_any};
-ghost use Rattle.mon_alarms.specs.Observed.{state_by};
-ghost use Rattle.mon_formats.specs.Cells.{newest_of, rate_of};
-ghost use Rattle.mon_formats.specs.Columns.{value_cell, rate_cell, alarm_cell, age_cell, is_raised};
+ghost use Rattle.std.specs.Prelude.{◌≡◌, ◌++◌, OnOk, Some, slice_get};
+ghost use Rattle.mon_page.specs.Cells.{newest_of, rate_of, value_cell, rate_cell, age_cell};
 ghost use Rattle.mon_page.specs.Plot.{plot_cell};
 ghost use Rattle.mon_page.specs.Page.{name_cell, cell, class_cell, figure_cells, row_text, rows_from, table_head, table_text};
 
+use crate::cells::alarm_cell;
 use crate::escape::{put_between, put_escaped};
 use crate::plot::put_plot;
 use itoa::Buffer;
-use mon_alarms::{AlarmState, Rule, state};
 use mon_report::{Entry, write_rate};
 use mon_sample::Sample;
 use mon_smi::NameTexts;
@@ -126,7 +123,7 @@ fn put_figures(
 {
     put_value(text, entry.samples())?;
     put_rate(alloc, text, entry)?;
-    put_class_cell(text, alarm_cell(alloc, entry)?)?;
+    put_class_cell(text, alarm_cell(alloc, entry)?.as_bytes())?;
     put_age(text, age)
 }
 
@@ -168,34 +165,6 @@ fn put_thousandths(alloc: Global, text: &mut Vec<u8>, rate: u128) -> Result<(), 
     }
     octets.extend_from_slice(b"/s")?;
     put_cell(text, octets.as_slice())
-}
-
-/// Returns whether an alarm is raised, of those of the rules on an instance; a dash if there are none.
-fn alarm_cell(alloc: Global, entry: &Entry) -> Result<&'static [u8], AllocError>
-    ensures { IfOk result (λ text. text.now ≡ alarm_cell entry.now.items entry.now.rules) }
-{
-    let rules = entry.rules(alloc)?;
-    if rules.is_empty() {
-        return Ok(b"-");
-    }
-    if is_any_raised(entry.samples(), &rules) {
-        return Ok(b"RAISED");
-    }
-    Ok(b"clear")
-}
-
-/// Returns `true` if the alarm of a rule is raised over the samples.
-fn is_any_raised(samples: &[Sample], rules: &[Rule]) -> bool
-    ensures { result ≡ list_any (λ rule. is_raised (state_by rule samples.now)) rules.now }
-{
-    rules.iter().any(|rule| is_raised(state(rule, samples)))
-}
-
-/// Returns `true` if an alarm is raised.
-fn is_raised(alarm: AlarmState) -> bool
-    ensures { result ≡ is_raised alarm }
-{
-    matches!(alarm, AlarmState::Raised { .. })
 }
 
 /// Adds the cell of an age in rounds, with a dash if there is none.

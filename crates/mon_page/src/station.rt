@@ -6,8 +6,8 @@ ghost use Rattle.mon_page.specs.Escape.{escaped};
 ghost use Rattle.mon_page.specs.Page.{state_word, reason_text, place_text, since_text, target_item, debt_item, station_list, station_if};
 
 use crate::escape::{put_between, put_escaped};
+use crate::figures::{Figures, TargetFigures};
 use itoa::Buffer;
-use mon_formats::{Figures, TargetFigures};
 use std::alloc::AllocError;
 
 /// Adds the lines of a station, if there is one.

@@ -27,6 +27,7 @@ pub(crate) fn make_figures<S: Receiver + Drop, O: Outbox + Drop>(
         targets: target_figures(alloc, fresh.targets(), engines, live.ended)?,
         ages: ages_of(alloc, fresh.instances())?,
         stale_after: live.reports.stale_after,
+        interval: live.reports.interval,
     })
 }
 

@@ -62,13 +62,14 @@ pub(crate) struct Transport<S: Receiver + Drop, O: Outbox + Drop> {
     pub(crate) polled: Vec<Option<u16>>,
 }
 
-/// How a station's reports are printed, the file that each round's report is written to, and from how
-/// many rounds without a new sample on an instance is stale.
+/// How a station's reports are printed, the file that each round's report is written to, from how many
+/// rounds without a new sample on an instance is stale, and how many seconds lie between two rounds.
 #[derive(Drop)]
 pub(crate) struct Reports {
     pub(crate) printing: Printing,
     pub(crate) out: Option<String>,
     pub(crate) stale_after: u32,
+    pub(crate) interval: u32,
 }
 
 /// Where a station keeps its windows and is reached, and since when.

@@ -5,7 +5,7 @@ ghost use Rattle.mon_faults.specs.Fault.{station_fault};
 
 use mon_board::Board;
 use mon_cli::ReportArgs;
-use mon_console::{Failure, Fault, print, read_first, read_station_file};
+use mon_console::{Failure, Fault, print, read_first, read_labelled_station};
 use mon_disk::{Disk, DiskError, FileDisk, KeeperFault, SLOT_SIZE};
 use mon_settings::StationSettings;
 use mon_station::{StationFault, board_in};
@@ -72,7 +72,12 @@ pub fn print_saved_report<R: Files<File = File> + Print + AllocGlobal>(
     rt: &R,
     words: ReportArgs<'_, '_>,
 ) -> Result<(), Failure> {
-    let (settings, printing) = read_station_file(rt, words.settings, words.printed)?;
+    let (settings, printing) = read_labelled_station(
+        rt,
+        words.settings,
+        words.labels,
+        words.printed,
+    )?;
     let alloc = rt.alloc();
     let board = saved_in(rt, &settings)?;
     let text = printing.report(alloc, &board, None)?;

@@ -11,7 +11,7 @@ use mon_web_receiver::Shows;
 use std::alloc::{AllocError, Global};
 
 /// The format of the page for a browser.
-const PAGE: Format = Format::Columns;
+const PAGE: Format = Format::Html;
 
 /// Shows what is known after a round, or after the time between two in which something came. If there
 /// is no memory for that, nothing is shown until there is.

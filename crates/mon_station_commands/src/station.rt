@@ -10,7 +10,7 @@ use crate::pace::{now, start_pace, wait_for_next};
 use crate::printing::{print_between, print_report, write_out};
 use crate::showing::show;
 use mon_cli::{StationArgs, Timing};
-use mon_console::{Failure, read_station_file};
+use mon_console::{Failure, read_labelled_station};
 use mon_rounds::{Receiver, SocketReceiver, Span, is_due};
 use mon_settings::StationSettings;
 use mon_station::Outbox;
@@ -29,7 +29,12 @@ pub fn run_station<R: Clock + Files<File = File> + Net + Print + Eprint + AllocG
     rt: &R,
     words: StationArgs<'_, '_>,
 ) -> Result<(), Failure> {
-    let (settings, printing) = read_station_file(rt, words.settings, words.printed)?;
+    let (settings, printing) = read_labelled_station(
+        rt,
+        words.settings,
+        words.labels,
+        words.printed,
+    )?;
     if words.checks {
         return print_limits(rt, &settings, words.timing.interval);
     }
@@ -37,6 +42,7 @@ pub fn run_station<R: Clock + Files<File = File> + Net + Print + Eprint + AllocG
         printing,
         out: out_of(rt.alloc(), words.out)?,
         stale_after: words.stale_after,
+        interval: words.timing.interval,
     };
     match words.http {
         None => run_unseen(rt, settings, reports, words.timing),

@@ -32,11 +32,6 @@ BUGS = {
     "columns_width_of_the_last": ("src/columns.rt", 'value = value.max(value_cell', 'value = value.min(5).max(value_cell'),
     "json_alarms_of_the_first_rule": ("src/json.rt", 'values.push(alarm_value(alloc, samples, rule)?)?;', 'values.push(alarm_value(alloc, samples, &rules[0])?)?;'),
     "prometheus_polls_given_up_as_taken": ("src/prometheus/station.rt", '    put_plain(text, StationMetric::Taken, figures.taken)?;', '    put_plain(text, StationMetric::Taken, figures.given_up)?;'),
-    "columns_clear_hides_raised": (
-        "src/columns.rt",
-        ".any(|rule|",
-        ".all(|rule|",
-    ),
     "json_beyond_exact": (
         "src/json.rt",
         "if number <= u128::from(LARGEST_NUMBER) {",
@@ -81,6 +76,17 @@ BUGS = {
         "        Format::Json => json_report(alloc, names, entries, extras.station),",
         "        Format::Json => named_report(alloc, names, entries),",
     ),
+    "prints_columns_for_html": (
+        "src/format.rt",
+        "        Format::Html => page_report(alloc, names, entries, extras.station),",
+        "        Format::Html => columns_report(alloc, names, entries, extras.station),",
+    ),
+    "a_page_without_its_station": (
+        "src/format.rt",
+        "        Format::Html => page_report(alloc, names, entries, extras.station),",
+        "        Format::Html => page_report(alloc, names, entries, None),",
+    ),
+    "a_target_by_its_number": ("src/prometheus/target.rt", '"target", target.address.as_bytes())', '"target", digits.format(target.number).as_bytes())'),
     "no_label_that_is_given": ("src/prometheus/instance.rt", "        Some(given) => put_joined(labels, given),", "        Some(_) => Ok(()),"),
     "the_alias_is_the_name": ("src/prometheus/instance.rt", '"ifAlias", &given.if_alias)', '"ifAlias", &given.if_name)'),
     "a_label_that_is_not_given": ("src/prometheus/instance.rt", "        None => Ok(()),\n        Some(value) =>", '        None => put_more(labels, label, b""),\n        Some(value) =>'),

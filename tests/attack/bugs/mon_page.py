@@ -61,8 +61,13 @@ BUGS = {
         "        put_row(alloc, text, names, &entries[place], age_at(ages, place))?;",
         "        put_row(alloc, text, names, &entries[place], age_at(ages, 0))?;",
     ),
+    "clear_hides_raised": (
+        "src/cells.rt",
+        ".any(|rule|",
+        ".all(|rule|",
+    ),
     "no_alarm_is_raised": (
-        "src/rows.rt",
+        "src/cells.rt",
         "    matches!(alarm, AlarmState::Raised { .. })",
         "    matches!(alarm, AlarmState::Raised { boots: 0, .. })",
     ),
@@ -75,6 +80,16 @@ BUGS = {
         "src/page.rt",
         "        Some(seconds) => put_seconds(text, seconds),",
         "        Some(_) => Ok(()),",
+    ),
+    "loads_again_after_the_limit_of_ages": (
+        "src/page.rt",
+        "        Some(figures) => refresh_after(figures.interval),",
+        "        Some(figures) => refresh_after(figures.stale_after),",
+    ),
+    "loads_again_at_once": (
+        "src/page.rt",
+        "    if interval == 0 {",
+        "    if interval == 1 {",
     ),
     "no_ages": (
         "src/page.rt",

@@ -3,7 +3,7 @@
 ghost use Rattle.std.specs.Prelude.{◌≡◌, ◌++◌, IfOk, OnOk, option_map};
 ghost use Rattle.mon_formats.specs.Prometheus.{at_first_dot, at_last_dot, given_labels, instance_labels, is_in_numbers, joined_labels, label_if, more_label, object_and_index, object_labels};
 
-use crate::figures::InstanceLabels;
+use crate::extras::InstanceLabels;
 use crate::prometheus::text::put_label;
 use mon_report::Entry;
 use mon_smi::NameTexts;

@@ -3,10 +3,10 @@
 ghost use Rattle.std.specs.Prelude.{◌≡◌, ◌++◌, OnOk};
 ghost use Rattle.mon_formats.specs.Prometheus.{station_name, station_help, station_type, station_text, plain_metric, debts_text, debt_line, duration_text};
 
-use crate::figures::Figures;
 use crate::prometheus::target::put_targets;
 use crate::prometheus::text::{put_head, put_label, put_line};
 use itoa::Buffer;
+use mon_page::Figures;
 use mon_report::write_rate;
 use std::alloc::{AllocError, Global};
 

@@ -3,9 +3,9 @@
 ghost use Rattle.std.specs.Prelude.{◌≡◌, ◌++◌, OnOk, IfOk, string_bytes};
 ghost use Rattle.mon_formats.specs.Prometheus.{one_if, reason_if, reason_line, refusals_text, target_help, target_labels, target_line, target_metric, target_name, target_type, target_value, targets_text};
 
-use crate::figures::TargetFigures;
 use crate::prometheus::text::{put_head, put_label, put_line};
 use itoa::Buffer;
+use mon_page::TargetFigures;
 use std::alloc::{AllocError, Global};
 
 /// A metric of a target.
@@ -134,7 +134,7 @@ fn put_target(
     put_line(text, metric.name(), labels.as_slice(), number.as_bytes())
 }
 
-/// The labels of a target: its number, its address, and its engine id in hex digits.
+/// The labels of a target: its address, its number, and its engine id in hex digits.
 #[tactic(auto, unfolding(crate::specs::Prometheus::target_labels))]
 fn target_labels(alloc: Global, target: &TargetFigures) -> Result<Vec<u8>, AllocError>
     ensures { IfOk result (λ labels. labels.items ≡ target_labels target.now) }
@@ -142,13 +142,13 @@ fn target_labels(alloc: Global, target: &TargetFigures) -> Result<Vec<u8>, Alloc
     let engine = hex::encode(alloc, target.engine.as_slice())?;
     let mut digits = Buffer::new();
     let mut labels = Vec::new(alloc);
+    put_label(&mut labels, "target", target.address.as_bytes())?;
+    labels.extend_from_slice(b",")?;
     put_label(
         &mut labels,
-        "target",
+        "number",
         digits.format(target.number).as_bytes(),
     )?;
-    labels.extend_from_slice(b",")?;
-    put_label(&mut labels, "address", target.address.as_bytes())?;
     labels.extend_from_slice(b",")?;
     put_label(&mut labels, "engine", engine.as_bytes())?;
     Ok(labels)

@@ -1,7 +1,8 @@
 use Rattle.std.proofs.Common.{◌≡◌, ◌++◌, ◌∙◌, ◌-◌, ℕ, List, ap, length, subst, decimal, string_bytes}
 use Rattle.std.specs.Prelude.{OnOk, slice_get}
 use Rattle.mon_rates.specs.Totals.{thousandths}
-use Rattle.mon_formats.specs.Columns.{cells_text, rate_cell, value_cell}
+use Rattle.mon_page.specs.Cells.{rate_cell, value_cell}
+use Rattle.mon_formats.specs.Columns.{cells_text}
 use Rattle.mon_formats.proofs.Tables.{cells-last, newest-is}
 use Rattle.mon_formats.proofs.columns.put_cells.Goals as goal
 

@@ -3,7 +3,7 @@ use Rattle.std.specs.Prelude.{IsOk, Result, Ok, Err}
 use Rattle.std.specs.Str.{IsAscii, IsUtf8}
 use Rattle.std.proofs.lemmas.Fmt.{IsAscii-decimal_wide}
 use Rattle.std.proofs.lemmas.Str.{IsUtf8-append, IsUtf8-from_ascii}
-use Rattle.mon_formats.specs.Columns.{rate_cell}
+use Rattle.mon_page.specs.Cells.{rate_cell}
 use Rattle.mon_formats.proofs.columns.rate_text.Goals as goal
 
 -- three digits are text

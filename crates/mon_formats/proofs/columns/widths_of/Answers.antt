@@ -3,8 +3,7 @@ use Rattle.std.specs.Prelude.{max, slice_get}
 use Rattle.std.specs.String.{string_len}
 use Rattle.mon_report.specs.Report.{Entry}
 use Rattle.mon_rates.specs.Totals.{thousandths}
-use Rattle.mon_formats.specs.Cells.{newest_of, rate_of}
-use Rattle.mon_formats.specs.Columns.{value_cell, rate_cell}
+use Rattle.mon_page.specs.Cells.{newest_of, rate_of, value_cell, rate_cell}
 use Rattle.mon_formats.proofs.Tables.{newest-is, widest-more}
 use Rattle.mon_formats.proofs.columns.widths_of.Goals as goal
 

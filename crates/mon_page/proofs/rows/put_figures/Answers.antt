@@ -1,6 +1,5 @@
 use Rattle.std.proofs.Common.{◌≡◌, ◌++◌, ◌∙◌, ap, refl, ℕ, List}
-use Rattle.mon_formats.specs.Cells.{newest_of, rate_of}
-use Rattle.mon_formats.specs.Columns.{value_cell, rate_cell, alarm_cell, age_cell}
+use Rattle.mon_page.specs.Cells.{newest_of, rate_of, value_cell, rate_cell, alarm_cell, age_cell}
 use Rattle.mon_page.specs.Page.{cell, class_cell, figure_cells}
 use Rattle.mon_page.proofs.Chains.{join, ends}
 use Rattle.mon_page.proofs.rows.put_figures.Goals as goal
@@ -17,7 +16,7 @@ returns c =
     c.in_ok-put_value.ensures ∙ ap (λ (s : List ℕ). start ++ cell (value_cell (newest_of s))) c.samples.ensures in
     let second : c.put_rate.new.text.items ≡ c.put_value.new.text.items ++ b = c.in_ok-put_rate.ensures in
     let third : c.put_class_cell.new.text.items ≡ c.put_rate.new.text.items ++ d =
-    c.in_ok-put_class_cell.ensures ∙ ap (λ (w : List ℕ). c.put_rate.new.text.items ++ class_cell w) c.in_ok-alarm_cell.ensures in
+    c.in_ok-put_class_cell.ensures ∙ ap (λ (w : List ℕ). c.put_rate.new.text.items ++ class_cell w) (c.as_bytes.ensures.value ∙ c.in_ok-alarm_cell.ensures) in
     ends c.put_age.result start c.put_class_cell.new.text.items c.put_age.new.text.items ((a ++ b) ++ d) (cell (age_cell c.args.age)) _
     (join start c.put_rate.new.text.items c.put_class_cell.new.text.items (a ++ b) d (join start c.put_value.new.text.items c.put_rate.new.text.items a b first second) third)
     refl c.put_age.ensures

@@ -1,9 +1,9 @@
 use Rattle.std.proofs.Common.{◌<◌, ◌∙◌, sym, ap, length, arith}
 use Rattle.std.specs.List.{list_any}
 use Rattle.mon_alarms.specs.Observed.{state_by}
-use Rattle.mon_formats.specs.Columns.{is_raised}
-use Rattle.mon_formats.proofs.Tables.{raised, clear, some-rules}
-use Rattle.mon_formats.proofs.columns.alarm_cell.Goals as goal
+use Rattle.mon_page.specs.Cells.{is_raised}
+use Rattle.mon_page.proofs.Alarms.{raised, clear, some-rules}
+use Rattle.mon_page.proofs.cells.alarm_cell.Goals as goal
 
 pub returns-then-is_any_raised : goal.returns-then-is_any_raised
 returns-then-is_any_raised c =

@@ -23,27 +23,8 @@ pub struct Figures {
     pub ages: Vec<u32>,
     /// From which age on an instance is stale: Prometheus' text leaves it out.
     pub stale_after: u32,
-}
-
-/// What is known beside the windows of a report's instances.
-#[derive(Clone, Copy, Debug)]
-pub struct Extras<'a> {
-    /// What the station says of itself, if there is one.
-    pub station: Option<&'a Figures>,
-    /// Of each instance, in their order, what Prometheus' text has as further labels. Those beyond
-    /// the last have none.
-    pub labels: &'a [InstanceLabels],
-}
-
-/// What Prometheus' text has as further labels of an instance, for a dashboard to join on.
-#[derive(Debug, Drop)]
-pub struct InstanceLabels {
-    /// Where the agent of its target is reached, as `a.b.c.d:port`.
-    pub target: Option<String>,
-    /// The ifName of its interface (RFC 2863).
-    pub if_name: Option<String>,
-    /// The ifAlias of its interface (RFC 2863).
-    pub if_alias: Option<String>,
+    /// How many seconds lie between the beginnings of two rounds, at least; 0 for none.
+    pub interval: u32,
 }
 
 /// What a station says of a target.

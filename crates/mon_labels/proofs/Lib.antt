@@ -1,0 +1,4 @@
+pub mod Each
+pub mod Entries
+pub mod Handed
+pub mod KeyNames

@@ -1,0 +1,17 @@
+use Rattle.std.proofs.Common.{◌+◌, ◌++◌, ◌∙◌, List, ap, map, drop, arith}
+use Rattle.mon_formats.specs.declared.extras.InstanceLabels.{InstanceLabels}
+use Rattle.mon_labels.specs.Given.{given, labels_for}
+use Rattle.mon_labels.proofs.Each.{left, one_more}
+use Rattle.mon_labels.proofs.labels.of_instances.Goals as goal
+
+pub loop-place-preserved : goal.loop-place-preserved
+loop-place-preserved c =
+    let all = c.args.self.now.interfaces.items in
+    let targets = c.args.reached.targets.now in
+    let addresses = c.args.reached.addresses.now in
+    let ws = c.args.instances.now in
+    let at = c.loop-place.place in
+    let w = c.index-instances-place.result in
+    let same = c.in_ok-labels.ensures ∙ ap (λ a. labels_for all a w.instance) c.address_of-address.ensures in
+    ap (λ (v : List InstanceLabels). map given v ++ left all targets addresses ws (at + 1)) c.in_ok-push.ensures.items
+    ∙ one_more all targets addresses ws at w _ _ _ (omega arith) c.index-instances-place.is same c.loop-place.invariant

@@ -1,0 +1,42 @@
+//! What the table and the page say of an instance alike.
+
+ghost use Rattle.std.specs.Prelude.{◌≡◌, IfOk};
+ghost use Rattle.std.specs.List.{list_any};
+ghost use Rattle.mon_alarms.specs.Observed.{state_by};
+ghost use Rattle.mon_page.specs.Cells.{alarm_cell, is_raised};
+
+use mon_alarms::{AlarmState, Rule, state};
+use mon_report::Entry;
+use mon_sample::Sample;
+use std::alloc::{AllocError, Global};
+
+/// Returns `RAISED` if the alarm of a rule on the instance is raised, else `clear`; a dash if there is no rule.
+///
+/// # Errors
+/// `AllocError` if there is no memory for the rules.
+pub fn alarm_cell(alloc: Global, entry: &Entry) -> Result<&'static str, AllocError>
+    ensures { IfOk result (λ text. text.now ≡ alarm_cell entry.now.items entry.now.rules) }
+{
+    let rules = entry.rules(alloc)?;
+    if rules.is_empty() {
+        return Ok("-");
+    }
+    if is_any_raised(entry.samples(), &rules) {
+        return Ok("RAISED");
+    }
+    Ok("clear")
+}
+
+/// Returns `true` if the alarm of a rule is raised over the samples.
+fn is_any_raised(samples: &[Sample], rules: &[Rule]) -> bool
+    ensures { result ≡ list_any (λ rule. is_raised (state_by rule samples.now)) rules.now }
+{
+    rules.iter().any(|rule| is_raised(state(rule, samples)))
+}
+
+/// Returns `true` if an alarm is raised.
+fn is_raised(alarm: AlarmState) -> bool
+    ensures { result ≡ is_raised alarm }
+{
+    matches!(alarm, AlarmState::Raised { .. })
+}
