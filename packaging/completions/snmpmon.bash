@@ -60,9 +60,9 @@ _snmpmon() {
             operands=('-' '-' '-')
             ;;
         walk)
-            options=' -m --module --names -h --help '
+            options=' --bulk -m --module --names -h --help '
             again=' -m --module '
-            takes=([-m]='@*' [--module]='@*')
+            takes=([--bulk]='-' [-m]='@*' [--module]='@*')
             operands=('-' '-' '-')
             ;;
         set)
@@ -95,9 +95,9 @@ _snmpmon() {
             operands=('@*')
             ;;
         station)
-            options=' --rounds --check --interval --phase --report-every --stale-after --out --http --format --columns -m --module --names -h --help '
+            options=' --rounds --check --interval --phase --report-every --stale-after --out --http --labels --format --columns -m --module --names -h --help '
             again=' -m --module '
-            takes=([--rounds]='-' [--interval]='-' [--phase]='-' [--report-every]='-' [--stale-after]='-' [--out]='@*' [--http]='-' [--format]='text json prometheus columns' [-m]='@*' [--module]='@*')
+            takes=([--rounds]='-' [--interval]='-' [--phase]='-' [--report-every]='-' [--stale-after]='-' [--out]='@*' [--http]='-' [--labels]='@*' [--format]='text json prometheus columns html' [-m]='@*' [--module]='@*')
             operands=('@*.toml')
             ;;
         report)
