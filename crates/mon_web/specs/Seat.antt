@@ -1,5 +1,5 @@
 -- The places for connections: who is late, and whose place a newcomer gets.
-use Rattle.std.specs.Prelude.{◌≡◌, ℕ, ◌+◌, ◌-◌, ◌≤◌, ◌⊎◌, Bool, true, false, List, Option, Some, None, All, slice_get, nat_le}
+use Rattle.std.specs.Prelude.{◌≡◌, ℕ, ◌+◌, ◌-◌, ◌≤◌, ◌⊎◌, Bool, true, false, List, Option, Some, None, All, slice_get, nat_le, if◌then◌else◌}
 use Rattle.std.specs.List.{position}
 use Rattle.mon_web.specs.declared.seat.Seat.{Seat}
 use Rattle.mon_web.specs.declared.seat.Stage.{Stage}
@@ -31,16 +31,16 @@ is_free _ = false
 abbrev pub is_spent : ℕ → ℕ → Bool
 is_spent now since = nat_le 100 (now - since)
 
--- a client in this stage since then may be closed for a newcomer
+-- a client may be closed for a newcomer in this stage since then
 abbrev pub yields : Stage → ℕ → ℕ → Bool
 yields Idle now since = true
 yields Asking now since = is_spent now since
 yields Closing now since = is_spent now since
 yields _ now since = false
 
--- a client may be closed for a newcomer
+-- a client may be closed for a newcomer: nothing can be done for it at once, and it is in such a stage
 abbrev pub may_yield : ℕ → Seat → Bool
-may_yield now seat = yields seat.stage now seat.since
+may_yield now seat = if seat.is_ready then false else yields seat.stage now seat.since
 
 -- the place is that of a client that waits longest, of those that may be closed for a newcomer; or there is none
 abbrev pub IsOldest : ℕ → List Seat → Option ℕ → Type 0

@@ -61,6 +61,8 @@ pub struct Seat {
     pub stage: Stage,
     /// When this stage started, in milliseconds since the station's start.
     pub since: u64,
+    /// Something may be done for its client at once.
+    pub is_ready: bool,
 }
 
 /// Returns `true` if a client has been in its stage for as long as it may: 10 seconds for a request
@@ -74,11 +76,14 @@ pub fn is_late(seat: Seat, now: u64) -> bool
     }
 }
 
-/// Returns `true` if a client may be closed for a newcomer: it waits for a further request, or was
-/// given no response within 100 ms, or does not close within that.
+/// Returns `true` if a client may be closed for a newcomer: nothing that it sent is unread, and it
+/// owes a further request, or for 100 ms its first one or its close.
 fn may_yield(seat: Seat, now: u64) -> bool
     ensures { result ≡ may_yield now seat }
 {
+    if seat.is_ready {
+        return false;
+    }
     match seat.stage {
         Stage::Idle => true,
         Stage::Asking | Stage::Closing => now.saturating_sub(seat.since) >= SPARED_MS,

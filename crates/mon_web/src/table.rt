@@ -23,7 +23,17 @@ const TICK_MS: u64 = 1000;
 const EMPTY: Seat = Seat {
     stage: Stage::Free,
     since: 0,
+    is_ready: false,
 };
+
+/// The place of a client whose stage starts now.
+fn seat_in(stage: Stage, now: u64) -> Seat {
+    Seat {
+        stage,
+        since: now,
+        is_ready: true,
+    }
+}
 
 /// The connections, and the listener that they come by.
 #[derive(Drop)]
@@ -32,8 +42,8 @@ pub(crate) struct Table {
     listener: TcpListener,
     seats: Vec<Seat>,
     clients: Vec<Option<Client>>,
-    /// `true` for each place, and last for a newcomer, if something may be done.
-    ready: Vec<bool>,
+    /// A newcomer may be let in.
+    has_newcomer: bool,
     /// Whose turn is next.
     next: usize,
     buffer: Vec<u8>,
@@ -56,7 +66,7 @@ impl Table {
             listener,
             seats: vec![in alloc; EMPTY; SEATS]?,
             clients,
-            ready: vec![in alloc; true; SEATS + 1]?,
+            has_newcomer: true,
             next: 0,
             buffer: vec![in alloc; 0u8; BUFFER]?,
             site,
@@ -69,14 +79,19 @@ impl Table {
     }
 
     fn set_ready(&mut self, place: usize, ready: bool) {
-        if let Some(flag) = self.ready.get_mut(place) {
-            *flag = ready;
+        if place == DOOR {
+            self.has_newcomer = ready;
+        } else if let Some(seat) = self.seats.get_mut(place) {
+            seat.is_ready = ready;
         }
     }
 
     fn is_ready(&self, place: usize) -> bool {
-        match self.ready.get(place) {
-            Some(flag) => *flag,
+        if place == DOOR {
+            return self.has_newcomer;
+        }
+        match self.seats.get(place) {
+            Some(seat) => seat.is_ready,
             None => false,
         }
     }
@@ -111,7 +126,7 @@ impl Table {
         match turn {
             Turn::Waits => self.set_ready(place, false),
             Turn::GoesOn => {}
-            Turn::Begins(stage) => self.set_seat(place, Seat { stage, since: now }),
+            Turn::Begins(stage) => self.set_seat(place, seat_in(stage, now)),
             Turn::Ends => self.clear(place),
         }
     }
@@ -156,14 +171,7 @@ impl Table {
         self.clear(place);
         if let Ok(client) = Client::new(self.alloc, registry, stream, Token(place)) {
             self.set_client(place, Some(client));
-            self.set_seat(
-                place,
-                Seat {
-                    stage: Stage::Asking,
-                    since: now,
-                },
-            );
-            self.set_ready(place, true);
+            self.set_seat(place, seat_in(Stage::Asking, now));
         }
     }
 
