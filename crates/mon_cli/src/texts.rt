@@ -224,7 +224,8 @@ pub(crate) fn about<'a>(choice: Choice) -> &'a str {
         Choice::Get => "Asks an agent for variables by their names (GetRequest)",
         Choice::Next => "Asks an agent for the variables after names (GetNextRequest)",
         Choice::Bulk => "Asks an agent for many variables after names (GetBulkRequest)",
-        Choice::Walk => "Asks an agent for all variables under a name (GetNextRequests, GetBulkRequests)",
+        Choice::Walk =>
+            "Asks an agent for all variables under a name (GetNextRequests, GetBulkRequests)",
         Choice::Set => "Has an agent assign a value to a variable (SetRequest)",
         Choice::Settings => "Prints the settings of a station that polls an agent's interfaces",
         Choice::Agent => "Serves an agent over a simulated device",
