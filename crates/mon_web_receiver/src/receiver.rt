@@ -12,7 +12,7 @@ use mon_rounds::{Arrival, Receiver, ReceiverFault, Wait, arrival_of, millisecond
 use mon_udp::{datagram_buffer, failed_after};
 use mon_web::{Moment, Texts, Web};
 use std::alloc::Global;
-use std::io::{self, ErrorKind};
+use std::io;
 use std::net::SocketAddr;
 use std::os::fd::AsRawFd;
 use std::rt::Clock;
@@ -21,6 +21,17 @@ use std::time::{Duration, Instant, SystemTime, UNIX_EPOCH};
 /// How often a wait looks for a datagram at most, after each thing that it does for HTTP. A wait is
 /// over long before.
 const TRIES: u32 = u32::MAX;
+
+/// What an attempt to receive came to.
+#[derive(Clone, Copy)]
+enum Attempt {
+    /// A datagram of this length came from this address.
+    Received(usize, SocketAddr),
+    /// The wait is over.
+    Over,
+    /// Nothing came, and HTTP was served or waited for.
+    Served,
+}
 
 /// Receives a station's datagrams by its socket, and serves HTTP while it waits for them.
 #[derive(Drop)]
@@ -66,26 +77,39 @@ impl<'a, R: Clock + AllocGlobal> WebReceiver<'a, R> {
 impl<R: Clock> WebReceiver<'_, R> {
     /// Receives something in a wait that begins now, or in the rest of the last one.
     fn receive_in(&mut self, wait: Wait) -> io::Result<Option<(usize, SocketAddr)>> {
+        self.begin(wait)?;
+        for _ in 0..TRIES {
+            match self.attempt()? {
+                Attempt::Received(len, from) => return Ok(Some((len, from))),
+                Attempt::Over => return Ok(None),
+                Attempt::Served => {}
+            }
+        }
+        Ok(None)
+    }
+
+    /// Begins a wait, or goes on with the last one.
+    fn begin(&mut self, wait: Wait) -> io::Result<()> {
         if let Wait::Anew(milliseconds) = wait {
             self.began = Instant::now(self.rt)?;
             self.length = Duration::from_millis(u64::from(milliseconds));
         }
-        for _ in 0..TRIES {
-            match self.socket.udp.recv_from(self.buffer.as_mut_slice()) {
-                Ok(received) => return Ok(Some(received)),
-                Err(error) => match error.kind() {
-                    ErrorKind::WouldBlock | ErrorKind::Interrupted => {}
-                    _ => return Err(error),
-                },
-            }
-            let now = Instant::now(self.rt)?;
-            let left = left_of(self.length, self.began, now);
-            if left.is_zero() {
-                return Ok(None);
-            }
-            self.web.turn(self.moment(now), left)?;
+        Ok(())
+    }
+
+    /// Looks for a datagram; if there is none, serves HTTP once in what is left of the wait.
+    fn attempt(&mut self) -> io::Result<Attempt> {
+        if let Some((len, from)) = self.socket.receive(self.buffer.as_mut_slice())? {
+            return Ok(Attempt::Received(len, from));
         }
-        Ok(None)
+        let now = Instant::now(self.rt)?;
+        let left = left_of(self.length, self.began, now);
+        if left.is_zero() {
+            return Ok(Attempt::Over);
+        }
+        let at = self.moment(now);
+        self.web.turn(at, left)?;
+        Ok(Attempt::Served)
     }
 
     /// Returns the time, as it is said to clients.

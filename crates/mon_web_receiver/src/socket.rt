@@ -1,9 +1,11 @@
 //! A socket of UDP whose calls do not wait.
 
+ghost use Rattle.std.specs.Prelude.{◌≡◌, length};
+
 use mio::net::UdpSocket;
 use mon_rounds::Sends;
 use mon_udp::Addr;
-use std::io;
+use std::io::{self, ErrorKind};
 use std::net::{Net, SocketAddr};
 
 /// A socket of UDP over IPv4 whose calls do not wait. It is closed when it is dropped.
@@ -28,6 +30,23 @@ impl PolledSocket {
     /// That of the system.
     pub fn address(&self) -> io::Result<SocketAddr> {
         self.udp.local_addr()
+    }
+
+    /// Puts a datagram into the buffer, if one is there. Returns how many of its octets are there, and
+    /// where it came from.
+    ///
+    /// # Errors
+    /// That of the system.
+    pub(crate) fn receive(&self, buffer: &mut [u8]) -> io::Result<Option<(usize, SocketAddr)>>
+        ensures { length buffer.new ≡ length buffer.old }
+    {
+        match self.udp.recv_from(buffer) {
+            Ok(received) => Ok(Some(received)),
+            Err(error) => match error.kind() {
+                ErrorKind::WouldBlock | ErrorKind::Interrupted => Ok(None),
+                _ => Err(error),
+            },
+        }
     }
 }
 
