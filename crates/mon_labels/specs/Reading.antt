@@ -49,7 +49,7 @@ count (item d ds) = 1 + count ds
 abbrev pub few : Items → Result Items LabelsFault
 few ds = if nat_le (count ds) 4096 then Ok ds else Err fault.TooMany
 
--- a list of so many
+-- a list of at most 4,096 items, empty where it is left out
 abbrev pub listed : Option Data → Result Items LabelsFault
 listed None = Ok no_items
 listed (Some d) = or_bad place.Top key.Interface (as_array d) >>= few

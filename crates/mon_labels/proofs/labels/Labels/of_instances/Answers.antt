@@ -1,4 +1,4 @@
-use Rattle.std.proofs.Common.{◌+◌, ◌++◌, ◌∙◌, List, ap, map, drop, arith}
+use Rattle.std.proofs.Common.{◌+◌, ◌++◌, ◌∙◌, List, ap, map, arith}
 use Rattle.mon_formats.specs.declared.extras.InstanceLabels.{InstanceLabels}
 use Rattle.mon_labels.specs.Given.{given, labels_for}
 use Rattle.mon_labels.proofs.Each.{left, one_more}
