@@ -46,7 +46,7 @@ impl Printing {
         })
     }
 
-    /// The same, with these labels of the instances.
+    /// How reports are printed with these labels of the instances.
     pub(crate) fn with_labels(self, labels: Vec<InstanceLabels>) -> Self {
         Printing {
             format: self.format,

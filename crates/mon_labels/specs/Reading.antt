@@ -1,5 +1,5 @@
 -- What a text of labels says: an interface after another, the first fault deciding.
-use Rattle.std.specs.Prelude.{◌≡◌, ◌≤◌, ℕ, ◌+◌, nat_le, List, [], ◌∷◌, ◌++◌, length, Option, Some, None, Result, Ok, Err, if◌then◌else◌}
+use Rattle.std.specs.Prelude.{◌≡◌, ◌⊎◌, ◌≤◌, ℕ, ◌+◌, nat_le, List, [], ◌∷◌, ◌++◌, length, Option, Some, None, Result, Ok, Err, if◌then◌else◌}
 use Rattle.std.specs.List.{list_any}
 use Rattle.toml.specs.Data.{Data, Items, no_items, item, Members, get_member, as_array, as_str, as_table}
 use Rattle.toml.specs.Parse.{parse_document}
@@ -49,7 +49,7 @@ count (item d ds) = 1 + count ds
 abbrev pub few : Items → Result Items LabelsFault
 few ds = if nat_le (count ds) 4096 then Ok ds else Err fault.TooMany
 
--- a list of so many
+-- a list of at most 4,096 items, empty where it is left out
 abbrev pub listed : Option Data → Result Items LabelsFault
 listed None = Ok no_items
 listed (Some d) = or_bad place.Top key.Interface (as_array d) >>= few
@@ -79,12 +79,6 @@ IsUnread text fault.OutOfMemory = Unit {0}
 IsUnread text (fault.NotToml at) = (parse_document text ≡ None) × (at ≤ length text)
 IsUnread text _ = ⊥
 
--- why a text is refused: it has no tree, or its tree has a fault
+-- why a text is refused: it has no tree, or this is the first fault of its tree
 abbrev pub IsRefusal : List ℕ → LabelsFault → Type 0
-IsRefusal text fault.OutOfMemory = Unit {0}
-IsRefusal text (fault.NotToml at) = IsUnread text (fault.NotToml at)
-IsRefusal text (fault.UnknownKey p) = HasFault text (fault.UnknownKey p)
-IsRefusal text (fault.Missing p k) = HasFault text (fault.Missing p k)
-IsRefusal text (fault.BadValue p k) = HasFault text (fault.BadValue p k)
-IsRefusal text (fault.Twice n) = HasFault text (fault.Twice n)
-IsRefusal text fault.TooMany = HasFault text fault.TooMany
+IsRefusal text e = IsUnread text e ⊎ HasFault text e

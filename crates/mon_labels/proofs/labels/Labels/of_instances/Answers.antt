@@ -1,8 +1,8 @@
-use Rattle.std.proofs.Common.{◌+◌, ◌++◌, ◌∙◌, List, ap, map, drop, arith}
+use Rattle.std.proofs.Common.{◌+◌, ◌++◌, ◌∙◌, List, ap, map, arith}
 use Rattle.mon_formats.specs.declared.extras.InstanceLabels.{InstanceLabels}
 use Rattle.mon_labels.specs.Given.{given, labels_for}
 use Rattle.mon_labels.proofs.Each.{left, one_more}
-use Rattle.mon_labels.proofs.labels.of_instances.Goals as goal
+use Rattle.mon_labels.proofs.labels.Labels.of_instances.Goals as goal
 
 pub loop-place-preserved : goal.loop-place-preserved
 loop-place-preserved c =

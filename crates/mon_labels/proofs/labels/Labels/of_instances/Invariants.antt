@@ -1,6 +1,6 @@
 use Rattle.std.proofs.Common.{◌≡◌, ◌++◌, drop, map}
 use Rattle.mon_labels.specs.Given.{given, given_from}
-use Rattle.mon_labels.proofs.labels.of_instances.Given as goal
+use Rattle.mon_labels.proofs.labels.Labels.of_instances.Given as goal
 
 -- those so far, and those of the instances that are left, are all
 abbrev pub invariant-loop-place : goal.invariant-loop-place
