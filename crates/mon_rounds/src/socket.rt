@@ -48,7 +48,6 @@ impl<R: Clock> SocketReceiver<'_, R> {
         self.waiting
             .receive(self.socket, self.buffer.as_mut_slice())
     }
-
 }
 
 /// Returns the datagram of this length at the front of a buffer, which came from this address.
