@@ -19,6 +19,10 @@ Best now seats n (Some place) since = (seat : Seat) × (slice_get seats place �
 -- the whole is searched
 pub found : (now : ℕ) (seats : List Seat) (place : Option ℕ) (since : ℕ) → Best now seats (length seats) place since → IsOldest now seats place
 found now seats None since h = All-from_all_within (λ seat. may_yield now seat ≡ false) seats h
-found now seats (Some place) since (seat, at, yields, is, least) =
-    (seat, at, yields, All-from_all_within (IsNotBefore now seat.since) seats
-        (subst (λ s. AllWithin (IsNotBefore now s) seats 0 (length seats)) (sym is) least))
+found now seats (Some place) since (seat, at, yields, is, least) = (
+  seat,
+  at,
+  yields,
+  All-from_all_within (IsNotBefore now seat.since) seats
+      (subst (λ s. AllWithin (IsNotBefore now s) seats 0 (length seats)) (sym is) least),
+)

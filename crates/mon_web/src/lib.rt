@@ -15,7 +15,7 @@ mod table;
 mod web;
 
 pub use door::Door;
-pub use seat::{Seat, Stage, choose_seat, is_late};
 pub use response::Moment;
+pub use seat::{Seat, Stage, choose_seat, is_late};
 pub use site::{Site, Texts};
 pub use web::Web;

@@ -113,8 +113,12 @@ impl Table {
             return self.admit(registry, at.now);
         }
         let turn = match self.clients.get_mut(place) {
-            Some(Some(client)) =>
-                client.turn(self.alloc, &self.site, self.buffer.as_mut_slice(), at),
+            Some(Some(client)) => client.turn(
+                self.alloc,
+                &self.site,
+                self.buffer.as_mut_slice(),
+                at,
+            ),
             _ => Turn::Waits,
         };
         self.settle(place, turn, at.now);

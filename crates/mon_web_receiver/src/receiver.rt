@@ -52,12 +52,7 @@ impl<'a, R: Clock + AllocGlobal> WebReceiver<'a, R> {
     ///
     /// # Errors
     /// `OutOfMemory` if there is no memory for a datagram, else the system's fault.
-    pub fn new(
-        rt: &'a R,
-        socket: &'a PolledSocket,
-        web: Web,
-        origin: Instant,
-    ) -> io::Result<Self> {
+    pub fn new(rt: &'a R, socket: &'a PolledSocket, web: Web, origin: Instant) -> io::Result<Self> {
         let alloc = rt.alloc();
         web.watch(&mut SourceFd(&socket.udp.as_raw_fd()))?;
         Ok(WebReceiver {
