@@ -3,9 +3,7 @@
 #![tactic(auto)]
 
 mod asking;
-mod existing;
 mod failing;
-mod labelling;
 mod parts;
 mod settings;
 mod words;

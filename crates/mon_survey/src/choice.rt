@@ -1,18 +1,17 @@
 //! Which interfaces and counters are chosen.
 
 ghost use Rattle.std.specs.Prelude.{◌≡◌};
-ghost use Rattle.mon_survey.specs.Plan.{has_part, is_chosen, is_wanted, needs, spares};
+ghost use Rattle.mon_survey.specs.Plan.{has_part, is_chosen, is_wanted};
 
 use crate::answers::Answers;
-use crate::column::Column;
-use crate::counter::{Counter, Kind, column_of};
+use crate::counter::Kind;
 
 /// Which kinds of counters are polled.
 #[derive(Clone, Copy, Debug, PartialEq, Eq)]
 pub struct Kinds {
     /// Octets.
     pub octets: bool,
-    /// Packets: unicast, and multicast and broadcast where ifXTable counts them.
+    /// Unicast packets.
     pub packets: bool,
     /// Packets with errors.
     pub errors: bool,
@@ -31,21 +30,6 @@ impl Kinds {
             Kind::Errors => self.errors,
             Kind::Discards => self.discards,
         }
-    }
-
-    /// Returns `true` if a plan looks at the column: it counts nothing, or a kind that is polled.
-    pub fn needs(self, column: Column) -> bool
-        ensures { result ≡ needs self column }
-    {
-        Counter::every().iter().all(|counter| !self.spares(*counter, column))
-    }
-
-    /// Returns `true` if the column is one of a counter that is not polled.
-    fn spares(self, counter: Counter, column: Column) -> bool
-        ensures { result ≡ spares self column counter }
-    {
-        !self.has(counter.kind())
-            && (column_of(counter, true) == column || column_of(counter, false) == column)
     }
 }
 
