@@ -72,9 +72,9 @@ _snmpmon() {
             operands=('-' '-' '-' 'integer string hex oid ip counter32 gauge32 timeticks counter64' '-')
             ;;
         settings)
-            options=' --station --listen --file --window --wait-ms --tries --peer --only --up --match --thresholds --split -h --help '
-            again=' --peer '
-            takes=([--station]='-' [--listen]='-' [--file]='@*' [--window]='-' [--wait-ms]='-' [--tries]='-' [--peer]='-' [--only]='-' [--match]='-' [--thresholds]='-' [--split]='-')
+            options=' --station --listen --file --window --wait-ms --tries --peer --only --up --match --thresholds --split --append --labels -m --module -h --help '
+            again=' --peer -m --module '
+            takes=([--station]='-' [--listen]='-' [--file]='@*' [--window]='-' [--wait-ms]='-' [--tries]='-' [--peer]='-' [--only]='-' [--match]='-' [--thresholds]='-' [--split]='-' [--append]='@*' [--labels]='@*' [-m]='@*' [--module]='@*')
             operands=('-' '-')
             ;;
         agent)

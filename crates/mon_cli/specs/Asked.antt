@@ -153,8 +153,11 @@ IsSurvey rows w = (w.address.now ≡ text_in (codes "ADDRESS") rows)
     × (option_map (λ o. o.now) w.only ≡ first_of (codes "only") rows)
     × (w.up ≡ is_on (codes "up") rows)
     × (w.part.now ≡ text_in (codes "match") rows)
-    × IsNumberOr 32 0 (one_of (codes "thresholds") rows) w.percent
+    × (option_map (λ o. o.now) w.thresholds ≡ first_of (codes "thresholds") rows)
     × (option_map (λ o. o.now) w.split ≡ first_of (codes "split") rows)
+    × (option_map (λ o. o.now) w.append ≡ first_of (codes "append") rows)
+    × (option_map (λ o. o.now) w.labels ≡ first_of (codes "labels") rows)
+    × (texts w.modules.now ≡ all_in (codes "module") rows)
 
 -- what the rows of a command's arguments ask for
 abbrev pub Says : Choice → List Row → Asked → Type 0
@@ -238,7 +241,6 @@ IsWithin (asked.Settings w) = IsIn (value_of commands.Settings (codes "station")
     × IsIn (value_of commands.Settings (codes "window")) w.window
     × IsIn (value_of commands.Settings (codes "wait-ms")) w.wait_ms
     × IsIn (value_of commands.Settings (codes "tries")) w.tries
-    × ((w.percent ≡ 0) ⊎ IsIn (value_of commands.Settings (codes "thresholds")) w.percent)
 IsWithin (asked.Agent w) = IfSome w.boots (IsSignedIn (value_of commands.Agent (codes "boots"))) × IsIn (value_of commands.Agent (codes "count")) w.count
 IsWithin (asked.Answer w) = IfSome w.boots (IsSignedIn (value_of commands.Answer (codes "boots")))
     × IsIn (value_of commands.Answer (codes "at")) w.scene.at × IsIn (value_of commands.Answer (codes "times")) w.scene.times

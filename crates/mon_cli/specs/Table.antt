@@ -92,8 +92,11 @@ arguments commands.Settings = addressed
     ∷ option (codes "only") Text
     ∷ flag (codes "up")
     ∷ option (codes "match") Text
-    ∷ option (codes "thresholds") (up_to 1 100)
-    ∷ option (codes "split") Text ∷ []
+    ∷ option (codes "thresholds") Text
+    ∷ option (codes "split") Text
+    ∷ option (codes "append") Text
+    ∷ option (codes "labels") Text
+    ∷ or_letter 109 (repeated (codes "module")) ∷ []
 arguments commands.Agent = settings ∷ boots ∷ needed (option (codes "count") (up_to 1 4294967295)) ∷ []
 arguments commands.Answer = settings ∷ boots
     ∷ option (codes "at") (Natural 0 214748364799)

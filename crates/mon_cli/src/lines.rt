@@ -467,10 +467,10 @@ const MATCH: Line = Line {
 const THRESHOLDS: Line = Line {
     id: "thresholds",
     form: Form::Long,
-    takes: Takes::One(Value::Number(1, 100)),
+    takes: Takes::One(Value::Text),
     needed: false,
-    shown: "thresholds",
-    help: "Writes an alarm on each counter of octets, raised at this percentage of the interface's speed, 1 to 100",
+    shown: "PERCENT",
+    help: "Writes an alarm on each counter of octets, raised at this percentage of the interface's speed: 1 to 100, as 80 or 80%",
 };
 
 const SPLIT: Line = Line {
@@ -480,6 +480,24 @@ const SPLIT: Line = Line {
     needed: false,
     shown: "FOLDER",
     help: "Writes a file of settings into FOLDER for each 256 counters, with ports and files counted up, and prints their names",
+};
+
+const APPEND: Line = Line {
+    id: "append",
+    form: Form::Long,
+    takes: Takes::One(Value::Text),
+    needed: false,
+    shown: "FILE",
+    help: "Prints the settings in FILE with the agent's targets at their end; names are shown as there",
+};
+
+const WRITTEN_LABELS: Line = Line {
+    id: "labels",
+    form: Form::Long,
+    takes: Takes::One(Value::Text),
+    needed: false,
+    shown: "FILE",
+    help: "Writes the interfaces' names and aliases to FILE, for Prometheus' labels; with --append they go to the end of FILE",
 };
 
 /// The arguments before any command.
@@ -503,9 +521,24 @@ static WALK: [Line; 6] = [ADDRESS, COMMUNITY, NAME, AT_ONCE, MODULE, NAMES];
 
 static SET: [Line; 7] = [ADDRESS, COMMUNITY, NAME, KIND, VALUE, MODULE, NAMES];
 
-static SURVEY: [Line; 14] = [
-    ADDRESS, COMMUNITY, OWN_NUMBER, LISTEN, SAVED_FILE, WINDOW, WAIT_MS, TRIES, PEER, ONLY, UP,
-    MATCH, THRESHOLDS, SPLIT,
+static SURVEY: [Line; 17] = [
+    ADDRESS,
+    COMMUNITY,
+    OWN_NUMBER,
+    LISTEN,
+    SAVED_FILE,
+    WINDOW,
+    WAIT_MS,
+    TRIES,
+    PEER,
+    ONLY,
+    UP,
+    MATCH,
+    THRESHOLDS,
+    SPLIT,
+    APPEND,
+    WRITTEN_LABELS,
+    MODULE,
 ];
 
 static AGENT: [Line; 3] = [AGENT_SETTINGS, BOOTS, COUNT];

@@ -223,8 +223,11 @@ fn survey<'m, 'a>(matches: &'m ArgMatches<'a>) -> SettingsArgs<'m, 'a>
         only: find_value(matches, "only"),
         up: is_on(matches, "up"),
         part: text(matches, "match"),
-        percent: number_or(matches, "thresholds", 0),
+        thresholds: find_value(matches, "thresholds"),
         split: find_value(matches, "split"),
+        append: find_value(matches, "append"),
+        labels: find_value(matches, "labels"),
+        modules: all(matches, "module"),
     }
 }
 

@@ -113,10 +113,16 @@ pub struct SettingsArgs<'m, 'a> {
     pub up: bool,
     /// What names or aliases contain; empty for any.
     pub part: &'a str,
-    /// At which percentage of its speed an interface raises an alarm; 0 for never.
-    pub percent: u32,
+    /// At which percentage of its speed an interface raises an alarm, if the arguments say so.
+    pub thresholds: Option<&'a str>,
     /// The folder of several files of settings, if the arguments say so.
     pub split: Option<&'a str>,
+    /// The file of the settings whose targets come first, if the arguments say so.
+    pub append: Option<&'a str>,
+    /// The file of the interfaces' texts, if one is written.
+    pub labels: Option<&'a str>,
+    /// The files of the modules that give names, in the order of the command line.
+    pub modules: &'m [&'a str],
 }
 
 /// The agent that `agent` serves.

@@ -100,7 +100,9 @@ Examples: snmpmon set 127.0.0.1:16100 private mib-2.1.5.0 string r2
 const SETTINGS_MORE: &str =
     "Asks the agent at ADDRESS for its engine and walks its tables of interfaces (GetBulkRequests), and prints the settings of a station
 that polls the counters that are chosen, as `station` reads them: 64-bit counters where the agent has them, each with its discontinuity
-mark where there is one, in targets of 16. The text is read back before it is printed, and nothing is printed if anything fails.
+mark where there is one, in targets of 16. Packets are those of unicast, and of multicast and broadcast where ifXTable counts them. The
+text is read back before it is printed, and nothing is printed if anything fails. With -m names stand as ifHCInOctets.1. Where ifNumber
+is not the number of ifTable's interfaces, a line on standard error says so.
 
 An agent without the snmpEngine group ends it with mon_survey 2 NoEngine, since a station stamps each sample by it; no counter
 to poll with 5 NoCounter, more than 256 with 6 TooMany, an option that no settings can have with 8 Refused.
@@ -108,8 +110,12 @@ to poll with 5 NoCounter, more than 256 with 6 TooMany, an option that no settin
 With --split there may be more: FOLDER/station-1.toml has the first 256, station-2.toml the next, and so on, each the settings of a
 station of its own. From the second on the ports of --listen and --peer are counted up, and the number follows the name of its file.
 
+With --append the settings in FILE come first, octet by octet, and then the targets of this agent and their alarms; options of the
+station are FILE's own. An engine id that FILE has ends it with 10 SameEngine, more than 64 targets in all with 11 TooManyTargets.
+
 Examples: snmpmon settings 127.0.0.1:16100 public > station.toml
-          snmpmon settings 127.0.0.1:16100 public --up --only octets,packets --thresholds 80 > station.toml";
+          snmpmon settings 127.0.0.1:16100 public --up --only octets,packets --thresholds 80% > station.toml
+          snmpmon settings 127.0.0.2:16100 public --append station.toml > both.toml";
 
 const AGENT_MORE: &str =
     "Reads SETTINGS, a TOML file (examples/agent.toml explains each key), listens at the address in it, says on standard

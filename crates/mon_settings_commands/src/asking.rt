@@ -7,10 +7,10 @@ use mon_ber::Value;
 use mon_console::{Failure, Fault, answer_failure};
 use mon_oid::Oid;
 use mon_pdu::{Binding, Body, Message};
-use mon_survey::{Answers, Column, SurveyFault, columns, engine_of};
+use mon_survey::{Answers, Column, Kinds, SurveyFault, columns, engine_of};
 use std::alloc::Global;
 use std::net::Net;
-use std::rt::Clock;
+use std::rt::{Clock, Files};
 use std::slice;
 
 /// How many rounds a GetBulk asks for.
@@ -19,13 +19,60 @@ const REPETITIONS: i32 = 32;
 /// How many requests the walk of a column makes at most.
 const REQUESTS: u32 = 65_536;
 
-/// snmpEngineID.0, snmpEngineBoots.0 and snmpEngineTime.0 (RFC 3411 section 5), by their last numbers
-/// but one.
-const ENGINE_GROUP: [u32; 3] = [1, 2, 3];
+/// snmpEngineID.0, snmpEngineBoots.0 and snmpEngineTime.0 (RFC 3411 section 5).
+const ENGINE_GROUP: [[u32; 11]; 3] = [
+    [1, 3, 6, 1, 6, 3, 10, 2, 1, 1, 0],
+    [1, 3, 6, 1, 6, 3, 10, 2, 1, 2, 0],
+    [1, 3, 6, 1, 6, 3, 10, 2, 1, 3, 0],
+];
+
+/// ifNumber.0 (RFC 2863 section 6).
+const IF_NUMBER: [u32; 9] = [1, 3, 6, 1, 2, 1, 2, 1, 0];
+
+/// What the agent answered.
+#[derive(Drop)]
+pub(crate) struct Survey {
+    pub(crate) engine: Vec<u8>,
+    pub(crate) answers: Answers,
+}
+
+/// Asks the agent for its engine and its interfaces. Where its ifNumber is another number than that of
+/// ifTable's interfaces, a line on standard error says so.
+pub(crate) fn ask_agent<R: Clock + Files + Net + Eprint + AllocGlobal>(
+    rt: &R,
+    asked: Asked<'_>,
+) -> Result<Survey, Failure> {
+    let alloc = rt.alloc();
+    let mut asker = Asker::open(rt, asked)?;
+    let first = asker.first(alloc)?;
+    let answers = asker.interfaces(alloc, asked.kinds)?;
+    tell_count(rt, asked.agent.word, first.number, answers.count());
+    Ok(Survey {
+        engine: first.engine,
+        answers,
+    })
+}
+
+/// Says that ifNumber is another number than that of ifTable's interfaces, where it is.
+fn tell_count(rt: &impl Eprint, agent: &str, number: Option<u32>, count: usize) {
+    let Some(number) = number else {
+        return;
+    };
+    if number as usize != count {
+        let _ = eprintln!(rt; "{agent}: ifNumber is {number}, and ifTable has {count} interfaces");
+    }
+}
+
+/// What the agent answers first: its engine id, and its ifNumber where it has one.
+#[derive(Drop)]
+struct Head {
+    engine: Vec<u8>,
+    number: Option<u32>,
+}
 
 /// Asks one agent question after question.
 #[derive(Drop)]
-pub(crate) struct Asker<'a, W> {
+struct Asker<'a, W> {
     wire: W,
     agent: &'a str,
     community: &'a [u8],
@@ -35,7 +82,7 @@ pub(crate) struct Asker<'a, W> {
 
 impl<'a, R: Clock + Net> Asker<'a, SocketWire<'a, R>> {
     /// Opens a socket to ask the agent from.
-    pub(crate) fn open(rt: &'a R, asked: Asked<'a>) -> Result<Self, Failure>
+    fn open(rt: &'a R, asked: Asked<'a>) -> Result<Self, Failure>
     where
         R: AllocGlobal,
     {
@@ -72,24 +119,26 @@ impl<W: Wire> Asker<'_, W> {
         }
     }
 
-    /// Returns the agent's engine id.
-    pub(crate) fn engine(&mut self, alloc: Global) -> Result<Vec<u8>, Failure> {
-        let mut names = Vec::new(alloc);
-        for number in ENGINE_GROUP {
-            names.push(engine_name(alloc, number)?)?;
-        }
+    /// Returns the agent's engine id and its ifNumber.
+    fn first(&mut self, alloc: Global) -> Result<Head, Failure> {
+        let names = first_names(alloc)?;
         let bindings = self.ask(alloc, Asking::Get, &names)?;
         match engine_in(&bindings) {
-            Ok(engine) => Ok(Vec::from_slice(alloc, engine)?),
+            Ok(engine) => Ok(Head {
+                engine: Vec::from_slice(alloc, engine)?,
+                number: number_in(&bindings),
+            }),
             Err(fault) => Err(survey_failure(alloc, self.agent, fault)),
         }
     }
 
-    /// Returns what the agent answers of its interfaces.
-    pub(crate) fn interfaces(&mut self, alloc: Global) -> Result<Answers, Failure> {
+    /// Returns what the agent answers of its interfaces, for these kinds of counters.
+    fn interfaces(&mut self, alloc: Global, kinds: Kinds) -> Result<Answers, Failure> {
         let mut answers = Answers::new(alloc);
         for column in columns() {
-            self.walk(alloc, column, &mut answers)?;
+            if kinds.needs(column) {
+                self.walk(alloc, column, &mut answers)?;
+            }
         }
         Ok(answers)
     }
@@ -184,17 +233,38 @@ fn bindings_of(alloc: Global, agent: &str, message: Message) -> Result<Vec<Bindi
     }
 }
 
-/// The engine id in the answers to the three names of the group.
+/// The engine id in the answers to the three names of the group, which come first.
 fn engine_in(bindings: &[Binding]) -> Result<&[u8], SurveyFault> {
-    let [id, boots, time] = bindings else {
+    let [id, boots, time, _number] = bindings else {
         return Err(SurveyFault::NoEngine);
     };
     engine_of(&id.value, &boots.value, &time.value)
 }
 
-/// The name of a variable of the snmpEngine group.
-fn engine_name(alloc: Global, number: u32) -> Result<Oid, Failure> {
-    match Oid::from_parts(alloc, &[1, 3, 6, 1, 6, 3, 10, 2, 1, number, 0]) {
+/// The ifNumber in the answers, which comes after the group.
+fn number_in(bindings: &[Binding]) -> Option<u32> {
+    let [_id, _boots, _time, number] = bindings else {
+        return None;
+    };
+    match &number.value {
+        Value::Integer(count) => u32::try_from(*count).ok(),
+        _ => None,
+    }
+}
+
+/// The names that are asked for first: those of the snmpEngine group, and ifNumber.
+fn first_names(alloc: Global) -> Result<Vec<Oid>, Failure> {
+    let mut names = Vec::new(alloc);
+    for parts in &ENGINE_GROUP {
+        names.push(name_of(alloc, parts.as_slice())?)?;
+    }
+    names.push(name_of(alloc, IF_NUMBER.as_slice())?)?;
+    Ok(names)
+}
+
+/// The name of these numbers.
+fn name_of(alloc: Global, parts: &[u32]) -> Result<Oid, Failure> {
+    match Oid::from_parts(alloc, parts) {
         Ok(name) => Ok(name),
         Err(_) => Err(Failure::from(AppFault::OutOfMemory)),
     }

@@ -1,15 +1,25 @@
 //! Why there are no settings.
 
+use mon_app::AppFault;
 use mon_console::{Failure, Fault};
 use mon_station::Innermost;
 use mon_survey::SurveyFault;
-use std::alloc::Global;
+use std::alloc::{Global, AllocError};
 
-/// Why there are no settings.
-pub(crate) fn survey_failure(alloc: Global, agent: &str, fault: SurveyFault) -> Failure {
+/// Why an agent gives no settings, or a file no labels.
+pub(crate) fn survey_failure(alloc: Global, place: &str, fault: SurveyFault) -> Failure {
     let innermost = Innermost::new("mon_survey", fault.number(), fault.name());
     Failure::said(
         Fault::Other(innermost),
-        format!(in alloc; "{agent}: {fault}"),
+        format!(in alloc; "{place}: {fault}"),
     )
+}
+
+/// Why settings that are there are asked for with other options.
+pub(crate) fn together_failure(alloc: Global) -> Failure {
+    let more: Result<String, AllocError> = String::from_str(
+        alloc,
+        "--append goes with neither --split nor --module: names stand as in the settings",
+    );
+    Failure::said(Fault::App(AppFault::BadText), more)
 }

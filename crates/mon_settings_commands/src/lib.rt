@@ -3,7 +3,9 @@
 #![tactic(auto)]
 
 mod asking;
+mod existing;
 mod failing;
+mod labelling;
 mod parts;
 mod settings;
 mod words;

@@ -1,15 +1,20 @@
 //! The command `settings`: asks an agent for its engine, walks its tables of interfaces, and prints the
 //! settings of a station that polls it.
 
-use crate::asking::Asker;
-use crate::failing::survey_failure;
+ghost use Rattle.std.specs.Prelude.{◌≤◌};
+
+use crate::asking::{Survey, ask_agent};
+use crate::existing::{Existing, existing_in};
+use crate::failing::{survey_failure, together_failure};
+use crate::labelling::{old_labels, write_labels};
 use crate::parts::write_parts;
-use crate::words::{address_up, file_up, kinds_of, peers_of};
+use crate::words::{address_up, file_up, kinds_of, peers_of, percent_of};
 use mon_cli::SettingsArgs;
 use mon_console::{AgentAt, Failure, agent_at, community, names_of, print};
 use mon_smi::Names;
-use mon_survey::{Answers, Choice, Kinds, Options, Surveyed, settings};
+use mon_survey::{Choice, Kinds, Options, Peer, Surveyed, append, settings};
 use std::alloc::Global;
+use std::fs::File;
 use std::net::Net;
 use std::rt::{Clock, Files};
 
@@ -19,34 +24,21 @@ const LISTEN: &str = "0.0.0.0:16101";
 /// A station's file if the arguments do not say.
 const FILE: &str = "station.mon";
 
-/// Prints the settings of a station that polls the agent that the arguments name, or writes those of
-/// several stations. Nothing is printed or written unless all was answered and each text was read back.
-pub fn print_settings<R: Clock + Files + Net + Print + AllocGlobal>(
+/// Prints the settings of a station that polls the agent that the arguments name, writes those of
+/// several stations, or prints settings that are there with the agent's targets at their end. Nothing
+/// is printed or written unless all was answered and each text was read back.
+pub fn print_settings<R: Clock + Files<File = File> + Net + Print + Eprint + AllocGlobal>(
     rt: &R,
     words: SettingsArgs<'_, '_>,
 ) -> Result<(), Failure> {
-    let alloc = rt.alloc();
-    let asked = Asked {
-        agent: agent_at(alloc, words.address)?,
-        community: community(alloc, words.community)?,
-        kinds: kinds_of(alloc, words.only)?,
-    };
-    require_addresses(alloc, &words)?;
-    let survey = ask_agent(rt, asked)?;
-    match words.split {
-        Some(folder) => write_parts(rt, &words, asked, &survey, folder),
-        None => {
-            let text = settings_of(alloc, &words, asked, &survey, None)?;
-            print(rt, text.as_bytes())
+    let asked = asked_of(rt.alloc(), &words)?;
+    match words.append {
+        Some(path) => {
+            require_alone(rt.alloc(), &words)?;
+            print_appended(rt, &words, asked, &existing_in(rt, path)?)
         }
+        None => print_new(rt, &words, asked, &names_of(rt, words.modules)?),
     }
-}
-
-/// Requires that the arguments' station and peers have addresses, before the agent is asked.
-fn require_addresses(alloc: Global, words: &SettingsArgs<'_, '_>) -> Result<(), Failure> {
-    address_up(alloc, words.listen.unwrap_or(LISTEN), 0)?;
-    peers_of(alloc, words.peers, 0)?;
-    Ok(())
 }
 
 /// What the arguments say of the agent, once it was read.
@@ -55,44 +47,156 @@ pub(crate) struct Asked<'a> {
     pub(crate) agent: AgentAt<'a>,
     pub(crate) community: &'a [u8],
     pub(crate) kinds: Kinds,
+    /// Which part of an interface's speed raises an alarm; 0 for none.
+    pub(crate) percent: u8,
 }
 
-/// What the agent answered.
-#[derive(Drop)]
-pub(crate) struct Survey {
-    pub(crate) engine: Vec<u8>,
-    pub(crate) answers: Answers,
-    pub(crate) names: Names,
+/// Reads what the arguments say of the agent, and requires that the station and its peers have
+/// addresses, before the agent is asked.
+fn asked_of<'a>(alloc: Global, words: &SettingsArgs<'_, 'a>) -> Result<Asked<'a>, Failure> {
+    let asked = Asked {
+        agent: agent_at(alloc, words.address)?,
+        community: community(alloc, words.community)?,
+        kinds: kinds_of(alloc, words.only)?,
+        percent: percent_of(alloc, words.thresholds)?,
+    };
+    places_of(alloc, words, 0)?;
+    Ok(asked)
 }
 
-/// Asks the agent for its engine and its interfaces.
-fn ask_agent<R: Clock + Files + Net + AllocGlobal>(
+/// Requires that neither several files nor modules are asked for beside settings that are there.
+fn require_alone(alloc: Global, words: &SettingsArgs<'_, '_>) -> Result<(), Failure> {
+    if words.split.is_some() || !words.modules.is_empty() {
+        return Err(together_failure(alloc));
+    }
+    Ok(())
+}
+
+/// Prints the settings of a station that polls the agent, or writes those of several.
+fn print_new<R: Clock + Files<File = File> + Net + Print + Eprint + AllocGlobal>(
     rt: &R,
+    words: &SettingsArgs<'_, '_>,
     asked: Asked<'_>,
-) -> Result<Survey, Failure> {
-    let alloc = rt.alloc();
-    let names = names_of(rt, &[])?;
-    let mut asker = Asker::open(rt, asked)?;
-    let engine = asker.engine(alloc)?;
-    let answers = asker.interfaces(alloc)?;
-    Ok(Survey {
-        engine,
-        answers,
+    names: &Names,
+) -> Result<(), Failure> {
+    let survey = ask_agent(rt, asked)?;
+    let ground = Ground {
+        words,
+        asked,
         names,
+        survey: &survey,
+    };
+    match words.split {
+        Some(folder) => write_parts(rt, &ground, folder),
+        None => print_whole(rt, &ground),
+    }
+}
+
+/// What settings are made of.
+#[derive(Clone, Copy)]
+pub(crate) struct Ground<'m, 'a> {
+    pub(crate) words: &'m SettingsArgs<'m, 'a>,
+    pub(crate) asked: Asked<'a>,
+    pub(crate) names: &'m Names,
+    pub(crate) survey: &'m Survey,
+}
+
+/// Prints the settings of one station.
+fn print_whole<R: Files<File = File> + Print + AllocGlobal>(
+    rt: &R,
+    ground: &Ground<'_, '_>,
+) -> Result<(), Failure> {
+    let text = settings_of(rt.alloc(), ground, None)?;
+    write_labels(rt, ground, "")?;
+    print(rt, text.as_bytes())
+}
+
+/// Prints settings that are there with the agent's targets at their end.
+fn print_appended<R: Clock + Files<File = File> + Net + Print + Eprint + AllocGlobal>(
+    rt: &R,
+    words: &SettingsArgs<'_, '_>,
+    asked: Asked<'_>,
+    existing: &Existing,
+) -> Result<(), Failure> {
+    let old = old_labels(rt, words.labels)?;
+    let survey = ask_agent(rt, asked)?;
+    let ground = Ground {
+        words,
+        asked,
+        names: &existing.names,
+        survey: &survey,
+    };
+    print_longer(rt, &ground, existing, old.as_str())
+}
+
+/// Prints settings with the agent's targets at their end, and writes labels after the old ones.
+fn print_longer<R: Files<File = File> + Print + AllocGlobal>(
+    rt: &R,
+    ground: &Ground<'_, '_>,
+    existing: &Existing,
+    old: &str,
+) -> Result<(), Failure> {
+    let text = appended(rt.alloc(), ground, existing)?;
+    write_labels(rt, ground, old)?;
+    print(rt, text.as_bytes())
+}
+
+impl<'m, 'a> Ground<'m, 'a> {
+    /// Which counters are polled.
+    pub(crate) fn choice(&self, group: Option<u32>) -> Choice<'a> {
+        Choice {
+            kinds: self.asked.kinds,
+            up: self.words.up,
+            part: self.words.part.as_bytes(),
+            group,
+        }
+    }
+
+    /// The agent that answered.
+    pub(crate) fn agent(&self) -> Surveyed<'m> {
+        Surveyed {
+            engine: self.survey.engine.as_slice(),
+            answers: &self.survey.answers,
+        }
+    }
+}
+
+/// Where a station and its peers are, and where its file is.
+#[derive(Drop)]
+struct Places {
+    listen: String,
+    file: String,
+    peers: Vec<Peer>,
+}
+
+/// The places that the arguments give, with ports and the file's name counted up.
+fn places_of(alloc: Global, words: &SettingsArgs<'_, '_>, up: u32) -> Result<Places, Failure> {
+    let listen = address_up(alloc, words.listen.unwrap_or(LISTEN), up)?;
+    let file = file_up(alloc, words.file.unwrap_or(FILE), up)?;
+    Ok(Places {
+        listen,
+        file,
+        peers: peers_of(alloc, words.peers, up)?,
     })
 }
 
-/// Which counters are polled.
-pub(crate) fn choice_of<'a>(
-    words: &SettingsArgs<'_, 'a>,
-    kinds: Kinds,
-    group: Option<u32>,
-) -> Choice<'a> {
-    Choice {
-        kinds,
-        up: words.up,
-        part: words.part.as_bytes(),
-        group,
+/// The settings' options.
+fn options_of<'p>(ground: &Ground<'p, 'p>, places: &'p Places) -> Options<'p>
+    ensures { result.percent ≤ 100 }
+{
+    let words = ground.words;
+    Options {
+        station: words.station,
+        listen: places.listen.as_str(),
+        file: places.file.as_str(),
+        window: words.window,
+        wait_ms: words.wait_ms,
+        modules: words.modules,
+        peers: &places.peers,
+        address: words.address,
+        community: words.community,
+        tries: words.tries.min(8) as u8,
+        percent: ground.asked.percent.min(100),
     }
 }
 
@@ -100,34 +204,33 @@ pub(crate) fn choice_of<'a>(
 /// name of its file are counted up.
 pub(crate) fn settings_of(
     alloc: Global,
-    words: &SettingsArgs<'_, '_>,
-    asked: Asked<'_>,
-    survey: &Survey,
+    ground: &Ground<'_, '_>,
     group: Option<u32>,
 ) -> Result<String, Failure> {
-    let up = group.unwrap_or(0);
-    let listen = address_up(alloc, words.listen.unwrap_or(LISTEN), up)?;
-    let file = file_up(alloc, words.file.unwrap_or(FILE), up)?;
-    let peers = peers_of(alloc, words.peers, up)?;
-    let options = Options {
-        station: words.station,
-        listen: listen.as_str(),
-        file: file.as_str(),
-        window: words.window,
-        wait_ms: words.wait_ms,
-        peers: &peers,
-        address: words.address,
-        community: words.community,
-        tries: words.tries.min(8) as u8,
-        percent: words.percent.min(100) as u8,
-    };
-    let agent = Surveyed {
-        engine: survey.engine.as_slice(),
-        answers: &survey.answers,
-    };
-    let choice = choice_of(words, asked.kinds, group);
-    match settings(alloc, &survey.names, &agent, &options, &choice) {
+    let places = places_of(alloc, ground.words, group.unwrap_or(0))?;
+    let options = options_of(ground, &places);
+    match settings(alloc, ground.names, &ground.agent(), &options, &ground.choice(group)) {
         Ok(text) => Ok(text),
-        Err(fault) => Err(survey_failure(alloc, asked.agent.word, fault)),
+        Err(fault) => Err(survey_failure(alloc, ground.asked.agent.word, fault)),
+    }
+}
+
+/// Settings with the agent's targets at their end.
+fn appended(
+    alloc: Global,
+    ground: &Ground<'_, '_>,
+    existing: &Existing,
+) -> Result<String, Failure> {
+    let places = places_of(alloc, ground.words, 0)?;
+    let options = options_of(ground, &places);
+    match append(
+        alloc,
+        &existing.lent(),
+        &ground.agent(),
+        &options,
+        &ground.choice(None),
+    ) {
+        Ok(text) => Ok(text),
+        Err(fault) => Err(survey_failure(alloc, ground.asked.agent.word, fault)),
     }
 }

@@ -49,6 +49,18 @@ pub(crate) fn kinds_of(alloc: Global, only: Option<&str>) -> Result<Kinds, Failu
     Ok(kinds)
 }
 
+/// The percentage that a text gives, with a percent sign or without; 0 if there is none.
+pub(crate) fn percent_of(alloc: Global, text: Option<&str>) -> Result<u8, Failure>
+{
+    let Some(text) = text else {
+        return Ok(0);
+    };
+    match text.strip_suffix('%').unwrap_or(text).parse::<u8>() {
+        Ok(percent) if 1 <= percent && percent <= 100 => Ok(percent),
+        _ => Err(Failure::text(alloc, text, "a percentage, 1 to 100,")),
+    }
+}
+
 /// The peers that texts name, with their ports counted up.
 pub(crate) fn peers_of(alloc: Global, words: &[&str], up: u32) -> Result<Vec<Peer>, Failure> {
     let mut peers = Vec::new(alloc);
@@ -79,3 +91,4 @@ fn peer_failure(alloc: Global, word: &str) -> Failure {
         "a station's number and address, N=a.b.c.d:port,",
     )
 }
+

@@ -1,9 +1,7 @@
 -- What holds of two lists place by place.
-use Rattle.std.proofs.Common.{zero, suc, ◌≡◌, ◌≢◌, ℕ, ◌+◌, ◌<◌, ◌≤◌, ◌⊎◌, inl, inr, Bool, true, false, IsTrue, List, [], ◌∷◌, length, get_or, map, refl, sym, subst, ◌∙◌, arith}
-use Rattle.std.specs.Prelude.{◌==◌}
+use Rattle.std.proofs.Common.{zero, suc, ◌≡◌, ◌≢◌, ℕ, ◌+◌, ◌<◌, ◌≤◌, ◌⊎◌, inl, inr, Bool, true, false, IsTrue, List, [], ◌∷◌, length, get_or, refl, sym, subst, ◌∙◌, arith}
 use Rattle.std.specs.List.{AllZip}
 use Rattle.std.proofs.lemmas.Bool.{cases_lt, false≢true}
-use Rattle.std.proofs.lemmas.Bool.Decides.{nat_tests}
 use Rattle.std.proofs.lemmas.List.{get_or_default}
 
 module _ {A B : Type 0} (R : A → B → Type 0) where
@@ -65,14 +63,3 @@ module _ {A B : Type 0} (R : A → B → Type 0) where
       → (k : ℕ) (d : A) (e : B) → k < n + 1 → R (get_or xs k d) (get_or ys k e)
   more_here xs ys n d e x y r long lt is_x is_y test passed before =
       one_more xs ys n d e long (omega arith) before (subst (λ a. R a (get_or ys n e)) is_x (subst (λ b. R x b) is_y (test.0 passed)))
-
--- no texts
-pub none_iff : {A B : Type 0} (f : A → B) (xs : List A) (b : Bool) → b ≡ (length xs == 0) → (IsTrue b → map f xs ≡ []) × (map f xs ≡ [] → IsTrue b)
-none_iff f [] b e = (λ _. refl, λ _. e)
-none_iff f (x ∷ xs) b e = (λ t. absurd (some t), λ c. absurd (never c))
-  where
-    some : b ≡ true → ⊥
-    some t = grind (arith, nat_tests)
-
-    never : f x ∷ map f xs ≡ [] → ⊥
-    never c = cc

@@ -1,5 +1,6 @@
 -- What an agent answered of its interfaces: cells in the order of their names.
-use Rattle.std.specs.Prelude.{◌≡◌, ◌<◌, ℕ, Bool, true, false, nat_eq, nat_lt, List, [], ◌∷◌, ◌++◌, length, map, find, slice_index_or, slice_get, ◌-◌, AllPairs, Option, Some, None, option_map, Result, Ok, Err, pos, if◌then◌else◌}
+use Rattle.std.specs.Prelude.{◌≡◌, ◌<◌, ◌==◌, ℕ, Bool, true, false, int_le, nat_eq, nat_lt, unsigned_abs, List, [], ◌∷◌, ◌++◌, length, map, find, slice_index_or, slice_get, ◌-◌, AllPairs, Option, Some, None, option_map, Result, Ok, Err, pos, if◌then◌else◌}
+use Rattle.std.specs.List.{filter}
 use Rattle.std.specs.Ordering.{int_eq}
 use Rattle.mon_ber.specs.declared.value.Value.{Value}
 use Rattle.mon_ber.specs.declared.value.Value.TheVariants as value
@@ -82,6 +83,11 @@ abbrev pub number_in : Option Value → ℕ
 number_in (Some (value.Gauge32 n)) = n
 number_in _ = 0
 
+-- the number of an integer from 0 on; 0 for any other value
+abbrev pub positive_in : Option Value → ℕ
+positive_in (Some (value.Integer z)) = if int_le (pos 0) z then unsigned_abs z else 0
+positive_in _ = 0
+
 -- the octets of a value, none where it has none
 abbrev pub octets_of : Option Value → List ℕ
 octets_of (Some (value.Octets o)) = o
@@ -103,3 +109,16 @@ is_up cells index = is_one (value_at cells (If 8) index)
 -- an interface's ifName, or its ifDescr where it has none
 abbrev pub name_in : List Cell → ℕ → List ℕ
 name_in cells index = octets_or (octets_of (value_at cells (If 2) index)) (value_at cells (IfX 1) index)
+
+-- an interface's ifType, 0 if it is absent
+abbrev pub type_in : List Cell → ℕ → ℕ
+type_in cells index = positive_in (value_at cells (If 3) index)
+
+-- whether a column is ifDescr, of which each interface has a cell
+abbrev pub is_descr : Column → Bool
+is_descr (If c) = c == 2
+is_descr (IfX c) = false
+
+-- how many interfaces ifTable has
+abbrev pub count_of : List Cell → ℕ
+count_of cells = length (filter (λ c. is_descr c.column) cells)

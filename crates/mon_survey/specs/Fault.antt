@@ -1,7 +1,7 @@
 -- The numbers and names of faults.
 use Rattle.std.specs.Prelude.{ℕ, List, codes}
 use Rattle.mon_survey.specs.declared.fault.SurveyFault.{SurveyFault}
-use Rattle.mon_survey.specs.declared.fault.SurveyFault.TheVariants.{OutOfMemory, NoEngine, NotRising, BadIndex, NoCounter, TooMany, BadText, Refused, Misread}
+use Rattle.mon_survey.specs.declared.fault.SurveyFault.TheVariants.{OutOfMemory, NoEngine, NotRising, BadIndex, NoCounter, TooMany, BadText, Refused, Misread, SameEngine, TooManyTargets, BadLabels, TooManyInterfaces}
 
 -- the number of a fault
 abbrev pub number_of : SurveyFault → ℕ
@@ -14,6 +14,10 @@ number_of (TooMany n) = 6
 number_of BadText = 7
 number_of (Refused e) = 8
 number_of Misread = 9
+number_of SameEngine = 10
+number_of (TooManyTargets n) = 11
+number_of BadLabels = 12
+number_of (TooManyInterfaces n) = 13
 
 -- the name of a fault, as a printed line gives it
 abbrev pub name_of : SurveyFault → List ℕ
@@ -26,3 +30,7 @@ name_of (TooMany n) = codes "TooMany"
 name_of BadText = codes "BadText"
 name_of (Refused e) = codes "Refused"
 name_of Misread = codes "Misread"
+name_of SameEngine = codes "SameEngine"
+name_of (TooManyTargets n) = codes "TooManyTargets"
+name_of BadLabels = codes "BadLabels"
+name_of (TooManyInterfaces n) = codes "TooManyInterfaces"

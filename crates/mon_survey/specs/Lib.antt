@@ -1,8 +1,10 @@
 pub mod Answers
+pub mod Appended
 pub mod Column
 pub mod Counter
 pub mod Engine
 pub mod Fault
+pub mod Labels
 pub mod Meant
 pub mod Plan
 pub mod Shown

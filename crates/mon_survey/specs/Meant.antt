@@ -1,6 +1,7 @@
 -- What the settings of a station that polls an agent's interfaces mean.
 use Rattle.std.specs.Prelude.{◌≡◌, ◌≢◌, ◌⊎◌, ℕ, ◌+◌, ◌*◌, ◌/◌, Bool, ◌==◌, ◌||◌, pos, List, [], ◌∷◌, ◌++◌, length, All, Option, Some, None, Ok, Err, string_bytes, if◌then◌else◌}
 use Rattle.std.specs.List.{AllZip, flat_map}
+use Rattle.std.specs.Str.{bytes_eq}
 use Rattle.std.specs.Option.{option_to_list}
 use Rattle.mon_alarms.specs.Rule.{Rule}
 use Rattle.mon_board.specs.declared.instance.Watched.{Watched}
@@ -54,6 +55,10 @@ abbrev pub is_octets : Column → Bool
 is_octets (If c) = c == 10 || c == 16
 is_octets (IfX c) = c == 6 || c == 10
 
+-- whether an instance is the agent's
+abbrev pub is_own : List ℕ → Watched → Bool
+is_own engine w = bytes_eq w.instance.engine engine
+
 -- the thresholds of a cell
 abbrev pub at_cell : List Cell → ℕ → Spot → Option Thresholds
 at_cell cells percent (spot.Cell column index) = if is_octets column then thresholds_at (number_in (value_at cells (IfX 15) index) * percent) else None
@@ -65,11 +70,15 @@ abbrev pub alarm_on : ℕ → Option Thresholds → Option Alarm
 alarm_on number None = None
 alarm_on number (Some at) = Some (record { instance = number; rising = at.rising; falling = at.falling })
 
--- the alarms on instances, of which the first has this number: one on each counter of octets whose interface has a speed
-abbrev pub alarms_from : List Cell → ℕ → ℕ → List Watched → List Alarm
-alarms_from cells percent number [] = []
-alarms_from cells percent number (w ∷ ws) =
-    option_to_list (alarm_on number (at_cell cells percent (spot_of w.instance.name))) ++ alarms_from cells percent (number + 1) ws
+-- the thresholds of an instance, where it is the agent's
+abbrev pub at_watched : List ℕ → List Cell → ℕ → Watched → Option Thresholds
+at_watched engine cells percent w = if is_own engine w then at_cell cells percent (spot_of w.instance.name) else None
+
+-- the alarms on instances, of which the first has this number: one on each counter of octets of the agent whose interface has a speed
+abbrev pub alarms_from : List ℕ → List Cell → ℕ → ℕ → List Watched → List Alarm
+alarms_from engine cells percent number [] = []
+alarms_from engine cells percent number (w ∷ ws) =
+    option_to_list (alarm_on number (at_watched engine cells percent w)) ++ alarms_from engine cells percent (number + 1) ws
 
 -- a rule is this alarm
 pub record IsAlarm (r : Rule) (a : Alarm) : Type 0 where
@@ -83,13 +92,17 @@ pub record AreScalars (o : Options) (s : Station) : Type 0 where
   pub listen : addr_of o.listen.now ≡ Some s.listen
   pub file : s.file ≡ o.file.now
   pub wait_ms : s.wait_ms ≡ o.wait_ms
-  pub modules : s.modules ≡ []
+  pub modules : AllZip (λ text m. text ≡ m.now) s.modules o.modules.now
+
+-- how many targets some counters are: as few as 16 each allow
+abbrev pub targets_for : List Planned → ℕ
+targets_for ps = (length ps + 15) / 16
 
 -- the targets: they are the agent, they poll the counters in their order, and there are as few of them as 16 objects each allow
 pub record AreTargets (o : Options) (engine : List ℕ) (cells : List Cell) (ps : List Planned) (targets : List Target) : Type 0 where
   pub agent : All (IsAgent o engine) targets
   pub counters : AllZip (IsCounter cells) (flat_map (λ t. t.objects) targets) ps
-  pub full : length targets ≡ (length ps + 15) / 16
+  pub full : length targets ≡ targets_for ps
 
 -- every window and its part of one snmpEngineBoots have the size that the options say
 pub record IsSized (o : Options) (w : Watched) : Type 0 where
@@ -106,18 +119,19 @@ pub record IsMeant (o : Options) (engine : List ℕ) (cells : List Cell) (ps : L
   pub scalars : AreScalars o s
   pub targets : AreTargets o engine cells ps s.core.targets
   pub windows : All (IsSized o) s.core.watch.instances
-  pub rules : AllZip IsAlarm s.core.watch.rules (alarms_from cells o.percent 0 s.core.watch.instances)
+  pub rules : AllZip IsAlarm s.core.watch.rules (alarms_from engine cells o.percent 0 s.core.watch.instances)
   pub peers : ArePeers o.peers.now s.core.peers s.peer_addresses
 
 -- under these definitions a text is read as what was meant
 abbrev pub IsReadBack : List Definition → Options → List ℕ → List Cell → List Planned → List ℕ → Type 0
 IsReadBack defs o engine cells ps text = (station : Station) × Says (IsStation defs) text station × IsMeant o engine cells ps station
 
--- The text of the settings: that of the counters that are planned, and under these definitions it is read as what was meant.
-pub record IsSettingsText (defs : List Definition) (choice : Choice) (o : Options) (engine : List ℕ) (cells : List Cell) (text : List ℕ) : Type 0 where
+-- The text of the settings: that of the counters that are planned, with names as they are shown, and under these definitions it is
+-- read as what was meant.
+pub record IsSettingsText (defs : List Definition) (shown : List ℕ → List ℕ) (choice : Choice) (o : Options) (engine : List ℕ) (cells : List Cell) (text : List ℕ) : Type 0 where
   pub planned : List Planned
   pub plan : planned_of choice cells ≡ Ok planned
-  pub drafted : draft_of o engine cells planned ≡ Ok text
+  pub drafted : draft_of shown o engine cells planned ≡ Ok text
   pub read_back : IsReadBack defs o engine cells planned text
 
 -- why a text is not read as what was meant: it is refused for this reason, or it is read as something else
@@ -128,14 +142,16 @@ IsNotReadBack defs o engine cells ps text fault.Misread = (station : Station) ×
 IsNotReadBack defs o engine cells ps text _ = ⊥
 
 -- there is no plan or no text, for this reason
-abbrev pub HasNone : Choice → Options → List ℕ → List Cell → SurveyFault → Type 0
-HasNone choice o engine cells e = (planned_of choice cells ≡ Err e) ⊎ ((ps : List Planned) × (planned_of choice cells ≡ Ok ps) × (draft_of o engine cells ps ≡ Err e))
+abbrev pub HasNone : (List ℕ → List ℕ) → Choice → Options → List ℕ → List Cell → SurveyFault → Type 0
+HasNone shown choice o engine cells e =
+    (planned_of choice cells ≡ Err e) ⊎ ((ps : List Planned) × (planned_of choice cells ≡ Ok ps) × (draft_of shown o engine cells ps ≡ Err e))
 
 -- there is a text, which is not read as what was meant, for this reason
-abbrev pub HasText : List Definition → Choice → Options → List ℕ → List Cell → SurveyFault → Type 0
-HasText defs choice o engine cells e =
-    (ps : List Planned) × (text : List ℕ) × (planned_of choice cells ≡ Ok ps) × (draft_of o engine cells ps ≡ Ok text) × IsNotReadBack defs o engine cells ps text e
+abbrev pub HasText : List Definition → (List ℕ → List ℕ) → Choice → Options → List ℕ → List Cell → SurveyFault → Type 0
+HasText defs shown choice o engine cells e =
+    (ps : List Planned) × (text : List ℕ) × (planned_of choice cells ≡ Ok ps) × (draft_of shown o engine cells ps ≡ Ok text)
+    × IsNotReadBack defs o engine cells ps text e
 
 -- why there are no settings
-abbrev pub IsFault : List Definition → Choice → Options → List ℕ → List Cell → SurveyFault → Type 0
-IsFault defs choice o engine cells e = (e ≡ fault.OutOfMemory) ⊎ (HasNone choice o engine cells e ⊎ HasText defs choice o engine cells e)
+abbrev pub IsFault : List Definition → (List ℕ → List ℕ) → Choice → Options → List ℕ → List Cell → SurveyFault → Type 0
+IsFault defs shown choice o engine cells e = (e ≡ fault.OutOfMemory) ⊎ (HasNone shown choice o engine cells e ⊎ HasText defs shown choice o engine cells e)

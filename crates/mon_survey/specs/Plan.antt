@@ -1,6 +1,6 @@
 -- Which counters of an agent a station polls.
 use Rattle.std.specs.Prelude.{ℕ, ◌*◌, ◌==◌, nat_eq, nat_le, Bool, true, false, not, ◌&&◌, ◌||◌, List, [], ◌∷◌, length, take, drop, Option, Some, None, option_map, Result, Ok, Err, if◌then◌else◌}
-use Rattle.std.specs.List.{flat_map, starts_with}
+use Rattle.std.specs.List.{flat_map, list_all, starts_with}
 use Rattle.std.specs.Option.{option_to_list}
 use Rattle.mon_survey.specs.declared.answers.Cell.{Cell}
 use Rattle.mon_survey.specs.declared.choice.Choice.{Choice}
@@ -14,7 +14,7 @@ use Rattle.mon_survey.specs.declared.counter.Planned.{Planned}
 use Rattle.mon_survey.specs.declared.fault.SurveyFault.{SurveyFault}
 use Rattle.mon_survey.specs.declared.fault.SurveyFault.TheVariants.{NoCounter, TooMany}
 use Rattle.mon_survey.specs.declared.planning.Thresholds.{Thresholds}
-use Rattle.mon_survey.specs.Answers.{is_counter32, is_counter64, is_up, name_in, number_in, octets_of, value_at}
+use Rattle.mon_survey.specs.Answers.{is_counter32, is_counter64, is_descr, is_up, name_in, number_in, octets_of, value_at}
 use Rattle.mon_survey.specs.Counter.{column_of, every, kind_of}
 
 -- whether counters of a kind are polled
@@ -23,6 +23,21 @@ is_wanted kinds Octets = kinds.octets
 is_wanted kinds Packets = kinds.packets
 is_wanted kinds Errors = kinds.errors
 is_wanted kinds Discards = kinds.discards
+
+-- whether two columns are the same
+abbrev pub same_column : Column → Column → Bool
+same_column (If a) (If b) = a == b
+same_column (IfX a) (IfX b) = a == b
+same_column _ _ = false
+
+-- whether a column is one of a counter that is not polled
+abbrev pub spares : Kinds → Column → Counter → Bool
+spares kinds column counter =
+    not (is_wanted kinds (kind_of counter)) && (same_column (column_of counter true) column || same_column (column_of counter false) column)
+
+-- whether a plan looks at a column: it counts nothing, or a kind that is polled
+abbrev pub needs : Kinds → Column → Bool
+needs kinds column = list_all (λ counter. not (spares kinds column counter)) every
 
 -- whether octets contain a part
 abbrev pub has_part : List ℕ → List ℕ → Bool
@@ -48,11 +63,6 @@ planned_by choice cells index counter =
 -- the counters of an interface
 abbrev pub interface_counters : Choice → List Cell → ℕ → List Planned
 interface_counters choice cells index = flat_map (λ counter. option_to_list (planned_by choice cells index counter)) every
-
--- whether a column is ifDescr, of which each interface has a cell
-abbrev pub is_descr : Column → Bool
-is_descr (If c) = c == 2
-is_descr (IfX c) = false
 
 -- the counters of the interface whose ifDescr a cell holds, if it is chosen
 abbrev pub counters_from : Choice → List Cell → Cell → List Planned

@@ -1,7 +1,7 @@
 //! What an agent answered of its interfaces.
 
 ghost use Rattle.std.specs.Prelude.{◌≡◌, ◌⊎◌, ◌<◌, ◌↔◌, [], Err, Ok, IfErr, IfOk, IfSome, IfNone, IsTrue, OnErr, option_copied, Contains};
-ghost use Rattle.mon_survey.specs.Answers.{IsPlaceOf, IsRising, cell_at, is_after, is_counter32, is_counter64, is_marked, is_up, keys_of, name_in, number_in, octets_of, taken, value_at, with_cell};
+ghost use Rattle.mon_survey.specs.Answers.{IsPlaceOf, IsRising, cell_at, count_of, is_after, is_counter32, is_counter64, is_marked, is_up, keys_of, name_in, number_in, octets_of, taken, type_in, value_at, with_cell};
 ghost use Rattle.mon_survey.specs.Column.{key_of};
 
 use crate::column::{Column, Spot};
@@ -146,6 +146,23 @@ impl Answers {
         }
     }
 
+    /// The interface's ifType (RFC 2863 section 6); 0 if it is absent.
+    pub fn kind(&self, index: u32) -> u32
+        ensures { result ≡ type_in self.now index }
+    {
+        match self.value(Column::If(3), index) {
+            Some(Value::Integer(number)) if *number >= 0 => number.unsigned_abs(),
+            _ => 0,
+        }
+    }
+
+    /// Returns how many interfaces ifTable has.
+    pub fn count(&self) -> usize
+        ensures { result ≡ count_of self.now }
+    {
+        self.cells.iter().filter(|cell| cell.column == Column::If(2)).count()
+    }
+
     /// The interface's ifName, or its ifDescr where it has none.
     pub fn name(&self, index: u32) -> &[u8]
         ensures { result.now ≡ name_in self.now index }
@@ -164,7 +181,7 @@ impl Answers {
     }
 
     /// The octets of a cell; none where it holds none.
-    fn octets(&self, column: Column, index: u32) -> &[u8]
+    pub(crate) fn octets(&self, column: Column, index: u32) -> &[u8]
         ensures { result.now ≡ octets_of (value_at self.now column index) }
     {
         match self.value(column, index) {

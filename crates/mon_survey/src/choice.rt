@@ -1,17 +1,18 @@
 //! Which interfaces and counters are chosen.
 
 ghost use Rattle.std.specs.Prelude.{◌≡◌};
-ghost use Rattle.mon_survey.specs.Plan.{has_part, is_chosen, is_wanted};
+ghost use Rattle.mon_survey.specs.Plan.{has_part, is_chosen, is_wanted, needs, spares};
 
 use crate::answers::Answers;
-use crate::counter::Kind;
+use crate::column::Column;
+use crate::counter::{Counter, Kind, column_of};
 
 /// Which kinds of counters are polled.
 #[derive(Clone, Copy, Debug, PartialEq, Eq)]
 pub struct Kinds {
     /// Octets.
     pub octets: bool,
-    /// Unicast packets.
+    /// Packets: unicast, and multicast and broadcast where ifXTable counts them.
     pub packets: bool,
     /// Packets with errors.
     pub errors: bool,
@@ -30,6 +31,21 @@ impl Kinds {
             Kind::Errors => self.errors,
             Kind::Discards => self.discards,
         }
+    }
+
+    /// Returns `true` if a plan looks at the column: it counts nothing, or a kind that is polled.
+    pub fn needs(self, column: Column) -> bool
+        ensures { result ≡ needs self column }
+    {
+        Counter::every().iter().all(|counter| !self.spares(*counter, column))
+    }
+
+    /// Returns `true` if the column is one of a counter that is not polled.
+    fn spares(self, counter: Counter, column: Column) -> bool
+        ensures { result ≡ spares self column counter }
+    {
+        !self.has(counter.kind())
+            && (column_of(counter, true) == column || column_of(counter, false) == column)
     }
 }
 

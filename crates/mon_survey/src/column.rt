@@ -1,7 +1,7 @@
 //! Columns of the tables of interfaces, and where a name lies in them.
 
 ghost use Rattle.std.specs.Prelude.{◌≡◌, IfOk};
-ghost use Rattle.mon_survey.specs.Column.{code_of, column_name, columns, key_of, spot_of, spot_after};
+ghost use Rattle.mon_survey.specs.Column.{cell_name, code_of, column_name, columns, key_of, spot_of, spot_after};
 
 use mon_oid::{Oid, OidFault};
 use std::alloc::Global;
@@ -45,6 +45,20 @@ impl Column {
         }
     }
 
+    /// Returns the name of its cell at this index. An `Err` means out of memory.
+    pub(crate) fn cell(self, alloc: Global, index: u32) -> Result<Oid, OidFault>
+        ensures { IfOk result (λ q. q ≡ cell_name self index) }
+    {
+        match self {
+            Column::If(number) => {
+                Oid::from_parts(alloc, &[1, 3, 6, 1, 2, 1, 2, 2, 1, number, index])
+            }
+            Column::IfX(number) => {
+                Oid::from_parts(alloc, &[1, 3, 6, 1, 2, 1, 31, 1, 1, 1, number, index])
+            }
+        }
+    }
+
     /// A number that rises as the names of cells do.
     pub(crate) fn key(self, index: u32) -> u128
         ensures { result ≡ key_of self index }
@@ -54,11 +68,12 @@ impl Column {
 }
 
 /// Returns the columns that a plan looks at, in the order of their names.
-pub fn columns() -> [Column; 18]
+pub fn columns() -> [Column; 27]
     ensures { result ≡ columns }
 {
     [
         Column::If(2),
+        Column::If(3),
         Column::If(8),
         Column::If(10),
         Column::If(11),
@@ -69,10 +84,18 @@ pub fn columns() -> [Column; 18]
         Column::If(19),
         Column::If(20),
         Column::IfX(1),
+        Column::IfX(2),
+        Column::IfX(3),
+        Column::IfX(4),
+        Column::IfX(5),
         Column::IfX(6),
         Column::IfX(7),
+        Column::IfX(8),
+        Column::IfX(9),
         Column::IfX(10),
         Column::IfX(11),
+        Column::IfX(12),
+        Column::IfX(13),
         Column::IfX(15),
         Column::IfX(18),
         Column::IfX(19),

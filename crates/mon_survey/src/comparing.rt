@@ -6,11 +6,12 @@ ghost use Rattle.std.specs.Option.{option_to_list};
 ghost use Rattle.mon_settings.specs.StationAccepted.{station_view};
 ghost use Rattle.mon_udp.specs.Addr.{addr_of};
 ghost use Rattle.mon_survey.specs.Column.{cell_name, spot_of};
-ghost use Rattle.mon_survey.specs.Meant.{ArePeers, AreScalars, AreTargets, IsAgent, IsAlarm, IsCounter, IsMeant, IsSized, alarm_on, alarms_from, at_cell, is_octets, mark_of};
+ghost use Rattle.mon_survey.specs.Meant.{ArePeers, AreScalars, AreTargets, IsAgent, IsAlarm, IsCounter, IsMeant, IsSized, alarm_on, alarms_from, at_cell, at_watched, is_octets, is_own, mark_of};
 
 use crate::answers::Answers;
 use crate::column::{Column, Spot};
 use crate::counter::Planned;
+use crate::drafting::AgentPlan;
 use crate::options::{Options, Peer};
 use crate::planning::{Thresholds, thresholds_at};
 use mon_alarms::Rule;
@@ -31,6 +32,19 @@ pub(crate) struct Wanted<'a> {
     pub(crate) engine: &'a [u8],
     pub(crate) answers: &'a Answers,
     pub(crate) planned: &'a [Planned],
+}
+
+impl<'a> Wanted<'a> {
+    /// What is planned of the agent.
+    pub(crate) fn agent_plan(&self) -> AgentPlan<'a>
+        ensures { (result.options.now ≡ self.now.options.now) × (result.engine.now ≡ self.now.engine.now) × (result.planned.now ≡ self.now.planned.now) }
+    {
+        AgentPlan {
+            options: self.options,
+            engine: self.engine,
+            planned: self.planned,
+        }
+    }
 }
 
 /// An alarm on an instance, with its thresholds in thousandths.
@@ -137,7 +151,7 @@ fn are_agents(wanted: &Wanted<'_>, targets: &[Target]) -> bool
 }
 
 /// Returns `true` if the targets are those that were meant.
-fn are_targets(alloc: Global, wanted: &Wanted<'_>, targets: &[Target]) -> Result<bool, AllocError>
+pub(crate) fn are_targets(alloc: Global, wanted: &Wanted<'_>, targets: &[Target]) -> Result<bool, AllocError>
     requires { length wanted.now.planned.now ≤ 256 }
     ensures { IfOk result (λ are. IsTrue are ↔ AreTargets wanted.now.options.now wanted.now.engine.now wanted.now.answers.now wanted.now.planned.now targets.now) }
 {
@@ -159,6 +173,13 @@ fn is_octets(column: Column) -> bool
     }
 }
 
+/// Returns `true` if the instance is the agent's.
+pub(crate) fn is_own(engine: &[u8], watched: &Watched) -> bool
+    ensures { result ≡ is_own engine.now watched.now }
+{
+    watched.instance.engine.as_slice() == engine
+}
+
 /// The thresholds of a cell.
 fn at_cell(answers: &Answers, percent: u8, spot: Spot) -> Option<Thresholds>
     requires { percent ≤ 100 }
@@ -174,12 +195,24 @@ fn at_cell(answers: &Answers, percent: u8, spot: Spot) -> Option<Thresholds>
     }
 }
 
-/// The alarm on the instance of this number.
-fn alarm_on(answers: &Answers, percent: u8, number: usize, watched: &Watched) -> Option<Alarm>
-    requires { percent ≤ 100 }
-    ensures { result ≡ alarm_on number (at_cell answers.now percent (spot_of watched.now.instance.name)) }
+/// The thresholds of an instance, where it is the agent's.
+fn at_watched(wanted: &Wanted<'_>, watched: &Watched) -> Option<Thresholds>
+    requires { wanted.now.options.now.percent ≤ 100 }
+    ensures { result ≡ at_watched wanted.now.engine.now wanted.now.answers.now wanted.now.options.now.percent watched.now }
 {
-    match at_cell(answers, percent, Spot::of(&watched.instance.name)) {
+    if is_own(wanted.engine, watched) {
+        at_cell(wanted.answers, wanted.options.percent, Spot::of(&watched.instance.name))
+    } else {
+        None
+    }
+}
+
+/// The alarm on the instance of this number.
+fn alarm_on(wanted: &Wanted<'_>, number: usize, watched: &Watched) -> Option<Alarm>
+    requires { wanted.now.options.now.percent ≤ 100 }
+    ensures { result ≡ alarm_on number (at_watched wanted.now.engine.now wanted.now.answers.now wanted.now.options.now.percent watched.now) }
+{
+    match at_watched(wanted, watched) {
         Some(at) => Some(Alarm {
             instance: number,
             rising: at.rising,
@@ -197,22 +230,22 @@ fn add_alarm(
     watched: &Watched,
 ) -> Result<(), AllocFailed<Alarm>>
     requires { wanted.now.options.now.percent ≤ 100 }
-    ensures { OnOk result (alarms.new.items ≡ alarms.old.items ++ option_to_list (alarm_on number (at_cell wanted.now.answers.now wanted.now.options.now.percent (spot_of watched.now.instance.name)))) }
+    ensures { OnOk result (alarms.new.items ≡ alarms.old.items ++ option_to_list (alarm_on number (at_watched wanted.now.engine.now wanted.now.answers.now wanted.now.options.now.percent watched.now))) }
 {
-    match alarm_on(wanted.answers, wanted.options.percent, number, watched) {
+    match alarm_on(wanted, number, watched) {
         Some(alarm) => alarms.push(alarm),
         None => Ok(()),
     }
 }
 
 /// The alarms on all instances.
-fn alarms_of(
+pub(crate) fn alarms_of(
     alloc: Global,
     wanted: &Wanted<'_>,
     instances: &[Watched],
 ) -> Result<Vec<Alarm>, AllocError>
     requires { wanted.now.options.now.percent ≤ 100 }
-    ensures { IfOk result (λ v. v.items ≡ alarms_from wanted.now.answers.now wanted.now.options.now.percent 0 instances.now) }
+    ensures { IfOk result (λ v. v.items ≡ alarms_from wanted.now.engine.now wanted.now.answers.now wanted.now.options.now.percent 0 instances.now) }
 {
     let mut alarms = Vec::new(alloc);
     for (number, watched) in instances.iter().enumerate() {
@@ -222,7 +255,7 @@ fn alarms_of(
 }
 
 /// Returns `true` if the rule is the alarm.
-fn is_alarm(rule: Rule, alarm: Alarm) -> bool
+pub(crate) fn is_alarm(rule: Rule, alarm: Alarm) -> bool
     ensures { IsTrue result ↔ IsAlarm rule alarm }
 {
     usize::from(rule.instance()) == alarm.instance
@@ -296,11 +329,17 @@ fn are_sized(options: &Options<'_>, instances: &[Watched]) -> bool
     instances.iter().all(|watched| is_sized(options, watched))
 }
 
-/// Returns `true` if there are no texts.
-fn are_none(texts: &[String]) -> bool
-    ensures { IsTrue result ↔ (map string_bytes texts.now ≡ []) }
+/// Returns `true` if the texts are the modules' files.
+fn are_modules(texts: &[String], modules: &[&str]) -> bool
+    ensures { IsTrue result ↔ AllZip (λ text m. text ≡ m.now) (map string_bytes texts.now) modules.now }
 {
-    texts.is_empty()
+    let [text, texts @ ..] = texts else {
+        return modules.is_empty();
+    };
+    let [module, modules @ ..] = modules else {
+        return false;
+    };
+    text.as_str() == *module && are_modules(texts, modules)
 }
 
 /// Returns `true` if what is outside of the lists is that of the options.
@@ -311,7 +350,7 @@ fn are_scalars(options: &Options<'_>, station: &StationSettings) -> bool
         && is_address(station.listen, options.listen)
         && station.file.as_bytes() == options.file.as_bytes()
         && station.wait_ms == options.wait_ms
-        && are_none(station.modules.as_slice())
+        && are_modules(station.modules.as_slice(), options.modules)
 }
 
 /// Returns `true` if the settings are those that were meant.

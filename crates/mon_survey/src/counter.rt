@@ -10,7 +10,7 @@ use crate::column::Column;
 pub enum Kind {
     /// Octets.
     Octets,
-    /// Unicast packets.
+    /// Packets: unicast, and multicast and broadcast where ifXTable counts them.
     Packets,
     /// Packets with errors.
     Errors,
@@ -29,6 +29,14 @@ pub enum Counter {
     InPackets,
     /// ifHCOutUcastPkts or ifOutUcastPkts.
     OutPackets,
+    /// ifHCInMulticastPkts or ifInMulticastPkts.
+    InMulticasts,
+    /// ifHCOutMulticastPkts or ifOutMulticastPkts.
+    OutMulticasts,
+    /// ifHCInBroadcastPkts or ifInBroadcastPkts.
+    InBroadcasts,
+    /// ifHCOutBroadcastPkts or ifOutBroadcastPkts.
+    OutBroadcasts,
     /// ifInErrors.
     InErrors,
     /// ifOutErrors.
@@ -41,7 +49,7 @@ pub enum Counter {
 
 impl Counter {
     /// Returns all counters, in the order in which they are polled.
-    pub(crate) fn every() -> [Counter; 8]
+    pub(crate) fn every() -> [Counter; 12]
         ensures { result ≡ every }
     {
         [
@@ -49,6 +57,10 @@ impl Counter {
             Counter::OutOctets,
             Counter::InPackets,
             Counter::OutPackets,
+            Counter::InMulticasts,
+            Counter::OutMulticasts,
+            Counter::InBroadcasts,
+            Counter::OutBroadcasts,
             Counter::InErrors,
             Counter::OutErrors,
             Counter::InDiscards,
@@ -63,6 +75,8 @@ impl Counter {
         match self {
             Counter::InOctets | Counter::OutOctets => Kind::Octets,
             Counter::InPackets | Counter::OutPackets => Kind::Packets,
+            Counter::InMulticasts | Counter::OutMulticasts => Kind::Packets,
+            Counter::InBroadcasts | Counter::OutBroadcasts => Kind::Packets,
             Counter::InErrors | Counter::OutErrors => Kind::Errors,
             Counter::InDiscards | Counter::OutDiscards => Kind::Discards,
         }
@@ -89,6 +103,10 @@ pub(crate) fn column_of(counter: Counter, wide: bool) -> Column
         Counter::OutOctets => either(wide, 10, 16),
         Counter::InPackets => either(wide, 7, 11),
         Counter::OutPackets => either(wide, 11, 17),
+        Counter::InMulticasts => one_of(wide, 8, 2),
+        Counter::OutMulticasts => one_of(wide, 12, 4),
+        Counter::InBroadcasts => one_of(wide, 9, 3),
+        Counter::OutBroadcasts => one_of(wide, 13, 5),
         Counter::InErrors => Column::If(14),
         Counter::OutErrors => Column::If(20),
         Counter::InDiscards => Column::If(13),
@@ -104,6 +122,17 @@ fn either(wide: bool, extended: u32, plain: u32) -> Column
         Column::IfX(extended)
     } else {
         Column::If(plain)
+    }
+}
+
+/// One of two columns of ifXTable.
+fn one_of(wide: bool, long: u32, short: u32) -> Column
+    ensures { result ≡ (if wide then Column.IfX long else Column.IfX short) }
+{
+    if wide {
+        Column::IfX(long)
+    } else {
+        Column::IfX(short)
     }
 }
 
@@ -124,6 +153,10 @@ impl Planned {
             Counter::OutOctets => word(self.wide, "ifHCOutOctets", "ifOutOctets"),
             Counter::InPackets => word(self.wide, "ifHCInUcastPkts", "ifInUcastPkts"),
             Counter::OutPackets => word(self.wide, "ifHCOutUcastPkts", "ifOutUcastPkts"),
+            Counter::InMulticasts => word(self.wide, "ifHCInMulticastPkts", "ifInMulticastPkts"),
+            Counter::OutMulticasts => word(self.wide, "ifHCOutMulticastPkts", "ifOutMulticastPkts"),
+            Counter::InBroadcasts => word(self.wide, "ifHCInBroadcastPkts", "ifInBroadcastPkts"),
+            Counter::OutBroadcasts => word(self.wide, "ifHCOutBroadcastPkts", "ifOutBroadcastPkts"),
             Counter::InErrors => "ifInErrors",
             Counter::OutErrors => "ifOutErrors",
             Counter::InDiscards => "ifInDiscards",

@@ -39,10 +39,22 @@ pub enum SurveyFault {
     /// The text is read as other settings than those that were meant.
     #[error("the settings are read as others than those that were meant")]
     Misread,
+    /// A target of the settings is an agent of this engine id.
+    #[error("a target of the settings has this agent's engine id")]
+    SameEngine,
+    /// More than 64 targets in all, which are this many.
+    #[error("{0} targets are more than the 64 of a station: choose fewer counters by --match, --up or --only")]
+    TooManyTargets(usize),
+    /// A file of labels that is not TOML, or has no list of tables `interface`.
+    #[error("this is no file of labels: a TOML text with [[interface]] tables")]
+    BadLabels,
+    /// A file of labels of more than 4,096 interfaces, which are this many.
+    #[error("{0} interfaces are more than the 4,096 of a file of labels: choose fewer by --match or --up")]
+    TooManyInterfaces(usize),
 }
 
 impl SurveyFault {
-    /// The number of the fault, 1 to 9.
+    /// The number of the fault, 1 to 13.
     pub fn number(self) -> u8
         ensures { result ≡ number_of self }
     {
@@ -56,6 +68,10 @@ impl SurveyFault {
             SurveyFault::BadText => 7,
             SurveyFault::Refused(_) => 8,
             SurveyFault::Misread => 9,
+            SurveyFault::SameEngine => 10,
+            SurveyFault::TooManyTargets(_) => 11,
+            SurveyFault::BadLabels => 12,
+            SurveyFault::TooManyInterfaces(_) => 13,
         }
     }
 
@@ -73,6 +89,10 @@ impl SurveyFault {
             SurveyFault::BadText => "BadText",
             SurveyFault::Refused(_) => "Refused",
             SurveyFault::Misread => "Misread",
+            SurveyFault::SameEngine => "SameEngine",
+            SurveyFault::TooManyTargets(_) => "TooManyTargets",
+            SurveyFault::BadLabels => "BadLabels",
+            SurveyFault::TooManyInterfaces(_) => "TooManyInterfaces",
         }
     }
 }

@@ -5,6 +5,7 @@
 #![tactic(auto)]
 
 mod answers;
+mod appending;
 mod choice;
 mod column;
 mod comparing;
@@ -12,6 +13,9 @@ mod counter;
 mod drafting;
 mod engine;
 mod fault;
+mod kept;
+mod labelled;
+mod tables;
 pub mod laws;
 mod options;
 mod planning;
@@ -19,12 +23,13 @@ mod surveying;
 mod writing;
 
 pub use answers::{Answers, Cell};
+pub use appending::{Existing, append};
 pub use choice::{Choice, Kinds};
 pub use column::{Column, Spot, columns};
 pub use counter::{Counter, Kind, Planned};
-pub use drafting::draft;
 pub use engine::engine_of;
 pub use fault::SurveyFault;
+pub use labelled::labels;
 pub use options::{Options, Peer};
 pub use planning::{Thresholds, plan, thresholds_of};
 pub use surveying::{Surveyed, settings};

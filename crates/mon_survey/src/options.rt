@@ -26,6 +26,8 @@ pub struct Options<'a> {
     pub window: u32,
     /// How long nothing has to come before a round goes on, in milliseconds.
     pub wait_ms: u32,
+    /// The files of the modules by which names are given; none for names in numbers.
+    pub modules: &'a [&'a str],
     /// The other stations.
     pub peers: &'a [Peer],
     /// Where the agent listens, `a.b.c.d:port`.
@@ -68,5 +70,6 @@ impl Options<'_> {
             && is_plain(self.address)
             && is_plain(self.community)
             && are_plain_peers(self.peers)
+            && self.modules.iter().all(|path| is_plain(path))
     }
 }

@@ -95,7 +95,7 @@ fn add_cell(
 }
 
 /// The counters of all interfaces.
-fn counters_of(
+pub(crate) fn counters_of(
     alloc: Global,
     answers: &Answers,
     choice: &Choice<'_>,

@@ -1,6 +1,7 @@
 //! The settings of a station that polls an agent.
 
 ghost use Rattle.std.specs.Prelude.{◌≡◌, ◌≤◌, IfErr, IfOk, OnOk, length, string_bytes};
+ghost use Rattle.mon_survey.specs.Appended.{shown_by};
 ghost use Rattle.mon_survey.specs.Meant.{IsFault, IsNotReadBack, IsReadBack, IsSettingsText};
 
 use crate::answers::Answers;
@@ -11,7 +12,8 @@ use crate::fault::SurveyFault;
 use crate::options::Options;
 use crate::planning::plan;
 use mon_settings::{SettingsFault, read_station};
-use mon_smi::Names;
+use crate::writing::Naming;
+use mon_smi::{InNumbers, NameTexts, Names};
 use std::alloc::Global;
 
 /// An agent that answered.
@@ -48,12 +50,37 @@ fn read_back(
     }
 }
 
-/// Returns the settings of a station that polls the chosen counters of an agent. The text was read
-/// back, as what was meant.
+/// Returns the settings with names as they are shown.
+fn settings_by<S: NameTexts>(
+    names: &Names,
+    shown: &Naming<'_, S>,
+    engine: &[u8],
+    options: &Options<'_>,
+    choice: &Choice<'_>,
+) -> Result<String, SurveyFault>
+    requires { options.now.percent ≤ 100 }
+    ensures reads { IfOk result (λ text. IsSettingsText names.now (S.shown shown.now.names.now) choice.now options.now engine.now shown.now.answers.now (string_bytes text)) }
+    ensures fault { IfErr result (IsFault names.now (S.shown shown.now.names.now) choice.now options.now engine.now shown.now.answers.now) }
+{
+    let planned = plan(shown.alloc, shown.answers, choice)?;
+    let wanted = Wanted {
+        options,
+        engine,
+        answers: shown.answers,
+        planned: &planned,
+    };
+    let text = draft(shown, &wanted.agent_plan())?;
+    read_back(shown.alloc, names, &wanted, text.as_str())?;
+    Ok(text)
+}
+
+/// Returns the settings of a station that polls the chosen counters of an agent, names by those of
+/// the options' modules, if there are some. The text was read back, as what was meant.
 ///
 /// # Errors
-/// Those of `plan` and `draft`; `Refused` where the text is no settings; `Misread` where it is read
-/// as other settings; `OutOfMemory`.
+/// Those of `plan`; `BadText` where an option's text has a quote, a backslash or an octet outside 20
+/// to 7E; `Refused` where the text is no settings; `Misread` where it is read as other settings;
+/// `OutOfMemory`.
 pub fn settings(
     alloc: Global,
     names: &Names,
@@ -62,17 +89,22 @@ pub fn settings(
     choice: &Choice<'_>,
 ) -> Result<String, SurveyFault>
     requires { options.now.percent ≤ 100 }
-    ensures reads { IfOk result (λ text. IsSettingsText names.now choice.now options.now agent.now.engine.now agent.now.answers.now (string_bytes text)) }
-    ensures fault { IfErr result (IsFault names.now choice.now options.now agent.now.engine.now agent.now.answers.now) }
+    ensures reads { IfOk result (λ text. IsSettingsText names.now (shown_by names.now (length options.now.modules.now)) choice.now options.now agent.now.engine.now agent.now.answers.now (string_bytes text)) }
+    ensures fault { IfErr result (IsFault names.now (shown_by names.now (length options.now.modules.now)) choice.now options.now agent.now.engine.now agent.now.answers.now) }
 {
-    let planned = plan(alloc, agent.answers, choice)?;
-    let text = draft(alloc, options, agent.engine, agent.answers, &planned)?;
-    let wanted = Wanted {
-        options,
-        engine: agent.engine,
+    if options.modules.is_empty() {
+        let shown = Naming {
+            alloc,
+            names: &InNumbers,
+            answers: agent.answers,
+        };
+        return settings_by(names, &shown, agent.engine, options, choice);
+    }
+    let labels = names.labels(alloc)?;
+    let shown = Naming {
+        alloc,
+        names: &labels,
         answers: agent.answers,
-        planned: &planned,
     };
-    read_back(alloc, names, &wanted, text.as_str())?;
-    Ok(text)
+    settings_by(names, &shown, agent.engine, options, choice)
 }

@@ -1,17 +1,29 @@
 //! Pieces of a settings text.
 
-ghost use Rattle.std.specs.Prelude.{◌≡◌, ◌≤◌, ◌<◌, ◌++◌, [], ◌∷◌, OnOk, string_bytes, map, take};
-ghost use Rattle.mon_survey.specs.Text.{alarm_text, cell_text, cleaned, comment_text, head_text, mark_text, object_text, peer_text, rule_text, shown, target_text};
+ghost use Rattle.std.specs.Prelude.{◌≡◌, ◌≤◌, ◌<◌, ◌++◌, [], ◌∷◌, OnOk, string_bytes, IfOk, map, take};
+ghost use Rattle.std.specs.List.{flat_map};
+ghost use Rattle.mon_survey.specs.Answers.{type_in};
+ghost use Rattle.mon_survey.specs.Column.{cell_name};
+ghost use Rattle.mon_survey.specs.Text.{alarm_text, cleaned, comment_text, head_text, mark_text, module_text, modules_text, object_text, peer_text, rule_text, shown, target_text, type_text};
 
 use crate::answers::Answers;
 use crate::column::Column;
 use crate::counter::Planned;
 use crate::options::{Options, Peer};
 use crate::planning::{Thresholds, thresholds_of};
-use std::alloc::AllocError;
+use mon_smi::NameTexts;
+use std::alloc::{AllocError, Global};
 
 /// The most octets of a name or an alias that a comment shows.
 const MOST_SHOWN: usize = 64;
+
+/// An agent's answers, and how a text shows names.
+#[derive(Clone, Copy)]
+pub(crate) struct Naming<'a, S> {
+    pub(crate) alloc: Global,
+    pub(crate) names: &'a S,
+    pub(crate) answers: &'a Answers,
+}
 
 /// The octet as a comment shows it: itself from 20 to 7E except for a quote, which is `?` like all
 /// others.
@@ -54,18 +66,46 @@ fn put_cleaned(text: &mut String, octets: &[u8]) -> Result<(), AllocError>
     Ok(())
 }
 
-/// Adds the name of a cell in dotted numbers.
-fn put_cell(text: &mut String, column: Column, index: u32) -> Result<(), AllocError>
-    ensures { OnOk result (string_bytes text.new ≡ string_bytes text.old ++ cell_text column index) }
+/// The name of a cell, as it is shown.
+fn cell_text<S: NameTexts>(
+    shown: &Naming<'_, S>,
+    column: Column,
+    index: u32,
+) -> Result<String, AllocError>
+    ensures { IfOk result (λ text. string_bytes text ≡ S.shown shown.now.names.now (cell_name column index)) }
 {
-    match column {
-        Column::If(number) => write!(text, "1.3.6.1.2.1.2.2.1.{number}.{index}"),
-        Column::IfX(number) => write!(text, "1.3.6.1.2.1.31.1.1.1.{number}.{index}"),
+    match column.cell(shown.alloc, index) {
+        Ok(name) => shown.names.text(shown.alloc, &name),
+        Err(_) => Err(AllocError),
     }
 }
 
+/// Adds the name of a cell, as it is shown.
+fn put_cell<S: NameTexts>(
+    text: &mut String,
+    shown: &Naming<'_, S>,
+    column: Column,
+    index: u32,
+) -> Result<(), AllocError>
+    ensures { OnOk result (string_bytes text.new ≡ string_bytes text.old ++ S.shown shown.now.names.now (cell_name column index)) }
+{
+    let name = cell_text(shown, column, index)?;
+    text.push_str(name.as_str())
+}
+
+/// Adds an interface's ifType, where the agent has it.
+fn put_type(text: &mut String, answers: &Answers, index: u32) -> Result<(), AllocError>
+    ensures { OnOk result (string_bytes text.new ≡ string_bytes text.old ++ type_text (type_in answers.now index)) }
+{
+    let kind = answers.kind(index);
+    if kind == 0 {
+        return Ok(());
+    }
+    write!(text, ", ifType {kind}")
+}
+
 /// Adds the end of a counter's line: its comment, with its descriptor, and its interface's name,
-/// alias and speed.
+/// alias, type and speed.
 #[tactic(auto, unfolding(crate::specs::Text::comment_text))]
 fn put_comment(text: &mut String, answers: &Answers, one: Planned) -> Result<(), AllocError>
     ensures { OnOk result (string_bytes text.new ≡ string_bytes text.old ++ comment_text answers.now one) }
@@ -77,36 +117,41 @@ fn put_comment(text: &mut String, answers: &Answers, one: Planned) -> Result<(),
     put_cleaned(text, answers.name(index))?;
     text.push_str(", ")?;
     put_cleaned(text, answers.alias(index))?;
+    put_type(text, answers, index)?;
     write!(text, ", {speed} Mbit/s\n")
 }
 
 /// Adds the end of a counter's table, with the mark of its interface's counters, where it has one.
-fn put_mark(text: &mut String, answers: &Answers, index: u32) -> Result<(), AllocError>
-    ensures { OnOk result (string_bytes text.new ≡ string_bytes text.old ++ mark_text answers.now index) }
+fn put_mark<S: NameTexts>(
+    text: &mut String,
+    shown: &Naming<'_, S>,
+    index: u32,
+) -> Result<(), AllocError>
+    ensures { OnOk result (string_bytes text.new ≡ string_bytes text.old ++ mark_text (S.shown shown.now.names.now) shown.now.answers.now index) }
 {
-    if answers.is_marked(index) {
-        write!(text, "\", mark = \"1.3.6.1.2.1.31.1.1.1.19.{index}\" }},")
-    } else {
-        text.push_str("\" },")
+    if shown.answers.is_marked(index) {
+        text.push_str("\", mark = \"")?;
+        put_cell(text, shown, Column::IfX(19), index)?;
     }
+    text.push_str("\" },")
 }
 
 /// Adds the line of a counter.
 #[tactic(auto, unfolding(crate::specs::Text::object_text))]
-pub(crate) fn put_object(
+pub(crate) fn put_object<S: NameTexts>(
     text: &mut String,
-    answers: &Answers,
+    shown: &Naming<'_, S>,
     one: Planned,
 ) -> Result<(), AllocError>
-    ensures { OnOk result (string_bytes text.new ≡ string_bytes text.old ++ object_text answers.now one) }
+    ensures { OnOk result (string_bytes text.new ≡ string_bytes text.old ++ object_text (S.shown shown.now.names.now) shown.now.answers.now one) }
 {
     text.push_str("    { name = \"")?;
-    put_cell(text, one.column(), one.index)?;
-    put_mark(text, answers, one.index)?;
-    put_comment(text, answers, one)
+    put_cell(text, shown, one.column(), one.index)?;
+    put_mark(text, shown, one.index)?;
+    put_comment(text, shown.answers, one)
 }
 
-/// Adds what comes before the first table.
+/// Adds what comes before the modules.
 #[tactic(auto, unfolding(crate::specs::Text::head_text))]
 pub(crate) fn put_head(text: &mut String, options: &Options<'_>) -> Result<(), AllocError>
     ensures { OnOk result (string_bytes text.new ≡ string_bytes text.old ++ head_text options.now) }
@@ -120,6 +165,35 @@ pub(crate) fn put_head(text: &mut String, options: &Options<'_>) -> Result<(), A
         text,
         "station = {station}\nlisten = \"{listen}\"\nfile = \"{file}\"\nwindow = {window}\nwait_ms = {wait_ms}\n"
     )
+}
+
+/// Adds the line of a module's file.
+fn put_module(text: &mut String, path: &str) -> Result<(), AllocError>
+    ensures { OnOk result (string_bytes text.new ≡ string_bytes text.old ++ module_text path.now) }
+{
+    write!(text, "    \"{path}\",\n")
+}
+
+/// Adds the list of the modules' files, where there are some.
+pub(crate) fn put_modules(text: &mut String, paths: &[&str]) -> Result<(), AllocError>
+    ensures { OnOk result (string_bytes text.new ≡ string_bytes text.old ++ modules_text paths.now) }
+{
+    if paths.is_empty() {
+        return Ok(());
+    }
+    text.push_str("modules = [\n")?;
+    put_paths(text, paths)?;
+    text.push_str("]\n")
+}
+
+/// Adds the lines of modules' files.
+fn put_paths(text: &mut String, paths: &[&str]) -> Result<(), AllocError>
+    ensures { OnOk result (string_bytes text.new ≡ string_bytes text.old ++ flat_map (λ m. module_text m.now) paths.now) }
+{
+    for path in paths {
+        put_module(text, path)?;
+    }
+    Ok(())
 }
 
 /// Adds the head of a target.
@@ -154,29 +228,35 @@ pub(crate) fn put_peer(text: &mut String, peer: &Peer) -> Result<(), AllocError>
 
 /// Adds an alarm at these thresholds.
 #[tactic(auto, unfolding(crate::specs::Text::rule_text))]
-fn put_rule(text: &mut String, engine: &str, one: Planned, at: Thresholds) -> Result<(), AllocError>
-    ensures { OnOk result (string_bytes text.new ≡ string_bytes text.old ++ rule_text engine.now one at) }
+fn put_rule<S: NameTexts>(
+    text: &mut String,
+    shown: &Naming<'_, S>,
+    engine: &str,
+    one: Planned,
+    at: Thresholds,
+) -> Result<(), AllocError>
+    ensures { OnOk result (string_bytes text.new ≡ string_bytes text.old ++ rule_text (S.shown shown.now.names.now) engine.now one at) }
 {
     let rising = at.rising;
     let falling = at.falling;
     write!(text, "\n[[alarm]]\nengine = \"{engine}\"\nname = \"")?;
-    put_cell(text, one.column(), one.index)?;
+    put_cell(text, shown, one.column(), one.index)?;
     write!(text, "\"\nrising = {rising}\nfalling = {falling}\n")
 }
 
 /// Adds the alarm on a counter, where there is one.
-pub(crate) fn put_alarm(
+pub(crate) fn put_alarm<S: NameTexts>(
     text: &mut String,
-    answers: &Answers,
+    shown: &Naming<'_, S>,
     percent: u8,
     engine: &str,
     one: Planned,
 ) -> Result<(), AllocError>
     requires { percent ≤ 100 }
-    ensures { OnOk result (string_bytes text.new ≡ string_bytes text.old ++ alarm_text answers.now percent engine.now one) }
+    ensures { OnOk result (string_bytes text.new ≡ string_bytes text.old ++ alarm_text (S.shown shown.now.names.now) shown.now.answers.now percent engine.now one) }
 {
-    match thresholds_of(answers, percent, one.counter, one.index) {
-        Some(at) => put_rule(text, engine, one, at),
+    match thresholds_of(shown.answers, percent, one.counter, one.index) {
+        Some(at) => put_rule(text, shown, engine, one, at),
         None => Ok(()),
     }
 }

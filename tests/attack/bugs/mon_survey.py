@@ -68,8 +68,8 @@ BUGS = {
     ),
     "writes_no_marks": (
         "src/writing.rt",
-        "    if answers.is_marked(index) {",
-        "    if answers.is_marked(index) && index == 0 {",
+        "    if shown.answers.is_marked(index) {",
+        "    if shown.answers.is_marked(index) && index == 0 {",
     ),
     "fills_targets_with_17": (
         "src/drafting.rt",
@@ -78,13 +78,88 @@ BUGS = {
     ),
     "writes_texts_as_they_are": (
         "src/drafting.rt",
-        "    if !options.are_plain() {",
-        "    if !options.are_plain() && options.percent == 0 {",
+        "    if !plan.options.are_plain() {\n        return Err(SurveyFault::BadText);\n    }\n    let digits = hex::encode(shown.alloc, plan.engine)?;\n    let mut text = String::new(shown.alloc);",
+        "    if !plan.options.are_plain() && plan.options.percent == 0 {\n        return Err(SurveyFault::BadText);\n    }\n    let digits = hex::encode(shown.alloc, plan.engine)?;\n    let mut text = String::new(shown.alloc);",
     ),
     "writes_no_alarms": (
         "src/drafting.rt",
-        "    put_alarms(&mut text, answers, options.percent, engine, planned)?;",
-        "    put_alarms(&mut text, answers, 0, engine, planned)?;",
+        "    put_peers(text, plan.options.peers)?;\n    put_alarms(text, shown, plan.options.percent, engine, plan.planned)",
+        "    put_peers(text, plan.options.peers)?;\n    put_alarms(text, shown, 0, engine, plan.planned)",
+    ),
+    "adds_no_alarms": (
+        "src/drafting.rt",
+        "    put_targets(text, shown, plan, engine)?;\n    put_alarms(text, shown, plan.options.percent, engine, plan.planned)\n}\n\n/// Returns the text of the settings",
+        "    put_targets(text, shown, plan, engine)\n}\n\n/// Returns the text of the settings",
+    ),
+    "forgets_the_old_text": (
+        "src/drafting.rt",
+        "    let mut text = String::from_str(shown.alloc, settings)?;",
+        "    let mut text = String::new(shown.alloc);",
+    ),
+    "shows_numbers_for_names": (
+        "src/appending.rt",
+        "    if existing.station.modules.is_empty() {",
+        "    if existing.station.modules.len() < 2 {",
+    ),
+    "adds_an_agent_twice": (
+        "src/appending.rt",
+        "    if polls_any(engine, station.core.targets()) {\n        return Err(SurveyFault::SameEngine);",
+        "    if polls_any(engine, station.core.targets()) && planned.len() > 16 {\n        return Err(SurveyFault::SameEngine);",
+    ),
+    "calls_every_engine_the_same": (
+        "src/appending.rt",
+        "    if polls_any(engine, station.core.targets()) {",
+        "    if !station.core.targets().is_empty() {",
+    ),
+    "adds_a_target_too_many": (
+        "src/appending.rt",
+        "    if targets > MOST_TARGETS {",
+        "    if targets > MOST_TARGETS + 1 {",
+    ),
+    "refuses_what_is_appended": (
+        "src/appending.rt",
+        "            if is_appended(alloc, wanted, existing.station, &station)? {\n                Ok(())",
+        "            if is_appended(alloc, wanted, existing.station, &station)? {\n                Err(SurveyFault::Misread)",
+    ),
+    "compares_no_old_targets": (
+        "src/kept.rt",
+        "            && are_kept_targets(old.core.targets(), new.core.targets())\n",
+        "",
+    ),
+    "compares_no_old_rules": (
+        "src/kept.rt",
+        "            && are_kept_rules(&watches, old.core.watch().rules(), new.core.watch().rules())\n",
+        "",
+    ),
+    "compares_rules_by_number": (
+        "src/kept.rt",
+        "    instance_at(watches.old, one.instance()) == instance_at(watches.new, other.instance())",
+        "    one.instance() == other.instance()",
+    ),
+    "labels_each_counter": (
+        "src/tables.rt",
+        "    if before == Some(index) {",
+        "    if before == Some(index) && index == 0 {",
+    ),
+    "escapes_no_backslash": (
+        "src/tables.rt",
+        "    if octet == b'\"' || octet == b'\\\\' {",
+        "    if octet == b'\"' {",
+    ),
+    "labels_by_ifdescr": (
+        "src/tables.rt",
+        "self.answers.octets(Column::IfX(1), index)",
+        "self.answers.octets(Column::If(2), index)",
+    ),
+    "reads_no_labels_back": (
+        "src/labelled.rt",
+        "    if reads_on(source, before, indexes, text.as_str())? {",
+        "    if reads_on(source, before, indexes, text.as_str())? || !old.is_empty() {",
+    ),
+    "calls_every_file_bad": (
+        "src/labelled.rt",
+        "    let Some(before) = interfaces(&was) else {\n        return Err(SurveyFault::BadLabels);",
+        "    let Some(before) = interfaces(&was) else {\n        return Err(SurveyFault::Misread);",
     ),
     "compares_no_marks": (
         "src/comparing.rt",
@@ -113,13 +188,13 @@ BUGS = {
     ),
     "reads_nothing_back": (
         "src/surveying.rt",
-        "    read_back(alloc, names, &wanted, text.as_str())?;\n    Ok(text)",
-        "    let _ = read_back(alloc, names, &wanted, text.as_str());\n    Ok(text)",
+        "    read_back(shown.alloc, names, &wanted, text.as_str())?;\n    Ok(text)",
+        "    let _ = read_back(shown.alloc, names, &wanted, text.as_str());\n    Ok(text)",
     ),
     "returns_another_text": (
         "src/surveying.rt",
-        "    read_back(alloc, names, &wanted, text.as_str())?;\n    Ok(text)",
-        "    read_back(alloc, names, &wanted, text.as_str())?;\n    let mut text = text;\n    text.push_str(\"#\")?;\n    Ok(text)",
+        "    read_back(shown.alloc, names, &wanted, text.as_str())?;\n    Ok(text)",
+        "    read_back(shown.alloc, names, &wanted, text.as_str())?;\n    let mut text = text;\n    text.push_str(\"#\")?;\n    Ok(text)",
     ),
     "refuses_what_is_read": (
         "src/surveying.rt",
@@ -139,6 +214,9 @@ PROMISES = {
     "polls_interfaces_that_are_down": "choice::Choice::takes",
     "plans_nothing_for_no_counter": "planning::plan",
     "shows_control_characters": "writing::shown",
-    "reads_nothing_back": "surveying::settings",
+    "reads_nothing_back": "surveying::settings_by",
+    "calls_every_engine_the_same": "appending::require_room",
+    "refuses_what_is_appended": "appending::read_appended",
+    "reads_no_labels_back": "labelled::labels_after",
     "refuses_what_is_read": "surveying::read_back",
 }

@@ -5,4 +5,4 @@ use Rattle.mon_survey.proofs.drafting.put_alarms.Given as goal
 
 -- the alarms so far
 abbrev pub invariant-loop-one : goal.invariant-loop-one
-invariant-loop-one l = string_bytes l.text ≡ string_bytes l.initial.text ++ flat_map (alarm_text l.answers l.percent l.engine) (take l.one-index l.planned)
+invariant-loop-one g l = string_bytes l.text ≡ string_bytes l.initial.text ++ flat_map (alarm_text (g.S.NameTexts.shown l.shown.names.now) l.shown.answers.now l.percent l.engine) (take l.one-index l.planned)

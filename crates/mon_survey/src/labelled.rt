@@ -1,0 +1,287 @@
+//! What a file of the texts of interfaces is read as.
+
+ghost use Rattle.std.specs.Prelude.{◌≡◌, ◌⊎◌, ◌↔◌, IfErr, IfOk, IsTrue, None, Some, codes, option_and_then, option_copied, option_map, string_bytes};
+ghost use Rattle.hex.specs.Hex.{encode_lower};
+ghost use Rattle.toml.specs.Data.{as_integer, get, get_member};
+ghost use Rattle.toml.specs.Parse.{parse_document};
+ghost use Rattle.toml.specs.View.{items_view, table_view, view};
+ghost use Rattle.mon_survey.specs.Labels.{AreInterfaces, Continue, IsInterface, IsLabels, IsNoLabels, IsSameInterface, ReadsOn, has_engine, indexes_of, interfaces_in, is_of, items_at, text_at};
+
+use crate::choice::Choice;
+use crate::fault::SurveyFault;
+use crate::tables::{Source, indexes_of};
+use crate::planning::counters_of;
+use crate::surveying::Surveyed;
+use std::alloc::{AllocError, Global};
+use toml::{Table, Value};
+
+/// The most interfaces of a file.
+const MOST_INTERFACES: usize = 4096;
+
+/// The tree of a text.
+fn tree(alloc: Global, text: &str) -> Result<Table, SurveyFault>
+    ensures tree { IfOk result (λ t. parse_document text.now ≡ Some (table_view t)) }
+    ensures none { IfErr result (λ e. (e ≡ SurveyFault.OutOfMemory) ⊎ ((e ≡ SurveyFault.BadLabels) × (parse_document text.now ≡ None))) }
+{
+    match toml::table_from_str(alloc, text) {
+        Ok(table) => Ok(table),
+        Err(error) => match error.span() {
+            Some(_) => Err(SurveyFault::BadLabels),
+            None => Err(SurveyFault::OutOfMemory),
+        },
+    }
+}
+
+/// The value at a key of a tree.
+fn find<'t>(table: &'t Table, key: &str) -> Option<&'t Value>
+    ensures { option_map (λ v. view v.now) result ≡ get_member key.now (table_view table.now) }
+{
+    table.get(key)
+}
+
+/// The tables of interfaces in a tree; `None` where they are no list.
+fn interfaces(table: &Table) -> Option<&[Value]>
+    ensures { option_map (λ v. items_view v.now) result ≡ items_at (get_member (codes "interface") (table_view table.now)) }
+{
+    match find(table, "interface") {
+        Some(value) => match value.as_array() {
+            Some(values) => Some(values.as_slice()),
+            None => None,
+        },
+        None => Some(&[]),
+    }
+}
+
+/// The text at a key.
+fn text_at<'v>(value: &'v Value, key: &str) -> Option<&'v str>
+    ensures { option_copied result ≡ text_at key.now (view value.now) }
+{
+    match value.get(key) {
+        Some(found) => found.as_str(),
+        None => None,
+    }
+}
+
+/// The number at a key.
+fn number_at(value: &Value, key: &str) -> Option<i64>
+    ensures { result ≡ option_and_then as_integer (get key.now (view value.now)) }
+{
+    match value.get(key) {
+        Some(found) => found.as_integer(),
+        None => None,
+    }
+}
+
+/// Returns `true` if the texts are the same, or there are none.
+fn are_alike(one: Option<&str>, other: Option<&str>) -> bool
+    ensures { IsTrue result ↔ (option_copied one.entry ≡ option_copied other.entry) }
+{
+    match one {
+        Some(text) => match other {
+            Some(same) => text == same,
+            None => false,
+        },
+        None => other.is_none(),
+    }
+}
+
+/// Returns `true` if the text is this one, or there are none.
+fn is_text(found: Option<&str>, wanted: &Option<String>) -> bool
+    ensures { IsTrue result ↔ (option_copied found.entry ≡ option_map string_bytes wanted.now) }
+{
+    match found {
+        Some(text) => match wanted {
+            Some(same) => text == same.as_str(),
+            None => false,
+        },
+        None => wanted.is_none(),
+    }
+}
+
+/// Returns `true` if the table is that of the interface.
+fn is_interface(source: &Source<'_>, index: u32, value: &Value) -> Result<bool, AllocError>
+    ensures { IfOk result (λ is. IsTrue is ↔ IsInterface source.now.engine.now source.now.answers.now index (view value.now)) }
+{
+    let name = source.name(index)?;
+    let alias = source.alias(index)?;
+    Ok(
+        are_alike(text_at(value, "engine"), Some(source.engine))
+            && number_at(value, "index") == Some(i64::from(index))
+            && is_text(text_at(value, "ifName"), &name)
+            && is_text(text_at(value, "ifAlias"), &alias),
+    )
+}
+
+/// Returns `true` if the tables are those of the interfaces.
+fn are_interfaces(
+    source: &Source<'_>,
+    indexes: &[u32],
+    values: &[Value],
+) -> Result<bool, AllocError>
+    ensures { IfOk result (λ are. IsTrue are ↔ AreInterfaces source.now.engine.now source.now.answers.now indexes.now (items_view values.now)) }
+{
+    let [index, indexes @ ..] = indexes else {
+        return Ok(values.is_empty());
+    };
+    let [value, values @ ..] = values else {
+        return Ok(false);
+    };
+    if !is_interface(source, *index, value)? {
+        return Ok(false);
+    }
+    are_interfaces(source, indexes, values)
+}
+
+/// Returns `true` if the tables say the same.
+fn is_same(one: &Value, other: &Value) -> bool
+    ensures { IsTrue result ↔ IsSameInterface (view one.now) (view other.now) }
+{
+    are_alike(text_at(one, "engine"), text_at(other, "engine"))
+        && number_at(one, "index") == number_at(other, "index")
+        && are_alike(text_at(one, "ifName"), text_at(other, "ifName"))
+        && are_alike(text_at(one, "ifAlias"), text_at(other, "ifAlias"))
+}
+
+/// Returns `true` if the new tables are the old ones, and then those of the interfaces.
+fn continues(
+    source: &Source<'_>,
+    indexes: &[u32],
+    old: &[Value],
+    new: &[Value],
+) -> Result<bool, AllocError>
+    ensures { IfOk result (λ is. IsTrue is ↔ Continue source.now.engine.now source.now.answers.now indexes.now (items_view old.now) (items_view new.now)) }
+{
+    let [one, old @ ..] = old else {
+        return are_interfaces(source, indexes, new);
+    };
+    let [other, new @ ..] = new else {
+        return Ok(false);
+    };
+    if !is_same(one, other) {
+        return Ok(false);
+    }
+    continues(source, indexes, old, new)
+}
+
+/// Returns `true` if one of the tables is of the engine.
+fn has_engine(engine: &str, values: &[Value]) -> bool
+    ensures { result ≡ has_engine engine.now (items_view values.now) }
+{
+    let [value, values @ ..] = values else {
+        return false;
+    };
+    is_of(engine, text_at(value, "engine")) || has_engine(engine, values)
+}
+
+fn is_of(engine: &str, found: Option<&str>) -> bool
+    ensures { result ≡ is_of engine.now (option_copied found.entry) }
+{
+    match found {
+        Some(text) => text == engine,
+        None => false,
+    }
+}
+
+/// Requires that the interfaces may follow the old tables.
+fn require_room(
+    source: &Source<'_>,
+    old: &str,
+    before: &[Value],
+    indexes: &[u32],
+) -> Result<(), SurveyFault>
+    requires { interfaces_in old.now ≡ Some (items_view before.now) }
+    ensures { IfErr result (IsNoLabels old.now source.now.engine.now source.now.answers.now indexes.now) }
+{
+    if has_engine(source.engine, before) {
+        return Err(SurveyFault::SameEngine);
+    }
+    let count = before.len().saturating_add(indexes.len());
+    if count > MOST_INTERFACES {
+        return Err(SurveyFault::TooManyInterfaces(count));
+    }
+    Ok(())
+}
+
+/// Returns `true` if the text is read as these tables and those of the interfaces. An `Err` means out
+/// of memory.
+fn reads_on(
+    source: &Source<'_>,
+    before: &[Value],
+    indexes: &[u32],
+    text: &str,
+) -> Result<bool, AllocError>
+    ensures { IfOk result (λ is. IsTrue is ↔ ReadsOn source.now.engine.now source.now.answers.now indexes.now (items_view before.now) text.now) }
+{
+    let read = match tree(source.alloc, text) {
+        Ok(read) => read,
+        Err(SurveyFault::BadLabels) => return Ok(false),
+        Err(_) => return Err(AllocError),
+    };
+    match interfaces(&read) {
+        Some(after) => continues(source, indexes, before, after),
+        None => Ok(false),
+    }
+}
+
+/// Returns the text with the tables of the interfaces, if it is read as the old ones and these.
+fn labels_after(
+    source: &Source<'_>,
+    old: &str,
+    before: &[Value],
+    indexes: &[u32],
+) -> Result<String, SurveyFault>
+    requires { interfaces_in old.now ≡ Some (items_view before.now) }
+    ensures reads { IfOk result (λ text. IsLabels old.now source.now.engine.now source.now.answers.now indexes.now (string_bytes text)) }
+    ensures fault { IfErr result (IsNoLabels old.now source.now.engine.now source.now.answers.now indexes.now) }
+{
+    let octets = source.octets(old, indexes)?;
+    let Ok(text) = String::from_utf8(octets) else {
+        return Err(SurveyFault::Misread);
+    };
+    if reads_on(source, before, indexes, text.as_str())? {
+        Ok(text)
+    } else {
+        Err(SurveyFault::Misread)
+    }
+}
+
+/// Returns the file of the interfaces of these indexes.
+fn labels_of(source: &Source<'_>, old: &str, indexes: &[u32]) -> Result<String, SurveyFault>
+    ensures reads { IfOk result (λ text. IsLabels old.now source.now.engine.now source.now.answers.now indexes.now (string_bytes text)) }
+    ensures fault { IfErr result (IsNoLabels old.now source.now.engine.now source.now.answers.now indexes.now) }
+{
+    let was = tree(source.alloc, old)?;
+    let Some(before) = interfaces(&was) else {
+        return Err(SurveyFault::BadLabels);
+    };
+    require_room(source, old, before, indexes)?;
+    labels_after(source, old, before, indexes)
+}
+
+/// Returns a file of the texts of the interfaces of which a counter is chosen: the old text octet by
+/// octet (none: a new file), and then a table of each interface with its engine id, ifIndex, ifName
+/// and ifAlias. The whole was read back, as the old tables and these.
+///
+/// # Errors
+/// `BadLabels` where the old text is not TOML or its `interface` no list; `SameEngine` where it has
+/// the engine; `TooManyInterfaces` with their number in all, above 4,096; `Misread` where the text is
+/// read as others; `OutOfMemory`.
+pub fn labels(
+    alloc: Global,
+    old: &str,
+    agent: &Surveyed<'_>,
+    choice: &Choice<'_>,
+) -> Result<String, SurveyFault>
+    ensures reads { IfOk result (λ text. IsLabels old.now (encode_lower agent.now.engine.now) agent.now.answers.now (indexes_of choice.now agent.now.answers.now) (string_bytes text)) }
+    ensures fault { IfErr result (IsNoLabels old.now (encode_lower agent.now.engine.now) agent.now.answers.now (indexes_of choice.now agent.now.answers.now)) }
+{
+    let counters = counters_of(alloc, agent.answers, choice)?;
+    let indexes = indexes_of(alloc, &counters)?;
+    let digits = hex::encode(alloc, agent.engine)?;
+    let source = Source {
+        alloc,
+        engine: digits.as_str(),
+        answers: agent.answers,
+    };
+    labels_of(&source, old, &indexes)
+}

@@ -1,0 +1,166 @@
+//! The texts of interfaces as a file, whose texts become labels of Prometheus' series.
+
+ghost use Rattle.std.specs.Prelude.{◌≡◌, ◌++◌, [], ◌∷◌, IfOk, None, OnOk, codes, decimal, if◌then◌else◌, option_map, string_bytes};
+ghost use Rattle.std.specs.List.{flat_map};
+ghost use Rattle.mon_survey.specs.Labels.{begun, escaped, if_alias, if_name, indexes_after, interface_text, is_before, labels_text, line_of, text_of};
+
+use crate::answers::Answers;
+use crate::column::Column;
+use crate::counter::Planned;
+use std::alloc::{AllocError, AllocFailed, Global};
+
+/// Adds the index of a counter's interface, unless it was the one before.
+fn add_index(
+    indexes: &mut Vec<u32>,
+    before: Option<u32>,
+    index: u32,
+) -> Result<(), AllocFailed<u32>>
+    ensures { OnOk result (indexes.new.items ≡ indexes.old.items ++ (if is_before before index then [] else (index ∷ []))) }
+{
+    if before == Some(index) {
+        return Ok(());
+    }
+    indexes.push(index)
+}
+
+/// The indexes of the counters' interfaces, each once.
+pub(crate) fn indexes_of(alloc: Global, counters: &[Planned]) -> Result<Vec<u32>, AllocError>
+    ensures { IfOk result (λ v. v.items ≡ indexes_after None counters.now) }
+{
+    let mut indexes = Vec::new(alloc);
+    let mut before = None;
+    for one in counters {
+        add_index(&mut indexes, before, one.index)?;
+        before = Some(one.index);
+    }
+    Ok(indexes)
+}
+
+/// Octets as a text, with U+FFFD in place of what is not UTF-8; `None` where there are none.
+fn text_of(alloc: Global, octets: &[u8]) -> Result<Option<String>, AllocError>
+    ensures { IfOk result (λ t. option_map string_bytes t ≡ text_of octets.now) }
+{
+    if octets.is_empty() {
+        return Ok(None);
+    }
+    Ok(Some(String::from_utf8_lossy(alloc, octets)?))
+}
+
+/// Adds an octet in quotes.
+fn put_escaped(alloc: Global, text: &mut Vec<u8>, octet: u8) -> Result<(), AllocError>
+    ensures { OnOk result (text.new.items ≡ text.old.items ++ escaped octet) }
+{
+    if octet == b'"' || octet == b'\\' {
+        return text.extend_from_slice(&[b'\\', octet]);
+    }
+    if octet <= 31 || octet == 127 {
+        let digits = hex::encode(alloc, &[octet])?;
+        text.extend_from_slice(b"\\u00")?;
+        return text.extend_from_slice(digits.as_bytes());
+    }
+    text.extend_from_slice(&[octet])
+}
+
+/// Adds a text in quotes, without them.
+fn put_quoted(alloc: Global, text: &mut Vec<u8>, value: &[u8]) -> Result<(), AllocError>
+    ensures { OnOk result (text.new.items ≡ text.old.items ++ flat_map escaped value.now) }
+{
+    for octet in value {
+        put_escaped(alloc, text, *octet)?;
+    }
+    Ok(())
+}
+
+/// Adds the line of a key, where it has a text.
+fn put_line(
+    alloc: Global,
+    text: &mut Vec<u8>,
+    key: &str,
+    value: &Option<String>,
+) -> Result<(), AllocError>
+    ensures { OnOk result (text.new.items ≡ text.old.items ++ line_of key.now (option_map string_bytes value.now)) }
+{
+    let Some(value) = value else {
+        return Ok(());
+    };
+    text.extend_from_slice(key.as_bytes())?;
+    text.extend_from_slice(b" = \"")?;
+    put_quoted(alloc, text, value.as_bytes())?;
+    text.extend_from_slice(b"\"\n")
+}
+
+/// Adds the head of an interface's table.
+fn put_head(
+    alloc: Global,
+    text: &mut Vec<u8>,
+    engine: &str,
+    index: u32,
+) -> Result<(), AllocError>
+    ensures { OnOk result (text.new.items ≡ text.old.items ++ codes "\n[[interface]]\nengine = \"" ++ engine.now ++ codes "\"\nindex = " ++ decimal index ++ codes "\n") }
+{
+    let head = format!(in alloc; "\n[[interface]]\nengine = \"{engine}\"\nindex = {index}\n")?;
+    text.extend_from_slice(head.as_bytes())
+}
+
+/// What labels are of: an engine, by its id in hex, and what its agent answered.
+#[derive(Clone, Copy)]
+pub(crate) struct Source<'a> {
+    pub(crate) alloc: Global,
+    pub(crate) engine: &'a str,
+    pub(crate) answers: &'a Answers,
+}
+
+impl Source<'_> {
+    /// The interface's ifName, where it has one.
+    pub(crate) fn name(&self, index: u32) -> Result<Option<String>, AllocError>
+        ensures { IfOk result (λ t. option_map string_bytes t ≡ if_name self.now.answers.now index) }
+    {
+        text_of(self.alloc, self.answers.octets(Column::IfX(1), index))
+    }
+
+    /// The interface's ifAlias, where it has one.
+    pub(crate) fn alias(&self, index: u32) -> Result<Option<String>, AllocError>
+        ensures { IfOk result (λ t. option_map string_bytes t ≡ if_alias self.now.answers.now index) }
+    {
+        text_of(self.alloc, self.answers.octets(Column::IfX(18), index))
+    }
+
+    /// Adds the table of an interface.
+    #[tactic(auto, unfolding(crate::specs::Labels::interface_text))]
+    fn put_interface(&self, text: &mut Vec<u8>, index: u32) -> Result<(), AllocError>
+        ensures { OnOk result (text.new.items ≡ text.old.items ++ interface_text self.now.engine.now self.now.answers.now index) }
+    {
+        put_head(self.alloc, text, self.engine, index)?;
+        put_line(self.alloc, text, "ifName", &self.name(index)?)?;
+        put_line(self.alloc, text, "ifAlias", &self.alias(index)?)
+    }
+
+    /// Adds the tables of interfaces.
+    fn put_interfaces(&self, text: &mut Vec<u8>, indexes: &[u32]) -> Result<(), AllocError>
+        ensures { OnOk result (text.new.items ≡ text.old.items ++ flat_map (interface_text self.now.engine.now self.now.answers.now) indexes.now) }
+    {
+        for index in indexes {
+            self.put_interface(text, *index)?;
+        }
+        Ok(())
+    }
+
+    /// The octets of the text: those of the old one, and the tables of the interfaces.
+    pub(crate) fn octets(&self, old: &str, indexes: &[u32]) -> Result<Vec<u8>, AllocError>
+        ensures { IfOk result (λ v. v.items ≡ labels_text old.now self.now.engine.now self.now.answers.now indexes.now) }
+    {
+        let mut text = Vec::from_slice(self.alloc, begun(old).as_bytes())?;
+        self.put_interfaces(&mut text, indexes)?;
+        Ok(text)
+    }
+}
+
+/// The first line of a new file.
+const FIRST: &str = "# Labels of interfaces for Prometheus.\n";
+
+/// The old text, or the first line of a new one.
+fn begun(old: &str) -> &str
+    ensures { result.now ≡ begun old.now }
+{
+    if old.is_empty() { FIRST } else { old }
+}
