@@ -19,7 +19,7 @@ pub(crate) fn survey_failure(alloc: Global, place: &str, fault: SurveyFault) -> 
 pub(crate) fn together_failure(alloc: Global) -> Failure {
     let more: Result<String, AllocError> = String::from_str(
         alloc,
-        "--append goes with neither --split nor --module: names stand as in the settings",
+        "--append goes with neither --split nor --module: names are shown as in the settings",
     );
     Failure::said(Fault::App(AppFault::BadText), more)
 }

@@ -329,6 +329,12 @@ fn are_sized(options: &Options<'_>, instances: &[Watched]) -> bool
     instances.iter().all(|watched| is_sized(options, watched))
 }
 
+fn is_module(text: &String, module: &str) -> bool
+    ensures { IsTrue result ↔ (string_bytes text.now ≡ module.now) }
+{
+    text.as_str() == module
+}
+
 /// Returns `true` if the texts are the modules' files.
 fn are_modules(texts: &[String], modules: &[&str]) -> bool
     ensures { IsTrue result ↔ AllZip (λ text m. text ≡ m.now) (map string_bytes texts.now) modules.now }
@@ -339,7 +345,7 @@ fn are_modules(texts: &[String], modules: &[&str]) -> bool
     let [module, modules @ ..] = modules else {
         return false;
     };
-    text.as_str() == *module && are_modules(texts, modules)
+    is_module(text, module) && are_modules(texts, modules)
 }
 
 /// Returns `true` if what is outside of the lists is that of the options.
