@@ -6,7 +6,9 @@ use mon_app::{
 };
 use mon_ber::Value;
 use mon_cli::{BulkArgs, Request, SetArgs};
-use mon_console::{AgentAt, Failure, agent_at, answer_failure, asked_for, community, names_of, print};
+use mon_console::{
+    AgentAt, Failure, agent_at, answer_failure, asked_for, community, names_of, print,
+};
 use mon_oid::Oid;
 use mon_smi::{InNumbers, NameTexts, Names};
 use mon_udp::Addr;

@@ -4,7 +4,7 @@ use mon_app::AppFault;
 use mon_console::{Failure, Fault};
 use mon_station::Innermost;
 use mon_survey::SurveyFault;
-use std::alloc::{Global, AllocError};
+use std::alloc::{AllocError, Global};
 
 /// Why an agent gives no settings, or a file no labels.
 pub(crate) fn survey_failure(alloc: Global, place: &str, fault: SurveyFault) -> Failure {

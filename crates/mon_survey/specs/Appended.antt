@@ -127,7 +127,7 @@ abbrev pub IsStopped : List Definition → Choice → Options → List ℕ → S
 IsStopped defs choice o text old engine cells e =
     (planned_of choice cells ≡ Err e)
     ⊎ ((ps : List Planned) × (planned_of choice cells ≡ Ok ps)
-        × ((with_room old engine ps ≡ Err e) ⊎ (addition_of (shown_by defs (length old.modules)) text o engine cells ps ≡ Err e)))
+    × ((with_room old engine ps ≡ Err e) ⊎ (addition_of (shown_by defs (length old.modules)) text o engine cells ps ≡ Err e)))
 
 -- there is a text, which is not read as what was meant, for this reason
 abbrev pub IsUnmeant : List Definition → Choice → Options → List ℕ → Station → List ℕ → List Cell → SurveyFault → Type 0

@@ -151,7 +151,11 @@ fn are_agents(wanted: &Wanted<'_>, targets: &[Target]) -> bool
 }
 
 /// Returns `true` if the targets are those that were meant.
-pub(crate) fn are_targets(alloc: Global, wanted: &Wanted<'_>, targets: &[Target]) -> Result<bool, AllocError>
+pub(crate) fn are_targets(
+    alloc: Global,
+    wanted: &Wanted<'_>,
+    targets: &[Target],
+) -> Result<bool, AllocError>
     requires { length wanted.now.planned.now ≤ 256 }
     ensures { IfOk result (λ are. IsTrue are ↔ AreTargets wanted.now.options.now wanted.now.engine.now wanted.now.answers.now wanted.now.planned.now targets.now) }
 {
@@ -201,7 +205,11 @@ fn at_watched(wanted: &Wanted<'_>, watched: &Watched) -> Option<Thresholds>
     ensures { result ≡ at_watched wanted.now.engine.now wanted.now.answers.now wanted.now.options.now.percent watched.now }
 {
     if is_own(wanted.engine, watched) {
-        at_cell(wanted.answers, wanted.options.percent, Spot::of(&watched.instance.name))
+        at_cell(
+            wanted.answers,
+            wanted.options.percent,
+            Spot::of(&watched.instance.name),
+        )
     } else {
         None
     }

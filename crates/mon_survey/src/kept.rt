@@ -184,16 +184,22 @@ fn are_same_addresses(old: &[Addr], new: &[Addr]) -> bool
     is_same_address(*one, *other) && are_same_addresses(old, new)
 }
 
+fn are_same_numbers(old: &[u32], new: &[u32]) -> bool
+    ensures { IsTrue result ↔ (old.now ≡ new.now) }
+{
+    old == new
+}
+
 /// Returns `true` if what is outside of targets and alarms is the same.
 fn are_kept_scalars(old: &StationSettings, new: &StationSettings) -> bool
     ensures { IsTrue result ↔ KeepsScalars (station_view old.now) (station_view new.now) }
 {
     old.core.station() == new.core.station()
-        && old.listen == new.listen
-        && old.file.as_bytes() == new.file.as_bytes()
+        && is_same_address(old.listen, new.listen)
+        && is_same_text(&old.file, &new.file)
         && old.wait_ms == new.wait_ms
         && are_same_texts(old.modules.as_slice(), new.modules.as_slice())
-        && old.core.peers() == new.core.peers()
+        && are_same_numbers(old.core.peers(), new.core.peers())
         && are_same_addresses(old.peer_addresses.as_slice(), new.peer_addresses.as_slice())
 }
 

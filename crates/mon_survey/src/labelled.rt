@@ -9,9 +9,9 @@ ghost use Rattle.mon_survey.specs.Labels.{AreInterfaces, Continue, IsInterface, 
 
 use crate::choice::Choice;
 use crate::fault::SurveyFault;
-use crate::tables::{Source, indexes_of};
 use crate::planning::counters_of;
 use crate::surveying::Surveyed;
+use crate::tables::{Source, indexes_of};
 use std::alloc::{AllocError, Global};
 use toml::{Table, Value};
 

@@ -90,12 +90,7 @@ fn put_line(
 }
 
 /// Adds the head of an interface's table.
-fn put_head(
-    alloc: Global,
-    text: &mut Vec<u8>,
-    engine: &str,
-    index: u32,
-) -> Result<(), AllocError>
+fn put_head(alloc: Global, text: &mut Vec<u8>, engine: &str, index: u32) -> Result<(), AllocError>
     ensures { OnOk result (text.new.items ≡ text.old.items ++ concat (codes "\n[[interface]]\nengine = \"" ∷ engine.now ∷ codes "\"\nindex = " ∷ decimal index ∷ codes "\n" ∷ [])) }
 {
     let head = format!(in alloc; "\n[[interface]]\nengine = \"{engine}\"\nindex = {index}\n")?;

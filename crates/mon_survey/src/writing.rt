@@ -1,6 +1,6 @@
 //! Pieces of a settings text.
 
-ghost use Rattle.std.specs.Prelude.{◌≡◌, ◌≤◌, ◌<◌, ◌++◌, [], ◌∷◌, OnOk, string_bytes, IfOk, map, take};
+ghost use Rattle.std.specs.Prelude.{◌≡◌, ◌≤◌, ◌<◌, ◌++◌, [], ◌∷◌, OnOk, string_bytes, IfOk, codes, map, take};
 ghost use Rattle.std.specs.List.{flat_map};
 ghost use Rattle.mon_survey.specs.Answers.{type_in};
 ghost use Rattle.mon_survey.specs.Column.{cell_name};
@@ -193,6 +193,13 @@ pub(crate) fn put_modules(text: &mut String, paths: &[&str]) -> Result<(), Alloc
     if paths.is_empty() {
         return Ok(());
     }
+    put_list(text, paths)
+}
+
+/// Adds the list of modules' files.
+fn put_list(text: &mut String, paths: &[&str]) -> Result<(), AllocError>
+    ensures { OnOk result (string_bytes text.new ≡ string_bytes text.old ++ codes "modules = [\n" ++ flat_map (λ m. module_text m.now) paths.now ++ codes "]\n") }
+{
     text.push_str("modules = [\n")?;
     put_paths(text, paths)?;
     text.push_str("]\n")
