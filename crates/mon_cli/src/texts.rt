@@ -101,7 +101,7 @@ const SETTINGS_MORE: &str =
     "Asks the agent at ADDRESS for its engine and walks its tables of interfaces (GetBulkRequests), and prints the settings of a station
 that polls the counters that are chosen, as `station` reads them: 64-bit counters where the agent has them, each with its discontinuity
 mark where there is one, in targets of 16. Packets are those of unicast, and of multicast and broadcast where ifXTable counts them. The
-text is read back before it is printed, and nothing is printed if anything fails. With -m names stand as ifHCInOctets.1. Where ifNumber
+text is read back before it is printed, and nothing is printed if anything fails. With -m names are shown as ifHCInOctets.1. Where ifNumber
 is not the number of ifTable's interfaces, a line on standard error says so.
 
 An agent without the snmpEngine group ends it with mon_survey 2 NoEngine, since a station stamps each sample by it; no counter

@@ -4,7 +4,7 @@ use mon_app::AppFault;
 use mon_console::{Failure, Fault};
 use mon_station::Innermost;
 use mon_survey::SurveyFault;
-use std::alloc::{Global, AllocError};
+use std::alloc::{AllocError, Global};
 
 /// Why an agent gives no settings, or a file no labels.
 pub(crate) fn survey_failure(alloc: Global, place: &str, fault: SurveyFault) -> Failure {
@@ -19,7 +19,7 @@ pub(crate) fn survey_failure(alloc: Global, place: &str, fault: SurveyFault) -> 
 pub(crate) fn together_failure(alloc: Global) -> Failure {
     let more: Result<String, AllocError> = String::from_str(
         alloc,
-        "--append goes with neither --split nor --module: names stand as in the settings",
+        "--append goes with neither --split nor --module: names are shown as in the settings",
     );
     Failure::said(Fault::App(AppFault::BadText), more)
 }

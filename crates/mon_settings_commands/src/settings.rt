@@ -209,7 +209,13 @@ pub(crate) fn settings_of(
 ) -> Result<String, Failure> {
     let places = places_of(alloc, ground.words, group.unwrap_or(0))?;
     let options = options_of(ground, &places);
-    match settings(alloc, ground.names, &ground.agent(), &options, &ground.choice(group)) {
+    match settings(
+        alloc,
+        ground.names,
+        &ground.agent(),
+        &options,
+        &ground.choice(group),
+    ) {
         Ok(text) => Ok(text),
         Err(fault) => Err(survey_failure(alloc, ground.asked.agent.word, fault)),
     }

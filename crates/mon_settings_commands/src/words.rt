@@ -50,8 +50,7 @@ pub(crate) fn kinds_of(alloc: Global, only: Option<&str>) -> Result<Kinds, Failu
 }
 
 /// The percentage that a text gives, with a percent sign or without; 0 if there is none.
-pub(crate) fn percent_of(alloc: Global, text: Option<&str>) -> Result<u8, Failure>
-{
+pub(crate) fn percent_of(alloc: Global, text: Option<&str>) -> Result<u8, Failure> {
     let Some(text) = text else {
         return Ok(0);
     };
@@ -91,4 +90,3 @@ fn peer_failure(alloc: Global, word: &str) -> Failure {
         "a station's number and address, N=a.b.c.d:port,",
     )
 }
-

@@ -1,3 +1,4 @@
 pub mod Cells
 pub mod Comments
+pub mod Steps
 pub mod Zips

@@ -72,9 +72,9 @@ pub record KeepsScalars (old new : Station) : Type 0 where
   pub listen : old.listen ≡ new.listen
   pub file : old.file ≡ new.file
   pub wait_ms : old.wait_ms ≡ new.wait_ms
-  pub modules : old.modules ≡ new.modules
+  pub modules : AllZip (λ a b. a ≡ b) old.modules new.modules
   pub peers : old.core.peers ≡ new.core.peers
-  pub addresses : old.peer_addresses ≡ new.peer_addresses
+  pub addresses : AllZip (λ a b. a ≡ b) old.peer_addresses new.peer_addresses
 
 -- The settings that were meant: the old ones, with targets at their end that poll these counters of the agent, and with the alarms on
 -- them. What is watched of other agents stays as it was, with its alarms.
@@ -82,7 +82,7 @@ pub record IsAppended (o : Options) (engine : List ℕ) (cells : List Cell) (ps 
   pub scalars : KeepsScalars old new
   pub kept : AllZip IsSameTarget old.core.targets (take (length old.core.targets) new.core.targets)
   pub targets : AreTargets o engine cells ps (drop (length old.core.targets) new.core.targets)
-  pub instances : filter (λ w. not (is_own engine w)) new.core.watch.instances ≡ old.core.watch.instances
+  pub instances : AllZip (λ w was. w ≡ was) (filter (λ w. not (is_own engine w)) new.core.watch.instances) old.core.watch.instances
   pub rules : KeepsRules engine old.core.watch.instances new.core.watch.instances old.core.watch.rules new.core.watch.rules
   pub alarms : HasAlarms engine new.core.watch.instances new.core.watch.rules (alarms_from engine cells o.percent 0 new.core.watch.instances)
 
@@ -127,7 +127,7 @@ abbrev pub IsStopped : List Definition → Choice → Options → List ℕ → S
 IsStopped defs choice o text old engine cells e =
     (planned_of choice cells ≡ Err e)
     ⊎ ((ps : List Planned) × (planned_of choice cells ≡ Ok ps)
-        × ((with_room old engine ps ≡ Err e) ⊎ (addition_of (shown_by defs (length old.modules)) text o engine cells ps ≡ Err e)))
+    × ((with_room old engine ps ≡ Err e) ⊎ (addition_of (shown_by defs (length old.modules)) text o engine cells ps ≡ Err e)))
 
 -- there is a text, which is not read as what was meant, for this reason
 abbrev pub IsUnmeant : List Definition → Choice → Options → List ℕ → Station → List ℕ → List Cell → SurveyFault → Type 0

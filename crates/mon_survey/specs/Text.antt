@@ -75,8 +75,7 @@ module_text path = codes "    \"" ++ path ++ codes "\",\n"
 
 -- the list of the modules' files, where there are some
 abbrev pub modules_text : List (Bor (List ℕ)) → List ℕ
-modules_text [] = []
-modules_text (p ∷ ps) = codes "modules = [\n" ++ flat_map (λ m. module_text m.now) (p ∷ ps) ++ codes "]\n"
+modules_text paths = if length paths == 0 then [] else codes "modules = [\n" ++ flat_map (λ m. module_text m.now) paths ++ codes "]\n"
 
 -- the head of a target
 unfoldable pub target_text : Options → List ℕ → List ℕ

@@ -160,7 +160,10 @@ impl Answers {
     pub fn count(&self) -> usize
         ensures { result ≡ count_of self.now }
     {
-        self.cells.iter().filter(|cell| cell.column == Column::If(2)).count()
+        self.cells
+            .iter()
+            .filter(|cell| cell.column == Column::If(2))
+            .count()
     }
 
     /// The interface's ifName, or its ifDescr where it has none.

@@ -37,7 +37,9 @@ impl Kinds {
     pub fn needs(self, column: Column) -> bool
         ensures { result ≡ needs self column }
     {
-        Counter::every().iter().all(|counter| !self.spares(*counter, column))
+        Counter::every()
+            .iter()
+            .all(|counter| !self.spares(*counter, column))
     }
 
     /// Returns `true` if the column is one of a counter that is not polled.

@@ -151,7 +151,11 @@ fn are_agents(wanted: &Wanted<'_>, targets: &[Target]) -> bool
 }
 
 /// Returns `true` if the targets are those that were meant.
-pub(crate) fn are_targets(alloc: Global, wanted: &Wanted<'_>, targets: &[Target]) -> Result<bool, AllocError>
+pub(crate) fn are_targets(
+    alloc: Global,
+    wanted: &Wanted<'_>,
+    targets: &[Target],
+) -> Result<bool, AllocError>
     requires { length wanted.now.planned.now ≤ 256 }
     ensures { IfOk result (λ are. IsTrue are ↔ AreTargets wanted.now.options.now wanted.now.engine.now wanted.now.answers.now wanted.now.planned.now targets.now) }
 {
@@ -201,7 +205,11 @@ fn at_watched(wanted: &Wanted<'_>, watched: &Watched) -> Option<Thresholds>
     ensures { result ≡ at_watched wanted.now.engine.now wanted.now.answers.now wanted.now.options.now.percent watched.now }
 {
     if is_own(wanted.engine, watched) {
-        at_cell(wanted.answers, wanted.options.percent, Spot::of(&watched.instance.name))
+        at_cell(
+            wanted.answers,
+            wanted.options.percent,
+            Spot::of(&watched.instance.name),
+        )
     } else {
         None
     }
@@ -329,6 +337,12 @@ fn are_sized(options: &Options<'_>, instances: &[Watched]) -> bool
     instances.iter().all(|watched| is_sized(options, watched))
 }
 
+fn is_module(text: &String, module: &str) -> bool
+    ensures { IsTrue result ↔ (string_bytes text.now ≡ module.now) }
+{
+    text.as_str() == module
+}
+
 /// Returns `true` if the texts are the modules' files.
 fn are_modules(texts: &[String], modules: &[&str]) -> bool
     ensures { IsTrue result ↔ AllZip (λ text m. text ≡ m.now) (map string_bytes texts.now) modules.now }
@@ -339,7 +353,7 @@ fn are_modules(texts: &[String], modules: &[&str]) -> bool
     let [module, modules @ ..] = modules else {
         return false;
     };
-    text.as_str() == *module && are_modules(texts, modules)
+    is_module(text, module) && are_modules(texts, modules)
 }
 
 /// Returns `true` if what is outside of the lists is that of the options.

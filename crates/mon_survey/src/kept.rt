@@ -57,9 +57,15 @@ fn are_kept_targets(old: &[Target], new: &[Target]) -> bool
     is_same_target(one, other) && are_kept_targets(old, new)
 }
 
+fn is_same_watched(one: &Watched, other: &Watched) -> bool
+    ensures { IsTrue result ↔ (one.now ≡ other.now) }
+{
+    *one == *other
+}
+
 /// Returns `true` if what is watched is the old ones, the agent's aside.
 fn are_kept_instances(engine: &[u8], old: &[Watched], new: &[Watched]) -> bool
-    ensures { IsTrue result ↔ (filter (λ w. not (is_own engine.now w)) new.now ≡ old.now) }
+    ensures { IsTrue result ↔ AllZip (λ w was. w ≡ was) (filter (λ w. not (is_own engine.now w)) new.now) old.now }
 {
     let [first, rest @ ..] = new else {
         return old.is_empty();
@@ -70,7 +76,7 @@ fn are_kept_instances(engine: &[u8], old: &[Watched], new: &[Watched]) -> bool
     let [one, old @ ..] = old else {
         return false;
     };
-    first == one && are_kept_instances(engine, old, rest)
+    is_same_watched(first, one) && are_kept_instances(engine, old, rest)
 }
 
 /// The instance of this number.
@@ -142,8 +148,14 @@ fn are_own_alarms(watches: &Watches<'_>, rules: &[Rule], alarms: &[Alarm]) -> bo
     is_alarm(*first, *alarm) && are_own_alarms(watches, rest, alarms)
 }
 
+fn is_same_text(one: &String, other: &String) -> bool
+    ensures { IsTrue result ↔ (string_bytes one.now ≡ string_bytes other.now) }
+{
+    one.as_str() == other.as_str()
+}
+
 fn are_same_texts(old: &[String], new: &[String]) -> bool
-    ensures { IsTrue result ↔ (map string_bytes old.now ≡ map string_bytes new.now) }
+    ensures { IsTrue result ↔ AllZip (λ a b. a ≡ b) (map string_bytes old.now) (map string_bytes new.now) }
 {
     let [one, old @ ..] = old else {
         return new.is_empty();
@@ -151,11 +163,17 @@ fn are_same_texts(old: &[String], new: &[String]) -> bool
     let [other, new @ ..] = new else {
         return false;
     };
-    one.as_str() == other.as_str() && are_same_texts(old, new)
+    is_same_text(one, other) && are_same_texts(old, new)
+}
+
+fn is_same_address(one: Addr, other: Addr) -> bool
+    ensures { IsTrue result ↔ (one ≡ other) }
+{
+    one == other
 }
 
 fn are_same_addresses(old: &[Addr], new: &[Addr]) -> bool
-    ensures { IsTrue result ↔ (old.now ≡ new.now) }
+    ensures { IsTrue result ↔ AllZip (λ a b. a ≡ b) old.now new.now }
 {
     let [one, old @ ..] = old else {
         return new.is_empty();
@@ -163,7 +181,13 @@ fn are_same_addresses(old: &[Addr], new: &[Addr]) -> bool
     let [other, new @ ..] = new else {
         return false;
     };
-    *one == *other && are_same_addresses(old, new)
+    is_same_address(*one, *other) && are_same_addresses(old, new)
+}
+
+fn are_same_numbers(old: &[u32], new: &[u32]) -> bool
+    ensures { IsTrue result ↔ (old.now ≡ new.now) }
+{
+    old == new
 }
 
 /// Returns `true` if what is outside of targets and alarms is the same.
@@ -171,11 +195,11 @@ fn are_kept_scalars(old: &StationSettings, new: &StationSettings) -> bool
     ensures { IsTrue result ↔ KeepsScalars (station_view old.now) (station_view new.now) }
 {
     old.core.station() == new.core.station()
-        && old.listen == new.listen
-        && old.file.as_bytes() == new.file.as_bytes()
+        && is_same_address(old.listen, new.listen)
+        && is_same_text(&old.file, &new.file)
         && old.wait_ms == new.wait_ms
         && are_same_texts(old.modules.as_slice(), new.modules.as_slice())
-        && old.core.peers() == new.core.peers()
+        && are_same_numbers(old.core.peers(), new.core.peers())
         && are_same_addresses(old.peer_addresses.as_slice(), new.peer_addresses.as_slice())
 }
 

@@ -9,9 +9,9 @@ ghost use Rattle.mon_survey.specs.Labels.{AreInterfaces, Continue, IsInterface, 
 
 use crate::choice::Choice;
 use crate::fault::SurveyFault;
-use crate::tables::{Source, indexes_of};
 use crate::planning::counters_of;
 use crate::surveying::Surveyed;
+use crate::tables::{Source, indexes_of};
 use std::alloc::{AllocError, Global};
 use toml::{Table, Value};
 
@@ -43,7 +43,14 @@ fn find<'t>(table: &'t Table, key: &str) -> Option<&'t Value>
 fn interfaces(table: &Table) -> Option<&[Value]>
     ensures { option_map (λ v. items_view v.now) result ≡ items_at (get_member (codes "interface") (table_view table.now)) }
 {
-    match find(table, "interface") {
+    items_in(find(table, "interface"))
+}
+
+/// The values of a list; none where there is no list.
+fn items_in(found: Option<&Value>) -> Option<&[Value]>
+    ensures { option_map (λ v. items_view v.now) result ≡ items_at (option_map (λ v. view v.now) found.entry) }
+{
+    match found {
         Some(value) => match value.as_array() {
             Some(values) => Some(values.as_slice()),
             None => None,

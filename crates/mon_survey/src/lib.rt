@@ -15,11 +15,11 @@ mod engine;
 mod fault;
 mod kept;
 mod labelled;
-mod tables;
 pub mod laws;
 mod options;
 mod planning;
 mod surveying;
+mod tables;
 mod writing;
 
 pub use answers::{Answers, Cell};

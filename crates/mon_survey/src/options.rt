@@ -60,6 +60,12 @@ fn are_plain_peers(peers: &[Peer]) -> bool
     peers.iter().all(|peer| is_plain(peer.address.as_str()))
 }
 
+fn are_plain_paths(paths: &[&str]) -> bool
+    ensures { result ≡ list_all (λ m. is_plain m.now) paths.now }
+{
+    paths.iter().all(|path| is_plain(path))
+}
+
 impl Options<'_> {
     /// Returns `true` if the texts may be put in quotes as they are.
     pub(crate) fn are_plain(&self) -> bool
@@ -70,6 +76,6 @@ impl Options<'_> {
             && is_plain(self.address)
             && is_plain(self.community)
             && are_plain_peers(self.peers)
-            && self.modules.iter().all(|path| is_plain(path))
+            && are_plain_paths(self.modules)
     }
 }

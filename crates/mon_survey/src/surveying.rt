@@ -11,8 +11,8 @@ use crate::drafting::draft;
 use crate::fault::SurveyFault;
 use crate::options::Options;
 use crate::planning::plan;
-use mon_settings::{SettingsFault, read_station};
 use crate::writing::Naming;
+use mon_settings::{SettingsFault, read_station};
 use mon_smi::{InNumbers, NameTexts, Names};
 use std::alloc::Global;
 

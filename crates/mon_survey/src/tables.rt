@@ -1,7 +1,7 @@
 //! The texts of interfaces as a file, whose texts become labels of Prometheus' series.
 
 ghost use Rattle.std.specs.Prelude.{◌≡◌, ◌++◌, [], ◌∷◌, IfOk, None, OnOk, codes, decimal, if◌then◌else◌, option_map, string_bytes};
-ghost use Rattle.std.specs.List.{flat_map};
+ghost use Rattle.std.specs.List.{concat, flat_map};
 ghost use Rattle.mon_survey.specs.Labels.{begun, escaped, if_alias, if_name, indexes_after, interface_text, is_before, labels_text, line_of, text_of};
 
 use crate::answers::Answers;
@@ -90,13 +90,8 @@ fn put_line(
 }
 
 /// Adds the head of an interface's table.
-fn put_head(
-    alloc: Global,
-    text: &mut Vec<u8>,
-    engine: &str,
-    index: u32,
-) -> Result<(), AllocError>
-    ensures { OnOk result (text.new.items ≡ text.old.items ++ codes "\n[[interface]]\nengine = \"" ++ engine.now ++ codes "\"\nindex = " ++ decimal index ++ codes "\n") }
+fn put_head(alloc: Global, text: &mut Vec<u8>, engine: &str, index: u32) -> Result<(), AllocError>
+    ensures { OnOk result (text.new.items ≡ text.old.items ++ concat (codes "\n[[interface]]\nengine = \"" ∷ engine.now ∷ codes "\"\nindex = " ∷ decimal index ∷ codes "\n" ∷ [])) }
 {
     let head = format!(in alloc; "\n[[interface]]\nengine = \"{engine}\"\nindex = {index}\n")?;
     text.extend_from_slice(head.as_bytes())

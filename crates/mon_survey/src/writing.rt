@@ -1,9 +1,10 @@
 //! Pieces of a settings text.
 
-ghost use Rattle.std.specs.Prelude.{◌≡◌, ◌≤◌, ◌<◌, ◌++◌, [], ◌∷◌, OnOk, string_bytes, IfOk, map, take};
+ghost use Rattle.std.specs.Prelude.{◌≡◌, ◌≤◌, ◌<◌, ◌++◌, [], ◌∷◌, OnOk, string_bytes, IfOk, codes, map, take};
 ghost use Rattle.std.specs.List.{flat_map};
 ghost use Rattle.mon_survey.specs.Answers.{type_in};
 ghost use Rattle.mon_survey.specs.Column.{cell_name};
+ghost use Rattle.mon_survey.specs.Counter.{column_of};
 ghost use Rattle.mon_survey.specs.Text.{alarm_text, cleaned, comment_text, head_text, mark_text, module_text, modules_text, object_text, peer_text, rule_text, shown, target_text, type_text};
 
 use crate::answers::Answers;
@@ -93,6 +94,17 @@ fn put_cell<S: NameTexts>(
     text.push_str(name.as_str())
 }
 
+/// Adds the name of a counter's cell, as it is shown.
+fn put_name<S: NameTexts>(
+    text: &mut String,
+    shown: &Naming<'_, S>,
+    one: Planned,
+) -> Result<(), AllocError>
+    ensures { OnOk result (string_bytes text.new ≡ string_bytes text.old ++ S.shown shown.now.names.now (cell_name (column_of one.counter one.wide) one.index)) }
+{
+    put_cell(text, shown, one.column(), one.index)
+}
+
 /// Adds an interface's ifType, where the agent has it.
 fn put_type(text: &mut String, answers: &Answers, index: u32) -> Result<(), AllocError>
     ensures { OnOk result (string_bytes text.new ≡ string_bytes text.old ++ type_text (type_in answers.now index)) }
@@ -146,7 +158,7 @@ pub(crate) fn put_object<S: NameTexts>(
     ensures { OnOk result (string_bytes text.new ≡ string_bytes text.old ++ object_text (S.shown shown.now.names.now) shown.now.answers.now one) }
 {
     text.push_str("    { name = \"")?;
-    put_cell(text, shown, one.column(), one.index)?;
+    put_name(text, shown, one)?;
     put_mark(text, shown, one.index)?;
     put_comment(text, shown.answers, one)
 }
@@ -181,6 +193,13 @@ pub(crate) fn put_modules(text: &mut String, paths: &[&str]) -> Result<(), Alloc
     if paths.is_empty() {
         return Ok(());
     }
+    put_list(text, paths)
+}
+
+/// Adds the list of modules' files.
+fn put_list(text: &mut String, paths: &[&str]) -> Result<(), AllocError>
+    ensures { OnOk result (string_bytes text.new ≡ string_bytes text.old ++ codes "modules = [\n" ++ flat_map (λ m. module_text m.now) paths.now ++ codes "]\n") }
+{
     text.push_str("modules = [\n")?;
     put_paths(text, paths)?;
     text.push_str("]\n")
@@ -240,7 +259,7 @@ fn put_rule<S: NameTexts>(
     let rising = at.rising;
     let falling = at.falling;
     write!(text, "\n[[alarm]]\nengine = \"{engine}\"\nname = \"")?;
-    put_cell(text, shown, one.column(), one.index)?;
+    put_name(text, shown, one)?;
     write!(text, "\"\nrising = {rising}\nfalling = {falling}\n")
 }
 
