@@ -1,4 +1,4 @@
-use Rattle.std.proofs.Common.{◌≡◌, ℕ, List, ap, length, subst}
+use Rattle.std.proofs.Common.{ℕ, List, ap, length, subst}
 use Rattle.std.specs.Prelude.{IfOk, string_bytes}
 use Rattle.mon_smi.specs.Labels.{name_text}
 use Rattle.mon_survey.specs.Meant.{IsSettingsText}
