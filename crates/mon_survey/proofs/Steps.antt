@@ -1,12 +1,16 @@
--- What holds where nothing is left of one of two lists.
-use Rattle.std.proofs.Common.{◌≡◌, ℕ, ◌<◌, Bool, true, IsTrue, List, [], ◌∷◌, length, arith}
-use Rattle.std.specs.Prelude.{◌==◌}
+-- What holds where nothing is left of one of two lists, how many tables a list has, and how facts follow equations.
+use Rattle.std.proofs.Common.{◌≡◌, ℕ, ◌<◌, Bool, true, false, IsTrue, List, [], ◌∷◌, length, sym, subst, ◌∙◌, arith}
+use Rattle.std.specs.Prelude.{◌==◌, if◌then◌else◌}
 use Rattle.std.specs.List.{AllZip, filter}
 use Rattle.std.proofs.lemmas.Bool.Decides.{nat_tests}
 use Rattle.toml.specs.declared.value.Value.{Value}
 use Rattle.toml.specs.View.{items_view}
+use Rattle.mon_oid.specs.Oid.{dotted}
+use Rattle.mon_smi.specs.declared.definition.Definition.{Definition}
+use Rattle.mon_smi.specs.Labels.{name_text}
 use Rattle.mon_survey.specs.declared.answers.Cell.{Cell}
-use Rattle.mon_survey.specs.Labels.{AreInterfaces}
+use Rattle.mon_survey.specs.Appended.{shown_by}
+use Rattle.mon_survey.specs.Labels.{AreInterfaces, count_items}
 
 -- where there is nothing new, all is kept if there was nothing
 pub nothing_new : {A B : Type 0} (R : A → B → Type 0) (test : B → Bool) (old : List A) (new : List B) (b : Bool) → length new < 1 → b ≡ (length old == 0)
@@ -27,3 +31,16 @@ no_interface engine cells [] (v ∷ vs) b lt e = (λ t. absurd (some t), λ all.
     some : b ≡ true → ⊥
     some t = grind (arith, nat_tests)
 no_interface engine cells (i ∷ is) values b lt e = absurd (omega arith)
+
+-- the tables of a list are as many as its values
+pub counted : (vs : List Value) → count_items (items_view vs) ≡ length vs
+counted [] = omega arith
+counted (v ∷ vs) = let rest : count_items (items_view vs) ≡ length vs = counted vs in omega arith
+
+-- what holds of two things holds of what is equal to them
+pub moved : {A B : Type 0} (R : A → B → Type 0) {x x2 : A} {y y2 : B} → x ≡ x2 → y ≡ y2 → R x y → R x2 y2
+moved R {x} {x2} {y} {y2} e f r = subst (λ a. R a y2) e (subst (λ b. R x b) f r)
+
+-- where there are modules, names are shown by those
+pub by_modules : (defs : List Definition) (n : ℕ) (b : Bool) → b ≡ (n == 0) → b ≡ false → (shown : List ℕ → List ℕ) → shown ≡ name_text defs → shown ≡ shown_by defs n
+by_modules defs n b is not_empty shown e = subst (λ t. shown ≡ (if t then dotted else name_text defs)) (sym not_empty ∙ is) e

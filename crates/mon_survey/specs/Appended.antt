@@ -66,24 +66,37 @@ KeepsRules engine was is old new = AllZip (IsSameRule was is) old (filter (λ r.
 abbrev pub HasAlarms : List ℕ → List Watched → List Rule → List Alarm → Type 0
 HasAlarms engine instances rules alarms = AllZip IsAlarm (filter (is_on engine instances) rules) alarms
 
--- what is outside of targets and alarms is the same
-pub record KeepsScalars (old new : Station) : Type 0 where
+-- the station's own number, address, file and wait are the same
+pub record KeepsOwn (old new : Station) : Type 0 where
   pub station : old.core.station ≡ new.core.station
   pub listen : old.listen ≡ new.listen
   pub file : old.file ≡ new.file
   pub wait_ms : old.wait_ms ≡ new.wait_ms
+
+-- the modules and the peers with their addresses are the same
+pub record KeepsOthers (old new : Station) : Type 0 where
   pub modules : AllZip (λ a b. a ≡ b) old.modules new.modules
   pub peers : old.core.peers ≡ new.core.peers
   pub addresses : AllZip (λ a b. a ≡ b) old.peer_addresses new.peer_addresses
 
+-- what is outside of targets and alarms is the same
+pub record KeepsScalars (old new : Station) : Type 0 where
+  pub own : KeepsOwn old new
+  pub others : KeepsOthers old new
+
+-- What is not the agent's stays: what is outside of targets and alarms, the targets at the front, and what is watched of other agents,
+-- with its alarms.
+pub record KeepsOld (engine : List ℕ) (old new : Station) : Type 0 where
+  pub scalars : KeepsScalars old new
+  pub kept : AllZip IsSameTarget old.core.targets (take (length old.core.targets) new.core.targets)
+  pub instances : AllZip (λ w was. w ≡ was) (filter (λ w. not (is_own engine w)) new.core.watch.instances) old.core.watch.instances
+  pub rules : KeepsRules engine old.core.watch.instances new.core.watch.instances old.core.watch.rules new.core.watch.rules
+
 -- The settings that were meant: the old ones, with targets at their end that poll these counters of the agent, and with the alarms on
 -- them. What is watched of other agents stays as it was, with its alarms.
 pub record IsAppended (o : Options) (engine : List ℕ) (cells : List Cell) (ps : List Planned) (old new : Station) : Type 0 where
-  pub scalars : KeepsScalars old new
-  pub kept : AllZip IsSameTarget old.core.targets (take (length old.core.targets) new.core.targets)
+  pub stays : KeepsOld engine old new
   pub targets : AreTargets o engine cells ps (drop (length old.core.targets) new.core.targets)
-  pub instances : AllZip (λ w was. w ≡ was) (filter (λ w. not (is_own engine w)) new.core.watch.instances) old.core.watch.instances
-  pub rules : KeepsRules engine old.core.watch.instances new.core.watch.instances old.core.watch.rules new.core.watch.rules
   pub alarms : HasAlarms engine new.core.watch.instances new.core.watch.rules (alarms_from engine cells o.percent 0 new.core.watch.instances)
 
 -- whether a target is an agent of this engine id

@@ -337,10 +337,10 @@ fn are_sized(options: &Options<'_>, instances: &[Watched]) -> bool
     instances.iter().all(|watched| is_sized(options, watched))
 }
 
-fn is_module(text: &String, module: &str) -> bool
-    ensures { IsTrue result ↔ (string_bytes text.now ≡ module.now) }
+fn is_module(text: &String, file: &str) -> bool
+    ensures { IsTrue result ↔ (string_bytes text.now ≡ file.now) }
 {
-    text.as_str() == module
+    text.as_str() == file
 }
 
 /// Returns `true` if the texts are the modules' files.

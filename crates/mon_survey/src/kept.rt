@@ -4,7 +4,7 @@ ghost use Rattle.std.specs.Prelude.{◌≡◌, ◌↔◌, ◌≤◌, IfOk, IsTru
 ghost use Rattle.std.specs.List.{AllZip, filter};
 ghost use Rattle.mon_settings.specs.StationAccepted.{station_view};
 ghost use Rattle.mon_survey.specs.Meant.{is_own};
-ghost use Rattle.mon_survey.specs.Appended.{HasAlarms, IsAppended, IsSameObject, IsSameRule, IsSameTarget, KeepsRules, KeepsScalars, instance_at, is_on};
+ghost use Rattle.mon_survey.specs.Appended.{HasAlarms, IsAppended, IsSameObject, IsSameRule, IsSameTarget, KeepsOld, KeepsOthers, KeepsOwn, KeepsRules, KeepsScalars, instance_at, is_on};
 
 use crate::comparing::{Alarm, Wanted, alarms_of, are_targets, is_alarm, is_own};
 use mon_alarms::Rule;
@@ -190,17 +190,34 @@ fn are_same_numbers(old: &[u32], new: &[u32]) -> bool
     old == new
 }
 
-/// Returns `true` if what is outside of targets and alarms is the same.
-fn are_kept_scalars(old: &StationSettings, new: &StationSettings) -> bool
-    ensures { IsTrue result ↔ KeepsScalars (station_view old.now) (station_view new.now) }
+/// Returns `true` if the station's own number, address, file and wait are the same.
+fn is_kept_own(old: &StationSettings, new: &StationSettings) -> bool
+    ensures { IsTrue result ↔ KeepsOwn (station_view old.now) (station_view new.now) }
 {
     old.core.station() == new.core.station()
         && is_same_address(old.listen, new.listen)
         && is_same_text(&old.file, &new.file)
         && old.wait_ms == new.wait_ms
-        && are_same_texts(old.modules.as_slice(), new.modules.as_slice())
-        && are_same_numbers(old.core.peers(), new.core.peers())
-        && are_same_addresses(old.peer_addresses.as_slice(), new.peer_addresses.as_slice())
+}
+
+/// Returns `true` if the modules and the peers with their addresses are the same.
+fn are_kept_others(old: &StationSettings, new: &StationSettings) -> bool
+    ensures { IsTrue result ↔ KeepsOthers (station_view old.now) (station_view new.now) }
+{
+    if !are_same_texts(old.modules.as_slice(), new.modules.as_slice()) {
+        return false;
+    }
+    if !are_same_numbers(old.core.peers(), new.core.peers()) {
+        return false;
+    }
+    are_same_addresses(old.peer_addresses.as_slice(), new.peer_addresses.as_slice())
+}
+
+/// Returns `true` if what is outside of targets and alarms is the same.
+fn are_kept_scalars(old: &StationSettings, new: &StationSettings) -> bool
+    ensures { IsTrue result ↔ KeepsScalars (station_view old.now) (station_view new.now) }
+{
+    is_kept_own(old, new) && are_kept_others(old, new)
 }
 
 /// The targets from a place on.
@@ -211,6 +228,22 @@ fn after(targets: &[Target], count: usize) -> &[Target]
         return &[];
     }
     &targets[count..]
+}
+
+/// Returns `true` if what is not the agent's stays.
+fn is_kept(watches: &Watches<'_>, old: &StationSettings, new: &StationSettings) -> bool
+    requires old { watches.now.old.now ≡ (station_view old.now).core.watch.instances }
+    requires new { watches.now.new.now ≡ (station_view new.now).core.watch.instances }
+    ensures { IsTrue result ↔ KeepsOld watches.now.engine.now (station_view old.now) (station_view new.now) }
+{
+    if !are_kept_scalars(old, new) {
+        return false;
+    }
+    if !are_kept_targets(old.core.targets(), new.core.targets()) {
+        return false;
+    }
+    are_kept_instances(watches.engine, watches.old, watches.new)
+        && are_kept_rules(watches, old.core.watch().rules(), new.core.watch().rules())
 }
 
 /// Returns `true` if the new settings are the old ones with the agent's targets and alarms.
@@ -233,11 +266,8 @@ pub(crate) fn is_appended(
     let targets = are_targets(alloc, wanted, added)?;
     let alarms = alarms_of(alloc, wanted, watches.new)?;
     Ok(
-        are_kept_scalars(old, new)
-            && are_kept_targets(old.core.targets(), new.core.targets())
+        is_kept(&watches, old, new)
             && targets
-            && are_kept_instances(watches.engine, watches.old, watches.new)
-            && are_kept_rules(&watches, old.core.watch().rules(), new.core.watch().rules())
             && are_own_alarms(&watches, new.core.watch().rules(), alarms.as_slice()),
     )
 }

@@ -202,7 +202,7 @@ fn require_room(
     if has_engine(source.engine, before) {
         return Err(SurveyFault::SameEngine);
     }
-    let count = before.len().saturating_add(indexes.len());
+    let count = before.len() + indexes.len();
     if count > MOST_INTERFACES {
         return Err(SurveyFault::TooManyInterfaces(count));
     }

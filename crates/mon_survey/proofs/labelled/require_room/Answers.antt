@@ -1,0 +1,8 @@
+use Rattle.std.proofs.Common.{◌+◌, length, ap, sym, arith}
+use Rattle.toml.specs.View.{items_view}
+use Rattle.mon_survey.proofs.Steps.{counted}
+use Rattle.mon_survey.proofs.labelled.require_room.Goals as goal
+
+pub returns-then-count-gt-MOST_INTERFACES : goal.returns-then-count-gt-MOST_INTERFACES
+returns-then-count-gt-MOST_INTERFACES c =
+    (items_view c.args.before.now, c.requires, ap (λ n. n + length c.args.indexes.now) (sym (counted c.args.before.now)), omega (arith, c.if-count-gt-MOST_INTERFACES.true))
