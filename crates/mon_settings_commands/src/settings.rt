@@ -13,7 +13,7 @@ use mon_cli::SettingsArgs;
 use mon_console::{AgentAt, Failure, agent_at, community, names_of, print};
 use mon_smi::Names;
 use mon_survey::{Choice, Kinds, Options, Peer, Surveyed, append, settings};
-use std::alloc::Global;
+use std::alloc::{AllocError, Global};
 use std::fs::File;
 use std::net::Net;
 use std::rt::{Clock, Files};
@@ -60,7 +60,7 @@ fn asked_of<'a>(alloc: Global, words: &SettingsArgs<'_, 'a>) -> Result<Asked<'a>
         kinds: kinds_of(alloc, words.only)?,
         percent: percent_of(alloc, words.thresholds)?,
     };
-    places_of(alloc, words, 0)?;
+    texts_of(alloc, words, 0)?;
     Ok(asked)
 }
 
@@ -92,7 +92,7 @@ fn print_new<R: Clock + Files<File = File> + Net + Print + Eprint + AllocGlobal>
     }
 }
 
-/// What settings are made of.
+/// What settings are written from.
 #[derive(Clone, Copy)]
 pub(crate) struct Ground<'m, 'a> {
     pub(crate) words: &'m SettingsArgs<'m, 'a>,
@@ -161,42 +161,72 @@ impl<'m, 'a> Ground<'m, 'a> {
     }
 }
 
-/// Where a station and its peers are, and where its file is.
+/// The texts that options lend: where a station, its peers and its agent are, its file, and its
+/// modules.
 #[derive(Drop)]
-struct Places {
+struct Texts {
     listen: String,
     file: String,
     peers: Vec<Peer>,
+    address: String,
+    community: String,
+    modules: Vec<String>,
 }
 
-/// The places that the arguments give, with ports and the file's name counted up.
-fn places_of(alloc: Global, words: &SettingsArgs<'_, '_>, up: u32) -> Result<Places, Failure> {
+/// The texts that the arguments give, with ports and the file's name counted up.
+fn texts_of(alloc: Global, words: &SettingsArgs<'_, '_>, up: u32) -> Result<Texts, Failure> {
     let listen = address_up(alloc, words.listen.unwrap_or(LISTEN), up)?;
     let file = file_up(alloc, words.file.unwrap_or(FILE), up)?;
-    Ok(Places {
+    let peers = peers_of(alloc, words.peers, up)?;
+    Ok(Texts {
         listen,
         file,
-        peers: peers_of(alloc, words.peers, up)?,
+        peers,
+        address: String::from_str(alloc, words.address)?,
+        community: String::from_str(alloc, words.community)?,
+        modules: strings_of(alloc, words.modules)?,
     })
 }
 
-/// The settings' options.
-fn options_of<'p>(ground: &Ground<'p, 'p>, places: &'p Places) -> Options<'p>
+/// Copies texts.
+fn strings_of(alloc: Global, words: &[&str]) -> Result<Vec<String>, AllocError> {
+    let mut strings = Vec::with_capacity(alloc, words.len())?;
+    for word in words {
+        strings.push(String::from_str(alloc, word)?)?;
+    }
+    Ok(strings)
+}
+
+/// Lends texts.
+fn lent<'p>(alloc: Global, strings: &'p [String]) -> Result<Vec<&'p str>, AllocError> {
+    let mut lent = Vec::with_capacity(alloc, strings.len())?;
+    for string in strings {
+        lent.push(string.as_str())?;
+    }
+    Ok(lent)
+}
+
+/// The settings' options. At most this percentage of a speed raises an alarm.
+fn options_of<'p>(
+    words: &SettingsArgs<'_, '_>,
+    percent: u8,
+    texts: &'p Texts,
+    modules: &'p [&'p str],
+) -> Options<'p>
     ensures { result.percent ≤ 100 }
 {
-    let words = ground.words;
     Options {
         station: words.station,
-        listen: places.listen.as_str(),
-        file: places.file.as_str(),
+        listen: texts.listen.as_str(),
+        file: texts.file.as_str(),
         window: words.window,
         wait_ms: words.wait_ms,
-        modules: words.modules,
-        peers: &places.peers,
-        address: words.address,
-        community: words.community,
+        modules,
+        peers: &texts.peers,
+        address: texts.address.as_str(),
+        community: texts.community.as_str(),
         tries: words.tries.min(8) as u8,
-        percent: ground.asked.percent.min(100),
+        percent: percent.min(100),
     }
 }
 
@@ -207,8 +237,9 @@ pub(crate) fn settings_of(
     ground: &Ground<'_, '_>,
     group: Option<u32>,
 ) -> Result<String, Failure> {
-    let places = places_of(alloc, ground.words, group.unwrap_or(0))?;
-    let options = options_of(ground, &places);
+    let texts = texts_of(alloc, ground.words, group.unwrap_or(0))?;
+    let modules = lent(alloc, &texts.modules)?;
+    let options = options_of(ground.words, ground.asked.percent, &texts, &modules);
     match settings(
         alloc,
         ground.names,
@@ -227,8 +258,9 @@ fn appended(
     ground: &Ground<'_, '_>,
     existing: &Existing,
 ) -> Result<String, Failure> {
-    let places = places_of(alloc, ground.words, 0)?;
-    let options = options_of(ground, &places);
+    let texts = texts_of(alloc, ground.words, 0)?;
+    let modules = lent(alloc, &texts.modules)?;
+    let options = options_of(ground.words, ground.asked.percent, &texts, &modules);
     match append(
         alloc,
         &existing.lent(),
