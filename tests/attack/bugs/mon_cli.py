@@ -43,7 +43,7 @@ LINES = {
     "rounds_must_be_given": ("src/lines.rt", '    needed: false,\n    shown: "rounds",', '    needed: true,\n    shown: "rounds",'),
     "value_may_be_left_out": ("src/lines.rt", '    needed: true,\n    shown: "VALUE",', '    needed: false,\n    shown: "VALUE",'),
     "boots_must_be_given": ("src/lines.rt", '    needed: false,\n    shown: "boots",', '    needed: true,\n    shown: "boots",'),
-    "station_without_out": ("src/lines.rt", "    OUT,\n    FORMAT,", "    FORMAT,\n    FORMAT,"),
+    "station_without_out": ("src/lines.rt", "    OUT,\n    HTTP,", "    HTTP,\n    HTTP,"),
     "answer_without_names": ("src/lines.rt", "TIMES, MODULE, NAMES]", "TIMES, MODULE, MODULE]"),
     "set_value_before_kind": ("src/lines.rt", "NAME, KIND, VALUE, MODULE", "NAME, VALUE, KIND, MODULE"),
     "no_rehearse": ("src/parser.rt", "    Choice::SelfTest,\n    Choice::Rehearse,", "    Choice::SelfTest,\n    Choice::SelfTest,"),
@@ -67,7 +67,7 @@ BODIES = {
     "settings_of_the_wrong_community": ("src/matches.rt", 'community: text(matches, "COMMUNITY"),\n        station', 'community: text(matches, "ADDRESS"),\n        station'),
     "settings_listen_at_the_file": ("src/matches.rt", 'listen: find_value(matches, "listen")', 'listen: find_value(matches, "file")'),
     "settings_of_all_interfaces": ("src/matches.rt", 'up: is_on(matches, "up")', "up: false"),
-    "settings_with_no_alarm": ("src/matches.rt", 'percent: number_or(matches, "thresholds", 0)', "percent: 0"),
+    "settings_with_no_alarm": ("src/matches.rt", 'thresholds: find_value(matches, "thresholds")', "thresholds: None"),
     "interval_for_report_every": ("src/matches.rt", 'number_or(matches, "report-every", 0)', 'number_or(matches, "interval", 0)'),
     "phase_by_the_interval": ("src/matches.rt", 'phase: number(matches, "phase")', 'phase: number(matches, "interval")'),
     "checks_by_columns": ("src/matches.rt", 'checks: is_on(matches, "check")', 'checks: is_on(matches, "columns")'),
@@ -92,7 +92,7 @@ BODIES = {
     "appends_nothing": ("src/parser.rt", "        Takes::Each(value) => arg\n            .action(ArgAction::Append)", "        Takes::Each(value) => arg\n            .action(ArgAction::Set)"),
     "all_are_needed": ("src/parser.rt", ".required(line.needed)", ".required(true)"),
     "the_words_of_another_command": ("src/parser.rt", "with_lines(alloc, lists, command, lines_of(choice))", "with_lines(alloc, lists, command, lines_of(Choice::Mib))"),
-    "one_command_alone": ("src/parser.rt", "one(alloc, lists, *choice)?", "one(alloc, lists, Choice::Mib)?"),
+    "one_command_alone": ("src/parser.rt", "command.subcommand(one(alloc, lists, choice)?)", "command.subcommand(one(alloc, lists, Choice::Mib)?)"),
     "version_twice": ("src/parser.rt", "with_lines(alloc, lists, command, FIRST.as_slice())?", "with_lines(alloc, lists, command, &[])?"),
 }
 

@@ -66,8 +66,8 @@ BUGS = {
     "labels_by_the_first_part": ("src/labels.rt", "instance.name.parts().last()", "instance.name.parts().first()"),
     "labels_of_no_instance": (
         "src/labels.rt",
-        "            all.push(self.of_instance(alloc, &watched.instance, address)?)?;",
-        "            let _ = self.of_instance(alloc, &watched.instance, address)?;",
+        "            all.push(labels)?;",
+        "            let _ = labels;",
     ),
     "no_interface_is_found": (
         "src/labels.rt",

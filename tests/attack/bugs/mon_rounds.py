@@ -285,8 +285,8 @@ BUGS = {
     ),
     "cuts_datagrams": (
         "src/socket.rt",
-        "self.buffer.get(..len)",
-        "self.buffer.get(..len / 2)",
+        "buffer.get(..len)",
+        "buffer.get(..len / 2)",
     ),
     "sends_to_the_first_target_alone": (
         "src/socket.rt",

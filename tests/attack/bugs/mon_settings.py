@@ -123,8 +123,8 @@ BUGS = {
     ),
     "swaps_contact_and_location": (
         "src/agent.rt",
-        "            contact,\n            name,\n            location,\n        },",
-        "            contact: location,\n            name,\n            location: contact,\n        },",
+        "        contact,\n        name,\n        location,\n",
+        "        contact: location,\n        name,\n        location: contact,\n",
     ),
     "boots_from_0": (
         "src/agent.rt",

@@ -123,13 +123,13 @@ BUGS = {
     ),
     "compares_no_old_targets": (
         "src/kept.rt",
-        "            && are_kept_targets(old.core.targets(), new.core.targets())\n",
+        "    if !are_kept_targets(old.core.targets(), new.core.targets()) {\n        return false;\n    }\n",
         "",
     ),
     "compares_no_old_rules": (
         "src/kept.rt",
-        "            && are_kept_rules(&watches, old.core.watch().rules(), new.core.watch().rules())\n",
-        "",
+        "\n        && are_kept_rules(watches, old.core.watch().rules(), new.core.watch().rules())\n",
+        "\n",
     ),
     "compares_rules_by_number": (
         "src/kept.rt",

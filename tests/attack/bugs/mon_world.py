@@ -167,9 +167,9 @@ BUGS = {
         "                let _ = station;\n",
     ),
     "numbers_a_restart_from_1": (
-        "src/world.rt",
-        "Ok(sent_between(self.sent.len(), self.sent.len()))",
-        "Ok(sent_between(0, 0))",
+        "src/sending.rt",
+        "    sent_between(sent.len(), sent.len())",
+        "    sent_between(0, 0)",
     ),
     "opens_all_as_the_first": (
         "src/opening.rt",
