@@ -71,8 +71,10 @@ BUGS = {
     ),
     "no_interface_is_found": (
         "src/labels.rt",
-        "            None => joined(alloc, address, None, None),\n            Some(labels) => joined(",
-        "            None => joined(alloc, address, None, None),\n            Some(_) => joined(alloc, address, None, None),\n            Some(labels) => joined(",
+        "            Some(labels) => joined(",
+        "            Some(_) => joined(",
+        "                labels.if_name.as_ref(),\n                labels.if_alias.as_ref(),",
+        "                None,\n                None,",
     ),
     "the_address_of_the_first_target": (
         "src/labels.rt",
