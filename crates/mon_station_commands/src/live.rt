@@ -8,6 +8,7 @@ use crate::pace::passed;
 use crate::showing::show_span;
 use crate::telling::{tell_alarm, tell_change, tell_notices};
 use mon_console::{Failure, Printing};
+use mon_core::Core;
 use mon_disk::{FileDisk, KeeperFault};
 use mon_poller::Target;
 use mon_rounds::{
@@ -144,15 +145,8 @@ pub(crate) fn start_station<R: Eprint + AllocGlobal, S: Receiver + Drop, O: Outb
 ) -> Result<Live<S, O>, Failure> {
     let StationSettings { core, file, .. } = settings;
     let Place { disk, at, origin } = place;
-    let opened = match Station::open(rt.alloc(), core, disk) {
-        Ok(station) => watched(rt.alloc(), station, &transport)?,
-        Err((fault, disk)) => return Err(unopened(rt.alloc(), &file, fault, &disk)),
-    };
-    let (number, incarnation) = (transport.number, opened.station.incarnation());
-    let (targets, peers) = (transport.engines.len(), transport.peers.len());
-    let _ = eprintln!(rt;
-        "snmpmon: station {number} at {at}, incarnation {incarnation}, file {file}, targets: {targets}, peers: {peers}"
-    );
+    let opened = open_station(rt.alloc(), core, disk, &file, &transport)?;
+    tell_start(rt, opened.station.incarnation(), &transport, at, &file);
     Ok(Live {
         station: opened.station,
         transport,
@@ -167,6 +161,35 @@ pub(crate) fn start_station<R: Eprint + AllocGlobal, S: Receiver + Drop, O: Outb
         unsaved: None,
         unprinted: None,
     })
+}
+
+/// Prints where a station is and what it polls.
+fn tell_start<R: Eprint, S: Receiver + Drop, O: Outbox + Drop>(
+    rt: &R,
+    incarnation: u32,
+    transport: &Transport<S, O>,
+    at: SocketAddr,
+    file: &str,
+) {
+    let number = transport.number;
+    let (targets, peers) = (transport.engines.len(), transport.peers.len());
+    let _ = eprintln!(rt;
+        "snmpmon: station {number} at {at}, incarnation {incarnation}, file {file}, targets: {targets}, peers: {peers}"
+    );
+}
+
+/// Opens the station of these settings over the file's disk.
+fn open_station<S: Receiver + Drop, O: Outbox + Drop>(
+    alloc: Global,
+    core: Core,
+    disk: FileDisk,
+    file: &str,
+    transport: &Transport<S, O>,
+) -> Result<Opened, Failure> {
+    match Station::open(alloc, core, disk) {
+        Ok(station) => Ok(watched(alloc, station, transport)?),
+        Err((fault, disk)) => Err(unopened(alloc, file, fault, &disk)),
+    }
 }
 
 /// A station that was opened, and what is known of it then.

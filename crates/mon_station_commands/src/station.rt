@@ -29,28 +29,35 @@ pub fn run_station<R: Clock + Files<File = File> + Net + Print + Eprint + AllocG
     rt: &R,
     words: StationArgs<'_, '_>,
 ) -> Result<(), Failure> {
+    if words.checks {
+        return check_station(rt, words);
+    }
+    let door = door_of(rt.alloc(), words.http)?;
     let (settings, printing) = read_labelled_station(
         rt,
         words.settings,
         words.labels,
         words.printed,
     )?;
-    if words.checks {
-        return print_limits(rt, &settings, words.timing.interval);
-    }
     let reports = Reports {
         printing,
         out: out_of(rt.alloc(), words.out)?,
         stale_after: words.stale_after,
         interval: words.timing.interval,
     };
-    match words.http {
+    match door {
         None => run_unseen(rt, settings, reports, words.timing),
-        Some(text) => {
-            let door = address_of(rt.alloc(), text)?;
-            run_shown(rt, settings, reports, words.timing, door)
-        }
+        Some(door) => run_shown(rt, settings, reports, words.timing, door),
     }
+}
+
+/// Prints what limits the station of the settings.
+fn check_station<R: Files<File = File> + Print + AllocGlobal>(
+    rt: &R,
+    words: StationArgs<'_, '_>,
+) -> Result<(), Failure> {
+    let (settings, _) = read_labelled_station(rt, words.settings, words.labels, words.printed)?;
+    print_limits(rt, &settings, words.timing.interval)
 }
 
 /// Runs a station that serves no HTTP.
@@ -60,13 +67,21 @@ fn run_unseen<R: Clock + Files<File = File> + Net + Print + Eprint + AllocGlobal
     reports: Reports,
     timing: Timing,
 ) -> Result<(), Failure> {
-    let alloc = rt.alloc();
-    let socket = or_no_socket(rt, &settings, Socket::open(rt, settings.listen))?;
-    let place = open_place(rt, &settings, socket.address())?;
-    let receiver = SocketReceiver::new(rt, alloc, &socket);
-    let transport = open_transport(alloc, &settings, &socket, receiver)?;
+    let (socket, place) = open_unseen(rt, &settings)?;
+    let receiver = SocketReceiver::new(rt, rt.alloc(), &socket);
+    let transport = open_transport(rt.alloc(), &settings, &socket, receiver)?;
     let mut live = start_station(rt, settings, place, transport, reports)?;
     run_rounds(rt, &mut live, timing)
+}
+
+/// Opens the socket and the file of the settings.
+fn open_unseen<R: Clock + Files<File = File> + Net + Eprint + AllocGlobal>(
+    rt: &R,
+    settings: &StationSettings,
+) -> Result<(Socket, Place), Failure> {
+    let socket = or_no_socket(rt, settings, Socket::open(rt, settings.listen))?;
+    let place = open_place(rt, settings, socket.address())?;
+    Ok((socket, place))
 }
 
 /// Runs a station that serves HTTP at this address.
@@ -77,16 +92,46 @@ fn run_shown<R: Clock + Files<File = File> + Net + Print + Eprint + AllocGlobal>
     timing: Timing,
     door: Addr,
 ) -> Result<(), Failure> {
-    let alloc = rt.alloc();
-    let socket = or_no_socket(rt, &settings, PolledSocket::open(rt, settings.listen))?;
-    let (web, shown_at) = open_web(rt, door, timing)?;
-    let place = open_place(rt, &settings, socket.address())?;
+    let Shown {
+        socket,
+        place,
+        web,
+        at,
+    } = open_shown(rt, &settings, door, timing)?;
     let receiver = WebReceiver::new(rt, &socket, web, place.origin);
-    let transport = open_transport(alloc, &settings, &socket, receiver)?;
+    let transport = open_transport(rt.alloc(), &settings, &socket, receiver)?;
     let mut live = start_station(rt, settings, place, transport, reports)?;
-    let _ = eprintln!(rt; "snmpmon: HTTP at {shown_at}");
-    show(alloc, &mut live);
+    let _ = eprintln!(rt; "snmpmon: HTTP at {at}");
+    show(rt.alloc(), &mut live);
     run_rounds(rt, &mut live, timing)
+}
+
+/// What a station that serves HTTP has opened.
+#[derive(Drop)]
+struct Shown {
+    socket: PolledSocket,
+    place: Place,
+    web: Web,
+    /// Where it serves HTTP.
+    at: SocketAddr,
+}
+
+/// Opens the socket of the settings, the listener at this address and the file of the settings.
+fn open_shown<R: Clock + Files<File = File> + Net + Eprint + AllocGlobal>(
+    rt: &R,
+    settings: &StationSettings,
+    door: Addr,
+    timing: Timing,
+) -> Result<Shown, Failure> {
+    let socket = or_no_socket(rt, settings, PolledSocket::open(rt, settings.listen))?;
+    let (web, at) = open_web(rt, door, timing)?;
+    let place = open_place(rt, settings, socket.address())?;
+    Ok(Shown {
+        socket,
+        place,
+        web,
+        at,
+    })
 }
 
 /// Opens the file of the settings, for a station whose socket is there.
@@ -126,11 +171,14 @@ fn longest_gap(interval: u32) -> u64
     u64::from(interval) * 3000
 }
 
-/// Returns the address that `--http` gives.
-fn address_of(alloc: Global, text: &str) -> Result<Addr, Failure> {
-    match Addr::parse(text) {
-        Some(address) => Ok(address),
-        None => Err(Failure::text(alloc, text, "an address, a.b.c.d:port,")),
+/// Returns the address that `--http` gives, if it is given.
+fn door_of(alloc: Global, text: Option<&str>) -> Result<Option<Addr>, Failure> {
+    match text {
+        Some(text) => match Addr::parse(text) {
+            Some(address) => Ok(Some(address)),
+            None => Err(Failure::text(alloc, text, "an address, a.b.c.d:port,")),
+        },
+        None => Ok(None),
     }
 }
 

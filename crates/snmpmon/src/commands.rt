@@ -3,14 +3,14 @@
 ghost use Rattle.mon_cli.specs.Asked.{IsWithin};
 
 use clap::error::ErrorKind;
-use mon_agent_commands::{print_answers, serve_agent};
 use mon_cli::{Asked, VERSION, read, read_command};
-use mon_client_commands::{bulk, get, next, set, walk};
+use mon_commands::{
+    bulk, get, next, print_answers, print_names, print_recorded, print_rehearsal, run_self_test,
+    serve_agent, set, walk,
+};
 use mon_console::{Failure, print};
-use mon_rehearsal_commands::{print_rehearsal, run_self_test};
 use mon_settings_commands::print_settings;
 use mon_station_commands::{print_saved_report, run_station};
-use mon_text_commands::{print_names, print_recorded};
 use std::alloc::AllocError;
 use std::fs::File;
 use std::net::Net;

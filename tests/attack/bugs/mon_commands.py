@@ -1,4 +1,4 @@
-"""Bugs of mon_rehearsal_commands for planted_bugs: by a name the file, what stands there once, and the bug in its place."""
+"""Bugs of mon_commands for planted_bugs: by a name the file, what stands there once, and the bug in its place."""
 
 BUGS = {
     "tells_a_rehearsal_as_a_want_of_memory": (
