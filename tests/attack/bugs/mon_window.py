@@ -1,10 +1,35 @@
 """Bugs of mon_window for planted_bugs: by a name the file, what stands there once, and the bug in its place."""
 
 BUGS = {
+    "shows_what_left": (
+        "src/row.rt",
+        "        &self.all[self.start..]",
+        "        &self.all",
+    ),
+    "begins_two_further_on": (
+        "src/row.rt",
+        "            self.start += 1;",
+        "            self.start = (self.start + 2).min(self.all.len());",
+    ),
+    "moves_none_down": (
+        "src/row.rt",
+        "    all.rotate_left(start);\n",
+        "",
+    ),
+    "puts_in_where_the_memory_begins": (
+        "src/row.rt",
+        "self.all.insert(self.start + at, sample)",
+        "self.all.insert(at, sample)",
+    ),
+    "takes_out_where_the_memory_begins": (
+        "src/row.rt",
+        "        self.all.remove(self.start + at)",
+        "        self.all.remove(at)",
+    ),
     "size_counts_the_samples": (
         "src/window.rt",
         "    pub fn size(&self) -> usize\n        ensures size { result ≡ self.now.size }\n        ensures sizes { AreSizes self.now.size self.now.epoch }\n    {\n        self.size\n",
-        "    pub fn size(&self) -> usize\n        ensures size { result ≡ self.now.size }\n        ensures sizes { AreSizes self.now.size self.now.epoch }\n    {\n        self.items.len()\n",
+        "    pub fn size(&self) -> usize\n        ensures size { result ≡ self.now.size }\n        ensures sizes { AreSizes self.now.size self.now.epoch }\n    {\n        self.items.as_slice().len()\n",
     ),
     "tells_the_greater_for_the_epoch": (
         "src/window.rt",
@@ -13,8 +38,8 @@ BUGS = {
     ),
     "keeps_the_order_of_arrival": (
         "src/window.rt",
-        "self.items.insert(at, sample).unwrap();",
-        "let last = self.items.len();\n                self.items.insert(last, sample).unwrap();",
+        "self.items.insert(at, sample);",
+        "let last = self.items.as_slice().len();\n                self.items.insert(last, sample);",
     ),
     "joins_at_half_the_place": (
         "src/window.rt",
