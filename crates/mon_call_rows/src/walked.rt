@@ -57,20 +57,24 @@ fn walked<W: Wire>(
     walk(alloc, wire, &asked, &InNumbers, text)
 }
 
-/// Returns what the walk of a line `NAME HEX` prints, and why it ends.
-pub(crate) fn row(alloc: Global, stride: Stride, line: &str) -> Option<String> {
+/// Says what the walk of a line `NAME HEX` prints, and why it ends.
+pub(crate) fn row(alloc: Global, text: &mut String, stride: Stride, line: &str) -> Option<()> {
     let (name, reply) = line.split_once(' ')?;
+    let reply = octets(alloc, reply)?;
     let start = Oid::parse(alloc, name).ok()?;
-    let mut wire = Same {
-        reply: octets(alloc, reply)?,
-    };
-    shown(alloc, &mut wire, &start, stride)
+    put_walked(alloc, text, &mut Same { reply }, &start, stride)
 }
 
-fn shown(alloc: Global, wire: &mut Same, start: &Oid, stride: Stride) -> Option<String> {
-    let mut text = String::new(alloc);
-    match walked(alloc, wire, start, stride, &mut text) {
-        Ok(()) => format!(in alloc; "{text:?}").ok(),
-        Err(why) => format!(in alloc; "{text:?}, {} {}", why.number(), why.name()).ok(),
+fn put_walked(
+    alloc: Global,
+    text: &mut String,
+    wire: &mut Same,
+    start: &Oid,
+    stride: Stride,
+) -> Option<()> {
+    let mut printed = String::new(alloc);
+    match walked(alloc, wire, start, stride, &mut printed) {
+        Ok(()) => write!(text, "{printed:?}").ok(),
+        Err(why) => write!(text, "{printed:?}, {} {}", why.number(), why.name()).ok(),
     }
 }

@@ -1,6 +1,6 @@
 //! Samples inserted into one track of 64, in rising, falling or mixed order, for bench/track.
 
-use mon_rates::Track;
+use mon_rates::{Totals, Track};
 use mon_sample::{Kind, Sample};
 use mon_window::Inserted;
 use std::alloc::Global;
@@ -28,7 +28,7 @@ struct Asked {
 }
 
 /// What the insertions answered.
-#[derive(Drop)]
+#[derive(Clone, Copy)]
 struct Tally {
     added: u64,
     known: u64,
@@ -40,13 +40,7 @@ struct Tally {
 /// SHARE is 1 to 64. Prints how many samples were added, known and too old, the sum of the places
 /// of those added, and the totals.
 pub fn time_track<R: Print>(rt: &R, alloc: Global, words: &[String]) -> Option<()> {
-    let asked = words_of(words)?;
-    if asked.epoch < 1 || asked.epoch > SIZE {
-        return None;
-    }
-    let mut track = Track::new(alloc, SIZE, asked.epoch).ok()?;
-    let tally = inserted(&mut track, asked);
-    let totals = track.totals();
+    let (tally, totals) = counted(alloc, words_of(words)?)?;
     println!(rt;
         "{} added, {} known, {} too old, {}",
         tally.added, tally.known, tally.too_old, tally.places
@@ -57,6 +51,16 @@ pub fn time_track<R: Print>(rt: &R, alloc: Global, words: &[String]) -> Option<(
         totals.delta, totals.span, totals.pairs
     )
     .ok()
+}
+
+/// Inserts them all into a new track, and returns its totals too.
+fn counted(alloc: Global, asked: Asked) -> Option<(Tally, Totals)> {
+    if asked.epoch < 1 || asked.epoch > SIZE {
+        return None;
+    }
+    let mut track = Track::new(alloc, SIZE, asked.epoch).ok()?;
+    let tally = inserted(&mut track, asked);
+    Some((tally, track.totals()))
 }
 
 /// Reads the three arguments.

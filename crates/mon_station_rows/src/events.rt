@@ -10,10 +10,15 @@ use std::collections::VecDeque;
 /// Reads the events between semicolons.
 pub(crate) fn events_of(alloc: Global, events: &str) -> Option<VecDeque<OwnedEvent>> {
     let mut list = VecDeque::new(alloc);
+    read_events(alloc, &mut list, events)?;
+    Some(list)
+}
+
+fn read_events(alloc: Global, list: &mut VecDeque<OwnedEvent>, events: &str) -> Option<()> {
     for event in events.split("; ") {
         list.push_back(owned(alloc, event)?).ok()?;
     }
-    Some(list)
+    Some(())
 }
 
 fn owned(alloc: Global, line: &str) -> Option<OwnedEvent> {
@@ -36,5 +41,5 @@ pub(crate) fn event(alloc: Global, word: &str, rest: &str) -> Option<OwnedEvent>
 
 fn datagram(alloc: Global, digits: &str) -> Option<Octets> {
     let octets = octets(alloc, digits)?;
-    Octets::from_slice(alloc, &octets).ok()
+    Some(Octets::new(octets))
 }
