@@ -34,8 +34,8 @@ fn rule_of(word: &str) -> Option<Rule> {
 
 /// Makes the watch of a line `INSTANCES RULES`, or its fault.
 fn watch_of(alloc: Global, instances: &str, rules: &str) -> Option<Result<Watch, WatchFault>> {
-    let instances = instances_of(alloc, instances)?;
-    Some(Watch::new(instances, rules_of(alloc, rules)?))
+    let rules = rules_of(alloc, rules)?;
+    Some(Watch::new(instances_of(alloc, instances)?, rules))
 }
 
 /// Makes a board of a line's instances and rules.

@@ -5,7 +5,7 @@ use mon_codec_rows::Exchange;
 use mon_poller::Poller;
 use mon_station_rows::{Stage, answer_keeper, world};
 use std::alloc::Global;
-use std::io::{BufRead, BufReader};
+use std::io::{BufRead, BufReader, Result as IoResult};
 use std::mem;
 
 /// What lines change: a station's peers and windows, a station over its disk, and a poller.
@@ -34,10 +34,14 @@ impl Subjects {
     pub fn answer_all(&mut self, rt: &HostRuntime) -> Option<()> {
         let alloc = rt.alloc();
         for line in BufReader::new(alloc, rt.reader()).ok()?.lines(alloc) {
-            let line = line.ok()?;
-            self.answer(rt, line.as_str())?;
+            self.answer_read(rt, line)?;
         }
         Some(())
+    }
+
+    fn answer_read(&mut self, rt: &HostRuntime, line: IoResult<String>) -> Option<()> {
+        let line = line.ok()?;
+        self.answer(rt, line.as_str())
     }
 
     /// Does what a line says, and prints what is answered. To `new` nothing is.

@@ -45,10 +45,12 @@ impl Stage {
             return self.open(alloc, text, line);
         }
         let (word, rest) = line.split_once(' ').unwrap_or((line, ""));
-        match word {
-            "stop" => self.stop(alloc, text, rest),
-            "run" => run(alloc, text, self.station.as_mut()?, rest),
-            _ => put_stepped(alloc, text, self.station.as_mut()?, word, rest),
+        if word == "stop" {
+            return self.stop(alloc, text, rest);
+        }
+        match &mut self.station {
+            Some(station) => put_stepped(alloc, text, station, word, rest),
+            None => None,
         }
     }
 
@@ -83,7 +85,9 @@ impl Stage {
     fn stop(&mut self, alloc: Global, text: &mut String, line: &str) -> Option<()> {
         let (calls, keep) = line.split_once(' ')?;
         let calls = calls.parse().ok()?;
-        put_save(alloc, text, self.station.as_mut()?, calls)?;
+        if let Some(station) = &mut self.station {
+            put_save(alloc, text, station, calls)?;
+        }
         let disk = self.station.take()?.into_disk().into_disk();
         self.close(disk.crash(keep == "keep").ok()?);
         Some(())
@@ -109,6 +113,7 @@ fn put_stepped(
     rest: &str,
 ) -> Option<()> {
     match word {
+        "run" => run(alloc, text, station, rest),
         "owed" => put_owed(text, station, rest.parse().ok()?),
         "report" => put_report(alloc, text, station.board()),
         "interrupted" => put_interrupted(alloc, text, station.board()),
