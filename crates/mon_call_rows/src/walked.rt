@@ -62,7 +62,8 @@ pub(crate) fn row(alloc: Global, text: &mut String, stride: Stride, line: &str) 
     let (name, reply) = line.split_once(' ')?;
     let reply = octets(alloc, reply)?;
     let start = Oid::parse(alloc, name).ok()?;
-    put_walked(alloc, text, &mut Same { reply }, &start, stride)
+    let mut wire = Same { reply };
+    put_walked(alloc, text, &mut wire, &start, stride)
 }
 
 fn put_walked(

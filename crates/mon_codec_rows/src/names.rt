@@ -59,6 +59,6 @@ pub(crate) fn compared(alloc: Global, text: &mut String, words: &str) -> Option<
 
 fn put_compared(text: &mut String, own: &Oid, other: &Oid) -> Option<()> {
     let (order, same) = (own.compare(other), own.cmp(other));
-    let (equal, prefix) = (own == other, own.is_prefix_of(other));
+    let (equal, prefix) = (*own == *other, own.is_prefix_of(other));
     write!(text, "{order:?} {same:?} {equal} {prefix}").ok()
 }
