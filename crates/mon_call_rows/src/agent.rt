@@ -4,12 +4,12 @@ use crate::rows::put_between;
 use crate::small_agent::agent;
 use mon_agent::{Agent, AgentFault, Reply, Silence};
 use mon_mib::{Counter, Device, Moment, SimDevice, SysText};
-use mon_row_texts::{octets, put_digits, put_fault};
+use mon_row_texts::{first_word, octets, put_digits, put_fault};
 use std::alloc::Global;
 
 /// Appends the answer to a line, without its first word.
 pub(crate) fn answer(alloc: Global, text: &mut String, line: &str) -> Option<()> {
-    let (word, rest) = line.split_once(' ').unwrap_or((line, ""));
+    let (word, rest) = first_word(line);
     match word {
         "set" => assigned(alloc, text, rest),
         "silences" => silences(text),

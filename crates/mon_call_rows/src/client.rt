@@ -7,7 +7,7 @@ use mon_app::{AppFault, Asking, Question, Repeats, Stride, answer_text, request}
 use mon_ber::{Octets, Value};
 use mon_oid::Oid;
 use mon_pdu::write_message;
-use mon_row_texts::{octets, put, put_digits, put_fault, three};
+use mon_row_texts::{octets, parsed, put, put_digits, put_fault, three, two};
 use mon_smi::InNumbers;
 use std::alloc::Global;
 
@@ -16,7 +16,7 @@ const SYSTEM_NAME: &str = "1.3.6.1.2.1.1.5.0";
 
 /// Appends the answer to a line, without its first word.
 pub(crate) fn answer(alloc: Global, text: &mut String, line: &str) -> Option<()> {
-    let (word, rest) = line.split_once(' ')?;
+    let (word, rest) = two(line, ' ')?;
     match word {
         "get" => written(alloc, text, Asking::Get, rest),
         "next" => written(alloc, text, Asking::GetNext, rest),
@@ -54,22 +54,22 @@ fn names(alloc: Global, name: &str) -> Option<Vec<Oid>> {
 fn bulk(alloc: Global, text: &mut String, line: &str) -> Option<()> {
     let (non_repeaters, max_repetitions, name) = three(line, ' ')?;
     let repeats = Repeats {
-        non_repeaters: non_repeaters.parse().ok()?,
-        max_repetitions: max_repetitions.parse().ok()?,
+        non_repeaters: parsed(non_repeaters)?,
+        max_repetitions: parsed(max_repetitions)?,
     };
     written(alloc, text, Asking::GetBulk(repeats), name)
 }
 
 /// Appends the octets of the Set of a line `TEXT NAME`.
 fn assigning(alloc: Global, text: &mut String, line: &str) -> Option<()> {
-    let (assigned, name) = line.split_once(' ')?;
+    let (assigned, name) = two(line, ' ')?;
     let value = Value::Octets(Octets::from_slice(alloc, assigned.as_bytes()).ok()?);
     written(alloc, text, Asking::Set(&value), name)
 }
 
 /// Says what a Get of a line `COMMUNITY HEX,..` prints, or its fault, and what it sends.
 fn asked(alloc: Global, text: &mut String, line: &str) -> Option<()> {
-    let (community, datagrams) = line.split_once(' ')?;
+    let (community, datagrams) = two(line, ' ')?;
     let mut wire = Memory::new(alloc, heard(alloc, datagrams)?);
     put_asked(alloc, text, &mut wire, community)
 }

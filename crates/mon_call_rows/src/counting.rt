@@ -8,7 +8,7 @@ use mon_mib::{
     SysText, SysTexts,
 };
 use mon_oid::Oid;
-use mon_row_texts::{put_name, three};
+use mon_row_texts::{parsed, put_name, three};
 use mon_settings::AgentSettings;
 use mon_vacm::{Need, Policy};
 use std::alloc::Global;
@@ -153,7 +153,7 @@ impl Large {
 /// whether the device was asked 1 to MOST times.
 pub(crate) fn row(alloc: Global, text: &mut String, line: &str) -> Option<()> {
     let (many, most, name) = three(line, ' ')?;
-    let (most, many) = (most.parse().ok()?, many.parse().ok()?);
+    let (most, many) = (parsed(most)?, parsed(many)?);
     let name = Oid::parse(alloc, name).ok()?;
     let large = Large::new(alloc, interfaces(alloc, many)?)?;
     large.put_next_within(alloc, text, &name, most)

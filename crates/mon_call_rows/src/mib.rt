@@ -8,13 +8,13 @@ use mon_mib::{
     AdminStatus, Change, Column, Counter, Counters, Device, DeviceFault, Interface, Moment, Object,
     OperStatus, Scalar, SetFault, SetStatus, SimDevice, SysTexts, all_objects,
 };
-use mon_row_texts::{put, put_fault, put_name};
+use mon_row_texts::{first_word, parsed, put, put_fault, put_name, two};
 use mon_settings::AgentSettings;
 use std::alloc::Global;
 
 /// Appends the answer to a line, without its first word.
 pub(crate) fn answer(alloc: Global, text: &mut String, line: &str) -> Option<()> {
-    let (word, rest) = line.split_once(' ').unwrap_or((line, ""));
+    let (word, rest) = first_word(line);
     match word {
         "next" => counting::row(alloc, text, rest),
         "changes" => changed(alloc, text, rest),
@@ -22,8 +22,8 @@ pub(crate) fn answer(alloc: Global, text: &mut String, line: &str) -> Option<()>
         "object" => object(alloc, text, rest),
         "admin" => admin(text),
         "oper" => oper(text),
-        "moment" => moment(text, rest.parse().ok()?),
-        "counts" => counted(text, rest.parse().ok()?),
+        "moment" => moment(text, parsed(rest)?),
+        "counts" => counted(text, parsed(rest)?),
         "set-faults" => set_faults(text),
         "device-faults" => device_faults(text),
         _ => None,
@@ -66,20 +66,20 @@ fn put_changed(
 
 /// Reads a change: `alias INDEX TEXT` or `admin INDEX STATUS SINCE`.
 fn change_of(alloc: Global, words: &str) -> Option<Change> {
-    let (word, rest) = words.split_once(' ')?;
-    let (index, rest) = rest.split_once(' ')?;
-    let index = index.parse().ok()?;
+    let (word, rest) = two(words, ' ')?;
+    let (index, rest) = two(rest, ' ')?;
+    let index = parsed(index)?;
     match word {
         "alias" => {
             let text = Octets::from_slice(alloc, rest.as_bytes()).ok()?;
             Some(Change::Alias(index, text))
         }
         "admin" => {
-            let (status, since) = rest.split_once(' ')?;
+            let (status, since) = two(rest, ' ')?;
             Some(Change::Admin {
                 index,
                 status: status_of(status)?,
-                since: since.parse().ok()?,
+                since: parsed(since)?,
             })
         }
         _ => None,
@@ -113,11 +113,11 @@ fn put_undoing(text: &mut String, applied: Result<Change, DeviceFault>) -> Optio
 /// Appends the access and the syntax of the object of a line `NAME INDEX`, and its name at the
 /// index.
 fn object(alloc: Global, text: &mut String, line: &str) -> Option<()> {
-    let (word, index) = line.split_once(' ')?;
+    let (word, index) = two(line, ' ')?;
     let object = object_of(word)?;
     let (access, syntax) = (object.access(), object.syntax());
     write!(text, "{access:?} {syntax:?} ").ok()?;
-    let name = object.name(alloc, index.parse().ok()?).ok()?;
+    let name = object.name(alloc, parsed(index)?).ok()?;
     put_name(alloc, text, &name)
 }
 

@@ -1,16 +1,16 @@
 //! What is read of a reader to its end, and how often it is read.
 
 use mon_app::{AppFault, Counted, Reads, read_all};
-use mon_row_texts::{octets, put_digits, put_fault};
+use mon_row_texts::{octets, parsed, put_digits, put_fault, two};
 use std::alloc::Global;
 use std::io::{Error, ErrorKind, Read, Result as IoResult};
 
 /// Appends the answer to a line, without its first word.
 pub(crate) fn answer(alloc: Global, text: &mut String, line: &str) -> Option<()> {
-    let (word, rest) = line.split_once(' ')?;
+    let (word, rest) = two(line, ' ')?;
     match word {
         "gives" => given(alloc, text, rest),
-        "slow" => slowly(alloc, text, rest.parse().ok()?),
+        "slow" => slowly(alloc, text, parsed(rest)?),
         _ => None,
     }
 }

@@ -2,7 +2,7 @@
 
 use mon_app::{AppFault, Heard, SocketFault, Stride, WalkPlan, Wire, walk};
 use mon_oid::Oid;
-use mon_row_texts::octets;
+use mon_row_texts::{octets, two};
 use mon_smi::InNumbers;
 use std::alloc::Global;
 
@@ -59,7 +59,7 @@ fn walked<W: Wire>(
 
 /// Says what the walk of a line `NAME HEX` prints, and why it ends.
 pub(crate) fn row(alloc: Global, text: &mut String, stride: Stride, line: &str) -> Option<()> {
-    let (name, reply) = line.split_once(' ')?;
+    let (name, reply) = two(line, ' ')?;
     let reply = octets(alloc, reply)?;
     let start = Oid::parse(alloc, name).ok()?;
     let mut wire = Same { reply };

@@ -5,7 +5,7 @@ use crate::samples::{put_inserted, sample_of, samples_of};
 use mon_alarms::Rule;
 use mon_board::{Board, Watch, WatchFault};
 use mon_report::{ReportFault, write_report};
-use mon_row_texts::{put, put_fault, put_trimmed, three};
+use mon_row_texts::{parsed, put, put_fault, put_trimmed, three, two};
 use mon_sample::Sample;
 use std::alloc::Global;
 use std::io::{Result as IoResult, Write};
@@ -28,8 +28,8 @@ fn read_rules(rules: &mut Vec<Rule>, words: &str) -> Option<()> {
 
 fn rule_of(word: &str) -> Option<Rule> {
     let (instance, rising, falling) = three(word, '/')?;
-    let (instance, rising) = (instance.parse().ok()?, rising.parse().ok()?);
-    Rule::new(instance, rising, falling.parse().ok()?).ok()
+    let (instance, rising) = (parsed(instance)?, parsed(rising)?);
+    Rule::new(instance, rising, parsed(falling)?).ok()
 }
 
 /// Makes the watch of a line `INSTANCES RULES`, or its fault.
@@ -45,7 +45,7 @@ fn board_of(alloc: Global, instances: &str, rules: &str) -> Option<Board> {
 
 /// Says that the line's instances and rules make a watch; or the fault.
 pub(crate) fn watched(alloc: Global, text: &mut String, line: &str) -> Option<()> {
-    let (instances, rules) = line.split_once(' ')?;
+    let (instances, rules) = two(line, ' ')?;
     match watch_of(alloc, instances, rules)? {
         Ok(_watch) => put(text, "a watch"),
         Err(why) => put_fault(text, why.number(), why.name()),
@@ -54,7 +54,7 @@ pub(crate) fn watched(alloc: Global, text: &mut String, line: &str) -> Option<()
 
 /// Says what a board of the line's watch, without rules, does with each sample `NUMBER/RECORD`.
 pub(crate) fn taken(alloc: Global, text: &mut String, line: &str) -> Option<()> {
-    let (instances, samples) = line.split_once(' ')?;
+    let (instances, samples) = two(line, ' ')?;
     let mut board = board_of(alloc, instances, "-")?;
     put_all_taken(alloc, text, &mut board, samples)
 }
@@ -72,8 +72,8 @@ fn put_all_taken(
 }
 
 fn put_taken(alloc: Global, text: &mut String, board: &mut Board, word: &str) -> Option<()> {
-    let (number, record) = word.split_once('/')?;
-    let (number, sample) = (number.parse().ok()?, sample_of(alloc, record)?);
+    let (number, record) = two(word, '/')?;
+    let (number, sample) = (parsed(number)?, sample_of(alloc, record)?);
     match board.take(number, sample) {
         Ok(inserted) => put_inserted(text, inserted)?,
         Err(_) => put(text, "not watched")?,

@@ -2,7 +2,7 @@
 
 use mon_board::{Board, Watch, Watched};
 use mon_exchange::{Claim, Peers, Portion, portions, read_claim, serial_after};
-use mon_row_texts::{octets, put, put_fault, watched};
+use mon_row_texts::{octets, parsed, put, put_fault, watched};
 use std::alloc::Global;
 
 /// The engine id of the agent.
@@ -84,7 +84,7 @@ impl Exchange {
 
     /// Appends the incarnation that is known of this station.
     fn known(&self, text: &mut String, word: &str) -> Option<()> {
-        match self.peers.known(word.parse().ok()?) {
+        match self.peers.known(parsed(word)?) {
             Some(known) => write!(text, "{known}").ok(),
             None => put(text, "none"),
         }
@@ -93,7 +93,7 @@ impl Exchange {
     /// Says what the station offers to this peer: of each portion the instance's number and its
     /// samples.
     fn offer(&self, alloc: Global, text: &mut String, word: &str) -> Option<()> {
-        let slot = self.peers.slot(word.parse().ok()?)?;
+        let slot = self.peers.slot(parsed(word)?)?;
         write!(text, "{} to slot {slot}", self.peers.own()).ok()?;
         let portions = portions(alloc, &self.board, slot).ok()?;
         put_portions(text, portions.as_slice())
@@ -117,6 +117,6 @@ fn put_portion(text: &mut String, portion: &Portion) -> Option<()> {
 
 /// Appends the serial after this one.
 pub(crate) fn serial(text: &mut String, word: &str) -> Option<()> {
-    let next = serial_after(word.parse().ok()?);
+    let next = serial_after(parsed(word)?);
     write!(text, "{next}").ok()
 }

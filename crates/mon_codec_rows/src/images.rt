@@ -1,9 +1,7 @@
 //! Images: what one is read as, and what is then written of the board.
 
 use mon_board::{Board, Watch, Watched};
-use mon_row_texts::{
-    first_line, octets, put, put_digits, put_refused, put_report, three, watched,
-};
+use mon_row_texts::{first_line, octets, parsed, put, put_digits, put_refused, put_report, three, two, watched};
 use mon_saved::{Image, image_size, read, read_image, write_image, write_within};
 use std::alloc::Global;
 
@@ -11,7 +9,7 @@ use std::alloc::Global;
 /// fault, or the incarnation, the sizes and the number of samples that the image has of each
 /// instance, and the image that is written of the board read.
 pub(crate) fn row(alloc: Global, text: &mut String, line: &str) -> Option<()> {
-    let (words, digits) = line.split_once(' ')?;
+    let (words, digits) = two(line, ' ')?;
     let octets = octets(alloc, digits)?;
     let watch = watch_of(alloc, words)?;
     put_image(alloc, text, &watch, octets.as_slice())
@@ -20,7 +18,7 @@ pub(crate) fn row(alloc: Global, text: &mut String, line: &str) -> Option<()> {
 /// Appends the report of the board that a line's image is read as under its watch, without the last
 /// line's end.
 pub(crate) fn report(alloc: Global, text: &mut String, line: &str) -> Option<()> {
-    let (words, digits) = line.split_once(' ')?;
+    let (words, digits) = two(line, ' ')?;
     let octets = octets(alloc, digits)?;
     let watch = watch_of(alloc, words)?;
     put_read_report(alloc, text, &watch, octets.as_slice())
@@ -110,8 +108,8 @@ fn read_instances(alloc: Global, instances: &mut Vec<Watched>, words: &str) -> O
 
 fn read_instance(alloc: Global, instances: &mut Vec<Watched>, word: &str) -> Option<()> {
     let (engine, name, sizes) = three(word, '/')?;
-    let (window, epoch) = sizes.split_once('/')?;
-    let (window, epoch) = (window.parse().ok()?, epoch.parse().ok()?);
+    let (window, epoch) = two(sizes, '/')?;
+    let (window, epoch) = (parsed(window)?, parsed(epoch)?);
     let engine = octets(alloc, engine)?;
     let instance = watched(alloc, engine.as_slice(), name, window, epoch)?;
     instances.push(instance).ok()
@@ -128,7 +126,7 @@ pub fn time_images<R: Input + Print>(rt: &R, alloc: Global, times: u32) -> Optio
 /// Reads the image of a line and writes it, this many times, and returns how many octets were
 /// written.
 fn all_written(alloc: Global, line: &str, times: u32) -> Option<u64> {
-    let (words, digits) = line.split_once(' ')?;
+    let (words, digits) = two(line, ' ')?;
     let octets = octets(alloc, digits)?;
     let watch = watch_of(alloc, words)?;
     written_again(alloc, &watch, octets.as_slice(), times)

@@ -5,7 +5,7 @@ ghost use Rattle.std.specs.Prelude.{◌≡◌, ◌<◌, ◌↔◌, IfSome, IsTru
 use crate::images::instances_of;
 use crate::samples::{put_stamp, sample_of};
 use mon_board::{Board, Watch};
-use mon_row_texts::{put, three};
+use mon_row_texts::{parsed, put, three, two};
 use mon_sample::Sample;
 use std::alloc::Global;
 
@@ -14,7 +14,7 @@ use std::alloc::Global;
 /// `take/SLOT/N/HEX`, `mark/SLOT/N/HEX`, `unmark/SLOT/N/-`, or `owed/SLOT/N/HEX` for what is owed
 /// after the sample, of all for a dash.
 pub(crate) fn row(alloc: Global, text: &mut String, line: &str) -> Option<()> {
-    let (instances, steps) = line.split_once(' ')?;
+    let (instances, steps) = two(line, ' ')?;
     let (mut own, mut other) = boards(alloc, instances)?;
     put_joined(alloc, text, &mut own, &mut other, steps)
 }
@@ -74,11 +74,11 @@ struct Step<'a> {
 
 fn step_of(words: &str) -> Option<Step<'_>> {
     let (word, slot, rest) = three(words, '/')?;
-    let (instance, record) = rest.split_once('/')?;
+    let (instance, record) = two(rest, '/')?;
     Some(Step {
         word,
-        slot: slot.parse().ok()?,
-        instance: instance.parse().ok()?,
+        slot: parsed(slot)?,
+        instance: parsed(instance)?,
         record,
     })
 }

@@ -1,7 +1,7 @@
 //! Object identifiers: what a text or numbers are read as, and how two compare.
 
 use mon_oid::Oid;
-use mon_row_texts::{put_fault, put_name};
+use mon_row_texts::{parsed, put_fault, put_name, two};
 use std::alloc::Global;
 
 /// Says how many sub-identifiers the identifier has that these words spell, its text, and whether a
@@ -35,7 +35,7 @@ pub(crate) fn made(alloc: Global, text: &mut String, words: &str) -> Option<()> 
 
 fn read_parts(parts: &mut Vec<u32>, words: &str) -> Option<()> {
     for word in words.split(' ') {
-        let part = word.parse().ok()?;
+        let part = parsed(word)?;
         parts.push(part).ok()?;
     }
     Some(())
@@ -51,7 +51,7 @@ fn put_made(alloc: Global, text: &mut String, parts: &[u32]) -> Option<()> {
 /// Says how the first of two identifiers compares with the second, whether they are equal, and if
 /// the first is a prefix of the second.
 pub(crate) fn compared(alloc: Global, text: &mut String, words: &str) -> Option<()> {
-    let (own, other) = words.split_once(' ')?;
+    let (own, other) = two(words, ' ')?;
     let own = Oid::parse(alloc, own).ok()?;
     let other = Oid::parse(alloc, other).ok()?;
     put_compared(text, &own, &other)

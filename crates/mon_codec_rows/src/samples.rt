@@ -2,7 +2,7 @@
 
 use mon_alarms::{AlarmState, Rule, state};
 use mon_rates::{Totals, Track};
-use mon_row_texts::{octets, put, put_digits, put_fault, three};
+use mon_row_texts::{octets, parsed, put, put_digits, put_fault, three, two};
 use mon_sample::Sample;
 use mon_window::{Inserted, Window};
 use std::alloc::Global;
@@ -34,7 +34,7 @@ pub(crate) fn put_stamp(text: &mut String, sample: &Sample) -> Option<()> {
 
 /// Says how the first of two samples compares with the second.
 pub(crate) fn compared(alloc: Global, text: &mut String, words: &str) -> Option<()> {
-    let (own, other) = words.split_once(' ')?;
+    let (own, other) = two(words, ' ')?;
     let order = sample_of(alloc, own)?.compare(&sample_of(alloc, other)?);
     write!(text, "{order:?}").ok()
 }
@@ -63,8 +63,8 @@ fn read_samples(alloc: Global, samples: &mut Vec<Sample>, words: &str) -> Option
 
 /// Makes an empty track of this size and epoch.
 fn track_of(alloc: Global, size: &str, epoch: &str) -> Option<Track> {
-    let size = size.parse().ok()?;
-    let epoch = epoch.parse().ok()?;
+    let size = parsed(size)?;
+    let epoch = parsed(epoch)?;
     if epoch < 1 || epoch > size || size > 64 {
         return None;
     }
@@ -144,8 +144,8 @@ fn put_inserting(text: &mut String, window: &mut Window, samples: &[Sample]) -> 
 
 /// Makes an empty window of this size and epoch.
 fn window_of(alloc: Global, size: &str, epoch: &str) -> Option<Window> {
-    let size = size.parse().ok()?;
-    let epoch = epoch.parse().ok()?;
+    let size = parsed(size)?;
+    let epoch = parsed(epoch)?;
     if epoch < 1 || epoch > size || size > 64 {
         return None;
     }
@@ -156,7 +156,7 @@ fn window_of(alloc: Global, size: &str, epoch: &str) -> Option<Window> {
 /// the stamps of what they keep.
 pub(crate) fn joined(alloc: Global, text: &mut String, line: &str) -> Option<()> {
     let (size, epoch, rest) = three(line, ' ')?;
-    let (own, others) = rest.split_once(' ')?;
+    let (own, others) = two(rest, ' ')?;
     let mut track = filled(alloc, size, epoch, own)?;
     let other = filled(alloc, size, epoch, others)?;
     put_joined(text, &mut track, &other)
@@ -189,7 +189,7 @@ fn insert_all(track: &mut Track, samples: &[Sample]) {
 /// fault of the thresholds.
 pub(crate) fn alarm(alloc: Global, text: &mut String, line: &str) -> Option<()> {
     let (rising, falling, records) = three(line, ' ')?;
-    let (rising, falling) = (rising.parse().ok()?, falling.parse().ok()?);
+    let (rising, falling) = (parsed(rising)?, parsed(falling)?);
     let samples = samples_of(alloc, records)?;
     match Rule::new(0, rising, falling) {
         Ok(rule) => put_state(text, state(&rule, samples.as_slice())),

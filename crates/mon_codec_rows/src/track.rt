@@ -1,6 +1,7 @@
 //! Samples inserted into one track of 64, in rising, falling or mixed order, for bench/track.
 
 use mon_rates::{Totals, Track};
+use mon_row_texts::parsed;
 use mon_sample::{Kind, Sample};
 use mon_window::Inserted;
 use std::alloc::Global;
@@ -66,8 +67,8 @@ fn counted(alloc: Global, asked: Asked) -> Option<(Tally, Totals)> {
 /// Reads the three arguments.
 fn words_of(words: &[String]) -> Option<Asked> {
     let order = order_of(words.first()?.as_str())?;
-    let epoch = words.get(1)?.as_str().parse().ok()?;
-    let times = words.get(2)?.as_str().parse().ok()?;
+    let epoch = parsed(words.get(1)?.as_str())?;
+    let times = parsed(words.get(2)?.as_str())?;
     Some(Asked {
         order,
         epoch,

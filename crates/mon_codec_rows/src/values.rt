@@ -3,7 +3,7 @@
 use mon_app::{ValueKind, value_of};
 use mon_ber::{Value, read_value, size_of, write_value};
 use mon_pdu::{Binding, Body, Message, message_size, read_message, write_message};
-use mon_row_texts::{first_line, octets, put, put_digits, put_fault, put_name};
+use mon_row_texts::{first_line, octets, put, put_digits, put_fault, put_name, two};
 use std::alloc::Global;
 
 /// Appends the value that these octets begin with, how many spell it, its size and its octets as
@@ -31,7 +31,7 @@ fn put_written(alloc: Global, text: &mut String, value: &Value) -> Option<()> {
 
 /// Appends the octets of the value that the text of a line `KIND TEXT` means; or the fault.
 pub(crate) fn meant(alloc: Global, text: &mut String, line: &str) -> Option<()> {
-    let (kind, words) = line.split_once(' ')?;
+    let (kind, words) = two(line, ' ')?;
     let Some(kind) = ValueKind::from_word(kind) else {
         return put(text, "no kind");
     };

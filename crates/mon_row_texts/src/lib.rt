@@ -8,6 +8,6 @@
 mod texts;
 
 pub use texts::{
-    first_line, octets, put, put_digits, put_fault, put_name, put_refused, put_report, put_trimmed,
-    three, watched, zeros,
+    first_line, first_word, octets, parsed, put, put_digits, put_fault, put_name, put_refused,
+    put_report, put_trimmed, three, two, watched, zeros,
 };

@@ -6,6 +6,7 @@ use mon_oid::Oid;
 use mon_report::write_report;
 use std::alloc::{AllocError, Global};
 use std::io::{BufRead, BufReader};
+use std::str::FromStr;
 
 /// Reads the first line of standard input.
 pub fn first_line<R: Input>(rt: &R, alloc: Global) -> Option<String> {
@@ -15,11 +16,29 @@ pub fn first_line<R: Input>(rt: &R, alloc: Global) -> Option<String> {
     Some(line)
 }
 
+/// Returns the two parts of a line: before the first separator, and after it.
+pub fn two(line: &str, separator: char) -> Option<(&str, &str)> {
+    line.split_once(separator)
+}
+
 /// Returns the three parts of a line: before the first separator, up to the second, and the rest.
 pub fn three(line: &str, separator: char) -> Option<(&str, &str, &str)> {
-    let (first, rest) = line.split_once(separator)?;
-    let (second, third) = rest.split_once(separator)?;
+    let (first, rest) = two(line, separator)?;
+    let (second, third) = two(rest, separator)?;
     Some((first, second, third))
+}
+
+/// Returns the first word of a line and what comes after it: nothing if there is no other word.
+pub fn first_word(line: &str) -> (&str, &str) {
+    line.split_once(' ').unwrap_or((line, ""))
+}
+
+/// Returns what a word is read as.
+pub fn parsed<T: FromStr>(word: &str) -> Option<T>
+where
+    T::Err: Drop,
+{
+    word.parse().ok()
 }
 
 /// Returns the octets of hex digits.

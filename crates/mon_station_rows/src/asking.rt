@@ -6,7 +6,7 @@ use crate::printing::{put_fault, put_told};
 use crate::running::run;
 use crate::setting::core;
 use mon_disk::{FuseDisk, MemoryDisk};
-use mon_row_texts::put_report;
+use mon_row_texts::{first_word, parsed, put_report, two};
 use mon_station::{Event, LentEvent, Station};
 use std::alloc::Global;
 
@@ -44,7 +44,7 @@ impl Stage {
         if self.station.is_none() {
             return self.open(alloc, text, line);
         }
-        let (word, rest) = line.split_once(' ').unwrap_or((line, ""));
+        let (word, rest) = first_word(line);
         if word == "stop" {
             return self.stop(alloc, text, rest);
         }
@@ -83,8 +83,8 @@ impl Stage {
 
     /// Saves while only N calls of a line `N KEEP` pass, and keeps what a crash leaves.
     fn stop(&mut self, alloc: Global, text: &mut String, line: &str) -> Option<()> {
-        let (calls, keep) = line.split_once(' ')?;
-        let calls = calls.parse().ok()?;
+        let (calls, keep) = two(line, ' ')?;
+        let calls = parsed(calls)?;
         if let Some(station) = &mut self.station {
             put_save(alloc, text, station, calls)?;
         }
@@ -114,7 +114,7 @@ fn put_stepped(
 ) -> Option<()> {
     match word {
         "run" => run(alloc, text, station, rest),
-        "owed" => put_owed(text, station, rest.parse().ok()?),
+        "owed" => put_owed(text, station, parsed(rest)?),
         "report" => put_report(alloc, text, station.board()),
         "interrupted" => put_interrupted(alloc, text, station.board()),
         _ => {

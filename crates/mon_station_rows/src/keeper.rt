@@ -28,6 +28,7 @@ mod found;
 pub mod real_file;
 mod stops;
 
+use mon_row_texts::{first_word, parsed};
 use std::fs::File;
 use std::rt::Files;
 
@@ -38,15 +39,15 @@ pub fn answer<R: Files<File = File> + AllocGlobal>(
     line: &str,
 ) -> Option<()> {
     let alloc = rt.alloc();
-    let (word, rest) = line.split_once(' ').unwrap_or((line, ""));
+    let (word, rest) = first_word(line);
     match word {
         "save-stopped" => stops::save_row(alloc, text, rest),
         "opening-stopped" => stops::opening_row(alloc, text, rest),
-        "failing-call" => stops::failing_row(alloc, text, rest.parse().ok()?),
+        "failing-call" => stops::failing_row(alloc, text, parsed(rest)?),
         "reopened" => stops::reopened_row(alloc, text, rest),
-        "mended-after" => stops::mended_row(alloc, text, rest.parse().ok()?),
+        "mended-after" => stops::mended_row(alloc, text, parsed(rest)?),
         "file" => files::row(alloc, text, rest),
-        "sized" => files::sized(alloc, text, rest.parse().ok()?),
+        "sized" => files::sized(alloc, text, parsed(rest)?),
         "real-file" => real_file::saved_row(rt, text, rest),
         "found" => real_file::found_row(rt, text),
         "removed" => real_file::removed_row(rt, text),

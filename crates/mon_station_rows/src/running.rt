@@ -6,7 +6,7 @@ ghost use Rattle.mon_station_rows.specs.Listed.{RanOver};
 use crate::events::events_of;
 use crate::printing::{put_fault, put_sent};
 use mon_disk::{FuseDisk, MemoryDisk};
-use mon_row_texts::put;
+use mon_row_texts::{parsed, put, two};
 use mon_station::{
     Answer, Outbox, OutboxFault, Outgoing, OwnedEvent, Run, Source, SourceFault, Station,
 };
@@ -108,12 +108,12 @@ struct Asked {
 
 /// Reads the three numbers of a line.
 fn asked_of(numbers: &str) -> Option<Asked> {
-    let (turns, calls) = numbers.split_once(' ')?;
-    let (source_call, outbox_call) = calls.split_once(' ')?;
+    let (turns, calls) = two(numbers, ' ')?;
+    let (source_call, outbox_call) = two(calls, ' ')?;
     Some(Asked {
-        turns: turns.parse().ok()?,
-        source_call: source_call.parse().ok()?,
-        outbox_call: outbox_call.parse().ok()?,
+        turns: parsed(turns)?,
+        source_call: parsed(source_call)?,
+        outbox_call: parsed(outbox_call)?,
     })
 }
 

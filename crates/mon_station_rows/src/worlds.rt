@@ -1,7 +1,7 @@
 //! Worlds of stations, and steps that are run in one.
 
 use crate::setting::core;
-use mon_row_texts::put_refused;
+use mon_row_texts::{parsed, put_refused, two};
 use mon_world::{Step, World};
 use std::alloc::Global;
 
@@ -10,8 +10,8 @@ use std::alloc::Global;
 /// in one run. Says how many of them were made and how many datagrams were sent, or why there is no
 /// such world.
 pub fn world(alloc: Global, text: &mut String, line: &str) -> Option<()> {
-    let (count, shares) = line.split_once(' ')?;
-    let (count, shares) = (count.parse().ok()?, shares.parse().ok()?);
+    let (count, shares) = two(line, ' ')?;
+    let (count, shares) = (parsed(count)?, parsed(shares)?);
     let core = core(alloc, "8")?;
     match World::new(alloc, &core, count) {
         Ok(mut world) => put_run(alloc, text, &mut world, shares),

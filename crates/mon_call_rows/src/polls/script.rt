@@ -1,17 +1,17 @@
 //! What each line asks of the poller, and what is answered.
 
 use mon_poller::{Offered, Poller, Request, ResponseFault, TimedOut};
-use mon_row_texts::{octets, put, put_digits, put_refused};
+use mon_row_texts::{first_word, octets, parsed, put, put_digits, put_refused, two};
 use mon_udp::Addr;
 use std::alloc::Global;
 use std::fmt::Write;
 
 /// Appends the answer to a line, without its first word.
 pub fn answer(alloc: Global, text: &mut String, polls: &mut Poller, line: &str) -> Option<()> {
-    let (word, rest) = line.split_once(' ').unwrap_or((line, ""));
+    let (word, rest) = first_word(line);
     match word {
-        "start" => start(alloc, text, polls, rest.parse().ok()?),
-        "timeout" => timeout(alloc, text, polls, rest.parse().ok()?),
+        "start" => start(alloc, text, polls, parsed(rest)?),
+        "timeout" => timeout(alloc, text, polls, parsed(rest)?),
         "oldest" => oldest(text, polls),
         "from" => received(alloc, text, polls, rest),
         _ => None,
@@ -58,7 +58,7 @@ fn oldest(text: &mut String, polls: &Poller) -> Option<()> {
 
 /// Answers a datagram of a line `ADDRESS HEX`.
 fn received(alloc: Global, text: &mut String, polls: &mut Poller, line: &str) -> Option<()> {
-    let (from, digits) = line.split_once(' ')?;
+    let (from, digits) = two(line, ' ')?;
     let from = Addr::parse(from)?;
     let octets = octets(alloc, digits)?;
     match polls.response(alloc, from, octets.as_slice()) {

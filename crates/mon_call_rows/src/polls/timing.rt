@@ -2,7 +2,7 @@
 
 use crate::polls::targets::{local, poller};
 use mon_poller::{Offered, Poller};
-use mon_row_texts::{first_line, octets};
+use mon_row_texts::{first_line, octets, parsed};
 use std::alloc::Global;
 
 /// What the responses brought.
@@ -37,8 +37,8 @@ pub fn time_polls<R: Input + Print + AllocGlobal>(rt: &R, words: &[String]) -> O
 /// Reads the two arguments.
 fn asked_of(words: &[String]) -> Option<Asked> {
     Some(Asked {
-        times: words.first()?.parse().ok()?,
-        place: words.get(1)?.parse().ok()?,
+        times: parsed(words.first()?)?,
+        place: parsed(words.get(1)?)?,
     })
 }
 

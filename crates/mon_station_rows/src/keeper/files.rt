@@ -2,7 +2,7 @@
 
 use crate::keeper::found::{Found, saved};
 use mon_disk::{Disk, Keeper, MemoryDisk, NotOpened, SLOT_SIZE};
-use mon_row_texts::{three, zeros};
+use mon_row_texts::{parsed, three, two, zeros};
 use std::alloc::Global;
 
 /// What a slot begins with.
@@ -26,11 +26,11 @@ impl Slot {
         if word == "-" {
             return Some(SHUT);
         }
-        let (generation, size) = word.split_once('/')?;
+        let (generation, size) = two(word, '/')?;
         Some(Slot {
             gate: 0xA5,
-            generation: generation.parse().ok()?,
-            size: size.parse().ok()?,
+            generation: parsed(generation)?,
+            size: parsed(size)?,
         })
     }
 
@@ -58,7 +58,7 @@ pub(crate) fn row(alloc: Global, text: &mut String, line: &str) -> Option<()> {
 /// Makes the disk of a file `SLOT SLOT SIZE`.
 fn disk_of(alloc: Global, file: &str) -> Option<MemoryDisk> {
     let (first, second, size) = three(file, ' ')?;
-    let last = u64::checked_sub(size.parse().ok()?, 1)?;
+    let last = u64::checked_sub(parsed(size)?, 1)?;
     let slots = (Slot::parse(first)?, Slot::parse(second)?);
     let mut disk = MemoryDisk::new(alloc, &[]).ok()?;
     write_file(&mut disk, slots, last)?;

@@ -2,7 +2,7 @@
 
 use crate::keeper::found::{Found, saved};
 use mon_disk::{BODY_SIZE, FileDisk, Keeper};
-use mon_row_texts::zeros;
+use mon_row_texts::{parsed, zeros};
 use std::alloc::Global;
 use std::fs::{self, File};
 use std::rt::Files;
@@ -124,8 +124,8 @@ fn is_saved(alloc: Global, keeper: &mut Keeper<FileDisk>, number: u64) -> Option
 
 /// Saves in a file as the arguments FILE OCTETS TIMES say.
 pub fn time_saves<R: Files<File = File> + AllocGlobal>(rt: &R, words: &[String]) -> Option<()> {
-    let size: usize = words.get(1)?.parse().ok()?;
-    let times: u64 = words.get(2)?.parse().ok()?;
+    let size: usize = parsed(words.get(1)?)?;
+    let times: u64 = parsed(words.get(2)?)?;
     let (mut keeper, _) = open_file(rt, words.first()?)?;
     save_zeros(rt.alloc(), &mut keeper, size, times)
 }

@@ -2,7 +2,7 @@
 
 use crate::keeper::found::{Found, saved};
 use mon_disk::{Disk, FlakyDisk, FuseDisk, Keeper, MemoryDisk, NotOpened};
-use mon_row_texts::put;
+use mon_row_texts::{parsed, put, two};
 use std::alloc::Global;
 
 /// Makes a keeper over an empty disk in a fuse, on which a save of `old` is done.
@@ -16,10 +16,10 @@ fn begun(alloc: Global) -> Option<Keeper<FuseDisk<MemoryDisk>>> {
 /// Reads `CALLS KEEP`: after how many calls of the disk something is stopped, and whether the crash
 /// keeps what is not synced.
 fn stop_of(words: &str) -> Option<(u64, bool)> {
-    let (calls, keep) = words.split_once(' ')?;
+    let (calls, keep) = two(words, ' ')?;
     match keep {
-        "keep" => Some((calls.parse().ok()?, true)),
-        "lose" => Some((calls.parse().ok()?, false)),
+        "keep" => Some((parsed(calls)?, true)),
+        "lose" => Some((parsed(calls)?, false)),
         _ => None,
     }
 }
