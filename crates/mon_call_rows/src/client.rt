@@ -95,12 +95,7 @@ fn read_heard(alloc: Global, heard: &mut Vec<Vec<u8>>, words: &str) -> Option<()
 }
 
 /// Appends what the Get prints over a wire, or its fault.
-fn put_printed(
-    alloc: Global,
-    text: &mut String,
-    wire: &mut Memory,
-    community: &str,
-) -> Option<()> {
+fn put_printed(alloc: Global, text: &mut String, wire: &mut Memory, community: &str) -> Option<()> {
     match answered(alloc, wire, community) {
         Ok(answer) => write!(text, "{answer:?}").ok(),
         Err(why) => put_fault(text, why.number(), why.name()),

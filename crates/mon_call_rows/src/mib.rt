@@ -52,12 +52,7 @@ fn changed(alloc: Global, text: &mut String, line: &str) -> Option<()> {
     put_changed(alloc, text, &mut device, line)
 }
 
-fn put_changed(
-    alloc: Global,
-    text: &mut String,
-    device: &mut SimDevice,
-    line: &str,
-) -> Option<()> {
+fn put_changed(alloc: Global, text: &mut String, device: &mut SimDevice, line: &str) -> Option<()> {
     for change in line.split("; ") {
         put_applied(text, device, change_of(alloc, change)?)?;
     }

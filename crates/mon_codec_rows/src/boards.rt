@@ -59,12 +59,7 @@ pub(crate) fn taken(alloc: Global, text: &mut String, line: &str) -> Option<()> 
     put_all_taken(alloc, text, &mut board, samples)
 }
 
-fn put_all_taken(
-    alloc: Global,
-    text: &mut String,
-    board: &mut Board,
-    samples: &str,
-) -> Option<()> {
+fn put_all_taken(alloc: Global, text: &mut String, board: &mut Board, samples: &str) -> Option<()> {
     for word in samples.split(',') {
         put_taken(alloc, text, board, word)?;
     }
@@ -128,12 +123,7 @@ pub(crate) fn reported(alloc: Global, text: &mut String, line: &str) -> Option<(
     put_reported(alloc, text, &mut board, records)
 }
 
-fn put_reported(
-    alloc: Global,
-    text: &mut String,
-    board: &mut Board,
-    records: &str,
-) -> Option<()> {
+fn put_reported(alloc: Global, text: &mut String, board: &mut Board, records: &str) -> Option<()> {
     let samples = samples_of(alloc, records)?;
     take_all(board, samples.as_slice())?;
     put_whole(alloc, text, board)
@@ -152,12 +142,7 @@ fn put_whole(alloc: Global, text: &mut String, board: &Board) -> Option<()> {
     put_if_narrow_fail(alloc, text, board, whole.as_slice())
 }
 
-fn put_if_narrow_fail(
-    alloc: Global,
-    text: &mut String,
-    board: &Board,
-    whole: &[u8],
-) -> Option<()> {
+fn put_if_narrow_fail(alloc: Global, text: &mut String, board: &Board, whole: &[u8]) -> Option<()> {
     for room in 0..whole.len() {
         if !fails_within(alloc, board, &whole[..room]) {
             return None;

@@ -1,7 +1,9 @@
 //! Images: what one is read as, and what is then written of the board.
 
 use mon_board::{Board, Watch, Watched};
-use mon_row_texts::{first_line, octets, parsed, put, put_digits, put_refused, put_report, three, two, watched};
+use mon_row_texts::{
+    first_line, octets, parsed, put, put_digits, put_refused, put_report, three, two, watched,
+};
 use mon_saved::{Image, image_size, read, read_image, write_image, write_within};
 use std::alloc::Global;
 
@@ -24,12 +26,7 @@ pub(crate) fn report(alloc: Global, text: &mut String, line: &str) -> Option<()>
     put_read_report(alloc, text, &watch, octets.as_slice())
 }
 
-fn put_read_report(
-    alloc: Global,
-    text: &mut String,
-    watch: &Watch,
-    octets: &[u8],
-) -> Option<()> {
+fn put_read_report(alloc: Global, text: &mut String, watch: &Watch, octets: &[u8]) -> Option<()> {
     let (board, _incarnation) = read_image(alloc, watch, octets).ok()?;
     put_report(alloc, text, &board)
 }

@@ -87,7 +87,12 @@ fn step_of(words: &str) -> Option<Step<'_>> {
 fn does(alloc: Global, text: &mut String, board: &mut Board, words: &str) -> Option<()>
     ensures { board.new.watch ≡ board.old.watch }
 {
-    let Step { word, slot, instance, record } = step_of(words)?;
+    let Step {
+        word,
+        slot,
+        instance,
+        record,
+    } = step_of(words)?;
     if slot >= 15 || !is_watched(board, instance) {
         return None;
     }

@@ -136,11 +136,7 @@ fn put_step(
     }
 }
 
-fn put_owed(
-    text: &mut String,
-    station: &Station<FuseDisk<MemoryDisk>>,
-    peer: u32,
-) -> Option<()> {
+fn put_owed(text: &mut String, station: &Station<FuseDisk<MemoryDisk>>, peer: u32) -> Option<()> {
     let owed = station.owed(peer);
     match station.known(peer) {
         Some(known) => write!(text, "owes {peer} {owed}, known {known}").ok(),

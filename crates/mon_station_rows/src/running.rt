@@ -200,7 +200,11 @@ fn put_counts(text: &mut String, run: &Run) -> Option<()> {
         run.source_faults,
         run.send_faults,
     );
-    write!(text, "turns {turns} refused {refused} source {source} send {send}:").ok()?;
+    write!(
+        text,
+        "turns {turns} refused {refused} source {source} send {send}:"
+    )
+    .ok()?;
     for answer in run.answers.as_slice() {
         put_answer(text, *answer)?;
     }

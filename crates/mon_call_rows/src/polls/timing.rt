@@ -49,12 +49,7 @@ fn answered(alloc: Global, digits: &str, asked: Asked) -> Option<Tally> {
     answer_all(alloc, &mut polls, &mut octets, asked)
 }
 
-fn answer_all(
-    alloc: Global,
-    polls: &mut Poller,
-    octets: &mut [u8],
-    asked: Asked,
-) -> Option<Tally> {
+fn answer_all(alloc: Global, polls: &mut Poller, octets: &mut [u8], asked: Asked) -> Option<Tally> {
     let mut tally = Tally {
         samples: 0,
         marks: 0,

@@ -80,11 +80,7 @@ pub(crate) fn sized(alloc: Global, text: &mut String, size: usize) -> Option<()>
     write!(text, "save of {size}: {answer}").ok()
 }
 
-fn save_zeros(
-    alloc: Global,
-    keeper: &mut Keeper<MemoryDisk>,
-    size: usize,
-) -> Option<&'static str> {
+fn save_zeros(alloc: Global, keeper: &mut Keeper<MemoryDisk>, size: usize) -> Option<&'static str> {
     let zeros = zeros(alloc, size).ok()?;
     Some(saved(keeper.save(alloc, zeros.as_slice())))
 }

@@ -54,7 +54,11 @@ pub(crate) fn folder_row<R: Files<File = File> + AllocGlobal>(
 ) -> Option<()> {
     let refused = FileDisk::open_or_create(rt, ".").is_err();
     let found = Found::on(rt.alloc(), FileDisk::new(File::open(rt, ".").ok()?));
-    write!(text, "a folder is refused: {refused}, and its handle: {found}").ok()
+    write!(
+        text,
+        "a folder is refused: {refused}, and its handle: {found}"
+    )
+    .ok()
 }
 
 /// Prints what an opening of a file answers.
@@ -130,12 +134,7 @@ pub fn time_saves<R: Files<File = File> + AllocGlobal>(rt: &R, words: &[String])
     save_zeros(rt.alloc(), &mut keeper, size, times)
 }
 
-fn save_zeros(
-    alloc: Global,
-    keeper: &mut Keeper<FileDisk>,
-    size: usize,
-    times: u64,
-) -> Option<()> {
+fn save_zeros(alloc: Global, keeper: &mut Keeper<FileDisk>, size: usize, times: u64) -> Option<()> {
     let body = zeros(alloc, size.min(BODY_SIZE)).ok()?;
     for _ in 0..times {
         keeper.save(alloc, body.as_slice()).ok()?;
