@@ -149,8 +149,8 @@ impl Large {
     }
 }
 
-/// Answers a line `MANY MOST NAME`: the name after another one on a device of MANY interfaces, and
-/// whether the device was asked 1 to MOST times.
+/// Answers a line `MANY MOST NAME` with the name after another one on a device of MANY interfaces,
+/// and says if the device was asked 1 to MOST times.
 pub(crate) fn row(alloc: Global, text: &mut String, line: &str) -> Option<()> {
     let (many, most, name) = three(line, ' ')?;
     let (most, many) = (parsed(most)?, parsed(many)?);
