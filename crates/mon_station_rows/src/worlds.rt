@@ -36,16 +36,11 @@ fn put_run(alloc: Global, text: &mut String, world: &mut World, shares: u64) -> 
 /// Makes the shares, and the deliveries of what they send.
 fn steps(alloc: Global, shares: u64) -> Option<Vec<Step<'static>>> {
     let mut steps = Vec::new(alloc);
-    push_steps(&mut steps, shares)?;
-    Some(steps)
-}
-
-fn push_steps(steps: &mut Vec<Step<'static>>, shares: u64) -> Option<()> {
     for _ in 0..shares {
         steps.push(Step::Share(1, 2)).ok()?;
     }
     for place in 0..shares {
         steps.push(Step::Deliver(place.saturating_add(1))).ok()?;
     }
-    Some(())
+    Some(steps)
 }

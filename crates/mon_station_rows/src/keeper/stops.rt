@@ -91,13 +91,13 @@ fn put_after_stop(
     mending: Mending,
 ) -> Option<()> {
     let mut keeper = begun(alloc)?;
-    let answer = mended(alloc, &mut keeper, calls, mending);
+    let answer = mend(alloc, &mut keeper, calls, mending);
     let disk = keeper.into_disk().into_disk().crash(keep).ok()?;
     let found = Found::on(alloc, disk);
     write!(text, "{answer} {found}").ok()
 }
 
-fn mended(
+fn mend(
     alloc: Global,
     keeper: &mut Keeper<FuseDisk<MemoryDisk>>,
     calls: u64,
