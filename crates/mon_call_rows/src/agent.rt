@@ -1,43 +1,53 @@
 //! An agent's answer to a Set where memory is refused once, and the numbers of what it answers.
 
-use crate::rows::put;
+use crate::rows::put_between;
 use crate::small_agent::agent;
 use mon_agent::{Agent, AgentFault, Reply, Silence};
 use mon_mib::{Counter, Device, Moment, SimDevice, SysText};
-use mon_row_texts::{digits, fault, octets};
+use mon_row_texts::{first_word, octets, put_digits, put_fault};
 use std::alloc::Global;
 
-/// Returns the answer to a line, without its first word.
-pub(crate) fn answer(alloc: Global, line: &str) -> Option<String> {
-    let (word, rest) = line.split_once(' ').unwrap_or((line, ""));
+/// Appends the answer to a line, without its first word.
+pub(crate) fn answer(alloc: Global, text: &mut String, line: &str) -> Option<()> {
+    let (word, rest) = first_word(line);
     match word {
-        "set" => assigned(alloc, rest),
-        "silences" => silences(alloc),
-        "faults" => faults(alloc),
+        "set" => assigned(alloc, text, rest),
+        "silences" => silences(text),
+        "faults" => faults(text),
         _ => None,
     }
 }
 
-/// Returns what an agent of the settings replies to a Set, and what it has counted and is named
-/// then.
-fn assigned(alloc: Global, set: &str) -> Option<String> {
+/// Says what an agent of the settings replies to a Set, and what it has counted and is named then.
+fn assigned(alloc: Global, text: &mut String, set: &str) -> Option<()> {
     let set = octets(alloc, set)?;
     let mut agent = agent(alloc)?;
-    assigned_by(alloc, &mut agent, set.as_slice())
+    put_assigned(alloc, text, &mut agent, set.as_slice())
 }
 
-fn assigned_by(alloc: Global, agent: &mut Agent<SimDevice>, set: &[u8]) -> Option<String> {
-    let replied = replied(alloc, agent, set)?;
-    let counted = counted(alloc, agent)?;
-    format!(in alloc; "{replied} {counted}").ok()
-}
-
-/// Returns whether an agent had counted nothing when memory ran out, and what it sent, in hex
-/// digits.
-fn replied(alloc: Global, agent: &mut Agent<SimDevice>, set: &[u8]) -> Option<String> {
+fn put_assigned(
+    alloc: Global,
+    text: &mut String,
+    agent: &mut Agent<SimDevice>,
+    set: &[u8],
+) -> Option<()> {
     let (reply, same) = answer_again(alloc, agent, set)?;
-    let octets = digits(alloc, sent(&reply))?;
-    format!(in alloc; "{same} {octets}").ok()
+    put_replied(text, agent, &reply, same)
+}
+
+/// Appends whether an agent had counted nothing when memory ran out, what it sent, in hex digits,
+/// how many messages it has counted, and its name.
+fn put_replied(
+    text: &mut String,
+    agent: &Agent<SimDevice>,
+    reply: &Reply,
+    same: bool,
+) -> Option<()> {
+    write!(text, "{same} ").ok()?;
+    put_digits(text, sent(reply))?;
+    let messages = agent.counters().value(Counter::InPackets);
+    write!(text, " {messages} ").ok()?;
+    put_digits(text, agent.device().sys_text(SysText::SystemName))
 }
 
 /// Returns what an agent answers to a datagram, which comes again if memory ran out the first time;
@@ -74,15 +84,8 @@ fn sent(reply: &Reply) -> &[u8] {
     }
 }
 
-/// Returns how many messages an agent has counted, and the name that it has, in hex digits.
-fn counted(alloc: Global, agent: &Agent<SimDevice>) -> Option<String> {
-    let messages = agent.counters().value(Counter::InPackets);
-    let name = digits(alloc, agent.device().sys_text(SysText::SystemName))?;
-    format!(in alloc; "{messages} {name}").ok()
-}
-
 /// Lists the causes of silence.
-fn silences(alloc: Global) -> Option<String> {
+fn silences(text: &mut String) -> Option<()> {
     let causes = [
         Silence::BadMessage,
         Silence::BadVersion,
@@ -90,18 +93,15 @@ fn silences(alloc: Global) -> Option<String> {
         Silence::NotARequest,
         Silence::TooBigTwice,
     ];
-    let mut text = String::new(alloc);
     for cause in causes {
-        put(
-            &mut text,
-            fault(alloc, cause.number(), cause.name())?.as_str(),
-        )?;
+        put_between(text, ", ")?;
+        put_fault(text, cause.number(), cause.name())?;
     }
-    Some(text)
+    Some(())
 }
 
 /// Lists the faults of an agent.
-fn faults(alloc: Global) -> Option<String> {
+fn faults(text: &mut String) -> Option<()> {
     let why = AgentFault::OutOfMemory;
-    fault(alloc, why.number(), why.name())
+    put_fault(text, why.number(), why.name())
 }

@@ -8,9 +8,10 @@ use mon_mib::{
     SysText, SysTexts,
 };
 use mon_oid::Oid;
+use mon_row_texts::{parsed, put_name, three};
 use mon_settings::AgentSettings;
 use mon_vacm::{Need, Policy};
-use std::alloc::{AllocError, Global};
+use std::alloc::Global;
 use std::cell::Cell;
 
 /// A device over another one that counts how often it is asked for facts and for a next index.
@@ -61,83 +62,99 @@ impl<D: Device + Drop> Device for CountingDevice<D> {
 }
 
 /// Makes an interface without texts that counts nothing.
-fn interface(alloc: Global, index: u32) -> Result<Interface, AllocError> {
+fn interface(alloc: Global, index: u32) -> Interface {
     let none = Growth { start: 0, rate: 0 };
-    Ok(Interface {
+    Interface {
         index,
-        descr: Octets::from_slice(alloc, b"")?,
+        descr: Octets::new(Vec::new(alloc)),
         kind: 6,
         mtu: 1500,
         speed: 0,
-        phys: Octets::from_slice(alloc, b"")?,
-        name: Octets::from_slice(alloc, b"")?,
-        alias: Octets::from_slice(alloc, b"")?,
+        phys: Octets::new(Vec::new(alloc)),
+        name: Octets::new(Vec::new(alloc)),
+        alias: Octets::new(Vec::new(alloc)),
         status: Status::new(),
         in_octets: none,
         in_packets: none,
         out_octets: none,
         out_packets: none,
-    })
+    }
 }
 
-/// Makes a device of this many interfaces, from index 1.
-fn device(alloc: Global, texts: SysTexts, many: u32) -> Option<CountingDevice<SimDevice>> {
+/// Makes this many interfaces, from index 1.
+fn interfaces(alloc: Global, many: u32) -> Option<Vec<Interface>> {
     let mut interfaces = Vec::new(alloc);
+    push_interfaces(alloc, &mut interfaces, many)?;
+    Some(interfaces)
+}
+
+fn push_interfaces(alloc: Global, interfaces: &mut Vec<Interface>, many: u32) -> Option<()> {
     for index in 0..many {
-        let interface = interface(alloc, index.checked_add(1)?).ok()?;
-        interfaces.push(interface).ok()?;
+        let index = index.checked_add(1)?;
+        interfaces.push(interface(alloc, index)).ok()?;
     }
+    Some(())
+}
+
+/// Makes a device of these interfaces.
+fn device(interfaces: Vec<Interface>, texts: SysTexts) -> Option<CountingDevice<SimDevice>> {
     Some(CountingDevice {
         device: SimDevice::new(interfaces, texts).ok()?,
         calls: Cell::new(0),
     })
 }
 
-/// Makes the map of the small agent over a device of this many interfaces, and says who may read
-/// what of it.
-fn large(alloc: Global, many: u32) -> Option<(Policy, Mib<CountingDevice<SimDevice>>)> {
-    let AgentSettings {
-        settings,
-        texts,
-        policy,
-        ..
-    } = settings(alloc)?;
-    let device = device(alloc, texts, many)?;
-    Some((policy, Mib::new(settings, device)))
+/// The map of the small agent over a device of other interfaces, and who may read what of it.
+#[derive(Drop)]
+struct Large {
+    policy: Policy,
+    mib: Mib<CountingDevice<SimDevice>>,
 }
 
-/// Returns the name after another one that `public` may read.
-fn next(
-    alloc: Global,
-    policy: &Policy,
-    mib: &Mib<CountingDevice<SimDevice>>,
-    name: &Oid,
-) -> Option<String> {
-    let access = policy.access(b"public", Need::Read).ok()?;
-    let found = mib.next(alloc, policy, access, name, Moment::new(0)?).ok()?;
-    found?.name.text(alloc).ok()
+impl Large {
+    /// Makes the map over a device of these interfaces.
+    fn new(alloc: Global, interfaces: Vec<Interface>) -> Option<Self> {
+        let AgentSettings {
+            settings,
+            texts,
+            policy,
+            ..
+        } = settings(alloc)?;
+        let device = device(interfaces, texts)?;
+        let mib = Mib::new(settings, device);
+        Some(Large { policy, mib })
+    }
+
+    /// Appends the name after another one that `public` may read.
+    fn put_next(&self, alloc: Global, text: &mut String, name: &Oid) -> Option<()> {
+        let access = self.policy.access(b"public", Need::Read).ok()?;
+        let moment = Moment::new(0)?;
+        let found = self.mib.next(alloc, &self.policy, access, name, moment);
+        let found = found.ok()??;
+        put_name(alloc, text, &found.name)
+    }
+
+    /// Appends the name after another one, and whether the device was asked 1 to MOST times.
+    fn put_next_within(
+        &self,
+        alloc: Global,
+        text: &mut String,
+        name: &Oid,
+        most: u64,
+    ) -> Option<()> {
+        self.put_next(alloc, text, name)?;
+        let calls = self.mib.device().calls.get();
+        let is_within = 1 <= calls && calls <= most;
+        write!(text, ", 1 to {most} calls: {is_within}").ok()
+    }
 }
 
-/// Returns the name after another one of a line `MANY MOST NAME`, on a device of MANY interfaces,
-/// and whether the device was asked 1 to MOST times.
-pub(crate) fn row(alloc: Global, line: &str) -> Option<String> {
-    let (many, rest) = line.split_once(' ')?;
-    let (most, name) = rest.split_once(' ')?;
+/// Answers a line `MANY MOST NAME` with the name after another one on a device of MANY interfaces,
+/// and says if the device was asked 1 to MOST times.
+pub(crate) fn row(alloc: Global, text: &mut String, line: &str) -> Option<()> {
+    let (many, most, name) = three(line, ' ')?;
+    let (most, many) = (parsed(most)?, parsed(many)?);
     let name = Oid::parse(alloc, name).ok()?;
-    let (most, many) = (most.parse().ok()?, many.parse().ok()?);
-    let (policy, mib) = large(alloc, many)?;
-    next_within(alloc, &policy, &mib, &name, most)
-}
-
-fn next_within(
-    alloc: Global,
-    policy: &Policy,
-    mib: &Mib<CountingDevice<SimDevice>>,
-    name: &Oid,
-    most: u64,
-) -> Option<String> {
-    let next = next(alloc, policy, mib, name)?;
-    let calls = mib.device().calls.get();
-    let is_within = 1 <= calls && calls <= most;
-    format!(in alloc; "{next}, 1 to {most} calls: {is_within}").ok()
+    let large = Large::new(alloc, interfaces(alloc, many)?)?;
+    large.put_next_within(alloc, text, &name, most)
 }

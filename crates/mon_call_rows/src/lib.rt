@@ -1,5 +1,5 @@
-//! Rows of single calls over a wire, a reader or a device in memory, and of polls of three targets; and the job
-//! that times polls. They are rows of tests, which mon_rows answers.
+//! Rows of single calls over a wire, a reader or a device in memory, and of polls of three targets;
+//! and the job that times polls. They are rows of tests, which mon_rows answers.
 #![tactic(auto)]
 
 mod agent;

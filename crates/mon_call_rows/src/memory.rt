@@ -6,7 +6,7 @@ ghost use Rattle.mon_call_rows.specs.Log.{at_wire};
 
 use crate::event::Event;
 use mon_app::{Heard, SocketFault, SocketReason, Wire};
-use mon_row_texts::digits;
+use mon_row_texts::{put, put_digits};
 use mon_udp::failed_after;
 use std::alloc::Global;
 
@@ -102,16 +102,15 @@ impl Memory {
         Ok(Heard::Datagram(len))
     }
 
-    /// Returns what was sent, in hex digits.
-    pub fn sent(&self) -> Option<String> {
-        let mut text = String::new(self.alloc);
+    /// Appends what was sent, in hex digits.
+    pub fn put_sent(&self, text: &mut String) -> Option<()> {
         for event in &self.log {
             if let Event::Sent(octets) = event {
-                let digits = digits(self.alloc, octets.as_slice())?;
-                write!(text, " {digits}").ok()?;
+                put(text, " ")?;
+                put_digits(text, octets.as_slice())?;
             }
         }
-        Some(text)
+        Some(())
     }
 }
 

@@ -1,31 +1,31 @@
 //! The agent's map, its counters and its device, where no datagram shows them.
 
 use crate::counting;
-use crate::rows::put;
+use crate::rows::put_between;
 use crate::small_agent::settings;
 use mon_ber::Octets;
 use mon_mib::{
     AdminStatus, Change, Column, Counter, Counters, Device, DeviceFault, Interface, Moment, Object,
     OperStatus, Scalar, SetFault, SetStatus, SimDevice, SysTexts, all_objects,
 };
-use mon_row_texts::fault;
+use mon_row_texts::{first_word, parsed, put, put_fault, put_name, two};
 use mon_settings::AgentSettings;
 use std::alloc::Global;
 
-/// Returns the answer to a line, without its first word.
-pub(crate) fn answer(alloc: Global, line: &str) -> Option<String> {
-    let (word, rest) = line.split_once(' ').unwrap_or((line, ""));
+/// Appends the answer to a line, without its first word.
+pub(crate) fn answer(alloc: Global, text: &mut String, line: &str) -> Option<()> {
+    let (word, rest) = first_word(line);
     match word {
-        "next" => counting::row(alloc, rest),
-        "changes" => changed(alloc, rest),
-        "objects" => format!(in alloc; "{}", all_objects().len()).ok(),
-        "object" => object(alloc, rest),
-        "admin" => admin(alloc),
-        "oper" => oper(alloc),
-        "moment" => moment(alloc, rest.parse().ok()?),
-        "counts" => counted(alloc, rest.parse().ok()?),
-        "set-faults" => set_faults(alloc),
-        "device-faults" => device_faults(alloc),
+        "next" => counting::row(alloc, text, rest),
+        "changes" => changed(alloc, text, rest),
+        "objects" => write!(text, "{}", all_objects().len()).ok(),
+        "object" => object(alloc, text, rest),
+        "admin" => admin(text),
+        "oper" => oper(text),
+        "moment" => moment(text, parsed(rest)?),
+        "counts" => counted(text, parsed(rest)?),
+        "set-faults" => set_faults(text),
+        "device-faults" => device_faults(text),
         _ => None,
     }
 }
@@ -45,37 +45,36 @@ fn simulated(alloc: Global) -> Option<SimDevice> {
     device(interfaces, texts).ok()
 }
 
-/// Makes the changes of a line in the device of the small agent. Returns of each the change that
+/// Makes the changes of a line in the device of the small agent. Appends of each the change that
 /// undoes it or the fault, and how often the device has failed then.
-fn changed(alloc: Global, line: &str) -> Option<String> {
+fn changed(alloc: Global, text: &mut String, line: &str) -> Option<()> {
     let mut device = simulated(alloc)?;
-    changed_in(alloc, &mut device, line)
+    put_changed(alloc, text, &mut device, line)
 }
 
-fn changed_in(alloc: Global, device: &mut SimDevice, line: &str) -> Option<String> {
-    let mut text = String::new(alloc);
+fn put_changed(alloc: Global, text: &mut String, device: &mut SimDevice, line: &str) -> Option<()> {
     for change in line.split("; ") {
-        put_applied(&mut text, device, change_of(alloc, change)?)?;
+        put_applied(text, device, change_of(alloc, change)?)?;
     }
-    Some(text)
+    Some(())
 }
 
 /// Reads a change: `alias INDEX TEXT` or `admin INDEX STATUS SINCE`.
 fn change_of(alloc: Global, words: &str) -> Option<Change> {
-    let (word, rest) = words.split_once(' ')?;
-    let (index, rest) = rest.split_once(' ')?;
-    let index = index.parse().ok()?;
+    let (word, rest) = two(words, ' ')?;
+    let (index, rest) = two(rest, ' ')?;
+    let index = parsed(index)?;
     match word {
         "alias" => {
             let text = Octets::from_slice(alloc, rest.as_bytes()).ok()?;
             Some(Change::Alias(index, text))
         }
         "admin" => {
-            let (status, since) = rest.split_once(' ')?;
+            let (status, since) = two(rest, ' ')?;
             Some(Change::Admin {
                 index,
                 status: status_of(status)?,
-                since: since.parse().ok()?,
+                since: parsed(since)?,
             })
         }
         _ => None,
@@ -94,24 +93,27 @@ fn status_of(word: &str) -> Option<AdminStatus> {
 /// Makes a change, and appends the change that undoes it or the fault, and how often the device has
 /// failed then.
 fn put_applied(text: &mut String, device: &mut SimDevice, change: Change) -> Option<()> {
-    if !text.is_empty() {
-        text.push_str("; ").ok()?;
-    }
-    match device.apply(change) {
-        Ok(undo) => write!(text, "{undo:?}").ok()?,
-        Err(why) => write!(text, "{} {}", why.number(), why.name()).ok()?,
-    }
+    put_between(text, "; ")?;
+    put_undoing(text, device.apply(change))?;
     write!(text, " after {} failures", device.failures()).ok()
 }
 
-/// Returns the access and the syntax of the object of a line `NAME INDEX`, and its name at the
+fn put_undoing(text: &mut String, applied: Result<Change, DeviceFault>) -> Option<()> {
+    match applied {
+        Ok(undo) => write!(text, "{undo:?}").ok(),
+        Err(why) => put_fault(text, why.number(), why.name()),
+    }
+}
+
+/// Appends the access and the syntax of the object of a line `NAME INDEX`, and its name at the
 /// index.
-fn object(alloc: Global, line: &str) -> Option<String> {
-    let (word, index) = line.split_once(' ')?;
+fn object(alloc: Global, text: &mut String, line: &str) -> Option<()> {
+    let (word, index) = two(line, ' ')?;
     let object = object_of(word)?;
-    let name = object.name(alloc, index.parse().ok()?).ok()?;
-    let (access, syntax, name) = (object.access(), object.syntax(), name.text(alloc).ok()?);
-    format!(in alloc; "{access:?} {syntax:?} {name}").ok()
+    let (access, syntax) = (object.access(), object.syntax());
+    write!(text, "{access:?} {syntax:?} ").ok()?;
+    let name = object.name(alloc, parsed(index)?).ok()?;
+    put_name(alloc, text, &name)
 }
 
 fn object_of(word: &str) -> Option<Object> {
@@ -123,18 +125,17 @@ fn object_of(word: &str) -> Option<Object> {
 }
 
 /// Lists the administrative statuses of an interface.
-fn admin(alloc: Global) -> Option<String> {
+fn admin(text: &mut String) -> Option<()> {
     let statuses = [AdminStatus::Up, AdminStatus::Down, AdminStatus::Testing];
-    let mut text = String::new(alloc);
     for status in statuses {
-        let part = format!(in alloc; "{status:?} {}", status.number()).ok()?;
-        put(&mut text, part.as_str())?;
+        put_between(text, ", ")?;
+        write!(text, "{status:?} {}", status.number()).ok()?;
     }
-    Some(text)
+    Some(())
 }
 
 /// Lists the operational statuses of an interface.
-fn oper(alloc: Global) -> Option<String> {
+fn oper(text: &mut String) -> Option<()> {
     let statuses = [
         OperStatus::Up,
         OperStatus::Down,
@@ -144,25 +145,24 @@ fn oper(alloc: Global) -> Option<String> {
         OperStatus::NotPresent,
         OperStatus::LowerLayerDown,
     ];
-    let mut text = String::new(alloc);
     for status in statuses {
-        let part = format!(in alloc; "{status:?} {}", status.number()).ok()?;
-        put(&mut text, part.as_str())?;
+        put_between(text, ", ")?;
+        write!(text, "{status:?} {}", status.number()).ok()?;
     }
-    Some(text)
+    Some(())
 }
 
-/// Returns this many hundredths of a second, if the agent's time can be that.
-fn moment(alloc: Global, hundredths: u64) -> Option<String> {
+/// Appends this many hundredths of a second, if the agent's time can be that.
+fn moment(text: &mut String, hundredths: u64) -> Option<()> {
     match Moment::new(hundredths) {
-        Some(moment) => format!(in alloc; "{}", moment.hundredths()).ok(),
-        None => String::from_str(alloc, "none").ok(),
+        Some(moment) => write!(text, "{}", moment.hundredths()).ok(),
+        None => put(text, "none"),
     }
 }
 
-/// Counts a message of another version, where this many were counted, and a message. Returns both
+/// Counts a message of another version, where this many were counted, and a message. Appends both
 /// counters.
-fn counted(alloc: Global, bad_versions: u32) -> Option<String> {
+fn counted(text: &mut String, bad_versions: u32) -> Option<()> {
     let mut counters = Counters::new();
     counters.bad_versions = bad_versions;
     counters.count(Counter::BadVersions);
@@ -171,11 +171,11 @@ fn counted(alloc: Global, bad_versions: u32) -> Option<String> {
         counters.value(Counter::BadVersions),
         counters.value(Counter::InPackets),
     );
-    format!(in alloc; "{bad} {all}").ok()
+    write!(text, "{bad} {all}").ok()
 }
 
 /// Lists the faults of a Set: of a refusal each error-status.
-fn set_faults(alloc: Global) -> Option<String> {
+fn set_faults(text: &mut String) -> Option<()> {
     let statuses = [
         SetStatus::NoAccess,
         SetStatus::WrongType,
@@ -185,11 +185,11 @@ fn set_faults(alloc: Global) -> Option<String> {
         SetStatus::NotWritable,
     ];
     let why = SetFault::OutOfMemory;
-    let mut text = fault(alloc, why.number(), why.name())?;
+    put_fault(text, why.number(), why.name())?;
     for status in statuses {
-        put_refused(&mut text, status)?;
+        put_refused(text, status)?;
     }
-    Some(text)
+    Some(())
 }
 
 /// Appends the fault of a Set that is refused with an error-status.
@@ -200,10 +200,10 @@ fn put_refused(text: &mut String, status: SetStatus) -> Option<()> {
 }
 
 /// Lists the faults of a device.
-fn device_faults(alloc: Global) -> Option<String> {
-    let mut text = String::new(alloc);
+fn device_faults(text: &mut String) -> Option<()> {
     for why in [DeviceFault::BadIndex, DeviceFault::Failed] {
-        put(&mut text, fault(alloc, why.number(), why.name())?.as_str())?;
+        put_between(text, ", ")?;
+        put_fault(text, why.number(), why.name())?;
     }
-    Some(text)
+    Some(())
 }

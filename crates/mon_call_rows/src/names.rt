@@ -1,23 +1,30 @@
 //! Names that are added where memory is refused once.
 
-use mon_row_texts::fault;
+use mon_row_texts::{put, put_fault, put_name};
 use mon_smi::{Module, Names, NamesFault, read_module};
 use std::alloc::Global;
 
-/// Returns the answer to a line `adds NAME MODULE`: what adding the module answers, what the name
-/// then means, and what adding the module again answers.
-pub(crate) fn answer(alloc: Global, line: &str) -> Option<String> {
+/// Answers a line `adds NAME MODULE`: what adding the module answers, what the name then means, and
+/// what adding the module again answers.
+pub(crate) fn answer(alloc: Global, text: &mut String, line: &str) -> Option<()> {
     let (name, module) = line.strip_prefix("adds ")?.split_once(' ')?;
     let module = read_module(alloc, module).ok()?;
     let mut names = Names::new(alloc).ok()?;
-    added_twice(alloc, &mut names, &module, name)
+    put_added_twice(alloc, text, &mut names, &module, name)
 }
 
-fn added_twice(alloc: Global, names: &mut Names, module: &Module, name: &str) -> Option<String> {
-    let first = added(alloc, names, module)?;
-    let meaning = meaning(alloc, names, name)?;
-    let second = added(alloc, names, module)?;
-    format!(in alloc; "{first}, {meaning}, {second}").ok()
+fn put_added_twice(
+    alloc: Global,
+    text: &mut String,
+    names: &mut Names,
+    module: &Module,
+    name: &str,
+) -> Option<()> {
+    put_added(alloc, text, names, module)?;
+    put(text, ", ")?;
+    put_meaning(alloc, text, names, name)?;
+    put(text, ", ")?;
+    put_added(alloc, text, names, module)
 }
 
 /// Adds a module, a second time if memory ran out the first time.
@@ -29,17 +36,17 @@ fn add_again(alloc: Global, names: &mut Names, module: &Module) -> Result<(), Na
 }
 
 /// Adds a module, and says what was answered.
-fn added(alloc: Global, names: &mut Names, module: &Module) -> Option<String> {
+fn put_added(alloc: Global, text: &mut String, names: &mut Names, module: &Module) -> Option<()> {
     match add_again(alloc, names, module) {
-        Ok(()) => String::from_str(alloc, "Ok").ok(),
-        Err(why) => fault(alloc, why.number(), why.name()),
+        Ok(()) => put(text, "Ok"),
+        Err(why) => put_fault(text, why.number(), why.name()),
     }
 }
 
 /// Says what a name means.
-fn meaning(alloc: Global, names: &Names, name: &str) -> Option<String> {
+fn put_meaning(alloc: Global, text: &mut String, names: &Names, name: &str) -> Option<()> {
     match names.resolve(alloc, name) {
-        Ok(meaning) => meaning.text(alloc).ok(),
-        Err(why) => fault(alloc, why.number(), why.name()),
+        Ok(meaning) => put_name(alloc, text, &meaning),
+        Err(why) => put_fault(text, why.number(), why.name()),
     }
 }

@@ -1,56 +1,50 @@
 //! What is read of a reader to its end, and how often it is read.
 
 use mon_app::{AppFault, Counted, Reads, read_all};
-use mon_row_texts::{digits, fault, octets};
+use mon_row_texts::{octets, parsed, put_digits, put_fault, two};
 use std::alloc::Global;
 use std::io::{Error, ErrorKind, Read, Result as IoResult};
 
-/// Returns the answer to a line, without its first word.
-pub(crate) fn answer(alloc: Global, line: &str) -> Option<String> {
-    let (word, rest) = line.split_once(' ')?;
+/// Appends the answer to a line, without its first word.
+pub(crate) fn answer(alloc: Global, text: &mut String, line: &str) -> Option<()> {
+    let (word, rest) = two(line, ' ')?;
     match word {
-        "gives" => given(alloc, rest),
-        "slow" => slowly(alloc, rest.parse().ok()?),
+        "gives" => given(alloc, text, rest),
+        "slow" => slowly(alloc, text, parsed(rest)?),
         _ => None,
     }
 }
 
 /// Says what is read of a reader that gives these octets at once.
-fn given(alloc: Global, digits: &str) -> Option<String> {
+fn given(alloc: Global, text: &mut String, digits: &str) -> Option<()> {
     let octets = octets(alloc, digits)?;
-    let (read, counts) = whole(alloc, octets.as_slice());
-    shown(alloc, read, counts)
+    put_whole(alloc, text, octets.as_slice())
 }
 
 /// Says what is read of a reader that fails after this many octets.
-fn slowly(alloc: Global, left: u8) -> Option<String> {
+fn slowly(alloc: Global, text: &mut String, left: u8) -> Option<()> {
     let slow = Slow {
         left,
         is_interrupted: false,
     };
-    let (read, counts) = whole(alloc, slow);
-    shown(alloc, read, counts)
+    put_whole(alloc, text, slow)
 }
 
-/// Returns what is read of a reader, and how it was read.
-fn whole<R: Read + Drop>(alloc: Global, reader: R) -> (Result<Vec<u8>, AppFault>, Reads) {
+/// Says what is read of a reader, and how it was read.
+fn put_whole<R: Read + Drop>(alloc: Global, text: &mut String, reader: R) -> Option<()> {
     let mut reader = Counted::new(reader);
     let read = read_all(alloc, &mut reader);
-    (read, reader.counts())
+    put_read(text, &read, reader.counts())
 }
 
-/// Returns the octets or the fault, and how often the reader was read, was at its end and failed.
-fn shown(alloc: Global, read: Result<Vec<u8>, AppFault>, counts: Reads) -> Option<String> {
-    let read = read_text(alloc, read)?;
-    let (reads, ends, failures) = (counts.reads, counts.ends, counts.failures);
-    format!(in alloc; "{read}, {reads} reads, {ends} ends, {failures} failures").ok()
-}
-
-fn read_text(alloc: Global, read: Result<Vec<u8>, AppFault>) -> Option<String> {
+/// Appends the octets or the fault, and how often the reader was read, was at its end and failed.
+fn put_read(text: &mut String, read: &Result<Vec<u8>, AppFault>, counts: Reads) -> Option<()> {
     match read {
-        Ok(octets) => digits(alloc, octets.as_slice()),
-        Err(why) => fault(alloc, why.number(), why.name()),
+        Ok(octets) => put_digits(text, octets.as_slice())?,
+        Err(why) => put_fault(text, why.number(), why.name())?,
     }
+    let (reads, ends, failures) = (counts.reads, counts.ends, counts.failures);
+    write!(text, ", {reads} reads, {ends} ends, {failures} failures").ok()
 }
 
 /// A reader that gives an octet a read, is interrupted before each, and fails after this many.

@@ -37,24 +37,25 @@
 //!                               adding the module again
 
 use crate::{agent, client, mib, names, reading};
+use mon_row_texts::put;
 use std::alloc::Global;
 
-/// Returns the answer to a line of this first word.
-pub fn answer(alloc: Global, word: &str, rest: &str) -> Option<String> {
+/// Appends the answer to a line of this first word.
+pub fn answer(alloc: Global, text: &mut String, word: &str, rest: &str) -> Option<()> {
     match word {
-        "agent" => agent::answer(alloc, rest),
-        "client" => client::answer(alloc, rest),
-        "mib" => mib::answer(alloc, rest),
-        "reader" => reading::answer(alloc, rest),
-        "smi" => names::answer(alloc, rest),
+        "agent" => agent::answer(alloc, text, rest),
+        "client" => client::answer(alloc, text, rest),
+        "mib" => mib::answer(alloc, text, rest),
+        "reader" => reading::answer(alloc, text, rest),
+        "smi" => names::answer(alloc, text, rest),
         _ => None,
     }
 }
 
-/// Appends a part to a list, after a comma if it is not the first.
-pub(crate) fn put(text: &mut String, part: &str) -> Option<()> {
-    if !text.is_empty() {
-        text.push_str(", ").ok()?;
+/// Appends what is between two parts of an answer, if a part is there.
+pub(crate) fn put_between(text: &mut String, between: &str) -> Option<()> {
+    if text.is_empty() {
+        return Some(());
     }
-    text.push_str(part).ok()
+    put(text, between)
 }

@@ -2,7 +2,7 @@
 
 use mon_app::{AppFault, Heard, SocketFault, Stride, WalkPlan, Wire, walk};
 use mon_oid::Oid;
-use mon_row_texts::octets;
+use mon_row_texts::{octets, two};
 use mon_smi::InNumbers;
 use std::alloc::Global;
 
@@ -57,20 +57,25 @@ fn walked<W: Wire>(
     walk(alloc, wire, &asked, &InNumbers, text)
 }
 
-/// Returns what the walk of a line `NAME HEX` prints, and why it ends.
-pub(crate) fn row(alloc: Global, stride: Stride, line: &str) -> Option<String> {
-    let (name, reply) = line.split_once(' ')?;
+/// Says what the walk of a line `NAME HEX` prints, and why it ends.
+pub(crate) fn row(alloc: Global, text: &mut String, stride: Stride, line: &str) -> Option<()> {
+    let (name, reply) = two(line, ' ')?;
+    let reply = octets(alloc, reply)?;
     let start = Oid::parse(alloc, name).ok()?;
-    let mut wire = Same {
-        reply: octets(alloc, reply)?,
-    };
-    shown(alloc, &mut wire, &start, stride)
+    let mut wire = Same { reply };
+    put_walked(alloc, text, &mut wire, &start, stride)
 }
 
-fn shown(alloc: Global, wire: &mut Same, start: &Oid, stride: Stride) -> Option<String> {
-    let mut text = String::new(alloc);
-    match walked(alloc, wire, start, stride, &mut text) {
-        Ok(()) => format!(in alloc; "{text:?}").ok(),
-        Err(why) => format!(in alloc; "{text:?}, {} {}", why.number(), why.name()).ok(),
+fn put_walked(
+    alloc: Global,
+    text: &mut String,
+    wire: &mut Same,
+    start: &Oid,
+    stride: Stride,
+) -> Option<()> {
+    let mut printed = String::new(alloc);
+    match walked(alloc, wire, start, stride, &mut printed) {
+        Ok(()) => write!(text, "{printed:?}").ok(),
+        Err(why) => write!(text, "{printed:?}, {} {}", why.number(), why.name()).ok(),
     }
 }

@@ -5,65 +5,80 @@ use crate::samples::{put_inserted, sample_of, samples_of};
 use mon_alarms::Rule;
 use mon_board::{Board, Watch, WatchFault};
 use mon_report::{ReportFault, write_report};
-use mon_row_texts::{fault, trimmed};
+use mon_row_texts::{parsed, put, put_fault, put_trimmed, three, two};
+use mon_sample::Sample;
 use std::alloc::Global;
 use std::io::{Result as IoResult, Write};
 
 /// Reads the rules `INSTANCE/RISING/FALLING`, with commas between them; of a dash none.
 fn rules_of(alloc: Global, words: &str) -> Option<Vec<Rule>> {
     let mut rules = Vec::new(alloc);
-    if words == "-" {
-        return Some(rules);
-    }
-    for word in words.split(',') {
-        let (instance, rest) = word.split_once('/')?;
-        let (rising, falling) = rest.split_once('/')?;
-        let rule = Rule::new(
-            instance.parse().ok()?,
-            rising.parse().ok()?,
-            falling.parse().ok()?,
-        );
-        rules.push(rule.ok()?).ok()?;
+    if words != "-" {
+        read_rules(&mut rules, words)?;
     }
     Some(rules)
 }
 
+fn read_rules(rules: &mut Vec<Rule>, words: &str) -> Option<()> {
+    for word in words.split(',') {
+        rules.push(rule_of(word)?).ok()?;
+    }
+    Some(())
+}
+
+fn rule_of(word: &str) -> Option<Rule> {
+    let (instance, rising, falling) = three(word, '/')?;
+    let (instance, rising) = (parsed(instance)?, parsed(rising)?);
+    Rule::new(instance, rising, parsed(falling)?).ok()
+}
+
 /// Makes the watch of a line `INSTANCES RULES`, or its fault.
 fn watch_of(alloc: Global, instances: &str, rules: &str) -> Option<Result<Watch, WatchFault>> {
-    let instances = instances_of(alloc, instances)?;
-    Some(Watch::new(instances, rules_of(alloc, rules)?))
+    let rules = rules_of(alloc, rules)?;
+    Some(Watch::new(instances_of(alloc, instances)?, rules))
+}
+
+/// Makes a board of a line's instances and rules.
+fn board_of(alloc: Global, instances: &str, rules: &str) -> Option<Board> {
+    Board::new(alloc, watch_of(alloc, instances, rules)?.ok()?).ok()
 }
 
 /// Says that the line's instances and rules make a watch; or the fault.
-pub(crate) fn watched(alloc: Global, line: &str) -> Option<String> {
-    let (instances, rules) = line.split_once(' ')?;
+pub(crate) fn watched(alloc: Global, text: &mut String, line: &str) -> Option<()> {
+    let (instances, rules) = two(line, ' ')?;
     match watch_of(alloc, instances, rules)? {
-        Ok(_watch) => String::from_str(alloc, "a watch").ok(),
-        Err(why) => fault(alloc, why.number(), why.name()),
+        Ok(_watch) => put(text, "a watch"),
+        Err(why) => put_fault(text, why.number(), why.name()),
     }
 }
 
 /// Says what a board of the line's watch, without rules, does with each sample `NUMBER/RECORD`.
-pub(crate) fn taken(alloc: Global, line: &str) -> Option<String> {
-    let (instances, samples) = line.split_once(' ')?;
-    let watch = watch_of(alloc, instances, "-")?.ok()?;
-    let mut board = Board::new(alloc, watch).ok()?;
-    let mut text = String::new(alloc);
-    for word in samples.split(',') {
-        let (number, record) = word.split_once('/')?;
-        match board.take(number.parse().ok()?, sample_of(alloc, record)?) {
-            Ok(inserted) => put_inserted(alloc, &mut text, inserted)?,
-            Err(_) => text.push_str("not watched").ok()?,
-        }
-        text.push_str(", ").ok()?;
-    }
-    put_counts(&mut text, &board)?;
-    Some(text)
+pub(crate) fn taken(alloc: Global, text: &mut String, line: &str) -> Option<()> {
+    let (instances, samples) = two(line, ' ')?;
+    let mut board = board_of(alloc, instances, "-")?;
+    put_all_taken(alloc, text, &mut board, samples)
 }
 
-/// Adds how many samples each instance has.
+fn put_all_taken(alloc: Global, text: &mut String, board: &mut Board, samples: &str) -> Option<()> {
+    for word in samples.split(',') {
+        put_taken(alloc, text, board, word)?;
+    }
+    put_counts(text, board)
+}
+
+fn put_taken(alloc: Global, text: &mut String, board: &mut Board, word: &str) -> Option<()> {
+    let (number, record) = two(word, '/')?;
+    let (number, sample) = (parsed(number)?, sample_of(alloc, record)?);
+    match board.take(number, sample) {
+        Ok(inserted) => put_inserted(text, inserted)?,
+        Err(_) => put(text, "not watched")?,
+    }
+    put(text, ", ")
+}
+
+/// Appends how many samples each instance has.
 fn put_counts(text: &mut String, board: &Board) -> Option<()> {
-    text.push_str("kept").ok()?;
+    put(text, "kept")?;
     for number in 0..board.watch().instances().len() {
         let count = board.items(number as u16).len();
         write!(text, " {count}").ok()?;
@@ -99,25 +114,41 @@ impl Write for Narrow {
     }
 }
 
-/// Returns the report of a board of the line `INSTANCES RULES RECORD,..` whose first instance took
+/// Appends the report of a board of the line `INSTANCES RULES RECORD,..` whose first instance took
 /// the samples, without the last line's end, if each writer that is too narrow for it fails with a
 /// beginning of it.
-pub(crate) fn reported(alloc: Global, line: &str) -> Option<String> {
-    let (instances, rest) = line.split_once(' ')?;
-    let (rules, records) = rest.split_once(' ')?;
-    let watch = watch_of(alloc, instances, rules)?.ok()?;
-    let mut board = Board::new(alloc, watch).ok()?;
-    for sample in samples_of(alloc, records)?.as_slice() {
+pub(crate) fn reported(alloc: Global, text: &mut String, line: &str) -> Option<()> {
+    let (instances, rules, records) = three(line, ' ')?;
+    let mut board = board_of(alloc, instances, rules)?;
+    put_reported(alloc, text, &mut board, records)
+}
+
+fn put_reported(alloc: Global, text: &mut String, board: &mut Board, records: &str) -> Option<()> {
+    let samples = samples_of(alloc, records)?;
+    take_all(board, samples.as_slice())?;
+    put_whole(alloc, text, board)
+}
+
+fn take_all(board: &mut Board, samples: &[Sample]) -> Option<()> {
+    for sample in samples {
         let _ = board.take(0, *sample).ok()?;
     }
+    Some(())
+}
+
+fn put_whole(alloc: Global, text: &mut String, board: &Board) -> Option<()> {
     let mut whole = Vec::new(alloc);
-    write_report(&board, &mut whole).ok()?;
+    write_report(board, &mut whole).ok()?;
+    put_if_narrow_fail(alloc, text, board, whole.as_slice())
+}
+
+fn put_if_narrow_fail(alloc: Global, text: &mut String, board: &Board, whole: &[u8]) -> Option<()> {
     for room in 0..whole.len() {
-        if !fails_within(alloc, &board, &whole[..room]) {
+        if !fails_within(alloc, board, &whole[..room]) {
             return None;
         }
     }
-    trimmed(alloc, whole.as_slice())
+    put_trimmed(text, whole)
 }
 
 /// Returns `true` if a writer that takes no more than this beginning of the report gets just that,

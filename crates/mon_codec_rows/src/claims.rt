@@ -3,42 +3,37 @@
 ghost use Rattle.mon_exchange.specs.Claim.{IsSendable, claim_of};
 
 use mon_exchange::{Claim, ClaimRef, read_claim, write_claim};
-use mon_row_texts::{digits, fault, octets};
+use mon_row_texts::{octets, put, put_digits, put_fault, put_name};
 use mon_sample::Sample;
 use std::alloc::Global;
 
-/// Returns the claim that these octets spell, its size and its octets as they are written; or the
+/// Appends the claim that these octets spell, its size and its octets as they are written; or the
 /// fault.
-pub(crate) fn row(alloc: Global, digits: &str) -> Option<String> {
+pub(crate) fn row(alloc: Global, text: &mut String, digits: &str) -> Option<()> {
     let octets = octets(alloc, digits)?;
     match read_claim(alloc, octets.as_slice()) {
-        Ok(claim) => shown(alloc, &claim),
-        Err(why) => fault(alloc, why.number(), why.name()),
+        Ok(claim) => put_claim(alloc, text, &claim),
+        Err(why) => put_fault(text, why.number(), why.name()),
     }
 }
 
-fn shown(alloc: Global, claim: &Claim) -> Option<String>
+fn put_claim(alloc: Global, text: &mut String, claim: &Claim) -> Option<()>
     requires { IsSendable claim.now }
 {
-    let mut text = fields(alloc, claim)?;
+    put_fields(alloc, text, claim)?;
     for sample in claim.samples.as_slice() {
-        put_sample(&mut text, sample)?;
+        put_sample(text, sample)?;
     }
-    put_written(&mut text, alloc, &claim.lend())?;
-    Some(text)
+    put_written(alloc, text, &claim.lend())
 }
 
-fn fields(alloc: Global, claim: &Claim) -> Option<String> {
-    let engine = digits(alloc, claim.engine.as_slice())?;
-    let name = claim.name.text(alloc).ok()?;
-    format!(in alloc;
-        "{} {} {} {} {engine} {name}",
-        claim.kind.octet(),
-        claim.station,
-        claim.incarnation,
-        claim.serial
-    )
-    .ok()
+fn put_fields(alloc: Global, text: &mut String, claim: &Claim) -> Option<()> {
+    let kind = claim.kind.octet();
+    let (station, incarnation, serial) = (claim.station, claim.incarnation, claim.serial);
+    write!(text, "{kind} {station} {incarnation} {serial} ").ok()?;
+    put_digits(text, claim.engine.as_slice())?;
+    put(text, " ")?;
+    put_name(alloc, text, &claim.name)
 }
 
 fn put_sample(text: &mut String, sample: &Sample) -> Option<()> {
@@ -54,10 +49,10 @@ fn put_sample(text: &mut String, sample: &Sample) -> Option<()> {
     .ok()
 }
 
-fn put_written(text: &mut String, alloc: Global, claim: &ClaimRef) -> Option<()>
+fn put_written(alloc: Global, text: &mut String, claim: &ClaimRef) -> Option<()>
     requires { IsSendable (claim_of claim.now) }
 {
     let octets = write_claim(alloc, claim).ok()?;
-    let digits = digits(alloc, octets.as_slice())?;
-    write!(text, " {} {digits}", octets.len()).ok()
+    write!(text, " {} ", octets.len()).ok()?;
+    put_digits(text, octets.as_slice())
 }

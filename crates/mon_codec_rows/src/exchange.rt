@@ -1,8 +1,8 @@
 //! What claims change at a station, and what it offers then.
 
-use mon_board::{Board, Watch};
+use mon_board::{Board, Watch, Watched};
 use mon_exchange::{Claim, Peers, Portion, portions, read_claim, serial_after};
-use mon_row_texts::{fault, octets, watched};
+use mon_row_texts::{octets, parsed, put, put_fault, watched};
 use std::alloc::Global;
 
 /// The engine id of the agent.
@@ -16,70 +16,95 @@ pub struct Exchange {
     peers: Peers,
 }
 
+/// Adds an instance of the agent, with samples of this window and epoch.
+fn push_watched(
+    alloc: Global,
+    instances: &mut Vec<Watched>,
+    name: &str,
+    window: usize,
+    epoch: usize,
+) -> Option<()> {
+    instances
+        .push(watched(alloc, &ENGINE, name, window, epoch)?)
+        .ok()
+}
+
+/// Makes the empty windows.
+fn board(alloc: Global) -> Option<Board> {
+    let mut instances = Vec::new(alloc);
+    push_watched(alloc, &mut instances, "1.3.6.1.2.1.2.2.1.10.1", 64, 64)?;
+    push_watched(alloc, &mut instances, "1.3.6.1.2.1.2.2.1.10.2", 4, 2)?;
+    let watch = Watch::new(instances, Vec::new(alloc)).ok()?;
+    Board::new(alloc, watch).ok()
+}
+
 impl Exchange {
     /// Makes the station with empty windows.
     pub fn new(alloc: Global) -> Option<Self> {
-        let mut instances = Vec::new(alloc);
-        let first = watched(alloc, &ENGINE, "1.3.6.1.2.1.2.2.1.10.1", 64, 64)?;
-        instances.push(first).ok()?;
-        let second = watched(alloc, &ENGINE, "1.3.6.1.2.1.2.2.1.10.2", 4, 2)?;
-        instances.push(second).ok()?;
-        let watch = Watch::new(instances, Vec::new(alloc)).ok()?;
-        Some(Exchange {
-            board: Board::new(alloc, watch).ok()?,
-            peers: Peers::new(alloc, 1, &[2, 3]).ok()?,
-        })
+        let peers = Peers::new(alloc, 1, &[2, 3]).ok()?;
+        let board = board(alloc)?;
+        Some(Exchange { board, peers })
     }
 
-    /// Returns the answer to a line of this first word.
-    pub fn answer(&mut self, alloc: Global, word: &str, rest: &str) -> Option<String> {
+    /// Appends the answer to a line of this first word.
+    pub fn answer(
+        &mut self,
+        alloc: Global,
+        text: &mut String,
+        word: &str,
+        rest: &str,
+    ) -> Option<()> {
         match word {
-            "note" => self.note(alloc, rest),
-            "known" => self.known(alloc, rest),
-            "offer" => self.offer(alloc, rest),
+            "note" => self.note(alloc, text, rest),
+            "known" => self.known(text, rest),
+            "offer" => self.offer(alloc, text, rest),
             _ => None,
         }
     }
 
-    /// Says what becomes of the claim that these octets spell, and returns the incarnation then
-    /// known of its station.
-    fn note(&mut self, alloc: Global, digits: &str) -> Option<String> {
+    /// Says what becomes of the claim that these octets spell, and the incarnation then known of
+    /// its station.
+    fn note(&mut self, alloc: Global, text: &mut String, digits: &str) -> Option<()> {
         let octets = octets(alloc, digits)?;
         match read_claim(alloc, octets.as_slice()) {
-            Ok(claim) => self.noted(alloc, &claim),
-            Err(why) => fault(alloc, why.number(), why.name()),
+            Ok(claim) => self.put_noted(text, &claim),
+            Err(why) => put_fault(text, why.number(), why.name()),
         }
     }
 
-    fn noted(&mut self, alloc: Global, claim: &Claim) -> Option<String> {
+    fn put_noted(&mut self, text: &mut String, claim: &Claim) -> Option<()> {
         match self.peers.note(&mut self.board, claim) {
             Ok(noted) => {
                 let known = self.peers.known(claim.station)?;
-                format!(in alloc; "{noted:?} {known}").ok()
+                write!(text, "{noted:?} {known}").ok()
             }
-            Err(why) => fault(alloc, why.number(), why.name()),
+            Err(why) => put_fault(text, why.number(), why.name()),
         }
     }
 
-    /// Returns the incarnation that is known of this station.
-    fn known(&self, alloc: Global, word: &str) -> Option<String> {
-        let station = word.parse().ok()?;
-        match self.peers.known(station) {
-            Some(known) => format!(in alloc; "{known}").ok(),
-            None => String::from_str(alloc, "none").ok(),
+    /// Appends the incarnation that is known of this station.
+    fn known(&self, text: &mut String, word: &str) -> Option<()> {
+        match self.peers.known(parsed(word)?) {
+            Some(known) => write!(text, "{known}").ok(),
+            None => put(text, "none"),
         }
     }
 
-    /// Returns what the station offers to this peer: of each portion the instance's number and its
+    /// Says what the station offers to this peer: of each portion the instance's number and its
     /// samples.
-    fn offer(&self, alloc: Global, word: &str) -> Option<String> {
-        let slot = self.peers.slot(word.parse().ok()?)?;
-        let mut text = format!(in alloc; "{} to slot {slot}", self.peers.own()).ok()?;
-        for portion in portions(alloc, &self.board, slot).ok()?.as_slice() {
-            put_portion(&mut text, portion)?;
-        }
-        Some(text)
+    fn offer(&self, alloc: Global, text: &mut String, word: &str) -> Option<()> {
+        let slot = self.peers.slot(parsed(word)?)?;
+        write!(text, "{} to slot {slot}", self.peers.own()).ok()?;
+        let portions = portions(alloc, &self.board, slot).ok()?;
+        put_portions(text, portions.as_slice())
     }
+}
+
+fn put_portions(text: &mut String, portions: &[Portion]) -> Option<()> {
+    for portion in portions {
+        put_portion(text, portion)?;
+    }
+    Some(())
 }
 
 fn put_portion(text: &mut String, portion: &Portion) -> Option<()> {
@@ -90,8 +115,8 @@ fn put_portion(text: &mut String, portion: &Portion) -> Option<()> {
     Some(())
 }
 
-/// Returns the serial after this one.
-pub(crate) fn serial(alloc: Global, word: &str) -> Option<String> {
-    let next = serial_after(word.parse().ok()?);
-    format!(in alloc; "{next}").ok()
+/// Appends the serial after this one.
+pub(crate) fn serial(text: &mut String, word: &str) -> Option<()> {
+    let next = serial_after(parsed(word)?);
+    write!(text, "{next}").ok()
 }

@@ -1,5 +1,5 @@
-//! Rows of codecs: values, messages, claims, images, names, samples, windows, boards and texts; and the jobs
-//! that time one of these calls. They are rows of tests, which mon_rows answers.
+//! Rows of codecs: values, messages, claims, images, names, samples, windows, boards and texts; and
+//! the jobs that time one of these calls. They are rows of tests, which mon_rows answers.
 #![tactic(auto)]
 
 mod boards;

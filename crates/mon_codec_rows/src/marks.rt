@@ -3,8 +3,9 @@
 ghost use Rattle.std.specs.Prelude.{◌≡◌, ◌<◌, ◌↔◌, IfSome, IsTrue, length};
 
 use crate::images::instances_of;
-use crate::samples::{sample_of, stamp};
+use crate::samples::{put_stamp, sample_of};
 use mon_board::{Board, Watch};
+use mon_row_texts::{parsed, put, three, two};
 use mon_sample::Sample;
 use std::alloc::Global;
 
@@ -12,17 +13,10 @@ use std::alloc::Global;
 /// steps, the second after its own, and the first, joined with it, after the last ones. A step is
 /// `take/SLOT/N/HEX`, `mark/SLOT/N/HEX`, `unmark/SLOT/N/-`, or `owed/SLOT/N/HEX` for what is owed
 /// after the sample, of all for a dash.
-pub(crate) fn row(alloc: Global, line: &str) -> Option<String> {
-    let (instances, rest) = line.split_once(' ')?;
-    let (own_steps, rest) = rest.split_once(' ')?;
-    let (other_steps, last_steps) = rest.split_once(' ')?;
+pub(crate) fn row(alloc: Global, text: &mut String, line: &str) -> Option<()> {
+    let (instances, steps) = two(line, ' ')?;
     let (mut own, mut other) = boards(alloc, instances)?;
-    let mut text = String::new(alloc);
-    follow(alloc, &mut own, own_steps, &mut text)?;
-    follow(alloc, &mut other, other_steps, &mut text)?;
-    own.join(&other);
-    follow(alloc, &mut own, last_steps, &mut text)?;
-    Some(text)
+    put_joined(alloc, text, &mut own, &mut other, steps)
 }
 
 /// Makes two boards of one watch.
@@ -37,12 +31,28 @@ fn boards(alloc: Global, instances: &str) -> Option<(Board, Board)>
     ))
 }
 
-/// Does the steps, and adds what is owed where one asks for it.
-fn follow(alloc: Global, board: &mut Board, steps: &str, text: &mut String) -> Option<()>
+fn put_joined(
+    alloc: Global,
+    text: &mut String,
+    own: &mut Board,
+    other: &mut Board,
+    steps: &str,
+) -> Option<()>
+    requires { other.old.watch ≡ own.old.watch }
+{
+    let (own_steps, other_steps, last_steps) = three(steps, ' ')?;
+    follow(alloc, text, own, own_steps)?;
+    follow(alloc, text, other, other_steps)?;
+    own.join(other);
+    follow(alloc, text, own, last_steps)
+}
+
+/// Does the steps, and appends what is owed where one asks for it.
+fn follow(alloc: Global, text: &mut String, board: &mut Board, steps: &str) -> Option<()>
     ensures { board.new.watch ≡ board.old.watch }
 {
     for step in steps.split(',') {
-        does(alloc, board, step, text)?;
+        does(alloc, text, board, step)?;
     }
     Some(())
 }
@@ -53,23 +63,44 @@ fn is_watched(board: &Board, instance: u16) -> bool
     usize::from(instance) < board.watch().instances().len()
 }
 
+/// What a step says of a sample, in its words: the slot of a peer, the instance and the record.
+#[derive(Clone, Copy)]
+struct Step<'a> {
+    word: &'a str,
+    slot: u8,
+    instance: u16,
+    record: &'a str,
+}
+
+fn step_of(words: &str) -> Option<Step<'_>> {
+    let (word, slot, rest) = three(words, '/')?;
+    let (instance, record) = two(rest, '/')?;
+    Some(Step {
+        word,
+        slot: parsed(slot)?,
+        instance: parsed(instance)?,
+        record,
+    })
+}
+
 /// Does a step.
-fn does(alloc: Global, board: &mut Board, step: &str, text: &mut String) -> Option<()>
+fn does(alloc: Global, text: &mut String, board: &mut Board, words: &str) -> Option<()>
     ensures { board.new.watch ≡ board.old.watch }
 {
-    let (word, rest) = step.split_once('/')?;
-    let (slot, rest) = rest.split_once('/')?;
-    let (instance, record) = rest.split_once('/')?;
-    let slot: u8 = slot.parse().ok()?;
-    let instance: u16 = instance.parse().ok()?;
+    let Step {
+        word,
+        slot,
+        instance,
+        record,
+    } = step_of(words)?;
     if slot >= 15 || !is_watched(board, instance) {
         return None;
     }
     match word {
-        "owed" if record == "-" => put_owed(alloc, text, board.owed(slot, instance, None)),
+        "owed" if record == "-" => put_owed(text, board.owed(slot, instance, None)),
         "owed" => {
             let after = sample_of(alloc, record)?;
-            put_owed(alloc, text, board.owed(slot, instance, Some(after)))
+            put_owed(text, board.owed(slot, instance, Some(after)))
         }
         "unmark" => {
             board.unmark_all(slot);
@@ -87,13 +118,13 @@ fn does(alloc: Global, board: &mut Board, step: &str, text: &mut String) -> Opti
     }
 }
 
-/// Adds the stamp of a sample that is owed.
-fn put_owed(alloc: Global, text: &mut String, owed: Option<Sample>) -> Option<()> {
+/// Appends the stamp of a sample that is owed.
+fn put_owed(text: &mut String, owed: Option<Sample>) -> Option<()> {
     match owed {
         Some(sample) => {
-            let stamp = stamp(alloc, &sample)?;
-            write!(text, " {stamp}").ok()
+            put(text, " ")?;
+            put_stamp(text, &sample)
         }
-        None => text.push_str(" none").ok(),
+        None => put(text, " none"),
     }
 }

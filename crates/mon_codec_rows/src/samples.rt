@@ -2,43 +2,41 @@
 
 use mon_alarms::{AlarmState, Rule, state};
 use mon_rates::{Totals, Track};
-use mon_row_texts::{digits, fault, octets};
+use mon_row_texts::{octets, parsed, put, put_digits, put_fault, three, two};
 use mon_sample::Sample;
 use mon_window::{Inserted, Window};
 use std::alloc::Global;
 
-/// Returns the fields of the sample of this record, and its record as it is written; or the fault.
-pub(crate) fn row(alloc: Global, digits: &str) -> Option<String> {
+/// Appends the fields of the sample of this record, and its record as it is written; or the fault.
+pub(crate) fn row(alloc: Global, text: &mut String, digits: &str) -> Option<()> {
     let octets = octets(alloc, digits)?;
     match Sample::from_record(octets.as_slice().first_chunk::<21>()?) {
-        Ok(sample) => fields(alloc, &sample),
-        Err(why) => fault(alloc, why.number(), why.name()),
+        Ok(sample) => put_fields(text, &sample),
+        Err(why) => put_fault(text, why.number(), why.name()),
     }
 }
 
-fn fields(alloc: Global, sample: &Sample) -> Option<String> {
-    let written = digits(alloc, sample.to_record().as_slice())?;
-    let mut text = stamp(alloc, sample)?;
+fn put_fields(text: &mut String, sample: &Sample) -> Option<()> {
+    put_stamp(text, sample)?;
     let (discontinuity, kind, number) = (
         sample.discontinuity(),
         sample.kind().name(),
         sample.number(),
     );
-    write!(text, " {discontinuity} {kind}={number} {written}").ok()?;
-    Some(text)
+    write!(text, " {discontinuity} {kind}={number} ").ok()?;
+    put_digits(text, sample.to_record().as_slice())
 }
 
-/// Returns the boots and the time of a sample.
-pub(crate) fn stamp(alloc: Global, sample: &Sample) -> Option<String> {
-    let (boots, time) = (sample.boots(), sample.time());
-    format!(in alloc; "{boots}:{time}").ok()
+/// Appends the boots and the time of a sample.
+pub(crate) fn put_stamp(text: &mut String, sample: &Sample) -> Option<()> {
+    write!(text, "{}:{}", sample.boots(), sample.time()).ok()
 }
 
 /// Says how the first of two samples compares with the second.
-pub(crate) fn compared(alloc: Global, words: &str) -> Option<String> {
-    let (own, other) = words.split_once(' ')?;
+pub(crate) fn compared(alloc: Global, text: &mut String, words: &str) -> Option<()> {
+    let (own, other) = two(words, ' ')?;
     let order = sample_of(alloc, own)?.compare(&sample_of(alloc, other)?);
-    format!(in alloc; "{order:?}").ok()
+    write!(text, "{order:?}").ok()
 }
 
 /// Reads the sample of a record.
@@ -50,19 +48,23 @@ pub(crate) fn sample_of(alloc: Global, digits: &str) -> Option<Sample> {
 /// Reads the samples of records with commas between them; of a dash none.
 pub(crate) fn samples_of(alloc: Global, words: &str) -> Option<Vec<Sample>> {
     let mut samples = Vec::new(alloc);
-    if words == "-" {
-        return Some(samples);
-    }
-    for word in words.split(',') {
-        samples.push(sample_of(alloc, word)?).ok()?;
+    if words != "-" {
+        read_samples(alloc, &mut samples, words)?;
     }
     Some(samples)
 }
 
+fn read_samples(alloc: Global, samples: &mut Vec<Sample>, words: &str) -> Option<()> {
+    for word in words.split(',') {
+        samples.push(sample_of(alloc, word)?).ok()?;
+    }
+    Some(())
+}
+
 /// Makes an empty track of this size and epoch.
 fn track_of(alloc: Global, size: &str, epoch: &str) -> Option<Track> {
-    let size = size.parse().ok()?;
-    let epoch = epoch.parse().ok()?;
+    let size = parsed(size)?;
+    let epoch = parsed(epoch)?;
     if epoch < 1 || epoch > size || size > 64 {
         return None;
     }
@@ -71,37 +73,38 @@ fn track_of(alloc: Global, size: &str, epoch: &str) -> Option<Track> {
 
 /// Says what becomes of each sample of a line `SIZE EPOCH RECORD,..`, and what the track has
 /// counted after it, in how many seconds and pairs; at last the stamps of what it keeps.
-pub(crate) fn track(alloc: Global, line: &str) -> Option<String> {
-    let (size, rest) = line.split_once(' ')?;
-    let (epoch, records) = rest.split_once(' ')?;
+pub(crate) fn track(alloc: Global, text: &mut String, line: &str) -> Option<()> {
+    let (size, epoch, records) = three(line, ' ')?;
+    let samples = samples_of(alloc, records)?;
     let mut track = track_of(alloc, size, epoch)?;
-    let mut text = String::new(alloc);
-    for sample in samples_of(alloc, records)?.as_slice() {
-        let inserted = track.insert(*sample);
-        put_inserted(alloc, &mut text, inserted)?;
-        put_totals(&mut text, &track)?;
-    }
-    put_kept(alloc, &mut text, track.items())?;
-    Some(text)
+    put_tracked(text, &mut track, samples.as_slice())
 }
 
-/// Adds what became of a sample.
-pub(crate) fn put_inserted(alloc: Global, text: &mut String, inserted: Inserted) -> Option<()> {
+fn put_tracked(text: &mut String, track: &mut Track, samples: &[Sample]) -> Option<()> {
+    for sample in samples {
+        put_inserted(text, track.insert(*sample))?;
+        put_totals(text, track)?;
+    }
+    put_kept(text, track.items())
+}
+
+/// Appends what became of a sample.
+pub(crate) fn put_inserted(text: &mut String, inserted: Inserted) -> Option<()> {
     match inserted {
         Inserted::Added { at, dropped: None } => write!(text, "added at {at}").ok(),
         Inserted::Added {
             at,
             dropped: Some(sample),
         } => {
-            let dropped = stamp(alloc, &sample)?;
-            write!(text, "added at {at} for {dropped}").ok()
+            write!(text, "added at {at} for ").ok()?;
+            put_stamp(text, &sample)
         }
-        Inserted::Known => text.push_str("known").ok(),
-        Inserted::TooOld => text.push_str("too old").ok(),
+        Inserted::Known => put(text, "known"),
+        Inserted::TooOld => put(text, "too old"),
     }
 }
 
-/// Adds a track's totals, if they are those of its items.
+/// Appends a track's totals, if they are those of its items.
 fn put_totals(text: &mut String, track: &Track) -> Option<()> {
     let totals = track.totals();
     if totals != Totals::of(track.items()) {
@@ -111,60 +114,69 @@ fn put_totals(text: &mut String, track: &Track) -> Option<()> {
     write!(text, " {delta}/{span}/{pairs}, ").ok()
 }
 
-/// Adds the stamps of what is kept.
-fn put_kept(alloc: Global, text: &mut String, items: &[Sample]) -> Option<()> {
-    text.push_str("kept").ok()?;
+/// Appends the stamps of what is kept.
+fn put_kept(text: &mut String, items: &[Sample]) -> Option<()> {
+    put(text, "kept")?;
     for sample in items {
-        let stamp = stamp(alloc, sample)?;
-        write!(text, " {stamp}").ok()?;
+        put(text, " ")?;
+        put_stamp(text, sample)?;
     }
     Some(())
 }
 
 /// Says what becomes of each sample of a line `SIZE EPOCH RECORD,..` in a window; at last the
 /// stamps of what it keeps.
-pub(crate) fn window(alloc: Global, line: &str) -> Option<String> {
-    let (size, rest) = line.split_once(' ')?;
-    let (epoch, records) = rest.split_once(' ')?;
+pub(crate) fn window(alloc: Global, text: &mut String, line: &str) -> Option<()> {
+    let (size, epoch, records) = three(line, ' ')?;
+    let samples = samples_of(alloc, records)?;
     let mut window = window_of(alloc, size, epoch)?;
-    let mut text = String::new(alloc);
-    for sample in samples_of(alloc, records)?.as_slice() {
+    put_inserting(text, &mut window, samples.as_slice())
+}
+
+fn put_inserting(text: &mut String, window: &mut Window, samples: &[Sample]) -> Option<()> {
+    for sample in samples {
         let inserted = window.insert(*sample);
-        put_inserted(alloc, &mut text, inserted)?;
-        text.push_str(", ").ok()?;
+        put_inserted(text, inserted)?;
+        put(text, ", ")?;
     }
-    put_kept(alloc, &mut text, window.items())?;
-    Some(text)
+    put_kept(text, window.items())
 }
 
 /// Makes an empty window of this size and epoch.
 fn window_of(alloc: Global, size: &str, epoch: &str) -> Option<Window> {
-    let size = size.parse().ok()?;
-    let epoch = epoch.parse().ok()?;
+    let size = parsed(size)?;
+    let epoch = parsed(epoch)?;
     if epoch < 1 || epoch > size || size > 64 {
         return None;
     }
     Window::new(alloc, size, epoch).ok()
 }
 
-/// Returns the stamps of what two tracks of a line `SIZE EPOCH RECORD,.. RECORD,..` keep when they
-/// are joined, and its totals.
-pub(crate) fn joined(alloc: Global, line: &str) -> Option<String> {
-    let (size, rest) = line.split_once(' ')?;
-    let (epoch, rest) = rest.split_once(' ')?;
-    let (own, others) = rest.split_once(' ')?;
+/// Appends the totals of two tracks of a line `SIZE EPOCH RECORD,.. RECORD,..` that are joined, and
+/// the stamps of what they keep.
+pub(crate) fn joined(alloc: Global, text: &mut String, line: &str) -> Option<()> {
+    let (size, epoch, rest) = three(line, ' ')?;
+    let (own, others) = two(rest, ' ')?;
+    let mut track = filled(alloc, size, epoch, own)?;
+    let other = filled(alloc, size, epoch, others)?;
+    put_joined(text, &mut track, &other)
+}
+
+/// Makes a track with the samples of these records.
+fn filled(alloc: Global, size: &str, epoch: &str, records: &str) -> Option<Track> {
+    let samples = samples_of(alloc, records)?;
     let mut track = track_of(alloc, size, epoch)?;
-    let mut other = track_of(alloc, size, epoch)?;
-    insert_all(&mut track, samples_of(alloc, own)?.as_slice());
-    insert_all(&mut other, samples_of(alloc, others)?.as_slice());
+    insert_all(&mut track, samples.as_slice());
+    Some(track)
+}
+
+fn put_joined(text: &mut String, track: &mut Track, other: &Track) -> Option<()> {
     if track.size() != other.size() || track.epoch() != other.epoch() {
         return None;
     }
-    track.join(&other);
-    let mut text = String::new(alloc);
-    put_totals(&mut text, &track)?;
-    put_kept(alloc, &mut text, track.items())?;
-    Some(text)
+    track.join(other);
+    put_totals(text, track)?;
+    put_kept(text, track.items())
 }
 
 fn insert_all(track: &mut Track, samples: &[Sample]) {
@@ -173,21 +185,21 @@ fn insert_all(track: &mut Track, samples: &[Sample]) {
     }
 }
 
-/// Returns the state of the rule of a line `RISING FALLING RECORD,..` over its samples; or the
+/// Appends the state of the rule of a line `RISING FALLING RECORD,..` over its samples; or the
 /// fault of the thresholds.
-pub(crate) fn alarm(alloc: Global, line: &str) -> Option<String> {
-    let (rising, rest) = line.split_once(' ')?;
-    let (falling, records) = rest.split_once(' ')?;
+pub(crate) fn alarm(alloc: Global, text: &mut String, line: &str) -> Option<()> {
+    let (rising, falling, records) = three(line, ' ')?;
+    let (rising, falling) = (parsed(rising)?, parsed(falling)?);
     let samples = samples_of(alloc, records)?;
-    match Rule::new(0, rising.parse().ok()?, falling.parse().ok()?) {
-        Ok(rule) => shown(alloc, state(&rule, samples.as_slice())),
-        Err(why) => fault(alloc, why.number(), why.name()),
+    match Rule::new(0, rising, falling) {
+        Ok(rule) => put_state(text, state(&rule, samples.as_slice())),
+        Err(why) => put_fault(text, why.number(), why.name()),
     }
 }
 
-fn shown(alloc: Global, alarm: AlarmState) -> Option<String> {
+fn put_state(text: &mut String, alarm: AlarmState) -> Option<()> {
     match alarm {
-        AlarmState::Clear => String::from_str(alloc, "clear").ok(),
-        AlarmState::Raised { boots, time } => format!(in alloc; "raised@{boots}:{time}").ok(),
+        AlarmState::Clear => put(text, "clear"),
+        AlarmState::Raised { boots, time } => write!(text, "raised@{boots}:{time}").ok(),
     }
 }

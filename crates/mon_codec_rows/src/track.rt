@@ -1,6 +1,7 @@
 //! Samples inserted into one track of 64, in rising, falling or mixed order, for bench/track.
 
-use mon_rates::Track;
+use mon_rates::{Totals, Track};
+use mon_row_texts::parsed;
 use mon_sample::{Kind, Sample};
 use mon_window::Inserted;
 use std::alloc::Global;
@@ -28,7 +29,7 @@ struct Asked {
 }
 
 /// What the insertions answered.
-#[derive(Drop)]
+#[derive(Clone, Copy)]
 struct Tally {
     added: u64,
     known: u64,
@@ -40,13 +41,7 @@ struct Tally {
 /// SHARE is 1 to 64. Prints how many samples were added, known and too old, the sum of the places
 /// of those added, and the totals.
 pub fn time_track<R: Print>(rt: &R, alloc: Global, words: &[String]) -> Option<()> {
-    let asked = words_of(words)?;
-    if asked.epoch < 1 || asked.epoch > SIZE {
-        return None;
-    }
-    let mut track = Track::new(alloc, SIZE, asked.epoch).ok()?;
-    let tally = inserted(&mut track, asked);
-    let totals = track.totals();
+    let (tally, totals) = counted(alloc, words_of(words)?)?;
     println!(rt;
         "{} added, {} known, {} too old, {}",
         tally.added, tally.known, tally.too_old, tally.places
@@ -59,11 +54,21 @@ pub fn time_track<R: Print>(rt: &R, alloc: Global, words: &[String]) -> Option<(
     .ok()
 }
 
+/// Inserts them all into a new track, and returns its totals too.
+fn counted(alloc: Global, asked: Asked) -> Option<(Tally, Totals)> {
+    if asked.epoch < 1 || asked.epoch > SIZE {
+        return None;
+    }
+    let mut track = Track::new(alloc, SIZE, asked.epoch).ok()?;
+    let tally = inserted(&mut track, asked);
+    Some((tally, track.totals()))
+}
+
 /// Reads the three arguments.
 fn words_of(words: &[String]) -> Option<Asked> {
     let order = order_of(words.first()?.as_str())?;
-    let epoch = words.get(1)?.as_str().parse().ok()?;
-    let times = words.get(2)?.as_str().parse().ok()?;
+    let epoch = parsed(words.get(1)?.as_str())?;
+    let times = parsed(words.get(2)?.as_str())?;
     Some(Asked {
         order,
         epoch,

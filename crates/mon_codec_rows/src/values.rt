@@ -2,73 +2,79 @@
 
 use mon_app::{ValueKind, value_of};
 use mon_ber::{Value, read_value, size_of, write_value};
-use mon_pdu::{Body, Message, message_size, read_message, write_message};
-use mon_row_texts::{digits, fault, first_line, octets};
+use mon_pdu::{Binding, Body, Message, message_size, read_message, write_message};
+use mon_row_texts::{first_line, octets, put, put_digits, put_fault, put_name, two};
 use std::alloc::Global;
 
-/// Returns the value that these octets begin with, how many spell it, its size and its octets as
+/// Appends the value that these octets begin with, how many spell it, its size and its octets as
 /// they are written; or the fault.
-pub(crate) fn value_row(alloc: Global, digits: &str) -> Option<String> {
+pub(crate) fn value_row(alloc: Global, text: &mut String, digits: &str) -> Option<()> {
     let octets = octets(alloc, digits)?;
     match read_value(alloc, octets.as_slice()) {
-        Ok((value, spelled)) => value_shown(alloc, &value, spelled),
-        Err(why) => fault(alloc, why.number(), why.name()),
+        Ok((value, spelled)) => put_value(alloc, text, &value, spelled),
+        Err(why) => put_fault(text, why.number(), why.name()),
     }
 }
 
-fn value_shown(alloc: Global, value: &Value, spelled: usize) -> Option<String> {
-    let copy = value.try_clone(alloc).ok()?;
-    let written = write_value(alloc, &copy).ok()?;
-    let written = digits(alloc, written.as_slice())?;
+fn put_value(alloc: Global, text: &mut String, value: &Value, spelled: usize) -> Option<()> {
     let size = size_of(value).ok()?;
-    format!(in alloc; "{value:?} {spelled} {size} {written}").ok()
+    write!(text, "{value:?} {spelled} {size} ").ok()?;
+    let copy = value.try_clone(alloc).ok()?;
+    put_written(alloc, text, &copy)
 }
 
-/// Returns the octets of the value that the text of a line `KIND TEXT` means; or the fault.
-pub(crate) fn meant(alloc: Global, line: &str) -> Option<String> {
-    let (kind, text) = line.split_once(' ')?;
+/// Appends the octets of a value as they are written.
+fn put_written(alloc: Global, text: &mut String, value: &Value) -> Option<()> {
+    let written = write_value(alloc, value).ok()?;
+    put_digits(text, written.as_slice())
+}
+
+/// Appends the octets of the value that the text of a line `KIND TEXT` means; or the fault.
+pub(crate) fn meant(alloc: Global, text: &mut String, line: &str) -> Option<()> {
+    let (kind, words) = two(line, ' ')?;
     let Some(kind) = ValueKind::from_word(kind) else {
-        return String::from_str(alloc, "no kind").ok();
+        return put(text, "no kind");
     };
-    match value_of(alloc, kind, text) {
-        Ok(value) => {
-            let written = write_value(alloc, &value).ok()?;
-            digits(alloc, written.as_slice())
-        }
-        Err(why) => fault(alloc, why.number(), why.name()),
+    match value_of(alloc, kind, words) {
+        Ok(value) => put_written(alloc, text, &value),
+        Err(why) => put_fault(text, why.number(), why.name()),
     }
 }
 
-/// Returns the fields of the message that these octets begin with, its size and its octets as they
+/// Appends the fields of the message that these octets begin with, its size and its octets as they
 /// are written; or the fault.
-pub(crate) fn message_row(alloc: Global, digits: &str) -> Option<String> {
+pub(crate) fn message_row(alloc: Global, text: &mut String, digits: &str) -> Option<()> {
     let octets = octets(alloc, digits)?;
     match read_message(alloc, octets.as_slice()) {
-        Ok(message) => message_shown(alloc, &message),
-        Err(why) => fault(alloc, why.number(), why.name()),
+        Ok(message) => put_message(alloc, text, &message),
+        Err(why) => put_fault(text, why.number(), why.name()),
     }
 }
 
-fn message_shown(alloc: Global, message: &Message) -> Option<String> {
-    let mut text = fields(alloc, message)?;
+fn put_message(alloc: Global, text: &mut String, message: &Message) -> Option<()> {
+    put_fields(text, message)?;
     for binding in message.body.bindings() {
-        let name = binding.name.text(alloc).ok()?;
-        let value = &binding.value;
-        write!(text, " {name}={value:?}").ok()?;
+        put_binding(alloc, text, binding)?;
     }
-    let written = write_message(alloc, message).ok()?;
-    let written = digits(alloc, written.as_slice())?;
     let size = message_size(message).ok()?;
-    write!(text, " {size} {written}").ok()?;
-    Some(text)
+    write!(text, " {size} ").ok()?;
+    let written = write_message(alloc, message).ok()?;
+    put_digits(text, written.as_slice())
 }
 
-/// Returns the community in hex digits, the tag of the PDU and its three numbers.
-fn fields(alloc: Global, message: &Message) -> Option<String> {
-    let community = digits(alloc, message.community.as_slice())?;
+/// Appends the community in hex digits, the tag of the PDU and its three numbers.
+fn put_fields(text: &mut String, message: &Message) -> Option<()> {
+    put_digits(text, message.community.as_slice())?;
     let tag = message.body.octet();
     let (first, second, third) = numbers(&message.body);
-    format!(in alloc; "{community} {tag} {first} {second} {third}").ok()
+    write!(text, " {tag} {first} {second} {third}").ok()
+}
+
+fn put_binding(alloc: Global, text: &mut String, binding: &Binding) -> Option<()> {
+    put(text, " ")?;
+    put_name(alloc, text, &binding.name)?;
+    let value = &binding.value;
+    write!(text, "={value:?}").ok()
 }
 
 fn numbers(body: &Body) -> (i32, i32, i32) {
@@ -81,12 +87,29 @@ fn numbers(body: &Body) -> (i32, i32, i32) {
 /// Reads the message of the first line, in hex digits, and writes it, this many times, and prints
 /// how many octets were written in all.
 pub fn time_messages<R: Input + Print>(rt: &R, alloc: Global, times: u32) -> Option<()> {
-    let octets = octets(alloc, first_line(rt, alloc)?.trim_end())?;
+    let line = first_line(rt, alloc)?;
+    let sum = all_written(alloc, line.trim_end(), times)?;
+    println!(rt; "{sum}").ok()
+}
+
+/// Reads the message of these digits and writes it, this many times, and returns how many octets
+/// were written.
+fn all_written(alloc: Global, digits: &str, times: u32) -> Option<u64> {
+    let octets = octets(alloc, digits)?;
+    written_again(alloc, octets.as_slice(), times)
+}
+
+fn written_again(alloc: Global, octets: &[u8], times: u32) -> Option<u64> {
     let mut sum: u64 = 0;
     for _ in 0..times {
-        let message = read_message(alloc, octets.as_slice()).ok()?;
-        let written = write_message(alloc, &message).ok()?;
-        sum = sum.saturating_add(written.len() as u64);
+        sum = sum.saturating_add(read_and_written(alloc, octets)?);
     }
-    println!(rt; "{sum}").ok()
+    Some(sum)
+}
+
+/// Reads a message and writes it, and returns how many octets were written.
+fn read_and_written(alloc: Global, octets: &[u8]) -> Option<u64> {
+    let message = read_message(alloc, octets).ok()?;
+    let written = write_message(alloc, &message).ok()?;
+    Some(written.len() as u64)
 }

@@ -45,6 +45,11 @@ fn main(rt: HostRuntime) -> ExitCode {
 
 fn run(rt: &HostRuntime) -> Option<()> {
     let words: Vec<String> = env::args(rt).ok()?.collect(rt.alloc()).ok()?;
+    do_asked(rt, words.as_slice())
+}
+
+/// Does what the arguments, of which the first is the program, ask for.
+fn do_asked(rt: &HostRuntime, words: &[String]) -> Option<()> {
     match words.get(1) {
         Some(word) => job(rt, word, words.get(2..)?),
         None => rows(rt),

@@ -5,24 +5,27 @@ use mon_codec_rows::Exchange;
 use mon_poller::Poller;
 use mon_station_rows::{Stage, answer_keeper, world};
 use std::alloc::Global;
-use std::io::{BufRead, BufReader};
+use std::io::{BufRead, BufReader, Result as IoResult};
+use std::mem;
 
 /// What lines change: a station's peers and windows, a station over its disk, and a poller.
 #[derive(Drop)]
 pub struct Subjects {
     exchange: Exchange,
-    /// It is there but while a line is answered.
-    stage: Option<Stage>,
+    stage: Stage,
     polls: Poller,
 }
 
 impl Subjects {
     /// Makes them as they are before the first line.
     pub fn new(alloc: Global) -> Option<Self> {
+        let stage = Stage::new(alloc)?;
+        let exchange = Exchange::new(alloc)?;
+        let polls = poller(alloc)?;
         Some(Subjects {
-            exchange: Exchange::new(alloc)?,
-            stage: Some(Stage::new(alloc)?),
-            polls: poller(alloc)?,
+            exchange,
+            stage,
+            polls,
         })
     }
 
@@ -31,49 +34,51 @@ impl Subjects {
     pub fn answer_all(&mut self, rt: &HostRuntime) -> Option<()> {
         let alloc = rt.alloc();
         for line in BufReader::new(alloc, rt.reader()).ok()?.lines(alloc) {
-            let line = line.ok()?;
-            if !line.is_empty() && !line.starts_with('#') {
-                self.answer(rt, line.as_str())?;
-            }
+            self.answer_read(rt, line)?;
         }
         Some(())
+    }
+
+    fn answer_read(&mut self, rt: &HostRuntime, line: IoResult<String>) -> Option<()> {
+        let line = line.ok()?;
+        self.answer(rt, line.as_str())
     }
 
     /// Does what a line says, and prints what is answered. To `new` nothing is.
     fn answer(&mut self, rt: &HostRuntime, line: &str) -> Option<()> {
-        let alloc = rt.alloc();
         match line {
-            "station new" => self.stage = Some(Stage::new(alloc)?),
-            "poller new" => self.polls = poller(alloc)?,
-            _ => {
-                let text = self.answered(rt, line)?;
-                println!(rt; "{text}").ok()?;
-            }
+            "station new" => self.stage.renew(rt.alloc()),
+            "poller new" => self.renew_polls(rt.alloc()),
+            _ if line.is_empty() || line.starts_with('#') => Some(()),
+            _ => self.print_answer(rt, line),
         }
+    }
+
+    fn renew_polls(&mut self, alloc: Global) -> Option<()> {
+        drop(mem::replace(&mut self.polls, poller(alloc)?));
         Some(())
     }
 
-    /// Returns what is answered to a line, by its first word.
-    fn answered(&mut self, rt: &HostRuntime, line: &str) -> Option<String> {
+    fn print_answer(&mut self, rt: &HostRuntime, line: &str) -> Option<()> {
+        let mut text = String::new(rt.alloc());
+        self.put_answer(rt, &mut text, line)?;
+        println!(rt; "{text}").ok()
+    }
+
+    /// Appends what is answered to a line, by its first word.
+    fn put_answer(&mut self, rt: &HostRuntime, text: &mut String, line: &str) -> Option<()> {
         let alloc = rt.alloc();
         let (word, rest) = line.split_once(' ')?;
         match word {
-            "station" => self.staged(alloc, rest),
-            "world" => world(alloc, rest),
-            "poller" => answer_poll(alloc, &mut self.polls, rest),
-            "keeper" => answer_keeper(rt, rest),
-            "note" | "known" | "offer" => self.exchange.answer(alloc, word, rest),
+            "station" => self.stage.answer(alloc, text, rest),
+            "world" => world(alloc, text, rest),
+            "poller" => answer_poll(alloc, text, &mut self.polls, rest),
+            "keeper" => answer_keeper(rt, text, rest),
+            "note" | "known" | "offer" => self.exchange.answer(alloc, text, word, rest),
             "agent" | "client" | "mib" | "reader" | "smi" => mon_call_rows::answer(
-                alloc, word, rest,
+                alloc, text, word, rest,
             ),
-            _ => mon_codec_rows::answer(alloc, word, rest),
+            _ => mon_codec_rows::answer(alloc, text, word, rest),
         }
-    }
-
-    /// Returns what the station over its disk answers.
-    fn staged(&mut self, alloc: Global, line: &str) -> Option<String> {
-        let (stage, text) = self.stage.take()?.answered(alloc, line)?;
-        self.stage = Some(stage);
-        Some(text)
     }
 }

@@ -1,120 +1,145 @@
 //! What each line asks of the station.
 
 use crate::events::event;
-use crate::interrupting::interrupted;
-use crate::printing::{fault, told};
+use crate::interrupting::put_interrupted;
+use crate::printing::{put_fault, put_told};
 use crate::running::run;
 use crate::setting::core;
 use mon_disk::{FuseDisk, MemoryDisk};
-use mon_row_texts::report;
+use mon_row_texts::{first_word, parsed, put_report, two};
 use mon_station::{Event, LentEvent, Station};
 use std::alloc::Global;
 
-/// The station, or the disk that it is opened from.
+/// The station, or the disk that it is opened from: one of the two is there.
 #[derive(Drop)]
-pub enum Stage {
-    /// A station.
-    Open(Station<FuseDisk<MemoryDisk>>),
-    /// Its disk.
-    Closed(MemoryDisk),
+pub struct Stage {
+    station: Option<Station<FuseDisk<MemoryDisk>>>,
+    disk: Option<MemoryDisk>,
 }
 
 impl Stage {
     /// Makes an empty disk.
     pub fn new(alloc: Global) -> Option<Self> {
-        Some(Stage::Closed(MemoryDisk::new(alloc, &[]).ok()?))
+        let disk = MemoryDisk::new(alloc, &[]).ok()?;
+        Some(Stage {
+            station: None,
+            disk: Some(disk),
+        })
     }
 
-    /// Does what a line says, without its first word. Returns what is then, and the answer.
-    pub fn answered(self, alloc: Global, line: &str) -> Option<(Self, String)> {
-        match self {
-            Stage::Closed(disk) => opened(alloc, disk, line),
-            Stage::Open(station) => asked(alloc, station, line),
+    /// Begins again with an empty disk.
+    pub fn renew(&mut self, alloc: Global) -> Option<()> {
+        self.close(MemoryDisk::new(alloc, &[]).ok()?);
+        Some(())
+    }
+
+    /// Puts a disk in place of the station.
+    fn close(&mut self, disk: MemoryDisk) {
+        drop(self.station.take());
+        drop(self.disk.replace(disk));
+    }
+
+    /// Does what a line says, without its first word, and appends the answer.
+    pub fn answer(&mut self, alloc: Global, text: &mut String, line: &str) -> Option<()> {
+        if self.station.is_none() {
+            return self.open(alloc, text, line);
+        }
+        let (word, rest) = first_word(line);
+        if word == "stop" {
+            return self.stop(alloc, text, rest);
+        }
+        match &mut self.station {
+            Some(station) => put_stepped(alloc, text, station, word, rest),
+            None => None,
         }
     }
-}
 
-/// Opens a station on the disk.
-fn opened(alloc: Global, disk: MemoryDisk, line: &str) -> Option<(Stage, String)> {
-    let (word, settings) = line.split_once(' ').unwrap_or((line, "8"));
-    if word != "open" {
-        return None;
-    }
-    match Station::open(alloc, core(alloc, settings)?, FuseDisk::new(disk)) {
-        Ok(station) => {
-            let text = format!(in alloc; "incarnation {}", station.incarnation()).ok()?;
-            Some((Stage::Open(station), text))
+    /// Opens a station on the disk.
+    fn open(&mut self, alloc: Global, text: &mut String, line: &str) -> Option<()> {
+        let (word, settings) = line.split_once(' ').unwrap_or((line, "8"));
+        if word != "open" {
+            return None;
         }
-        Err((why, disk)) => Some((Stage::Closed(disk.into_disk()), fault(alloc, why)?)),
+        let disk = self.disk.take()?;
+        let core = core(alloc, settings)?;
+        match Station::open(alloc, core, FuseDisk::new(disk)) {
+            Ok(station) => self.put_opened(text, station),
+            Err((why, disk)) => {
+                self.close(disk.into_disk());
+                put_fault(text, why)
+            }
+        }
+    }
+
+    fn put_opened(
+        &mut self,
+        text: &mut String,
+        station: Station<FuseDisk<MemoryDisk>>,
+    ) -> Option<()> {
+        let incarnation = station.incarnation();
+        drop(self.station.replace(station));
+        write!(text, "incarnation {incarnation}").ok()
+    }
+
+    /// Saves while only N calls of a line `N KEEP` pass, and keeps what a crash leaves.
+    fn stop(&mut self, alloc: Global, text: &mut String, line: &str) -> Option<()> {
+        let (calls, keep) = two(line, ' ')?;
+        let calls = parsed(calls)?;
+        if let Some(station) = &mut self.station {
+            put_save(alloc, text, station, calls)?;
+        }
+        let disk = self.station.take()?.into_disk().into_disk();
+        self.close(disk.crash(keep == "keep").ok()?);
+        Some(())
     }
 }
 
-/// Returns what the station answers to the line.
-fn asked(
+/// Saves while only this many calls pass.
+fn put_save(
     alloc: Global,
-    station: Station<FuseDisk<MemoryDisk>>,
-    line: &str,
-) -> Option<(Stage, String)> {
-    let (word, rest) = line.split_once(' ').unwrap_or((line, ""));
-    if word == "stop" {
-        let (calls, keep) = rest.split_once(' ')?;
-        return stopped(alloc, station, calls.parse().ok()?, keep == "keep");
-    }
-    let mut station = station;
-    let text = if word == "run" {
-        run(alloc, &mut station, rest)?
-    } else {
-        stepped(alloc, &mut station, word, rest)?
-    };
-    Some((Stage::Open(station), text))
-}
-
-/// Saves while only N calls pass, and keeps what a crash leaves.
-fn stopped(
-    alloc: Global,
-    station: Station<FuseDisk<MemoryDisk>>,
+    text: &mut String,
+    station: &mut Station<FuseDisk<MemoryDisk>>,
     calls: u64,
-    keep: bool,
-) -> Option<(Stage, String)> {
-    let mut station = station;
+) -> Option<()> {
     station.set(calls);
-    let text = step(alloc, &mut station, Event::Save)?;
-    let disk = station.into_disk().into_disk().crash(keep).ok()?;
-    Some((Stage::Closed(disk), text))
+    put_step(alloc, text, station, Event::Save)
 }
 
-fn stepped(
+fn put_stepped(
     alloc: Global,
+    text: &mut String,
     station: &mut Station<FuseDisk<MemoryDisk>>,
     word: &str,
     rest: &str,
-) -> Option<String> {
+) -> Option<()> {
     match word {
-        "owed" => owed(alloc, station, rest.parse().ok()?),
-        "report" => report(alloc, station.board()),
-        "interrupted" => interrupted(alloc, station.board()),
+        "run" => run(alloc, text, station, rest),
+        "owed" => put_owed(text, station, parsed(rest)?),
+        "report" => put_report(alloc, text, station.board()),
+        "interrupted" => put_interrupted(alloc, text, station.board()),
         _ => {
             let event = event(alloc, word, rest)?;
-            step(alloc, station, event.lend())
+            put_step(alloc, text, station, event.lend())
         }
     }
 }
 
-fn step(
+fn put_step(
     alloc: Global,
+    text: &mut String,
     station: &mut Station<FuseDisk<MemoryDisk>>,
     event: LentEvent<'_>,
-) -> Option<String> {
+) -> Option<()> {
     match station.step(alloc, event) {
-        Ok(answer) => told(alloc, &answer),
-        Err(why) => fault(alloc, why),
+        Ok(told) => put_told(text, &told),
+        Err(why) => put_fault(text, why),
     }
 }
 
-fn owed(alloc: Global, station: &Station<FuseDisk<MemoryDisk>>, peer: u32) -> Option<String> {
+fn put_owed(text: &mut String, station: &Station<FuseDisk<MemoryDisk>>, peer: u32) -> Option<()> {
     let owed = station.owed(peer);
     match station.known(peer) {
-        Some(known) => format!(in alloc; "owes {peer} {owed}, known {known}").ok(),
-        None => format!(in alloc; "owes {peer} {owed}, none known").ok(),
+        Some(known) => write!(text, "owes {peer} {owed}, known {known}").ok(),
+        None => write!(text, "owes {peer} {owed}, none known").ok(),
     }
 }

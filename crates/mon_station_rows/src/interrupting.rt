@@ -2,7 +2,7 @@
 
 use mon_board::Board;
 use mon_report::write_report;
-use mon_row_texts::trimmed;
+use mon_row_texts::put_trimmed;
 use std::alloc::Global;
 use std::io::{Error, ErrorKind, Result as IoResult, Write};
 
@@ -35,12 +35,12 @@ impl Write for Interrupting {
     }
 }
 
-/// Returns the report of the board by such a writer, without the last line's end.
-pub(crate) fn interrupted(alloc: Global, board: &Board) -> Option<String> {
+/// Appends the report of the board by such a writer, without the last line's end.
+pub(crate) fn put_interrupted(alloc: Global, text: &mut String, board: &Board) -> Option<()> {
     let mut writer = Interrupting {
         taken: Vec::new(alloc),
         is_interrupted: false,
     };
     write_report(board, &mut writer).ok()?;
-    trimmed(alloc, writer.taken.as_slice())
+    put_trimmed(text, writer.taken.as_slice())
 }

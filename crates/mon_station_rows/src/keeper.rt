@@ -28,24 +28,30 @@ mod found;
 pub mod real_file;
 mod stops;
 
+use mon_row_texts::{first_word, parsed};
 use std::fs::File;
 use std::rt::Files;
-/// Returns the answer to a line, without its first word.
-pub fn answer<R: Files<File = File> + AllocGlobal>(rt: &R, line: &str) -> Option<String> {
+
+/// Appends the answer to a line, without its first word.
+pub fn answer<R: Files<File = File> + AllocGlobal>(
+    rt: &R,
+    text: &mut String,
+    line: &str,
+) -> Option<()> {
     let alloc = rt.alloc();
-    let (word, rest) = line.split_once(' ').unwrap_or((line, ""));
+    let (word, rest) = first_word(line);
     match word {
-        "save-stopped" => stops::save_row(alloc, rest),
-        "opening-stopped" => stops::opening_row(alloc, rest),
-        "failing-call" => stops::failing_row(alloc, rest.parse().ok()?),
-        "reopened" => stops::reopened_row(alloc, rest),
-        "mended-after" => stops::mended_row(alloc, rest.parse().ok()?),
-        "file" => files::row(alloc, rest),
-        "sized" => files::sized(alloc, rest.parse().ok()?),
-        "real-file" => real_file::saved_row(rt, rest),
-        "found" => real_file::found_row(rt),
-        "removed" => real_file::removed_row(rt),
-        "folder" => real_file::folder_row(rt),
+        "save-stopped" => stops::save_row(alloc, text, rest),
+        "opening-stopped" => stops::opening_row(alloc, text, rest),
+        "failing-call" => stops::failing_row(alloc, text, parsed(rest)?),
+        "reopened" => stops::reopened_row(alloc, text, rest),
+        "mended-after" => stops::mended_row(alloc, text, parsed(rest)?),
+        "file" => files::row(alloc, text, rest),
+        "sized" => files::sized(alloc, text, parsed(rest)?),
+        "real-file" => real_file::saved_row(rt, text, rest),
+        "found" => real_file::found_row(rt, text),
+        "removed" => real_file::removed_row(rt, text),
+        "folder" => real_file::folder_row(rt, text),
         _ => None,
     }
 }

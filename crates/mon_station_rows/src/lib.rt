@@ -1,5 +1,5 @@
-//! Rows of a station over a disk in memory, of worlds of stations and of a keeper. They are rows of tests,
-//! which mon_rows answers.
+//! Rows of a station over a disk in memory, of worlds of stations and of a keeper. They are rows of
+//! tests, which mon_rows answers.
 //!
 //!     station new               an empty disk, without a station; no answer is printed
 //!     station open [SIZE]       opens the station from the disk, with windows of 8 or SIZE

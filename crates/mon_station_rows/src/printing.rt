@@ -1,14 +1,13 @@
 //! What a station answers, as text.
 
-use mon_row_texts::{digits, refused};
+use mon_row_texts::{put, put_digits, put_refused};
 use mon_station::{Outgoing, StationFault, To, Told};
-use std::alloc::Global;
 use std::fmt::Write;
 
-/// Returns the samples that were taken, what became of a claim, the target that gave up, and each
+/// Appends the samples that were taken, what became of a claim, the target that gave up, and each
 /// datagram that is sent.
-pub(crate) fn told(alloc: Global, told: &Told) -> Option<String> {
-    let mut text = format!(in alloc; "ok").ok()?;
+pub(crate) fn put_told(text: &mut String, told: &Told) -> Option<()> {
+    put(text, "ok")?;
     for (instance, sample) in told.taken.as_slice() {
         let (boots, time) = (sample.boots(), sample.time());
         write!(text, " took {instance} {boots}:{time} {}", sample.number()).ok()?;
@@ -20,26 +19,26 @@ pub(crate) fn told(alloc: Global, told: &Told) -> Option<String> {
         write!(text, " gave up {target}").ok()?;
     }
     for out in told.sends.as_slice() {
-        sent(alloc, &mut text, out)?;
+        put_sent(text, out)?;
     }
-    Some(text)
+    Some(())
 }
 
 /// Appends a datagram that is sent, and where it goes.
-pub(crate) fn sent(alloc: Global, text: &mut String, out: &Outgoing) -> Option<()> {
-    let octets = digits(alloc, out.octets.as_slice())?;
+pub(crate) fn put_sent(text: &mut String, out: &Outgoing) -> Option<()> {
     match out.to {
-        To::Target(target) => write!(text, " target {target} {octets}").ok(),
-        To::Peer(peer) => write!(text, " peer {peer} {octets}").ok(),
+        To::Target(target) => write!(text, " target {target} ").ok()?,
+        To::Peer(peer) => write!(text, " peer {peer} ").ok()?,
     }
+    put_digits(text, out.octets.as_slice())
 }
 
-/// Returns the fault's number and name, and its cause's.
-pub(crate) fn fault(alloc: Global, fault: StationFault) -> Option<String> {
-    let (number, name) = (fault.number(), fault.name());
+/// Appends the fault's number and name, and its cause's.
+pub(crate) fn put_fault(text: &mut String, fault: StationFault) -> Option<()> {
+    put_refused(text, fault.number(), fault.name())?;
     match cause_of(fault) {
-        Some((cause, why)) => format!(in alloc; "refused {number} {name} {cause} {why}").ok(),
-        None => refused(alloc, number, name),
+        Some((number, name)) => write!(text, " {number} {name}").ok(),
+        None => Some(()),
     }
 }
 

@@ -4,8 +4,9 @@ ghost use Rattle.std.specs.Prelude.{◌≡◌, IfSome};
 ghost use Rattle.mon_station_rows.specs.Listed.{RanOver};
 
 use crate::events::events_of;
-use crate::printing::{fault, sent};
+use crate::printing::{put_fault, put_sent};
 use mon_disk::{FuseDisk, MemoryDisk};
+use mon_row_texts::{parsed, put, two};
 use mon_station::{
     Answer, Outbox, OutboxFault, Outgoing, OwnedEvent, Run, Source, SourceFault, Station,
 };
@@ -61,7 +62,6 @@ impl Source for Listed {
 /// Writes down what it is given. The call of one number fails; what it was given is lost.
 #[derive(Drop)]
 struct Noting {
-    alloc: Global,
     text: String,
     calls_to_the_failing_one: u32,
     failures: u64,
@@ -76,7 +76,7 @@ impl Noting {
             return Err(OutboxFault);
         }
         self.calls_to_the_failing_one = self.calls_to_the_failing_one.saturating_sub(1);
-        match sent(self.alloc, &mut self.text, out) {
+        match put_sent(&mut self.text, out) {
             Some(()) => Ok(()),
             None => Err(OutboxFault),
         }
@@ -108,28 +108,26 @@ struct Asked {
 
 /// Reads the three numbers of a line.
 fn asked_of(numbers: &str) -> Option<Asked> {
-    let (turns, calls) = numbers.split_once(' ')?;
-    let (source_call, outbox_call) = calls.split_once(' ')?;
+    let (turns, calls) = two(numbers, ' ')?;
+    let (source_call, outbox_call) = two(calls, ' ')?;
     Some(Asked {
-        turns: turns.parse().ok()?,
-        source_call: source_call.parse().ok()?,
-        outbox_call: outbox_call.parse().ok()?,
+        turns: parsed(turns)?,
+        source_call: parsed(source_call)?,
+        outbox_call: parsed(outbox_call)?,
     })
 }
 
 /// Runs the station over the numbers and the events of a line.
 pub(crate) fn run(
     alloc: Global,
+    text: &mut String,
     station: &mut Station<FuseDisk<MemoryDisk>>,
     line: &str,
-) -> Option<String> {
+) -> Option<()> {
     let (numbers, events) = line.split_once(": ")?;
-    run_over(
-        alloc,
-        station,
-        asked_of(numbers)?,
-        events_of(alloc, events)?,
-    )
+    let asked = asked_of(numbers)?;
+    let events = events_of(alloc, events)?;
+    put_run(alloc, text, station, asked, events)
 }
 
 /// Makes what an earlier run might have left, of which nothing may be reported.
@@ -145,25 +143,25 @@ fn used(alloc: Global) -> Option<Run> {
     })
 }
 
-fn run_over(
+fn put_run(
     alloc: Global,
+    text: &mut String,
     station: &mut Station<FuseDisk<MemoryDisk>>,
     asked: Asked,
     events: VecDeque<OwnedEvent>,
-) -> Option<String> {
+) -> Option<()> {
     let mut source = Listed {
         events,
         calls_to_the_failing_one: asked.source_call,
         failures: 0,
     };
     let mut outbox = Noting {
-        alloc,
         text: String::new(alloc),
         calls_to_the_failing_one: asked.outbox_call,
         failures: 0,
     };
-    let run = run_listed(alloc, station, &mut source, &mut outbox, asked.turns)?;
-    shown(alloc, &run, &outbox.text)
+    let run = run_listed(alloc, station, &mut source, &mut outbox, asked.turns);
+    put_ran(text, &run, outbox.text.as_str())
 }
 
 /// Runs the station over the list of a source, after another run.
@@ -183,32 +181,45 @@ fn run_listed<O: Outbox>(
     }
 }
 
-/// Returns the counts, the answers and what was sent.
-fn shown(alloc: Global, run: &Run, handed: &str) -> Option<String> {
+/// Appends the counts, the answers and what was sent, if there was a run.
+fn put_ran(text: &mut String, run: &Option<Run>, handed: &str) -> Option<()> {
+    match run {
+        Some(run) => {
+            put_counts(text, run)?;
+            put(text, " sent")?;
+            put(text, handed)
+        }
+        None => None,
+    }
+}
+
+fn put_counts(text: &mut String, run: &Run) -> Option<()> {
     let (turns, refused, source, send) = (
         run.turns,
         run.refused,
         run.source_faults,
         run.send_faults,
     );
-    let mut text = format!(in alloc;
+    write!(
+        text,
         "turns {turns} refused {refused} source {source} send {send}:"
-    ).ok()?;
+    )
+    .ok()?;
     for answer in run.answers.as_slice() {
-        put_answer(alloc, &mut text, *answer)?;
+        put_answer(text, *answer)?;
     }
-    write!(text, " sent{handed}").ok()?;
-    Some(text)
+    Some(())
 }
 
-fn put_answer(alloc: Global, text: &mut String, answer: Answer) -> Option<()> {
+fn put_answer(text: &mut String, answer: Answer) -> Option<()> {
     match answer {
-        Answer::Handled(_) => write!(text, " ok;").ok(),
+        Answer::Handled(_) => put(text, " ok;"),
         Answer::GaveUp(target) => write!(text, " gave up {target};").ok(),
-        Answer::Memory => write!(text, " memory;").ok(),
+        Answer::Memory => put(text, " memory;"),
         Answer::Refused(why) => {
-            let why = fault(alloc, why)?;
-            write!(text, " {why};").ok()
+            put(text, " ")?;
+            put_fault(text, why)?;
+            put(text, ";")
         }
         Answer::Keeper(number) => write!(text, " keeper {number};").ok(),
     }

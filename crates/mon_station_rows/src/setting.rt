@@ -1,5 +1,6 @@
 //! What the station is set up with.
 
+use mon_row_texts::put;
 use mon_settings::{Addr, Core, read_station};
 use mon_smi::Names;
 use std::alloc::Global;
@@ -51,40 +52,46 @@ const MOST_PARTS: usize = 128;
 /// Makes the core of a station of one object: `1` and the like is the window's size, `long` has the
 /// longest engine id and name and a window of 64.
 pub(crate) fn core(alloc: Global, word: &str) -> Option<Core> {
+    let mut text = String::new(alloc);
     if word == "long" {
-        let name = lengthened(alloc, LONGEST[1])?;
-        core_of(alloc, "64", LONGEST[0], &name)
+        put_longest(&mut text)?;
     } else {
-        core_of(alloc, word, USUAL[0], USUAL[1])
+        put_usual(&mut text, word)?;
     }
+    core_of(alloc, text.as_str())
 }
 
-/// Makes the core of a station of one object with a window of this size.
-fn core_of(alloc: Global, size: &str, engine: &str, name: &str) -> Option<Core> {
-    let text = text_of(alloc, size, engine, name)?;
+/// Reads the core from the settings' text.
+fn core_of(alloc: Global, text: &str) -> Option<Core> {
     let names = Names::new(alloc).ok()?;
-    Some(read_station(alloc, &text, &names).ok()?.core)
+    Some(read_station(alloc, text, &names).ok()?.core)
 }
 
-/// Writes the settings' text.
-fn text_of(alloc: Global, size: &str, engine: &str, name: &str) -> Option<String> {
-    let mut text = String::from_str(alloc, BEFORE).ok()?;
-    text.push_str(size).ok()?;
-    text.push_str(TARGET).ok()?;
-    text.push_str(engine).ok()?;
-    text.push_str(OBJECT).ok()?;
-    text.push_str(name).ok()?;
-    text.push_str(AFTER).ok()?;
-    Some(text)
+/// Appends settings with a window of this size.
+fn put_usual(text: &mut String, size: &str) -> Option<()> {
+    put_before(text, size, USUAL[0])?;
+    put(text, USUAL[1])?;
+    put(text, AFTER)
 }
 
-/// Returns a name with as many numbers more as the longest name has: 4294967295 each.
-fn lengthened(alloc: Global, name: &str) -> Option<String> {
-    let mut text = String::from_str(alloc, name).ok()?;
-    for _ in name.split('.').count()..MOST_PARTS {
-        text.push_str(".4294967295").ok()?;
+/// Appends settings with the longest engine id and name. The name goes on with as many numbers as it
+/// may have, each 4294967295.
+fn put_longest(text: &mut String) -> Option<()> {
+    put_before(text, "64", LONGEST[0])?;
+    put(text, LONGEST[1])?;
+    for _ in LONGEST[1].split('.').count()..MOST_PARTS {
+        put(text, ".4294967295")?;
     }
-    Some(text)
+    put(text, AFTER)
+}
+
+/// Appends what comes before the object's name.
+fn put_before(text: &mut String, size: &str, engine: &str) -> Option<()> {
+    put(text, BEFORE)?;
+    put(text, size)?;
+    put(text, TARGET)?;
+    put(text, engine)?;
+    put(text, OBJECT)
 }
 
 /// Returns where the target's datagrams come from.

@@ -1,7 +1,7 @@
 //! Worlds of stations, and steps that are run in one.
 
 use crate::setting::core;
-use mon_row_texts::refused;
+use mon_row_texts::{parsed, put_refused, two};
 use mon_world::{Step, World};
 use std::alloc::Global;
 
@@ -9,18 +9,18 @@ use std::alloc::Global;
 /// second what it owes, SHARES times, and each of these datagrams is delivered; the steps are made
 /// in one run. Says how many of them were made and how many datagrams were sent, or why there is no
 /// such world.
-pub fn world(alloc: Global, line: &str) -> Option<String> {
-    let (count, shares) = line.split_once(' ')?;
+pub fn world(alloc: Global, text: &mut String, line: &str) -> Option<()> {
+    let (count, shares) = two(line, ' ')?;
+    let (count, shares) = (parsed(count)?, parsed(shares)?);
     let core = core(alloc, "8")?;
-    match World::new(alloc, &core, count.parse().ok()?) {
-        Ok(world) => run(alloc, world, shares.parse().ok()?),
-        Err(why) => refused(alloc, why.number(), why.name()),
+    match World::new(alloc, &core, count) {
+        Ok(mut world) => put_run(alloc, text, &mut world, shares),
+        Err(why) => put_refused(text, why.number(), why.name()),
     }
 }
 
 /// Runs the steps of this many shares.
-fn run(alloc: Global, world: World, shares: u64) -> Option<String> {
-    let mut world = world;
+fn put_run(alloc: Global, text: &mut String, world: &mut World, shares: u64) -> Option<()> {
     let steps = steps(alloc, shares)?;
     let results = world.run(steps.as_slice()).ok()?;
     let (mut made, mut sent) = (0, 0);
@@ -30,7 +30,7 @@ fn run(alloc: Global, world: World, shares: u64) -> Option<String> {
             sent = u64::saturating_add(sent, datagrams.count);
         }
     }
-    format!(in alloc; "{made} made, {sent} sent").ok()
+    write!(text, "{made} made, {sent} sent").ok()
 }
 
 /// Makes the shares, and the deliveries of what they send.

@@ -1,74 +1,87 @@
 //! What each line asks of the poller, and what is answered.
 
-use mon_poller::{Offered, Poller, ResponseFault, TimedOut};
-use mon_row_texts::{digits, octets, refused};
+use mon_poller::{Offered, Poller, Request, ResponseFault, TimedOut};
+use mon_row_texts::{first_word, octets, parsed, put, put_digits, put_refused, two};
 use mon_udp::Addr;
 use std::alloc::Global;
 use std::fmt::Write;
 
-/// Returns the answer to a line, without its first word.
-pub fn answer(alloc: Global, polls: &mut Poller, line: &str) -> Option<String> {
-    let (word, rest) = line.split_once(' ').unwrap_or((line, ""));
+/// Appends the answer to a line, without its first word.
+pub fn answer(alloc: Global, text: &mut String, polls: &mut Poller, line: &str) -> Option<()> {
+    let (word, rest) = first_word(line);
     match word {
-        "start" => start(alloc, polls, rest.parse().ok()?),
-        "timeout" => timeout(alloc, polls, rest.parse().ok()?),
-        "oldest" => oldest(alloc, polls),
-        "from" => {
-            let (from, hex) = rest.split_once(' ')?;
-            let octets = octets(alloc, hex)?;
-            response(alloc, polls, Addr::parse(from)?, &octets)
-        }
+        "start" => start(alloc, text, polls, parsed(rest)?),
+        "timeout" => timeout(alloc, text, polls, parsed(rest)?),
+        "oldest" => oldest(text, polls),
+        "from" => received(alloc, text, polls, rest),
         _ => None,
     }
 }
 
-fn start(alloc: Global, polls: &mut Poller, target: u16) -> Option<String> {
+fn start(alloc: Global, text: &mut String, polls: &mut Poller, target: u16) -> Option<()> {
     match polls.start(alloc, target) {
-        Ok(request) => {
-            let octets = digits(alloc, request.octets.as_slice())?;
-            format!(in alloc; "id {} {octets}", request.id).ok()
-        }
-        Err(fault) => refused(alloc, fault.number(), fault.name()),
+        Ok(request) => put_request(text, &request),
+        Err(why) => put_refused(text, why.number(), why.name()),
     }
 }
 
-fn timeout(alloc: Global, polls: &mut Poller, id: u32) -> Option<String> {
+fn put_request(text: &mut String, request: &Request) -> Option<()> {
+    write!(text, "id {} ", request.id).ok()?;
+    put_digits(text, request.octets.as_slice())
+}
+
+fn timeout(alloc: Global, text: &mut String, polls: &mut Poller, id: u32) -> Option<()> {
     let tries = polls.has_tries(id);
-    match polls.time_out(alloc, id).ok()? {
-        TimedOut::Again { target, octets } => {
-            let octets = digits(alloc, octets.as_slice())?;
-            format!(in alloc; "again {target} {octets} ({tries})").ok()
-        }
-        TimedOut::GivenUp { target } => format!(in alloc; "given up {target} ({tries})").ok(),
-        TimedOut::NotOpen => format!(in alloc; "not open ({tries})").ok(),
+    put_timed_out(text, polls.time_out(alloc, id).ok()?)?;
+    write!(text, " ({tries})").ok()
+}
+
+fn put_timed_out(text: &mut String, timed_out: TimedOut) -> Option<()> {
+    match timed_out {
+        TimedOut::Again { target, octets } => put_again(text, target, octets.as_slice()),
+        TimedOut::GivenUp { target } => write!(text, "given up {target}").ok(),
+        TimedOut::NotOpen => put(text, "not open"),
     }
 }
 
-fn oldest(alloc: Global, polls: &Poller) -> Option<String> {
+fn put_again(text: &mut String, target: u16, octets: &[u8]) -> Option<()> {
+    write!(text, "again {target} ").ok()?;
+    put_digits(text, octets)
+}
+
+fn oldest(text: &mut String, polls: &Poller) -> Option<()> {
     match polls.oldest() {
-        Some(id) => format!(in alloc; "oldest {id}").ok(),
-        None => format!(in alloc; "none open").ok(),
+        Some(id) => write!(text, "oldest {id}").ok(),
+        None => put(text, "none open"),
     }
 }
 
-fn response(alloc: Global, polls: &mut Poller, from: Addr, octets: &[u8]) -> Option<String> {
-    match polls.response(alloc, from, octets) {
-        Ok(offered) => samples(alloc, &offered),
-        Err(ResponseFault::AgentError(status, index)) => {
-            format!(in alloc; "refused 6 AgentError {status} {index}").ok()
-        }
-        Err(fault) => refused(alloc, fault.number(), fault.name()),
+/// Answers a datagram of a line `ADDRESS HEX`.
+fn received(alloc: Global, text: &mut String, polls: &mut Poller, line: &str) -> Option<()> {
+    let (from, digits) = two(line, ' ')?;
+    let from = Addr::parse(from)?;
+    let octets = octets(alloc, digits)?;
+    match polls.response(alloc, from, octets.as_slice()) {
+        Ok(offered) => put_offered(text, &offered),
+        Err(why) => put_why(text, why),
     }
 }
 
-/// Returns the target, and each sample with its instance's number.
-fn samples(alloc: Global, offered: &Offered) -> Option<String> {
-    let mut text = format!(in alloc; "target {}", offered.target).ok()?;
+fn put_why(text: &mut String, why: ResponseFault) -> Option<()> {
+    put_refused(text, why.number(), why.name())?;
+    match why {
+        ResponseFault::AgentError(status, index) => write!(text, " {status} {index}").ok(),
+        _ => Some(()),
+    }
+}
+
+/// Appends the target, and each sample with its instance's number.
+fn put_offered(text: &mut String, offered: &Offered) -> Option<()> {
+    write!(text, "target {}", offered.target).ok()?;
     for (instance, sample) in offered.pairs.as_slice() {
         let (boots, time, mark) = (sample.boots(), sample.time(), sample.discontinuity());
-        let kind = sample.kind().name();
-        let value = sample.number();
+        let (kind, value) = (sample.kind().name(), sample.number());
         write!(text, "; {instance}: {boots} {time} {mark} {kind} {value}").ok()?;
     }
-    Some(text)
+    Some(())
 }

@@ -20,72 +20,127 @@ pub(crate) fn local(port: u16) -> Addr {
     }
 }
 
+/// What a target has besides its objects.
+#[derive(Clone, Copy)]
+struct Polled {
+    port: u16,
+    community: &'static [u8],
+    engine: &'static [u8],
+    tries: u8,
+}
+
+/// The target of one object.
+const FIRST: Polled = Polled {
+    port: 16100,
+    community: b"public",
+    engine: &[0x80, 0, 0, 0, 1],
+    tries: 2,
+};
+
+/// The target of many objects.
+const SECOND: Polled = Polled {
+    port: 16102,
+    community: b"private",
+    engine: &[0x80, 0, 0, 0, 2, 7],
+    tries: 8,
+};
+
+/// The target of three objects.
+const THIRD: Polled = Polled {
+    port: 16103,
+    community: b"c",
+    engine: &[0x80, 0, 0, 0, 3],
+    tries: 1,
+};
+
 /// Makes a poller of three targets: one object without a mark; 16 objects with marks; and three
 /// objects, the middle one without.
 pub fn poller(alloc: Global) -> Option<Poller> {
     let mut targets = Vec::new(alloc);
-    targets.push(one_object(alloc)?).ok()?;
-    targets.push(many_objects(alloc)?).ok()?;
-    targets.push(some_marks(alloc)?).ok()?;
+    push_targets(alloc, &mut targets)?;
     if !are_targets(&targets) {
         return None;
     }
     Poller::new(alloc, targets).ok()
 }
 
-fn target(
-    alloc: Global,
-    port: u16,
-    community: &[u8],
-    engine: &[u8],
-    tries: u8,
-    objects: Vec<Object>,
-) -> Option<Target> {
-    Some(Target {
-        address: local(port),
-        community: Octets::from_slice(alloc, community).ok()?,
-        engine: Octets::from_slice(alloc, engine).ok()?,
-        tries,
-        objects: Objects::new(objects),
-    })
-}
-
-fn object(instance: u16, name: Oid, discontinuity: Option<Oid>) -> Object {
-    Object {
-        instance,
-        name,
-        discontinuity,
-    }
+fn push_targets(alloc: Global, targets: &mut Vec<Target>) -> Option<()> {
+    targets.push(one_object(alloc)?).ok()?;
+    targets.push(many_objects(alloc)?).ok()?;
+    targets.push(some_marks(alloc)?).ok()
 }
 
 fn one_object(alloc: Global) -> Option<Target> {
-    let name = Oid::parse(alloc, "1.3.6.1.2.1.2.2.1.10.1").ok()?;
     let mut objects = Vec::new(alloc);
-    objects.push(object(0, name, None)).ok()?;
-    target(alloc, 16100, b"public", &[0x80, 0, 0, 0, 1], 2, objects)
+    push_unmarked(alloc, &mut objects, 0, "1.3.6.1.2.1.2.2.1.10.1")?;
+    target(alloc, FIRST, objects)
 }
 
 fn many_objects(alloc: Global) -> Option<Target> {
     let mut objects = Vec::new(alloc);
+    push_interfaces(alloc, &mut objects)?;
+    target(alloc, SECOND, objects)
+}
+
+fn push_interfaces(alloc: Global, objects: &mut Vec<Object>) -> Option<()> {
     for interface in 1..17u16 {
-        let name = of_interface(alloc, &IN_OCTETS, interface)?;
-        let mark = of_interface(alloc, &DISCONTINUITY, interface)?;
-        objects.push(object(interface, name, Some(mark))).ok()?;
+        push_marked(alloc, objects, interface, interface)?;
     }
-    target(alloc, 16102, b"private", &[0x80, 0, 0, 0, 2, 7], 8, objects)
+    Some(())
 }
 
 fn some_marks(alloc: Global) -> Option<Target> {
     let mut objects = Vec::new(alloc);
-    let first = of_interface(alloc, &IN_OCTETS, 1)?;
-    let mark = of_interface(alloc, &DISCONTINUITY, 1)?;
-    objects.push(object(21, first, Some(mark))).ok()?;
-    let load = Oid::parse(alloc, "1.3.6.1.4.1.2021.10.1.5.1").ok()?;
-    objects.push(object(9, load, None)).ok()?;
-    let last = of_interface(alloc, &IN_OCTETS, 2)?;
-    let mark = of_interface(alloc, &DISCONTINUITY, 2)?;
-    objects.push(object(300, last, Some(mark))).ok()?;
-    target(alloc, 16103, b"c", &[0x80, 0, 0, 0, 3], 1, objects)
+    push_some_marks(alloc, &mut objects)?;
+    target(alloc, THIRD, objects)
+}
+
+fn push_some_marks(alloc: Global, objects: &mut Vec<Object>) -> Option<()> {
+    push_marked(alloc, objects, 21, 1)?;
+    push_unmarked(alloc, objects, 9, "1.3.6.1.4.1.2021.10.1.5.1")?;
+    push_marked(alloc, objects, 300, 2)
+}
+
+fn target(alloc: Global, polled: Polled, objects: Vec<Object>) -> Option<Target> {
+    let community = Octets::from_slice(alloc, polled.community).ok()?;
+    let engine = Octets::from_slice(alloc, polled.engine).ok()?;
+    Some(Target {
+        address: local(polled.port),
+        community,
+        engine,
+        tries: polled.tries,
+        objects: Objects::new(objects),
+    })
+}
+
+/// Adds an object without a mark.
+fn push_unmarked(
+    alloc: Global,
+    objects: &mut Vec<Object>,
+    instance: u16,
+    name: &str,
+) -> Option<()> {
+    let object = Object {
+        instance,
+        name: Oid::parse(alloc, name).ok()?,
+        discontinuity: None,
+    };
+    objects.push(object).ok()
+}
+
+/// Adds ifHCInOctets of an interface, with its mark.
+fn push_marked(
+    alloc: Global,
+    objects: &mut Vec<Object>,
+    instance: u16,
+    interface: u16,
+) -> Option<()> {
+    let object = Object {
+        instance,
+        name: of_interface(alloc, &IN_OCTETS, interface)?,
+        discontinuity: Some(of_interface(alloc, &DISCONTINUITY, interface)?),
+    };
+    objects.push(object).ok()
 }
 
 /// Returns the name of a column at an interface.

@@ -1,12 +1,12 @@
 //! Polls that are started and answered at once, again and again.
 
 use crate::polls::targets::{local, poller};
-use mon_poller::Offered;
-use mon_row_texts::{first_line, octets};
+use mon_poller::{Offered, Poller};
+use mon_row_texts::{first_line, octets, parsed};
 use std::alloc::Global;
 
 /// What the responses brought.
-#[derive(Drop)]
+#[derive(Clone, Copy)]
 struct Tally {
     samples: u64,
     marks: u64,
@@ -25,8 +25,8 @@ struct Asked {
 /// place.
 pub fn time_polls<R: Input + Print + AllocGlobal>(rt: &R, words: &[String]) -> Option<()> {
     let asked = asked_of(words)?;
-    let mut octets = octets(rt.alloc(), first_line(rt, rt.alloc())?.trim())?;
-    let tally = answered(rt.alloc(), &mut octets, asked)?;
+    let line = first_line(rt, rt.alloc())?;
+    let tally = answered(rt.alloc(), line.trim(), asked)?;
     println!(rt;
         "{} samples, marks {}, {} refused",
         tally.samples, tally.marks, tally.refused
@@ -37,14 +37,19 @@ pub fn time_polls<R: Input + Print + AllocGlobal>(rt: &R, words: &[String]) -> O
 /// Reads the two arguments.
 fn asked_of(words: &[String]) -> Option<Asked> {
     Some(Asked {
-        times: words.first()?.parse().ok()?,
-        place: words.get(1)?.parse().ok()?,
+        times: parsed(words.first()?)?,
+        place: parsed(words.get(1)?)?,
     })
 }
 
-/// Polls and answers as often as is asked.
-fn answered(alloc: Global, octets: &mut Vec<u8>, asked: Asked) -> Option<Tally> {
+/// Polls and answers as often as is asked, with the response of these digits.
+fn answered(alloc: Global, digits: &str, asked: Asked) -> Option<Tally> {
+    let mut octets = octets(alloc, digits)?;
     let mut polls = poller(alloc)?;
+    answer_all(alloc, &mut polls, &mut octets, asked)
+}
+
+fn answer_all(alloc: Global, polls: &mut Poller, octets: &mut [u8], asked: Asked) -> Option<Tally> {
     let mut tally = Tally {
         samples: 0,
         marks: 0,
@@ -53,12 +58,16 @@ fn answered(alloc: Global, octets: &mut Vec<u8>, asked: Asked) -> Option<Tally> 
     for _ in 0..asked.times {
         let id = polls.start(alloc, 1).ok()?.id;
         number(octets, asked.place, id)?;
-        match polls.response(alloc, local(16102), octets) {
-            Ok(offered) => count(&mut tally, &offered),
-            Err(_) => tally.refused = tally.refused.wrapping_add(1),
-        }
+        answer(alloc, polls, octets, &mut tally);
     }
     Some(tally)
+}
+
+fn answer(alloc: Global, polls: &mut Poller, octets: &[u8], tally: &mut Tally) {
+    match polls.response(alloc, local(16102), octets) {
+        Ok(offered) => count(tally, &offered),
+        Err(_) => tally.refused = tally.refused.wrapping_add(1),
+    }
 }
 
 /// Writes the request-id, in four octets, at its place.

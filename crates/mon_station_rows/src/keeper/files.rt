@@ -2,8 +2,8 @@
 
 use crate::keeper::found::{Found, saved};
 use mon_disk::{Disk, Keeper, MemoryDisk, NotOpened, SLOT_SIZE};
-use mon_row_texts::zeros;
-use std::alloc::{AllocError, Global};
+use mon_row_texts::{parsed, three, two, zeros};
+use std::alloc::Global;
 
 /// What a slot begins with.
 #[derive(Clone, Copy)]
@@ -26,58 +26,61 @@ impl Slot {
         if word == "-" {
             return Some(SHUT);
         }
-        let (generation, size) = word.split_once('/')?;
+        let (generation, size) = two(word, '/')?;
         Some(Slot {
             gate: 0xA5,
-            generation: generation.parse().ok()?,
-            size: size.parse().ok()?,
+            generation: parsed(generation)?,
+            size: parsed(size)?,
         })
     }
 
-    fn octets(self, alloc: Global) -> Result<Vec<u8>, AllocError> {
-        let mut octets = vec![in alloc; self.gate]?;
-        octets.extend_from_slice(&self.generation.to_be_bytes())?;
-        octets.extend_from_slice(&self.size.to_be_bytes())?;
-        Ok(octets)
+    fn octets(self) -> [u8; 17] {
+        let mut octets = [self.gate; 17];
+        octets[1..9].copy_from_slice(&self.generation.to_be_bytes());
+        octets[9..].copy_from_slice(&self.size.to_be_bytes());
+        octets
     }
 }
 
 /// Says what an opening answers of a file of a line `NAME: SLOT SLOT SIZE`, and then a save.
-pub(crate) fn row(alloc: Global, line: &str) -> Option<String> {
+pub(crate) fn row(alloc: Global, text: &mut String, line: &str) -> Option<()> {
     let (name, file) = line.split_once(": ")?;
     match Keeper::open(alloc, disk_of(alloc, file)?) {
         Ok((mut keeper, body)) => {
             let found = Found::of(body);
             let next = saved(keeper.save(alloc, b"new"));
-            format!(in alloc; "{name}: {found} {next}").ok()
+            write!(text, "{name}: {found} {next}").ok()
         }
-        Err(NotOpened { fault, disk: _ }) => format!(in alloc; "{name}: {}", fault.name()).ok(),
+        Err(NotOpened { fault, disk: _ }) => write!(text, "{name}: {}", fault.name()).ok(),
     }
 }
 
 /// Makes the disk of a file `SLOT SLOT SIZE`.
 fn disk_of(alloc: Global, file: &str) -> Option<MemoryDisk> {
-    let (first, rest) = file.split_once(' ')?;
-    let (second, size) = rest.split_once(' ')?;
-    let last = u64::checked_sub(size.parse().ok()?, 1)?;
-    let (first, second) = (Slot::parse(first)?, Slot::parse(second)?);
+    let (first, second, size) = three(file, ' ')?;
+    let last = u64::checked_sub(parsed(size)?, 1)?;
+    let slots = (Slot::parse(first)?, Slot::parse(second)?);
     let mut disk = MemoryDisk::new(alloc, &[]).ok()?;
-    put_slot(alloc, &mut disk, 0, first)?;
-    put_slot(alloc, &mut disk, SLOT_SIZE, second)?;
-    disk.write_at(last, &[0]).ok()?;
+    write_file(&mut disk, slots, last)?;
     Some(disk)
 }
 
-/// Writes what a slot begins with.
-fn put_slot(alloc: Global, disk: &mut MemoryDisk, at: u64, slot: Slot) -> Option<()> {
-    let octets = slot.octets(alloc).ok()?;
-    disk.write_at(at, octets.as_slice()).ok()
+/// Writes what the slots begin with, and the last octet.
+fn write_file(disk: &mut MemoryDisk, slots: (Slot, Slot), last: u64) -> Option<()> {
+    disk.write_at(0, &slots.0.octets()).ok()?;
+    disk.write_at(SLOT_SIZE, &slots.1.octets()).ok()?;
+    disk.write_at(last, &[0]).ok()
 }
 
 /// Says what a save of this many octets answers.
-pub(crate) fn sized(alloc: Global, size: usize) -> Option<String> {
+pub(crate) fn sized(alloc: Global, text: &mut String, size: usize) -> Option<()> {
     let disk = MemoryDisk::new(alloc, &[]).ok()?;
     let (mut keeper, _) = Keeper::open(alloc, disk).ok()?;
-    let answer = saved(keeper.save(alloc, zeros(alloc, size).ok()?.as_slice()));
-    format!(in alloc; "save of {size}: {answer}").ok()
+    let answer = save_zeros(alloc, &mut keeper, size)?;
+    write!(text, "save of {size}: {answer}").ok()
+}
+
+fn save_zeros(alloc: Global, keeper: &mut Keeper<MemoryDisk>, size: usize) -> Option<&'static str> {
+    let zeros = zeros(alloc, size).ok()?;
+    Some(saved(keeper.save(alloc, zeros.as_slice())))
 }

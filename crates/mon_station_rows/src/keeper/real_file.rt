@@ -2,7 +2,7 @@
 
 use crate::keeper::found::{Found, saved};
 use mon_disk::{BODY_SIZE, FileDisk, Keeper};
-use mon_row_texts::zeros;
+use mon_row_texts::{parsed, zeros};
 use std::alloc::Global;
 use std::fs::{self, File};
 use std::rt::Files;
@@ -19,32 +19,46 @@ fn open_file<R: Files<File = File> + AllocGlobal>(
 }
 
 /// Says what an opening of the file finds, and what a save of this text then answers.
-pub(crate) fn saved_row<R: Files<File = File> + AllocGlobal>(rt: &R, body: &str) -> Option<String> {
+pub(crate) fn saved_row<R: Files<File = File> + AllocGlobal>(
+    rt: &R,
+    text: &mut String,
+    body: &str,
+) -> Option<()> {
     let (mut keeper, found) = open_file(rt, PATH)?;
     let found = Found::of(found);
     let answer = saved(keeper.save(rt.alloc(), body.as_bytes()));
-    format!(in rt.alloc(); "a file: {found}, then a save: {answer}").ok()
+    write!(text, "a file: {found}, then a save: {answer}").ok()
 }
 
 /// Says what an opening of the file finds.
-pub(crate) fn found_row<R: Files<File = File> + AllocGlobal>(rt: &R) -> Option<String> {
+pub(crate) fn found_row<R: Files<File = File> + AllocGlobal>(
+    rt: &R,
+    text: &mut String,
+) -> Option<()> {
     let found = Found::on(rt.alloc(), FileDisk::open(rt, PATH).ok()?);
-    format!(in rt.alloc(); "a file: {found}").ok()
+    write!(text, "a file: {found}").ok()
 }
 
 /// Removes the file, and says whether an opening is then refused.
-pub(crate) fn removed_row<R: Files<File = File> + AllocGlobal>(rt: &R) -> Option<String> {
+pub(crate) fn removed_row<R: Files<File = File>>(rt: &R, text: &mut String) -> Option<()> {
     fs::remove_file(rt, PATH).ok()?;
     let gone = FileDisk::open(rt, PATH).is_err();
-    format!(in rt.alloc(); "no file is refused: {gone}").ok()
+    write!(text, "no file is refused: {gone}").ok()
 }
 
 /// Says whether a folder is refused by its path, and what an opening answers of it by a handle that
 /// only reads.
-pub(crate) fn folder_row<R: Files<File = File> + AllocGlobal>(rt: &R) -> Option<String> {
+pub(crate) fn folder_row<R: Files<File = File> + AllocGlobal>(
+    rt: &R,
+    text: &mut String,
+) -> Option<()> {
     let refused = FileDisk::open_or_create(rt, ".").is_err();
     let found = Found::on(rt.alloc(), FileDisk::new(File::open(rt, ".").ok()?));
-    format!(in rt.alloc(); "a folder is refused: {refused}, and its handle: {found}").ok()
+    write!(
+        text,
+        "a folder is refused: {refused}, and its handle: {found}"
+    )
+    .ok()
 }
 
 /// Prints what an opening of a file answers.
@@ -63,12 +77,16 @@ fn numbered(alloc: Global, number: u64) -> Option<Vec<u8>> {
 
 /// Returns the number of the save that this body is of, 0 if there is no body.
 fn number_of(alloc: Global, body: Option<Vec<u8>>) -> Option<u64> {
-    let Some(body) = body else {
-        return Some(0);
-    };
+    match body {
+        Some(body) => number_in(alloc, body.as_slice()),
+        None => Some(0),
+    }
+}
+
+fn number_in(alloc: Global, body: &[u8]) -> Option<u64> {
     let number = u64::from_be_bytes(*body.first_chunk::<8>()?);
     let whole = numbered(alloc, number)?;
-    if body.as_slice() == whole.as_slice() {
+    if body == whole.as_slice() {
         Some(number)
     } else {
         None
@@ -80,10 +98,18 @@ fn number_of(alloc: Global, body: Option<Vec<u8>>) -> Option<u64> {
 pub fn save_on<R: Files<File = File> + Print + AllocGlobal>(rt: &R, path: &str) -> Option<()> {
     let (mut keeper, body) = open_file(rt, path)?;
     let found = number_of(rt.alloc(), body)?;
+    save_after(rt, &mut keeper, found)
+}
+
+fn save_after<R: Print + AllocGlobal>(
+    rt: &R,
+    keeper: &mut Keeper<FileDisk>,
+    found: u64,
+) -> Option<()> {
     println!(rt; "{found}").ok()?;
     let mut number = found.checked_add(1)?;
     for _ in 0..u64::MAX {
-        if is_saved(rt.alloc(), &mut keeper, number)? {
+        if is_saved(rt.alloc(), keeper, number)? {
             println!(rt; "{number}").ok()?;
             number = number.checked_add(1)?;
         } else {
@@ -102,12 +128,16 @@ fn is_saved(alloc: Global, keeper: &mut Keeper<FileDisk>, number: u64) -> Option
 
 /// Saves in a file as the arguments FILE OCTETS TIMES say.
 pub fn time_saves<R: Files<File = File> + AllocGlobal>(rt: &R, words: &[String]) -> Option<()> {
-    let size: usize = words.get(1)?.parse().ok()?;
-    let times: u64 = words.get(2)?.parse().ok()?;
+    let size: usize = parsed(words.get(1)?)?;
+    let times: u64 = parsed(words.get(2)?)?;
     let (mut keeper, _) = open_file(rt, words.first()?)?;
-    let body = zeros(rt.alloc(), size.min(BODY_SIZE)).ok()?;
+    save_zeros(rt.alloc(), &mut keeper, size, times)
+}
+
+fn save_zeros(alloc: Global, keeper: &mut Keeper<FileDisk>, size: usize, times: u64) -> Option<()> {
+    let body = zeros(alloc, size.min(BODY_SIZE)).ok()?;
     for _ in 0..times {
-        keeper.save(rt.alloc(), body.as_slice()).ok()?;
+        keeper.save(alloc, body.as_slice()).ok()?;
     }
     Some(())
 }
