@@ -14,7 +14,7 @@ use mon_cli::SettingsArgs;
 use mon_console::{AgentAt, Failure, agent_at, community, names_of, print};
 use mon_smi::Names;
 use mon_survey::{Choice, Kinds, Options, Peer, Surveyed, append, settings};
-use std::alloc::{AllocError, Global};
+use std::alloc::Global;
 use std::fs::File;
 use std::net::Net;
 use std::rt::{Clock, Files};
@@ -165,16 +165,13 @@ impl<'m, 'a> Ground<'m, 'a> {
     }
 }
 
-/// The texts that options lend: where a station, its peers and its agent are, its file, and its
-/// modules.
+/// The texts that options lend, next to those of the arguments: where a station and its peers are, and
+/// its file.
 #[derive(Drop)]
 struct Texts {
     listen: String,
     file: String,
     peers: Vec<Peer>,
-    address: String,
-    community: String,
-    modules: Vec<String>,
 }
 
 impl Texts {
@@ -184,9 +181,6 @@ impl Texts {
             listen: String::new(alloc),
             file: String::new(alloc),
             peers: Vec::new(alloc),
-            address: String::new(alloc),
-            community: String::new(alloc),
-            modules: Vec::new(alloc),
         }
     }
 
@@ -199,10 +193,7 @@ impl Texts {
     ) -> Result<(), Failure> {
         put_address(alloc, &mut self.listen, words.listen.unwrap_or(LISTEN), up)?;
         put_file(&mut self.file, words.file.unwrap_or(FILE), up)?;
-        put_peers(alloc, &mut self.peers, words.peers, up)?;
-        self.address.push_str(words.address)?;
-        self.community.push_str(words.community)?;
-        Ok(put_copies(alloc, &mut self.modules, words.modules)?)
+        put_peers(alloc, &mut self.peers, words.peers, up)
     }
 }
 
@@ -213,48 +204,45 @@ fn texts_of(alloc: Global, words: &SettingsArgs<'_, '_>, up: u32) -> Result<Text
     Ok(texts)
 }
 
-/// Appends copies of texts.
-fn put_copies(
-    alloc: Global,
-    strings: &mut Vec<String>,
-    words: &[&str],
-) -> Result<(), AllocError> {
-    for word in words {
-        let string = String::from_str(alloc, word)?;
-        strings.push(string)?;
-    }
-    Ok(())
+/// What options lend.
+#[derive(Clone, Copy)]
+struct Lent<'p> {
+    address: &'p str,
+    community: &'p str,
+    modules: &'p [&'p str],
+    texts: &'p Texts,
 }
 
-/// Lends texts.
-fn lent<'p>(alloc: Global, strings: &'p [String]) -> Result<Vec<&'p str>, AllocError> {
-    let mut lent = Vec::with_capacity(alloc, strings.len())?;
-    for string in strings {
-        lent.push(string.as_str())?;
+/// Lends texts for as long as all of them live.
+fn lend<'p>(
+    address: &'p str,
+    community: &'p str,
+    modules: &'p [&'p str],
+    texts: &'p Texts,
+) -> Lent<'p> {
+    Lent {
+        address,
+        community,
+        modules,
+        texts,
     }
-    Ok(lent)
 }
 
 /// The settings' options. This percentage of a speed, up to 100, raises an alarm.
-fn options_of<'p>(
-    words: &SettingsArgs<'_, '_>,
-    percent: u8,
-    texts: &'p Texts,
-    modules: &'p [&'p str],
-) -> Options<'p>
+fn options_of<'p>(words: &SettingsArgs<'_, '_>, percent: u8, lent: Lent<'p>) -> Options<'p>
     ensures most { result.percent ≤ 100 }
     ensures same { percent ≤ 100 → result.percent ≡ percent }
 {
     Options {
         station: words.station,
-        listen: texts.listen.as_str(),
-        file: texts.file.as_str(),
+        listen: lent.texts.listen.as_str(),
+        file: lent.texts.file.as_str(),
         window: words.window,
         wait_ms: words.wait_ms,
-        modules,
-        peers: &texts.peers,
-        address: texts.address.as_str(),
-        community: texts.community.as_str(),
+        modules: lent.modules,
+        peers: &lent.texts.peers,
+        address: lent.address,
+        community: lent.community,
         tries: words.tries.min(8) as u8,
         percent: percent.min(100),
     }
@@ -278,8 +266,9 @@ fn settings_by(
     group: Option<u32>,
     texts: &Texts,
 ) -> Result<String, Failure> {
-    let modules = lent(alloc, &texts.modules)?;
-    let options = options_of(ground.words, ground.asked.percent, texts, &modules);
+    let words = ground.words;
+    let lent = lend(words.address, words.community, words.modules, texts);
+    let options = options_of(words, ground.asked.percent, lent);
     match settings(
         alloc,
         ground.names,
@@ -309,8 +298,9 @@ fn appended_by(
     existing: &Existing,
     texts: &Texts,
 ) -> Result<String, Failure> {
-    let modules = lent(alloc, &texts.modules)?;
-    let options = options_of(ground.words, ground.asked.percent, texts, &modules);
+    let words = ground.words;
+    let lent = lend(words.address, words.community, words.modules, texts);
+    let options = options_of(words, ground.asked.percent, lent);
     match append(
         alloc,
         &existing.lent(),

@@ -47,15 +47,23 @@ pub(crate) fn kinds_of(alloc: Global, only: Option<&str>) -> Result<Kinds, Failu
         discards: false,
     };
     for word in only.unwrap_or("octets,errors").split(',') {
-        match word {
-            "octets" => kinds.octets = true,
-            "packets" => kinds.packets = true,
-            "errors" => kinds.errors = true,
-            "discards" => kinds.discards = true,
-            _ => return Err(Failure::text(alloc, word, "octets, packets, errors or discards")),
+        if !add_kind(&mut kinds, word) {
+            return Err(Failure::text(alloc, word, "octets, packets, errors or discards"));
         }
     }
     Ok(kinds)
+}
+
+/// Adds the kind of counters that a word names. Returns `false` if it names none.
+fn add_kind(kinds: &mut Kinds, word: &str) -> bool {
+    match word {
+        "octets" => kinds.octets = true,
+        "packets" => kinds.packets = true,
+        "errors" => kinds.errors = true,
+        "discards" => kinds.discards = true,
+        _ => return false,
+    }
+    true
 }
 
 /// Returns the percentage that an option gives, with a percent sign or without; 0 if it is left out.
