@@ -9,10 +9,9 @@ use mon_oid::Oid;
 use mon_pdu::{Binding, Body, Message};
 use mon_survey::{Answers, Column, Kinds, SurveyFault, columns, engine_of};
 use std::alloc::Global;
-use std::mem;
 use std::net::Net;
 use std::rt::{Clock, Files};
-use std::slice;
+use std::{mem, slice};
 
 /// How many rounds a GetBulk asks for.
 const REPETITIONS: i32 = 32;

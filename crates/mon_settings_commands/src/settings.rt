@@ -185,12 +185,7 @@ impl Texts {
     }
 
     /// Appends the texts that the arguments give, with ports and the file's name counted up.
-    fn put(
-        &mut self,
-        alloc: Global,
-        words: &SettingsArgs<'_, '_>,
-        up: u32,
-    ) -> Result<(), Failure> {
+    fn put(&mut self, alloc: Global, words: &SettingsArgs<'_, '_>, up: u32) -> Result<(), Failure> {
         put_address(alloc, &mut self.listen, words.listen.unwrap_or(LISTEN), up)?;
         put_file(&mut self.file, words.file.unwrap_or(FILE), up)?;
         put_peers(alloc, &mut self.peers, words.peers, up)
