@@ -148,6 +148,20 @@ fn group_of(
     }
 }
 
+/// Requires at least one counter, and at most the 256 of a station.
+fn require_few(counters: &[Planned]) -> Result<(), SurveyFault>
+    ensures gives { OnOk result (limited counters.now ≡ Ok counters.now) }
+    ensures fault { IfErr result (λ e. limited counters.now ≡ Err e) }
+{
+    if counters.is_empty() {
+        return Err(SurveyFault::NoCounter);
+    }
+    if counters.len() > MOST_INSTANCES {
+        return Err(SurveyFault::TooMany(counters.len()));
+    }
+    Ok(())
+}
+
 /// Returns the counters that a station polls: of each interface with an ifDescr that is chosen, in
 /// the order of their indexes, those of the kinds that are polled and that the agent has, each by 64
 /// bits where the agent has that, else by 32; and of these the group that is chosen.
@@ -164,12 +178,7 @@ pub fn plan(
 {
     let all = counters_of(alloc, answers, choice)?;
     let counters = group_of(alloc, choice.group, all)?;
-    if counters.is_empty() {
-        return Err(SurveyFault::NoCounter);
-    }
-    if counters.len() > MOST_INSTANCES {
-        return Err(SurveyFault::TooMany(counters.len()));
-    }
+    require_few(&counters)?;
     Ok(counters)
 }
 
