@@ -308,7 +308,7 @@ fn labels_by(
     before: Option<&[Value]>,
     indexes: &[u32],
 ) -> Result<String, SurveyFault>
-    requires { interfaces_in old.now ≡ option_map (λ v. items_view v.now) before.entry }
+    requires { interfaces_in old.now ≡ option_map (λ v. items_view v.now) before }
     ensures reads { IfOk result (λ text. IsLabels old.now source.now.engine.now source.now.answers.now indexes.now (string_bytes text)) }
     ensures fault { IfErr result (IsNoLabels old.now source.now.engine.now source.now.answers.now indexes.now) }
 {

@@ -99,7 +99,8 @@ fn settings_by<S: NameTexts>(
         planned: &planned,
     };
     let text = draft(shown, &wanted.agent_plan())?;
-    confirm(shown.alloc, names, &wanted, text)
+    let text = confirm(shown.alloc, names, &wanted, text)?;
+    Ok(text)
 }
 
 /// Returns the settings of a station that polls the chosen counters of an agent, names by those of

@@ -3,6 +3,7 @@
 ghost use Rattle.std.specs.Prelude.{◌≡◌, ◌++◌, [], ◌∷◌, IfOk, None, OnOk, codes, decimal, if◌then◌else◌, option_map, string_bytes};
 ghost use Rattle.std.specs.List.{concat, flat_map};
 ghost use Rattle.hex.specs.Hex.{encode_lower};
+ghost use Rattle.mon_survey.specs.Answers.{octets_of, value_at};
 ghost use Rattle.mon_survey.specs.Labels.{begun, escaped, if_alias, if_name, indexes_after, interface_text, is_before, labels_text, line_of, text_of};
 
 use crate::answers::Answers;
@@ -129,16 +130,30 @@ pub(crate) struct Source<'a> {
 impl Source<'_> {
     /// Returns the octets of the interface's ifName; none if it is absent.
     pub(crate) fn name(&self, index: u32) -> &[u8]
-        ensures { text_of result.now ≡ if_name self.now.answers.now index }
+        ensures { result.now ≡ octets_of (value_at self.now.answers.now (Column.IfX 1) index) }
     {
         self.answers.octets(Column::IfX(1), index)
     }
 
     /// Returns the octets of the interface's ifAlias; none if it is absent.
     pub(crate) fn alias(&self, index: u32) -> &[u8]
-        ensures { text_of result.now ≡ if_alias self.now.answers.now index }
+        ensures { result.now ≡ octets_of (value_at self.now.answers.now (Column.IfX 18) index) }
     {
         self.answers.octets(Column::IfX(18), index)
+    }
+
+    /// Adds the line of the interface's ifName, where it has one.
+    fn put_name(&self, text: &mut Vec<u8>, index: u32) -> Result<(), AllocError>
+        ensures { OnOk result (text.new.items ≡ text.old.items ++ line_of (codes "ifName") (if_name self.now.answers.now index)) }
+    {
+        put_text(self.alloc, text, "ifName", self.name(index))
+    }
+
+    /// Adds the line of the interface's ifAlias, where it has one.
+    fn put_alias(&self, text: &mut Vec<u8>, index: u32) -> Result<(), AllocError>
+        ensures { OnOk result (text.new.items ≡ text.old.items ++ line_of (codes "ifAlias") (if_alias self.now.answers.now index)) }
+    {
+        put_text(self.alloc, text, "ifAlias", self.alias(index))
     }
 
     /// Adds the table of an interface.
@@ -147,8 +162,8 @@ impl Source<'_> {
         ensures { OnOk result (text.new.items ≡ text.old.items ++ interface_text self.now.engine.now self.now.answers.now index) }
     {
         put_head(self.alloc, text, self.engine, index)?;
-        put_text(self.alloc, text, "ifName", self.name(index))?;
-        put_text(self.alloc, text, "ifAlias", self.alias(index))
+        self.put_name(text, index)?;
+        self.put_alias(text, index)
     }
 
     /// Adds the tables of interfaces.

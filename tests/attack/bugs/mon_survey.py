@@ -198,8 +198,8 @@ BUGS = {
     ),
     "confirms_no_settings": (
         "src/surveying.rt",
-        "    confirm(shown.alloc, names, &wanted, text)\n",
-        "    Ok(text)\n",
+        "    let text = confirm(shown.alloc, names, &wanted, text)?;\n    Ok(text)",
+        "    Ok(text)",
     ),
     "returns_another_text": (
         "src/surveying.rt",
