@@ -151,11 +151,7 @@ fn are_agents(wanted: &Wanted<'_>, targets: &[Target]) -> bool
 }
 
 /// Returns `true` if the targets' objects are the counters.
-fn are_polled(
-    alloc: Global,
-    wanted: &Wanted<'_>,
-    targets: &[Target],
-) -> Result<bool, AllocError>
+fn are_polled(alloc: Global, wanted: &Wanted<'_>, targets: &[Target]) -> Result<bool, AllocError>
     ensures { IfOk result (λ are. IsTrue are ↔ AllZip (IsCounter wanted.now.answers.now) (flat_map (λ t. t.objects) targets.now) wanted.now.planned.now) }
 {
     let objects = objects_of(alloc, targets)?;

@@ -108,12 +108,7 @@ fn is_text(found: Option<&str>, wanted: &Option<String>) -> bool
 }
 
 /// Returns `true` if the table has the octets as its text at a key, or no text if there are none.
-fn has_text(
-    alloc: Global,
-    value: &Value,
-    key: &str,
-    octets: &[u8],
-) -> Result<bool, AllocError>
+fn has_text(alloc: Global, value: &Value, key: &str, octets: &[u8]) -> Result<bool, AllocError>
     ensures { IfOk result (λ has. IsTrue has ↔ (text_at key.now (view value.now) ≡ text_of octets.now)) }
 {
     let text = text_of(alloc, octets)?;
