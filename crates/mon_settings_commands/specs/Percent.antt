@@ -13,12 +13,12 @@ pub record IsPercentage (text : List ℕ) (n : ℕ) : Type 0 where
 abbrev pub MeansPercentage : List ℕ → ℕ → Type 0
 MeansPercentage text n = IsPercentage text n ⊎ ((front : List ℕ) × (text ≡ front ++ codes "%") × IsPercentage front n)
 
--- an option gives a percentage: the one that its text means, or 0 if it is left out
+-- the percentage of an option: the one that its text means, or 0 if it is left out
 abbrev pub GivesPercentage : Option (List ℕ) → ℕ → Type 0
 GivesPercentage None n = n ≡ 0
 GivesPercentage (Some text) n = MeansPercentage text n
 
--- an option gives none: its text means no percentage
+-- why an option has no percentage: its text means none
 abbrev pub GivesNone : Option (List ℕ) → Type 0
 GivesNone None = ⊥
 GivesNone (Some text) = (n : ℕ) → ¬ (MeansPercentage text n)
