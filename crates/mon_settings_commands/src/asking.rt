@@ -11,7 +11,7 @@ use mon_survey::{Answers, Column, Kinds, SurveyFault, columns, engine_of};
 use std::alloc::Global;
 use std::net::Net;
 use std::rt::{Clock, Files};
-use std::slice;
+use std::{mem, slice};
 
 /// How many rounds a GetBulk asks for.
 const REPETITIONS: i32 = 32;
@@ -42,15 +42,8 @@ pub(crate) fn ask_agent<R: Clock + Files + Net + Eprint + AllocGlobal>(
     rt: &R,
     asked: Asked<'_>,
 ) -> Result<Survey, Failure> {
-    let alloc = rt.alloc();
     let mut asker = Asker::open(rt, asked)?;
-    let first = asker.first(alloc)?;
-    let answers = asker.interfaces(alloc, asked.kinds)?;
-    tell_count(rt, asked.agent.word, first.number, answers.count());
-    Ok(Survey {
-        engine: first.engine,
-        answers,
-    })
+    asker.survey(rt, asked.kinds)
 }
 
 /// Says that ifNumber is another number than that of ifTable's interfaces, where it is.
@@ -119,28 +112,55 @@ impl<W: Wire> Asker<'_, W> {
         }
     }
 
+    /// Returns what the agent answers, for these kinds of counters.
+    fn survey<R: Eprint + AllocGlobal>(&mut self, rt: &R, kinds: Kinds) -> Result<Survey, Failure> {
+        let alloc = rt.alloc();
+        let Head { engine, number } = self.first(alloc)?;
+        let mut survey = Survey {
+            engine,
+            answers: Answers::new(alloc),
+        };
+        self.walk_columns(alloc, kinds, &mut survey.answers)?;
+        tell_count(rt, self.agent, number, survey.answers.count());
+        Ok(survey)
+    }
+
     /// Returns the agent's engine id and its ifNumber.
     fn first(&mut self, alloc: Global) -> Result<Head, Failure> {
+        let bindings = self.ask_first(alloc)?;
+        self.head_in(alloc, &bindings)
+    }
+
+    /// Asks for the engine group and ifNumber.
+    fn ask_first(&mut self, alloc: Global) -> Result<Vec<Binding>, Failure> {
         let names = first_names(alloc)?;
-        let bindings = self.ask(alloc, Asking::Get, &names)?;
-        match engine_in(&bindings) {
+        self.ask(alloc, Asking::Get, &names)
+    }
+
+    /// Returns the engine id and the ifNumber in the answers.
+    fn head_in(&self, alloc: Global, bindings: &[Binding]) -> Result<Head, Failure> {
+        match engine_in(bindings) {
             Ok(engine) => Ok(Head {
                 engine: Vec::from_slice(alloc, engine)?,
-                number: number_in(&bindings),
+                number: number_in(bindings),
             }),
             Err(fault) => Err(survey_failure(alloc, self.agent, fault)),
         }
     }
 
-    /// Returns what the agent answers of its interfaces, for these kinds of counters.
-    fn interfaces(&mut self, alloc: Global, kinds: Kinds) -> Result<Answers, Failure> {
-        let mut answers = Answers::new(alloc);
+    /// Takes what the agent answers of its interfaces, for these kinds of counters.
+    fn walk_columns(
+        &mut self,
+        alloc: Global,
+        kinds: Kinds,
+        answers: &mut Answers,
+    ) -> Result<(), Failure> {
         for column in columns() {
             if kinds.needs(column) {
-                self.walk(alloc, column, &mut answers)?;
+                self.walk(alloc, column, answers)?;
             }
         }
-        Ok(answers)
+        Ok(())
     }
 
     /// Takes the cells of a column.
@@ -150,53 +170,69 @@ impl<W: Wire> Asker<'_, W> {
         column: Column,
         answers: &mut Answers,
     ) -> Result<(), Failure> {
-        let start = column_name(alloc, column)?;
-        let mut last = start.try_clone(alloc)?;
+        let mut place = Place::at(alloc, column)?;
         for _ in 0..REQUESTS {
-            let asking = Asking::GetBulk(Repeats {
-                non_repeaters: 0,
-                max_repetitions: REPETITIONS,
-            });
-            let bindings = self.ask(alloc, asking, slice::from_ref(&last))?;
-            match self.take(alloc, &start, last, bindings, answers)? {
-                Some(name) => last = name,
-                None => return Ok(()),
+            if !self.step(alloc, &mut place, answers)? {
+                return Ok(());
             }
         }
         Err(self.unending(alloc))
     }
 
-    /// Takes the cells under the start, and returns the last one's name, or None where the column is at
-    /// its end.
+    /// Asks for the cells after the last one and takes them. Returns `false` at the end of the column.
+    fn step(
+        &mut self,
+        alloc: Global,
+        place: &mut Place,
+        answers: &mut Answers,
+    ) -> Result<bool, Failure> {
+        let asking = Asking::GetBulk(Repeats {
+            non_repeaters: 0,
+            max_repetitions: REPETITIONS,
+        });
+        let mut bindings = self.ask(alloc, asking, slice::from_ref(&place.last))?;
+        self.take(alloc, place, &mut bindings, answers)
+    }
+
+    /// Takes the cells of a reply. Returns `false` at the end of the column.
     fn take(
         &self,
         alloc: Global,
-        start: &Oid,
-        last: Oid,
-        bindings: Vec<Binding>,
+        place: &mut Place,
+        bindings: &mut [Binding],
         answers: &mut Answers,
-    ) -> Result<Option<Oid>, Failure> {
+    ) -> Result<bool, Failure> {
         if bindings.is_empty() {
             return Err(answer_failure(alloc, self.agent, AppFault::NotIncreasing));
         }
-        let mut last = last;
-        for binding in bindings {
-            if is_past(start, &binding) {
-                return Ok(None);
+        for binding in bindings.iter_mut() {
+            if !self.put(alloc, place, binding, answers)? {
+                return Ok(false);
             }
-            if !last.compare(&binding.name).is_lt() {
-                return Err(answer_failure(alloc, self.agent, AppFault::NotIncreasing));
-            }
-            last = self.put(alloc, binding, answers)?;
         }
-        Ok(Some(last))
+        Ok(true)
     }
 
-    /// Takes a cell, and returns its name.
-    fn put(&self, alloc: Global, binding: Binding, answers: &mut Answers) -> Result<Oid, Failure> {
-        let Binding { name, value } = binding;
-        match answers.take(&name, value) {
-            Ok(()) => Ok(name),
+    /// Takes a cell, which becomes the last one. Returns `false` if it is past the column.
+    fn put(
+        &self,
+        alloc: Global,
+        place: &mut Place,
+        binding: &mut Binding,
+        answers: &mut Answers,
+    ) -> Result<bool, Failure> {
+        if is_past(&place.start, binding) {
+            return Ok(false);
+        }
+        if !place.last.compare(&binding.name).is_lt() {
+            return Err(answer_failure(alloc, self.agent, AppFault::NotIncreasing));
+        }
+        let value = mem::replace(&mut binding.value, Value::Null);
+        match answers.take(&binding.name, value) {
+            Ok(()) => {
+                mem::swap(&mut place.last, &mut binding.name);
+                Ok(true)
+            }
             Err(fault) => Err(survey_failure(alloc, self.agent, fault)),
         }
     }
@@ -208,6 +244,24 @@ impl<W: Wire> Asker<'_, W> {
             Fault::App(AppFault::Timeout),
             format!(in alloc; "{agent}: a column had no end after {REQUESTS} requests"),
         )
+    }
+}
+
+/// Where a walk is in its column.
+#[derive(Drop)]
+struct Place {
+    /// The name under which the cells are.
+    start: Oid,
+    /// The name of the last cell that was taken, or the start.
+    last: Oid,
+}
+
+impl Place {
+    /// Returns the start of a column.
+    fn at(alloc: Global, column: Column) -> Result<Self, Failure> {
+        let start = column_name(alloc, column)?;
+        let last = start.try_clone(alloc)?;
+        Ok(Place { start, last })
     }
 }
 
@@ -256,10 +310,16 @@ fn number_in(bindings: &[Binding]) -> Option<u32> {
 fn first_names(alloc: Global) -> Result<Vec<Oid>, Failure> {
     let mut names = Vec::new(alloc);
     for parts in &ENGINE_GROUP {
-        names.push(name_of(alloc, parts.as_slice())?)?;
+        add_name(alloc, &mut names, parts.as_slice())?;
     }
-    names.push(name_of(alloc, IF_NUMBER.as_slice())?)?;
+    add_name(alloc, &mut names, IF_NUMBER.as_slice())?;
     Ok(names)
+}
+
+/// Adds the name of these numbers.
+fn add_name(alloc: Global, names: &mut Vec<Oid>, parts: &[u32]) -> Result<(), Failure> {
+    let name = name_of(alloc, parts)?;
+    Ok(names.push(name)?)
 }
 
 /// The name of these numbers.

@@ -1,19 +1,20 @@
 //! The command `settings`: asks an agent for its engine, walks its tables of interfaces, and prints the
 //! settings of a station that polls it.
 
-ghost use Rattle.std.specs.Prelude.{◌≤◌};
+ghost use Rattle.std.specs.Prelude.{◌≡◌, ◌≤◌, IfOk, option_copied};
+ghost use Rattle.mon_settings_commands.specs.Percent.{GivesPercentage};
 
 use crate::asking::{Survey, ask_agent};
 use crate::existing::{Existing, existing_in};
 use crate::failing::{survey_failure, together_failure};
 use crate::labelling::{old_labels, write_labels};
 use crate::parts::write_parts;
-use crate::words::{address_up, file_up, kinds_of, peers_of, percent_of};
+use crate::words::{kinds_of, percent_of, put_address, put_file, put_peers, require_peers};
 use mon_cli::SettingsArgs;
 use mon_console::{AgentAt, Failure, agent_at, community, names_of, print};
 use mon_smi::Names;
 use mon_survey::{Choice, Kinds, Options, Peer, Surveyed, append, settings};
-use std::alloc::{AllocError, Global};
+use std::alloc::Global;
 use std::fs::File;
 use std::net::Net;
 use std::rt::{Clock, Files};
@@ -51,20 +52,23 @@ pub(crate) struct Asked<'a> {
     pub(crate) percent: u8,
 }
 
-/// Reads what the arguments say of the agent, and requires that the station and its peers have
-/// addresses, before the agent is asked.
-fn asked_of<'a>(alloc: Global, words: &SettingsArgs<'_, 'a>) -> Result<Asked<'a>, Failure> {
+/// Reads what the arguments say of the agent, and requires that each peer has a number and an address,
+/// before the agent is asked.
+fn asked_of<'a>(alloc: Global, words: &SettingsArgs<'_, 'a>) -> Result<Asked<'a>, Failure>
+    ensures { IfOk result (λ asked. GivesPercentage (option_copied words.now.thresholds) asked.percent) }
+{
     let asked = Asked {
         agent: agent_at(alloc, words.address)?,
         community: community(alloc, words.community)?,
         kinds: kinds_of(alloc, words.only)?,
         percent: percent_of(alloc, words.thresholds)?,
     };
-    texts_of(alloc, words, 0)?;
+    require_peers(alloc, words.peers)?;
     Ok(asked)
 }
 
-/// Requires that neither several files nor modules are asked for beside settings that are there.
+/// Requires that neither several files nor modules are asked for together with settings that are
+/// there.
 fn require_alone(alloc: Global, words: &SettingsArgs<'_, '_>) -> Result<(), Failure> {
     if words.split.is_some() || !words.modules.is_empty() {
         return Err(together_failure(alloc));
@@ -161,70 +165,79 @@ impl<'m, 'a> Ground<'m, 'a> {
     }
 }
 
-/// The texts that options lend: where a station, its peers and its agent are, its file, and its
-/// modules.
+/// The texts that options lend, next to those of the arguments: where a station and its peers are, and
+/// its file.
 #[derive(Drop)]
 struct Texts {
     listen: String,
     file: String,
     peers: Vec<Peer>,
-    address: String,
-    community: String,
-    modules: Vec<String>,
+}
+
+impl Texts {
+    /// Returns empty texts.
+    fn new(alloc: Global) -> Self {
+        Texts {
+            listen: String::new(alloc),
+            file: String::new(alloc),
+            peers: Vec::new(alloc),
+        }
+    }
+
+    /// Appends the texts that the arguments give, with ports and the file's name counted up.
+    fn put(&mut self, alloc: Global, words: &SettingsArgs<'_, '_>, up: u32) -> Result<(), Failure> {
+        put_address(alloc, &mut self.listen, words.listen.unwrap_or(LISTEN), up)?;
+        put_file(&mut self.file, words.file.unwrap_or(FILE), up)?;
+        put_peers(alloc, &mut self.peers, words.peers, up)
+    }
 }
 
 /// The texts that the arguments give, with ports and the file's name counted up.
 fn texts_of(alloc: Global, words: &SettingsArgs<'_, '_>, up: u32) -> Result<Texts, Failure> {
-    let listen = address_up(alloc, words.listen.unwrap_or(LISTEN), up)?;
-    let file = file_up(alloc, words.file.unwrap_or(FILE), up)?;
-    let peers = peers_of(alloc, words.peers, up)?;
-    Ok(Texts {
-        listen,
-        file,
-        peers,
-        address: String::from_str(alloc, words.address)?,
-        community: String::from_str(alloc, words.community)?,
-        modules: strings_of(alloc, words.modules)?,
-    })
+    let mut texts = Texts::new(alloc);
+    texts.put(alloc, words, up)?;
+    Ok(texts)
 }
 
-/// Copies texts.
-fn strings_of(alloc: Global, words: &[&str]) -> Result<Vec<String>, AllocError> {
-    let mut strings = Vec::with_capacity(alloc, words.len())?;
-    for word in words {
-        strings.push(String::from_str(alloc, word)?)?;
-    }
-    Ok(strings)
-}
-
-/// Lends texts.
-fn lent<'p>(alloc: Global, strings: &'p [String]) -> Result<Vec<&'p str>, AllocError> {
-    let mut lent = Vec::with_capacity(alloc, strings.len())?;
-    for string in strings {
-        lent.push(string.as_str())?;
-    }
-    Ok(lent)
-}
-
-/// The settings' options. At most this percentage of a speed raises an alarm.
-fn options_of<'p>(
-    words: &SettingsArgs<'_, '_>,
-    percent: u8,
-    texts: &'p Texts,
+/// What options lend.
+#[derive(Clone, Copy)]
+struct Lent<'p> {
+    address: &'p str,
+    community: &'p str,
     modules: &'p [&'p str],
-) -> Options<'p>
-    ensures { result.percent ≤ 100 }
+    texts: &'p Texts,
+}
+
+/// Lends texts for as long as all of them live.
+fn lend<'p>(
+    address: &'p str,
+    community: &'p str,
+    modules: &'p [&'p str],
+    texts: &'p Texts,
+) -> Lent<'p> {
+    Lent {
+        address,
+        community,
+        modules,
+        texts,
+    }
+}
+
+/// The settings' options. This percentage of a speed, up to 100, raises an alarm.
+fn options_of<'p>(words: &SettingsArgs<'_, '_>, percent: u8, lent: Lent<'p>) -> Options<'p>
+    ensures most { result.percent ≤ 100 }
+    ensures same { percent ≤ 100 → result.percent ≡ percent }
 {
     Options {
         station: words.station,
-        listen: texts.listen.as_str(),
-        file: texts.file.as_str(),
+        listen: lent.texts.listen.as_str(),
+        file: lent.texts.file.as_str(),
         window: words.window,
         wait_ms: words.wait_ms,
-        modules,
-        peers: &texts.peers,
-        address: texts.address.as_str(),
-        community: texts.community.as_str(),
+        modules: lent.modules,
+        peers: &lent.texts.peers,
+        address: lent.address,
+        community: lent.community,
         tries: words.tries.min(8) as u8,
         percent: percent.min(100),
     }
@@ -238,8 +251,19 @@ pub(crate) fn settings_of(
     group: Option<u32>,
 ) -> Result<String, Failure> {
     let texts = texts_of(alloc, ground.words, group.unwrap_or(0))?;
-    let modules = lent(alloc, &texts.modules)?;
-    let options = options_of(ground.words, ground.asked.percent, &texts, &modules);
+    settings_by(alloc, ground, group, &texts)
+}
+
+/// The settings of a station that polls all counters, or those of a group, with these texts.
+fn settings_by(
+    alloc: Global,
+    ground: &Ground<'_, '_>,
+    group: Option<u32>,
+    texts: &Texts,
+) -> Result<String, Failure> {
+    let words = ground.words;
+    let lent = lend(words.address, words.community, words.modules, texts);
+    let options = options_of(words, ground.asked.percent, lent);
     match settings(
         alloc,
         ground.names,
@@ -259,8 +283,19 @@ fn appended(
     existing: &Existing,
 ) -> Result<String, Failure> {
     let texts = texts_of(alloc, ground.words, 0)?;
-    let modules = lent(alloc, &texts.modules)?;
-    let options = options_of(ground.words, ground.asked.percent, &texts, &modules);
+    appended_by(alloc, ground, existing, &texts)
+}
+
+/// Settings with the agent's targets at their end, with these texts.
+fn appended_by(
+    alloc: Global,
+    ground: &Ground<'_, '_>,
+    existing: &Existing,
+    texts: &Texts,
+) -> Result<String, Failure> {
+    let words = ground.words;
+    let lent = lend(words.address, words.community, words.modules, texts);
+    let options = options_of(words, ground.asked.percent, lent);
     match append(
         alloc,
         &existing.lent(),

@@ -1,32 +1,41 @@
 //! What the options of `settings` say.
 
-use mon_console::Failure;
+ghost use Rattle.std.specs.Prelude.{◌≡◌, ℕ, IfErr, IfNone, IfOk, IfSome, option_copied};
+ghost use Rattle.mon_settings_commands.specs.Percent.{GivesNone, GivesPercentage, IsPercentage, MeansPercentage};
+
+use mon_app::AppFault;
+use mon_console::{Failure, Fault};
 use mon_survey::{Kinds, Peer};
 use mon_udp::Addr;
 use std::alloc::{AllocError, Global};
 
-/// The address that a text writes, with its port counted up. What writes none stays as it is, and the
-/// settings are refused for it.
-pub(crate) fn address_up(alloc: Global, text: &str, up: u32) -> Result<String, Failure> {
+/// Appends the address that a text writes, with its port counted up. What writes none is appended as
+/// it is, and the settings are refused for it.
+pub(crate) fn put_address(
+    alloc: Global,
+    place: &mut String,
+    text: &str,
+    up: u32,
+) -> Result<(), Failure> {
     let Some(mut address) = Addr::parse(text) else {
-        return Ok(String::from_str(alloc, text)?);
+        return Ok(place.push_str(text)?);
     };
     match u16::try_from(u32::from(address.port).saturating_add(up)) {
         Ok(port) => {
             address.port = port;
-            Ok(format!(in alloc; "{address}")?)
+            Ok(write!(place, "{address}")?)
         }
         Err(_) => Err(Failure::text(alloc, text, "an address whose port can be counted up")),
     }
 }
 
-/// The name of a file, with its number from the second on.
-pub(crate) fn file_up(alloc: Global, file: &str, up: u32) -> Result<String, AllocError> {
+/// Appends the name of a file, with its number from the second on.
+pub(crate) fn put_file(place: &mut String, file: &str, up: u32) -> Result<(), AllocError> {
     if up == 0 {
-        return String::from_str(alloc, file);
+        return place.push_str(file);
     }
     let number = up.saturating_add(1);
-    format!(in alloc; "{file}-{number}")
+    write!(place, "{file}-{number}")
 }
 
 /// The kinds of counters that a text names; octets and errors if there is none.
@@ -38,47 +47,103 @@ pub(crate) fn kinds_of(alloc: Global, only: Option<&str>) -> Result<Kinds, Failu
         discards: false,
     };
     for word in only.unwrap_or("octets,errors").split(',') {
-        match word {
-            "octets" => kinds.octets = true,
-            "packets" => kinds.packets = true,
-            "errors" => kinds.errors = true,
-            "discards" => kinds.discards = true,
-            _ => return Err(Failure::text(alloc, word, "octets, packets, errors or discards")),
+        if !add_kind(&mut kinds, word) {
+            return Err(Failure::text(alloc, word, "octets, packets, errors or discards"));
         }
     }
     Ok(kinds)
 }
 
-/// The percentage that a text gives, with a percent sign or without; 0 if there is none.
-pub(crate) fn percent_of(alloc: Global, text: Option<&str>) -> Result<u8, Failure> {
+/// Adds the kind of counters that a word names. Returns `false` if it names none.
+fn add_kind(kinds: &mut Kinds, word: &str) -> bool {
+    match word {
+        "octets" => kinds.octets = true,
+        "packets" => kinds.packets = true,
+        "errors" => kinds.errors = true,
+        "discards" => kinds.discards = true,
+        _ => return false,
+    }
+    true
+}
+
+/// Returns the percentage that an option gives, with a percent sign or without; 0 if it is left out.
+pub(crate) fn percent_of(alloc: Global, text: Option<&str>) -> Result<u8, Failure>
+    ensures given { IfOk result (GivesPercentage (option_copied text.entry)) }
+    ensures refused { IfErr result (λ f. (f.fault ≡ Fault.App AppFault.BadText) × GivesNone (option_copied text.entry)) }
+{
     let Some(text) = text else {
         return Ok(0);
     };
-    match text.strip_suffix('%').unwrap_or(text).parse::<u8>() {
-        Ok(percent) if 1 <= percent && percent <= 100 => Ok(percent),
-        _ => Err(Failure::text(alloc, text, "a percentage, 1 to 100,")),
+    match percentage(text) {
+        Some(percent) => Ok(percent),
+        None => Err(Failure::text(alloc, text, "a percentage, 1 to 100,")),
     }
 }
 
-/// The peers that texts name, with their ports counted up.
-pub(crate) fn peers_of(alloc: Global, words: &[&str], up: u32) -> Result<Vec<Peer>, Failure> {
-    let mut peers = Vec::new(alloc);
+/// Returns the percentage that a text means, with a percent sign at its end or without.
+fn percentage(text: &str) -> Option<u8>
+    ensures found { IfSome result (MeansPercentage text.now) }
+    ensures none { IfNone result ((n : ℕ) → ¬ (MeansPercentage text.now n)) }
+{
+    match text.strip_suffix('%') {
+        Some(front) => number_to_100(front),
+        None => number_to_100(text),
+    }
+}
+
+/// Returns the number from 1 to 100 that a text spells.
+fn number_to_100(text: &str) -> Option<u8>
+    ensures found { IfSome result (IsPercentage text.now) }
+    ensures none { IfNone result ((n : ℕ) → ¬ (IsPercentage text.now n)) }
+{
+    let Ok(number) = text.parse::<u8>() else {
+        return None;
+    };
+    if number < 1 {
+        return None;
+    }
+    if number > 100 {
+        return None;
+    }
+    Some(number)
+}
+
+/// Requires that each text names a peer.
+pub(crate) fn require_peers(alloc: Global, words: &[&str]) -> Result<(), Failure> {
     for word in words {
-        peers.push(peer_of(alloc, word, up)?)?;
+        peer_at(alloc, word)?;
     }
-    Ok(peers)
+    Ok(())
 }
 
-/// The peer that a text names, as `2=10.0.0.2:16101`, with its port counted up.
-fn peer_of(alloc: Global, word: &str, up: u32) -> Result<Peer, Failure> {
+/// Appends the peers that texts name, with their ports counted up.
+pub(crate) fn put_peers(
+    alloc: Global,
+    peers: &mut Vec<Peer>,
+    words: &[&str],
+    up: u32,
+) -> Result<(), Failure> {
+    for word in words {
+        put_peer(alloc, peers, word, up)?;
+    }
+    Ok(())
+}
+
+/// Appends the peer that a text names, with its port counted up.
+fn put_peer(alloc: Global, peers: &mut Vec<Peer>, word: &str, up: u32) -> Result<(), Failure> {
+    let (station, text) = peer_at(alloc, word)?;
+    let mut address = String::new(alloc);
+    put_address(alloc, &mut address, text, up)?;
+    Ok(peers.push(Peer { station, address })?)
+}
+
+/// Returns the number and the address of the peer that a text names, as `2=10.0.0.2:16101`.
+fn peer_at<'a>(alloc: Global, word: &'a str) -> Result<(u32, &'a str), Failure> {
     let Some((number, address)) = word.split_once('=') else {
         return Err(peer_failure(alloc, word));
     };
     match number.parse::<u32>() {
-        Ok(station) => Ok(Peer {
-            station,
-            address: address_up(alloc, address, up)?,
-        }),
+        Ok(station) => Ok((station, address)),
         Err(_) => Err(peer_failure(alloc, word)),
     }
 }

@@ -1,4 +1,5 @@
 pub mod Cells
 pub mod Comments
 pub mod Steps
+pub mod Verdicts
 pub mod Zips

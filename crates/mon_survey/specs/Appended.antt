@@ -113,7 +113,7 @@ abbrev pub few_instances : Station → List Planned → Result (List Planned) Su
 few_instances old ps =
     if nat_le (length old.core.watch.instances + length ps) 256 then few_targets old ps else Err (fault.TooMany (length old.core.watch.instances + length ps))
 
--- the counters, where settings have room for them and poll no agent of this engine id
+-- the counters, if settings have space for them and poll no agent of this engine id
 abbrev pub with_room : Station → List ℕ → List Planned → Result (List Planned) SurveyFault
 with_room old engine ps = if list_any (polls engine) old.core.targets then Err fault.SameEngine else few_instances old ps
 
@@ -135,7 +135,7 @@ IsMisread defs o engine cells ps old text (fault.Refused e) = IsRefusal (station
 IsMisread defs o engine cells ps old text fault.Misread = (station : Station) × Says (IsStation defs) text station × ¬ (IsAppended o engine cells ps old station)
 IsMisread defs o engine cells ps old text _ = ⊥
 
--- there is no plan, no room or no text, for this reason
+-- there is no plan, no space or no text, for this reason
 abbrev pub IsStopped : List Definition → Choice → Options → List ℕ → Station → List ℕ → List Cell → SurveyFault → Type 0
 IsStopped defs choice o text old engine cells e =
     (planned_of choice cells ≡ Err e)

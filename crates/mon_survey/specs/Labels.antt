@@ -31,7 +31,7 @@ indexes_after before (p ∷ ps) = (if is_before before p.index then [] else (p.i
 abbrev pub indexes_of : Choice → List Cell → List ℕ
 indexes_of choice cells = indexes_after None (counters_of choice cells)
 
--- octets as a text, with U+FFFD in place of what is not UTF-8; none where there are no octets
+-- octets as a text, with U+FFFD in place of what is not UTF-8; none if there are no octets
 abbrev pub text_of : List ℕ → Option (List ℕ)
 text_of [] = None
 text_of (b ∷ bs) = Some (utf8_lossy (b ∷ bs))
@@ -110,6 +110,11 @@ abbrev pub Continue : List ℕ → List Cell → List ℕ → Items → Items �
 Continue engine cells indexes no_items ds = AreInterfaces engine cells indexes ds
 Continue engine cells indexes (item a olds) (item b ds) = IsSameInterface a b × Continue engine cells indexes olds ds
 Continue engine cells indexes (item a olds) no_items = ⊥
+
+-- there are new tables, which are the old ones, and then those of the interfaces
+abbrev pub ContinueIn : List ℕ → List Cell → List ℕ → Items → Option Items → Type 0
+ContinueIn engine cells indexes olds None = ⊥
+ContinueIn engine cells indexes olds (Some ds) = Continue engine cells indexes olds ds
 
 -- a text is read as these tables, and then those of the interfaces
 abbrev pub ReadsOn : List ℕ → List Cell → List ℕ → Items → List ℕ → Type 0

@@ -122,6 +122,10 @@ pub record IsMeant (o : Options) (engine : List ℕ) (cells : List Cell) (ps : L
   pub rules : AllZip IsAlarm s.core.watch.rules (alarms_from engine cells o.percent 0 s.core.watch.instances)
   pub peers : ArePeers o.peers.now s.core.peers s.peer_addresses
 
+-- why what is read is not found to be what was meant: out of memory, or it is something else
+abbrev pub IsUnlike : Type 0 → SurveyFault → Type 0
+IsUnlike Meant e = (e ≡ fault.OutOfMemory) ⊎ ((e ≡ fault.Misread) × ¬ Meant)
+
 -- under these definitions a text is read as what was meant
 abbrev pub IsReadBack : List Definition → Options → List ℕ → List Cell → List Planned → List ℕ → Type 0
 IsReadBack defs o engine cells ps text = (station : Station) × Says (IsStation defs) text station × IsMeant o engine cells ps station

@@ -54,7 +54,7 @@ comment_text cells p =
     ++ type_text (type_in cells p.index)
     ++ concat (codes ", " ∷ decimal (number_in (value_at cells (IfX 15) p.index)) ∷ codes " Mbit/s\n" ∷ [])
 
--- the end of a counter's table, with the mark of its interface's counters, where it has one; names stand as they are shown
+-- the end of a counter's table, with the mark of its interface's counters, where it has one; names appear as they are shown
 abbrev pub mark_text : (List ℕ → List ℕ) → List Cell → ℕ → List ℕ
 mark_text shown cells index = if is_marked cells index then codes "\", mark = \"" ++ shown (cell_name (IfX 19) index) ++ codes "\" }," else codes "\" },"
 

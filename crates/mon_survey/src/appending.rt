@@ -4,6 +4,7 @@ ghost use Rattle.std.specs.Prelude.{◌≡◌, ◌⊎◌, ◌≤◌, Err, IfErr,
 ghost use Rattle.mon_settings.specs.StationAccepted.{IsStation, Station, station_view};
 ghost use Rattle.mon_settings.specs.Text.{Says};
 ghost use Rattle.mon_survey.specs.Appended.{IsAppendFault, IsAppended, IsAppendedText, IsMisread, polls, shown_by, with_room};
+ghost use Rattle.mon_survey.specs.Meant.{IsUnlike};
 ghost use Rattle.mon_survey.specs.Plan.{planned_of};
 ghost use Rattle.mon_survey.specs.Text.{addition_of};
 ghost use Rattle.std.specs.List.{list_any};
@@ -56,7 +57,7 @@ fn polls_any(engine: &[u8], targets: &[Target]) -> bool
     targets.iter().any(|target| polls(engine, target))
 }
 
-/// Requires that the settings have room for the counters, and poll no agent of this engine id.
+/// Requires that the settings have space for the counters, and poll no agent of this engine id.
 fn require_room(
     station: &StationSettings,
     engine: &[u8],
@@ -115,6 +116,25 @@ fn draft_addition(
     )
 }
 
+/// Requires that the new settings are the old ones with the agent's targets.
+fn require_appended(
+    alloc: Global,
+    wanted: &Wanted<'_>,
+    old: &StationSettings,
+    new: &StationSettings,
+) -> Result<(), SurveyFault>
+    requires few { length wanted.now.planned.now ≤ 256 }
+    requires percent { wanted.now.options.now.percent ≤ 100 }
+    ensures gives { OnOk result (IsAppended wanted.now.options.now wanted.now.engine.now wanted.now.answers.now wanted.now.planned.now (station_view old.now) (station_view new.now)) }
+    ensures fault { IfErr result (IsUnlike (IsAppended wanted.now.options.now wanted.now.engine.now wanted.now.answers.now wanted.now.planned.now (station_view old.now) (station_view new.now))) }
+{
+    if is_appended(alloc, wanted, old, new)? {
+        Ok(())
+    } else {
+        Err(SurveyFault::Misread)
+    }
+}
+
 /// Returns `Ok` if the text is read as the settings with the agent's targets.
 fn read_appended(
     alloc: Global,
@@ -128,13 +148,7 @@ fn read_appended(
     ensures fault { IfErr result (IsMisread existing.now.names.now wanted.now.options.now wanted.now.engine.now wanted.now.answers.now wanted.now.planned.now (station_view existing.now.station.now) text.now) }
 {
     match read_station(alloc, text, existing.names) {
-        Ok(station) => {
-            if is_appended(alloc, wanted, existing.station, &station)? {
-                Ok(())
-            } else {
-                Err(SurveyFault::Misread)
-            }
-        }
+        Ok(station) => require_appended(alloc, wanted, existing.station, &station),
         Err(SettingsFault::OutOfMemory) => Err(SurveyFault::OutOfMemory),
         Err(fault) => Err(SurveyFault::Refused(fault)),
     }

@@ -150,6 +150,14 @@ fn are_agents(wanted: &Wanted<'_>, targets: &[Target]) -> bool
     targets.iter().all(|target| is_agent(wanted, target))
 }
 
+/// Returns `true` if the targets' objects are the counters.
+fn are_polled(alloc: Global, wanted: &Wanted<'_>, targets: &[Target]) -> Result<bool, AllocError>
+    ensures { IfOk result (λ are. IsTrue are ↔ AllZip (IsCounter wanted.now.answers.now) (flat_map (λ t. t.objects) targets.now) wanted.now.planned.now) }
+{
+    let objects = objects_of(alloc, targets)?;
+    Ok(are_counters(wanted.answers, &objects, wanted.planned))
+}
+
 /// Returns `true` if the targets are those that were meant.
 pub(crate) fn are_targets(
     alloc: Global,
@@ -159,10 +167,10 @@ pub(crate) fn are_targets(
     requires { length wanted.now.planned.now ≤ 256 }
     ensures { IfOk result (λ are. IsTrue are ↔ AreTargets wanted.now.options.now wanted.now.engine.now wanted.now.answers.now wanted.now.planned.now targets.now) }
 {
-    let objects = objects_of(alloc, targets)?;
+    let polled = are_polled(alloc, wanted, targets)?;
     Ok(
         are_agents(wanted, targets)
-            && are_counters(wanted.answers, objects.as_slice(), wanted.planned)
+            && polled
             && targets.len() == (wanted.planned.len() + MOST_OBJECTS - 1) / MOST_OBJECTS,
     )
 }
@@ -286,6 +294,20 @@ fn are_alarms(rules: &[Rule], alarms: &[Alarm]) -> bool
     true
 }
 
+/// Returns `true` if the rules are the alarms on all instances.
+fn has_alarms(
+    alloc: Global,
+    wanted: &Wanted<'_>,
+    rules: &[Rule],
+    instances: &[Watched],
+) -> Result<bool, AllocError>
+    requires { wanted.now.options.now.percent ≤ 100 }
+    ensures { IfOk result (λ are. IsTrue are ↔ AllZip IsAlarm rules.now (alarms_from wanted.now.engine.now wanted.now.answers.now wanted.now.options.now.percent 0 instances.now)) }
+{
+    let alarms = alarms_of(alloc, wanted, instances)?;
+    Ok(are_alarms(rules, &alarms))
+}
+
 /// Returns `true` if the numbers are those of the peers.
 fn are_numbered(numbers: &[u32], peers: &[Peer]) -> bool
     ensures { IsTrue result ↔ AllZip (λ n p. n ≡ p.station) numbers.now peers.now }
@@ -380,12 +402,12 @@ pub(crate) fn is_meant(
     let options = wanted.options;
     let instances = station.core.watch().instances();
     let targets = are_targets(alloc, wanted, station.core.targets())?;
-    let alarms = alarms_of(alloc, wanted, instances)?;
+    let alarms = has_alarms(alloc, wanted, station.core.watch().rules(), instances)?;
     Ok(
         are_scalars(options, station)
             && targets
             && are_sized(options, instances)
-            && are_alarms(station.core.watch().rules(), alarms.as_slice())
+            && alarms
             && are_peers(
                 options.peers,
                 station.core.peers(),

@@ -3,7 +3,7 @@
 ghost use Rattle.std.specs.Prelude.{◌≡◌, ◌↔◌, ◌≤◌, IfOk, IsTrue, drop, length, map, not, option_copied, string_bytes, take};
 ghost use Rattle.std.specs.List.{AllZip, filter};
 ghost use Rattle.mon_settings.specs.StationAccepted.{station_view};
-ghost use Rattle.mon_survey.specs.Meant.{is_own};
+ghost use Rattle.mon_survey.specs.Meant.{alarms_from, is_own};
 ghost use Rattle.mon_survey.specs.Appended.{HasAlarms, IsAppended, IsSameObject, IsSameRule, IsSameTarget, KeepsOld, KeepsOthers, KeepsOwn, KeepsRules, KeepsScalars, instance_at, is_on};
 
 use crate::comparing::{Alarm, Wanted, alarms_of, are_targets, is_alarm, is_own};
@@ -246,6 +246,20 @@ fn is_kept(watches: &Watches<'_>, old: &StationSettings, new: &StationSettings) 
         && are_kept_rules(watches, old.core.watch().rules(), new.core.watch().rules())
 }
 
+/// Returns `true` if those of the rules that are the agent's are the alarms on its instances.
+fn has_own_alarms(
+    alloc: Global,
+    wanted: &Wanted<'_>,
+    watches: &Watches<'_>,
+    rules: &[Rule],
+) -> Result<bool, AllocError>
+    requires { wanted.now.options.now.percent ≤ 100 }
+    ensures { IfOk result (λ are. IsTrue are ↔ HasAlarms watches.now.engine.now watches.now.new.now rules.now (alarms_from wanted.now.engine.now wanted.now.answers.now wanted.now.options.now.percent 0 watches.now.new.now)) }
+{
+    let alarms = alarms_of(alloc, wanted, watches.new)?;
+    Ok(are_own_alarms(watches, rules, &alarms))
+}
+
 /// Returns `true` if the new settings are the old ones with the agent's targets and alarms.
 pub(crate) fn is_appended(
     alloc: Global,
@@ -264,10 +278,6 @@ pub(crate) fn is_appended(
     };
     let added = after(new.core.targets(), old.core.targets().len());
     let targets = are_targets(alloc, wanted, added)?;
-    let alarms = alarms_of(alloc, wanted, watches.new)?;
-    Ok(
-        is_kept(&watches, old, new)
-            && targets
-            && are_own_alarms(&watches, new.core.watch().rules(), alarms.as_slice()),
-    )
+    let alarms = has_own_alarms(alloc, wanted, &watches, new.core.watch().rules())?;
+    Ok(is_kept(&watches, old, new) && targets && alarms)
 }

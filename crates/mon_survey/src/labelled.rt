@@ -5,13 +5,15 @@ ghost use Rattle.hex.specs.Hex.{encode_lower};
 ghost use Rattle.toml.specs.Data.{as_integer, get, get_member};
 ghost use Rattle.toml.specs.Parse.{parse_document};
 ghost use Rattle.toml.specs.View.{items_view, table_view, view};
-ghost use Rattle.mon_survey.specs.Labels.{AreInterfaces, Continue, IsInterface, IsLabels, IsNoLabels, IsSameInterface, ReadsOn, has_engine, indexes_of, interfaces_in, is_of, items_at, text_at};
+ghost use Rattle.mon_survey.specs.Meant.{IsUnlike};
+ghost use Rattle.mon_survey.specs.Labels.{AreInterfaces, Continue, ContinueIn, IsInterface, IsLabels, IsNoLabels, IsSameInterface, ReadsOn, has_engine, indexes_of, interfaces_in, is_of, items_at, text_at, text_of};
 
+use crate::answers::Answers;
 use crate::choice::Choice;
 use crate::fault::SurveyFault;
 use crate::planning::counters_of;
 use crate::surveying::Surveyed;
-use crate::tables::{Source, indexes_of};
+use crate::tables::{Source, indexes_of, text_of};
 use std::alloc::{AllocError, Global};
 use toml::{Table, Value};
 
@@ -46,7 +48,7 @@ fn interfaces(table: &Table) -> Option<&[Value]>
     items_in(find(table, "interface"))
 }
 
-/// The values of a list; none where there is no list.
+/// The values of a list; none if there is no list.
 fn items_in(found: Option<&Value>) -> Option<&[Value]>
     ensures { option_map (λ v. items_view v.now) result ≡ items_at (option_map (λ v. view v.now) found.entry) }
 {
@@ -105,17 +107,25 @@ fn is_text(found: Option<&str>, wanted: &Option<String>) -> bool
     }
 }
 
+/// Returns `true` if the table has the octets as its text at a key, or no text if there are none.
+fn has_text(alloc: Global, value: &Value, key: &str, octets: &[u8]) -> Result<bool, AllocError>
+    ensures { IfOk result (λ has. IsTrue has ↔ (text_at key.now (view value.now) ≡ text_of octets.now)) }
+{
+    let text = text_of(alloc, octets)?;
+    Ok(is_text(text_at(value, key), &text))
+}
+
 /// Returns `true` if the table is that of the interface.
 fn is_interface(source: &Source<'_>, index: u32, value: &Value) -> Result<bool, AllocError>
     ensures { IfOk result (λ is. IsTrue is ↔ IsInterface source.now.engine.now source.now.answers.now index (view value.now)) }
 {
-    let name = source.name(index)?;
-    let alias = source.alias(index)?;
+    let name = has_text(source.alloc, value, "ifName", source.name(index))?;
+    let alias = has_text(source.alloc, value, "ifAlias", source.alias(index))?;
     Ok(
         are_alike(text_at(value, "engine"), Some(source.engine))
             && number_at(value, "index") == Some(i64::from(index))
-            && is_text(text_at(value, "ifName"), &name)
-            && is_text(text_at(value, "ifAlias"), &alias),
+            && name
+            && alias,
     )
 }
 
@@ -209,6 +219,21 @@ fn require_room(
     Ok(())
 }
 
+/// Returns `true` if there are new tables, which are the old ones, and then those of the interfaces.
+fn continues_in(
+    source: &Source<'_>,
+    indexes: &[u32],
+    old: &[Value],
+    new: Option<&[Value]>,
+) -> Result<bool, AllocError>
+    ensures { IfOk result (λ is. IsTrue is ↔ ContinueIn source.now.engine.now source.now.answers.now indexes.now (items_view old.now) (option_map (λ v. items_view v.now) new.entry)) }
+{
+    match new {
+        Some(new) => continues(source, indexes, old, new),
+        None => Ok(false),
+    }
+}
+
 /// Returns `true` if the text is read as these tables and those of the interfaces. An `Err` means out
 /// of memory.
 fn reads_on(
@@ -224,9 +249,23 @@ fn reads_on(
         Err(SurveyFault::BadLabels) => return Ok(false),
         Err(_) => return Err(AllocError),
     };
-    match interfaces(&read) {
-        Some(after) => continues(source, indexes, before, after),
-        None => Ok(false),
+    continues_in(source, indexes, before, interfaces(&read))
+}
+
+/// Returns the text, if it is read as the old tables and those of the interfaces.
+fn confirm(
+    source: &Source<'_>,
+    before: &[Value],
+    indexes: &[u32],
+    text: String,
+) -> Result<String, SurveyFault>
+    ensures gives { IfOk result (λ same. (same ≡ text) × ReadsOn source.now.engine.now source.now.answers.now indexes.now (items_view before.now) (string_bytes text)) }
+    ensures fault { IfErr result (IsUnlike (ReadsOn source.now.engine.now source.now.answers.now indexes.now (items_view before.now) (string_bytes text))) }
+{
+    if reads_on(source, before, indexes, text.as_str())? {
+        Ok(text)
+    } else {
+        Err(SurveyFault::Misread)
     }
 }
 
@@ -242,13 +281,9 @@ fn labels_after(
     ensures fault { IfErr result (IsNoLabels old.now source.now.engine.now source.now.answers.now indexes.now) }
 {
     let octets = source.octets(old, indexes)?;
-    let Ok(text) = String::from_utf8(octets) else {
-        return Err(SurveyFault::Misread);
-    };
-    if reads_on(source, before, indexes, text.as_str())? {
-        Ok(text)
-    } else {
-        Err(SurveyFault::Misread)
+    match String::from_utf8(octets) {
+        Ok(text) => confirm(source, before, indexes, text),
+        Err(_) => Err(SurveyFault::Misread),
     }
 }
 
@@ -258,11 +293,38 @@ fn labels_of(source: &Source<'_>, old: &str, indexes: &[u32]) -> Result<String, 
     ensures fault { IfErr result (IsNoLabels old.now source.now.engine.now source.now.answers.now indexes.now) }
 {
     let was = tree(source.alloc, old)?;
-    let Some(before) = interfaces(&was) else {
+    labels_by(source, old, interfaces(&was), indexes)
+}
+
+/// Returns the file of the interfaces of these indexes after the old tables.
+fn labels_by(
+    source: &Source<'_>,
+    old: &str,
+    before: Option<&[Value]>,
+    indexes: &[u32],
+) -> Result<String, SurveyFault>
+    requires { interfaces_in old.now ≡ option_map (λ v. items_view v.now) before }
+    ensures reads { IfOk result (λ text. IsLabels old.now source.now.engine.now source.now.answers.now indexes.now (string_bytes text)) }
+    ensures fault { IfErr result (IsNoLabels old.now source.now.engine.now source.now.answers.now indexes.now) }
+{
+    let Some(before) = before else {
         return Err(SurveyFault::BadLabels);
     };
     require_room(source, old, before, indexes)?;
     labels_after(source, old, before, indexes)
+}
+
+/// Returns the indexes of the interfaces of which a counter is chosen.
+fn indexes_by(
+    alloc: Global,
+    answers: &Answers,
+    choice: &Choice<'_>,
+) -> Result<Vec<u32>, SurveyFault>
+    ensures gives { IfOk result (λ v. v.items ≡ indexes_of choice.now answers.now) }
+    ensures memory { IfErr result (λ e. e ≡ SurveyFault.OutOfMemory) }
+{
+    let counters = counters_of(alloc, answers, choice)?;
+    Ok(indexes_of(alloc, &counters)?)
 }
 
 /// Returns a file of the texts of the interfaces of which a counter is chosen: the old text octet by
@@ -282,8 +344,7 @@ pub fn labels(
     ensures reads { IfOk result (λ text. IsLabels old.now (encode_lower agent.now.engine.now) agent.now.answers.now (indexes_of choice.now agent.now.answers.now) (string_bytes text)) }
     ensures fault { IfErr result (IsNoLabels old.now (encode_lower agent.now.engine.now) agent.now.answers.now (indexes_of choice.now agent.now.answers.now)) }
 {
-    let counters = counters_of(alloc, agent.answers, choice)?;
-    let indexes = indexes_of(alloc, &counters)?;
+    let indexes = indexes_by(alloc, agent.answers, choice)?;
     let digits = hex::encode(alloc, agent.engine)?;
     let source = Source {
         alloc,

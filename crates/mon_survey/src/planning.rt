@@ -1,6 +1,7 @@
 //! Which counters of an agent a station polls.
 
 ghost use Rattle.std.specs.Prelude.{◌≡◌, ◌⊎◌, ◌≤◌, ◌*◌, ◌++◌, Err, Ok, IfErr, IfOk, OnOk, drop, take};
+ghost use Rattle.std.specs.List.{flat_map};
 ghost use Rattle.std.specs.Option.{option_to_list};
 ghost use Rattle.mon_survey.specs.Plan.{counters_from, counters_of, interface_counters, limited, planned_by, group_of, planned_of, thresholds_at, thresholds_of, width_of};
 ghost use Rattle.mon_survey.specs.Answers.{number_in, value_at};
@@ -61,6 +62,22 @@ fn add_counter(
     }
 }
 
+/// Adds those of some counters of an interface whose kinds are polled and that the agent has.
+fn add_counters(
+    counters: &mut Vec<Planned>,
+    answers: &Answers,
+    choice: &Choice<'_>,
+    index: u32,
+    some: &[Counter],
+) -> Result<(), AllocFailed<Planned>>
+    ensures { OnOk result (counters.new.items ≡ counters.old.items ++ flat_map (λ counter. option_to_list (planned_by choice.now answers.now index counter)) some.now) }
+{
+    for counter in some {
+        add_counter(counters, answers, choice, index, *counter)?;
+    }
+    Ok(())
+}
+
 /// Adds the counters of an interface.
 fn add_interface(
     counters: &mut Vec<Planned>,
@@ -70,10 +87,7 @@ fn add_interface(
 ) -> Result<(), AllocFailed<Planned>>
     ensures { OnOk result (counters.new.items ≡ counters.old.items ++ interface_counters choice.now answers.now index) }
 {
-    for counter in &Counter::every() {
-        add_counter(counters, answers, choice, index, *counter)?;
-    }
-    Ok(())
+    add_counters(counters, answers, choice, index, &Counter::every())
 }
 
 /// Adds the counters of the interface whose ifDescr a cell holds, if it is chosen.
@@ -148,6 +162,20 @@ fn group_of(
     }
 }
 
+/// Requires at least one counter, and at most the 256 of a station.
+fn require_few(counters: &[Planned]) -> Result<(), SurveyFault>
+    ensures gives { OnOk result (limited counters.now ≡ Ok counters.now) }
+    ensures fault { IfErr result (λ e. limited counters.now ≡ Err e) }
+{
+    if counters.is_empty() {
+        return Err(SurveyFault::NoCounter);
+    }
+    if counters.len() > MOST_INSTANCES {
+        return Err(SurveyFault::TooMany(counters.len()));
+    }
+    Ok(())
+}
+
 /// Returns the counters that a station polls: of each interface with an ifDescr that is chosen, in
 /// the order of their indexes, those of the kinds that are polled and that the agent has, each by 64
 /// bits where the agent has that, else by 32; and of these the group that is chosen.
@@ -164,12 +192,7 @@ pub fn plan(
 {
     let all = counters_of(alloc, answers, choice)?;
     let counters = group_of(alloc, choice.group, all)?;
-    if counters.is_empty() {
-        return Err(SurveyFault::NoCounter);
-    }
-    if counters.len() > MOST_INSTANCES {
-        return Err(SurveyFault::TooMany(counters.len()));
-    }
+    require_few(&counters)?;
     Ok(counters)
 }
 

@@ -1,8 +1,9 @@
 //! The settings of a station that polls an agent.
 
 ghost use Rattle.std.specs.Prelude.{◌≡◌, ◌≤◌, IfErr, IfOk, OnOk, length, string_bytes};
+ghost use Rattle.mon_settings.specs.StationAccepted.{station_view};
 ghost use Rattle.mon_survey.specs.Appended.{shown_by};
-ghost use Rattle.mon_survey.specs.Meant.{IsFault, IsNotReadBack, IsReadBack, IsSettingsText};
+ghost use Rattle.mon_survey.specs.Meant.{IsFault, IsMeant, IsNotReadBack, IsReadBack, IsSettingsText, IsUnlike};
 
 use crate::answers::Answers;
 use crate::choice::Choice;
@@ -12,7 +13,7 @@ use crate::fault::SurveyFault;
 use crate::options::Options;
 use crate::planning::plan;
 use crate::writing::Naming;
-use mon_settings::{SettingsFault, read_station};
+use mon_settings::{SettingsFault, StationSettings, read_station};
 use mon_smi::{InNumbers, NameTexts, Names};
 use std::alloc::Global;
 
@@ -23,6 +24,24 @@ pub struct Surveyed<'a> {
     pub engine: &'a [u8],
     /// What it answered of its interfaces.
     pub answers: &'a Answers,
+}
+
+/// Requires that the settings are what was meant.
+fn require_meant(
+    alloc: Global,
+    wanted: &Wanted<'_>,
+    station: &StationSettings,
+) -> Result<(), SurveyFault>
+    requires few { length wanted.now.planned.now ≤ 256 }
+    requires percent { wanted.now.options.now.percent ≤ 100 }
+    ensures gives { OnOk result (IsMeant wanted.now.options.now wanted.now.engine.now wanted.now.answers.now wanted.now.planned.now (station_view station.now)) }
+    ensures fault { IfErr result (IsUnlike (IsMeant wanted.now.options.now wanted.now.engine.now wanted.now.answers.now wanted.now.planned.now (station_view station.now))) }
+{
+    if is_meant(alloc, wanted, station)? {
+        Ok(())
+    } else {
+        Err(SurveyFault::Misread)
+    }
 }
 
 /// Returns `Ok` if the text is read as what was meant.
@@ -38,16 +57,26 @@ fn read_back(
     ensures fault { IfErr result (IsNotReadBack names.now wanted.now.options.now wanted.now.engine.now wanted.now.answers.now wanted.now.planned.now text.now) }
 {
     match read_station(alloc, text, names) {
-        Ok(station) => {
-            if is_meant(alloc, wanted, &station)? {
-                Ok(())
-            } else {
-                Err(SurveyFault::Misread)
-            }
-        }
+        Ok(station) => require_meant(alloc, wanted, &station),
         Err(SettingsFault::OutOfMemory) => Err(SurveyFault::OutOfMemory),
         Err(fault) => Err(SurveyFault::Refused(fault)),
     }
+}
+
+/// Returns the text, if it is read as what was meant.
+fn confirm(
+    alloc: Global,
+    names: &Names,
+    wanted: &Wanted<'_>,
+    text: String,
+) -> Result<String, SurveyFault>
+    requires few { length wanted.now.planned.now ≤ 256 }
+    requires percent { wanted.now.options.now.percent ≤ 100 }
+    ensures gives { IfOk result (λ same. (same ≡ text) × IsReadBack names.now wanted.now.options.now wanted.now.engine.now wanted.now.answers.now wanted.now.planned.now (string_bytes text)) }
+    ensures fault { IfErr result (IsNotReadBack names.now wanted.now.options.now wanted.now.engine.now wanted.now.answers.now wanted.now.planned.now (string_bytes text)) }
+{
+    read_back(alloc, names, wanted, text.as_str())?;
+    Ok(text)
 }
 
 /// Returns the settings with names as they are shown.
@@ -70,7 +99,7 @@ fn settings_by<S: NameTexts>(
         planned: &planned,
     };
     let text = draft(shown, &wanted.agent_plan())?;
-    read_back(shown.alloc, names, &wanted, text.as_str())?;
+    let text = confirm(shown.alloc, names, &wanted, text)?;
     Ok(text)
 }
 

@@ -2,6 +2,8 @@
 
 ghost use Rattle.std.specs.Prelude.{◌≡◌, ◌++◌, [], ◌∷◌, IfOk, None, OnOk, codes, decimal, if◌then◌else◌, option_map, string_bytes};
 ghost use Rattle.std.specs.List.{concat, flat_map};
+ghost use Rattle.hex.specs.Hex.{encode_lower};
+ghost use Rattle.mon_survey.specs.Answers.{octets_of, value_at};
 ghost use Rattle.mon_survey.specs.Labels.{begun, escaped, if_alias, if_name, indexes_after, interface_text, is_before, labels_text, line_of, text_of};
 
 use crate::answers::Answers;
@@ -36,8 +38,8 @@ pub(crate) fn indexes_of(alloc: Global, counters: &[Planned]) -> Result<Vec<u32>
     Ok(indexes)
 }
 
-/// Octets as a text, with U+FFFD in place of what is not UTF-8; `None` where there are none.
-fn text_of(alloc: Global, octets: &[u8]) -> Result<Option<String>, AllocError>
+/// Octets as a text, with U+FFFD in place of what is not UTF-8; `None` if there are none.
+pub(crate) fn text_of(alloc: Global, octets: &[u8]) -> Result<Option<String>, AllocError>
     ensures { IfOk result (λ t. option_map string_bytes t ≡ text_of octets.now) }
 {
     if octets.is_empty() {
@@ -54,11 +56,18 @@ fn put_escaped(alloc: Global, text: &mut Vec<u8>, octet: u8) -> Result<(), Alloc
         return text.extend_from_slice(&[b'\\', octet]);
     }
     if octet <= 31 || octet == 127 {
-        let digits = hex::encode(alloc, &[octet])?;
         text.extend_from_slice(b"\\u00")?;
-        return text.extend_from_slice(digits.as_bytes());
+        return put_digits(alloc, text, octet);
     }
     text.extend_from_slice(&[octet])
+}
+
+/// Adds the two hex digits of an octet.
+fn put_digits(alloc: Global, text: &mut Vec<u8>, octet: u8) -> Result<(), AllocError>
+    ensures { OnOk result (text.new.items ≡ text.old.items ++ encode_lower (octet ∷ [])) }
+{
+    let digits = hex::encode(alloc, &[octet])?;
+    text.extend_from_slice(digits.as_bytes())
 }
 
 /// Adds a text in quotes, without them.
@@ -89,6 +98,14 @@ fn put_line(
     text.extend_from_slice(b"\"\n")
 }
 
+/// Adds the line of a key, where there are octets, as a text.
+fn put_text(alloc: Global, text: &mut Vec<u8>, key: &str, octets: &[u8]) -> Result<(), AllocError>
+    ensures { OnOk result (text.new.items ≡ text.old.items ++ line_of key.now (text_of octets.now)) }
+{
+    let value = text_of(alloc, octets)?;
+    put_line(alloc, text, key, &value)
+}
+
 /// Adds the head of an interface's table.
 fn put_head(alloc: Global, text: &mut Vec<u8>, engine: &str, index: u32) -> Result<(), AllocError>
     ensures { OnOk result (text.new.items ≡ text.old.items ++ concat (codes "\n[[interface]]\nengine = \"" ∷ engine.now ∷ codes "\"\nindex = " ∷ decimal index ∷ codes "\n" ∷ [])) }
@@ -106,18 +123,32 @@ pub(crate) struct Source<'a> {
 }
 
 impl Source<'_> {
-    /// The interface's ifName, where it has one.
-    pub(crate) fn name(&self, index: u32) -> Result<Option<String>, AllocError>
-        ensures { IfOk result (λ t. option_map string_bytes t ≡ if_name self.now.answers.now index) }
+    /// Returns the octets of the interface's ifName; none if it is absent.
+    pub(crate) fn name(&self, index: u32) -> &[u8]
+        ensures { result.now ≡ octets_of (value_at self.now.answers.now (Column.IfX 1) index) }
     {
-        text_of(self.alloc, self.answers.octets(Column::IfX(1), index))
+        self.answers.octets(Column::IfX(1), index)
     }
 
-    /// The interface's ifAlias, where it has one.
-    pub(crate) fn alias(&self, index: u32) -> Result<Option<String>, AllocError>
-        ensures { IfOk result (λ t. option_map string_bytes t ≡ if_alias self.now.answers.now index) }
+    /// Returns the octets of the interface's ifAlias; none if it is absent.
+    pub(crate) fn alias(&self, index: u32) -> &[u8]
+        ensures { result.now ≡ octets_of (value_at self.now.answers.now (Column.IfX 18) index) }
     {
-        text_of(self.alloc, self.answers.octets(Column::IfX(18), index))
+        self.answers.octets(Column::IfX(18), index)
+    }
+
+    /// Adds the line of the interface's ifName, where it has one.
+    fn put_name(&self, text: &mut Vec<u8>, index: u32) -> Result<(), AllocError>
+        ensures { OnOk result (text.new.items ≡ text.old.items ++ line_of (codes "ifName") (if_name self.now.answers.now index)) }
+    {
+        put_text(self.alloc, text, "ifName", self.name(index))
+    }
+
+    /// Adds the line of the interface's ifAlias, where it has one.
+    fn put_alias(&self, text: &mut Vec<u8>, index: u32) -> Result<(), AllocError>
+        ensures { OnOk result (text.new.items ≡ text.old.items ++ line_of (codes "ifAlias") (if_alias self.now.answers.now index)) }
+    {
+        put_text(self.alloc, text, "ifAlias", self.alias(index))
     }
 
     /// Adds the table of an interface.
@@ -126,8 +157,8 @@ impl Source<'_> {
         ensures { OnOk result (text.new.items ≡ text.old.items ++ interface_text self.now.engine.now self.now.answers.now index) }
     {
         put_head(self.alloc, text, self.engine, index)?;
-        put_line(self.alloc, text, "ifName", &self.name(index)?)?;
-        put_line(self.alloc, text, "ifAlias", &self.alias(index)?)
+        self.put_name(text, index)?;
+        self.put_alias(text, index)
     }
 
     /// Adds the tables of interfaces.

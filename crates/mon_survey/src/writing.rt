@@ -2,7 +2,7 @@
 
 ghost use Rattle.std.specs.Prelude.{◌≡◌, ◌≤◌, ◌<◌, ◌++◌, [], ◌∷◌, OnOk, string_bytes, IfOk, codes, map, take};
 ghost use Rattle.std.specs.List.{flat_map};
-ghost use Rattle.mon_survey.specs.Answers.{type_in};
+ghost use Rattle.mon_survey.specs.Answers.{name_in, octets_of, type_in, value_at};
 ghost use Rattle.mon_survey.specs.Column.{cell_name};
 ghost use Rattle.mon_survey.specs.Counter.{column_of};
 ghost use Rattle.mon_survey.specs.Text.{alarm_text, cleaned, comment_text, head_text, mark_text, module_text, modules_text, object_text, peer_text, rule_text, shown, target_text, type_text};
@@ -116,6 +116,15 @@ fn put_type(text: &mut String, answers: &Answers, index: u32) -> Result<(), Allo
     write!(text, ", ifType {kind}")
 }
 
+/// Adds an interface's name and its alias, as a comment shows them.
+fn put_names(text: &mut String, answers: &Answers, index: u32) -> Result<(), AllocError>
+    ensures { OnOk result (string_bytes text.new ≡ string_bytes text.old ++ cleaned (name_in answers.now index) ++ codes ", " ++ cleaned (octets_of (value_at answers.now (Column.IfX 18) index))) }
+{
+    put_cleaned(text, answers.name(index))?;
+    text.push_str(", ")?;
+    put_cleaned(text, answers.alias(index))
+}
+
 /// Adds the end of a counter's line: its comment, with its descriptor, and its interface's name,
 /// alias, type and speed.
 #[tactic(auto, unfolding(crate::specs::Text::comment_text))]
@@ -126,9 +135,7 @@ fn put_comment(text: &mut String, answers: &Answers, one: Planned) -> Result<(),
     let index = one.index;
     let speed = answers.speed(index);
     write!(text, " # {label}.{index}: ")?;
-    put_cleaned(text, answers.name(index))?;
-    text.push_str(", ")?;
-    put_cleaned(text, answers.alias(index))?;
+    put_names(text, answers, index)?;
     put_type(text, answers, index)?;
     write!(text, ", {speed} Mbit/s\n")
 }

@@ -49,7 +49,7 @@ BUGS = {
     "plans_nothing_for_no_counter": (
         "src/planning.rt",
         "        return Err(SurveyFault::NoCounter);",
-        "        return Ok(counters);",
+        "        return Ok(());",
     ),
     "has_thresholds_of_bits": (
         "src/planning.rt",
@@ -118,8 +118,8 @@ BUGS = {
     ),
     "refuses_what_is_appended": (
         "src/appending.rt",
-        "            if is_appended(alloc, wanted, existing.station, &station)? {\n                Ok(())",
-        "            if is_appended(alloc, wanted, existing.station, &station)? {\n                Err(SurveyFault::Misread)",
+        "    if is_appended(alloc, wanted, old, new)? {\n        Ok(())",
+        "    if is_appended(alloc, wanted, old, new)? {\n        Err(SurveyFault::Misread)",
     ),
     "compares_no_old_targets": (
         "src/kept.rt",
@@ -154,12 +154,17 @@ BUGS = {
     "reads_no_labels_back": (
         "src/labelled.rt",
         "    if reads_on(source, before, indexes, text.as_str())? {",
-        "    if reads_on(source, before, indexes, text.as_str())? || !old.is_empty() {",
+        "    if reads_on(source, before, indexes, text.as_str())? || !before.is_empty() {",
+    ),
+    "confirms_no_labels": (
+        "src/labelled.rt",
+        "        Ok(text) => confirm(source, before, indexes, text),",
+        "        Ok(text) => Ok(text),",
     ),
     "calls_every_file_bad": (
         "src/labelled.rt",
-        "    let Some(before) = interfaces(&was) else {\n        return Err(SurveyFault::BadLabels);",
-        "    let Some(before) = interfaces(&was) else {\n        return Err(SurveyFault::Misread);",
+        "    let Some(before) = before else {\n        return Err(SurveyFault::BadLabels);",
+        "    let Some(before) = before else {\n        return Err(SurveyFault::Misread);",
     ),
     "compares_no_marks": (
         "src/comparing.rt",
@@ -188,18 +193,23 @@ BUGS = {
     ),
     "reads_nothing_back": (
         "src/surveying.rt",
-        "    read_back(shown.alloc, names, &wanted, text.as_str())?;\n    Ok(text)",
-        "    let _ = read_back(shown.alloc, names, &wanted, text.as_str());\n    Ok(text)",
+        "    read_back(alloc, names, wanted, text.as_str())?;\n    Ok(text)",
+        "    let _ = read_back(alloc, names, wanted, text.as_str());\n    Ok(text)",
+    ),
+    "confirms_no_settings": (
+        "src/surveying.rt",
+        "    let text = confirm(shown.alloc, names, &wanted, text)?;\n    Ok(text)",
+        "    Ok(text)",
     ),
     "returns_another_text": (
         "src/surveying.rt",
-        "    read_back(shown.alloc, names, &wanted, text.as_str())?;\n    Ok(text)",
-        "    read_back(shown.alloc, names, &wanted, text.as_str())?;\n    let mut text = text;\n    text.push_str(\"#\")?;\n    Ok(text)",
+        "    read_back(alloc, names, wanted, text.as_str())?;\n    Ok(text)",
+        "    read_back(alloc, names, wanted, text.as_str())?;\n    let mut text = text;\n    text.push_str(\"#\")?;\n    Ok(text)",
     ),
     "refuses_what_is_read": (
         "src/surveying.rt",
-        "            if is_meant(alloc, wanted, &station)? {\n                Ok(())",
-        "            if is_meant(alloc, wanted, &station)? {\n                Err(SurveyFault::Misread)",
+        "    if is_meant(alloc, wanted, station)? {\n        Ok(())",
+        "    if is_meant(alloc, wanted, station)? {\n        Err(SurveyFault::Misread)",
     ),
     "misreads_what_is_refused": (
         "src/surveying.rt",
@@ -212,11 +222,11 @@ BUGS = {
 PROMISES = {
     "polls_32_bits_first": "planning::width_of",
     "polls_interfaces_that_are_down": "choice::Choice::takes",
-    "plans_nothing_for_no_counter": "planning::plan",
+    "plans_nothing_for_no_counter": "planning::require_few",
     "shows_control_characters": "writing::shown",
-    "reads_nothing_back": "surveying::settings_by",
+    "reads_nothing_back": "surveying::confirm",
     "calls_every_engine_the_same": "appending::require_room",
-    "refuses_what_is_appended": "appending::read_appended",
-    "reads_no_labels_back": "labelled::labels_after",
-    "refuses_what_is_read": "surveying::read_back",
+    "refuses_what_is_appended": "appending::require_appended",
+    "reads_no_labels_back": "labelled::confirm",
+    "refuses_what_is_read": "surveying::require_meant",
 }

@@ -1,0 +1,14 @@
+use Rattle.std.proofs.lemmas.Result.{IfErr-weaker, IfOk-weaker}
+use Rattle.mon_settings.specs.StationAccepted.{station_view}
+use Rattle.mon_survey.proofs.Verdicts.{not_appended}
+use Rattle.mon_survey.proofs.appending.read_appended.Goals as goal
+
+pub returns-in-Ok-clause-gives : goal.returns-in-Ok-clause-gives
+returns-in-Ok-clause-gives c =
+    let says = rw c.in-Ok.is at c.read_station.ensures.accepted in
+    IfOk-weaker c.require_appended.result _ _ (λ _ meant. (station_view c.in-Ok.station, says, meant)) c.require_appended.ensures.gives
+
+pub returns-in-Ok-clause-fault : goal.returns-in-Ok-clause-fault
+returns-in-Ok-clause-fault c =
+    let says = rw c.in-Ok.is at c.read_station.ensures.accepted in
+    IfErr-weaker c.require_appended.result _ _ (not_appended _ _ _ _ _ _ _ (station_view c.in-Ok.station) says) c.require_appended.ensures.fault
