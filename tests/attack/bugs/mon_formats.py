@@ -78,13 +78,18 @@ BUGS = {
     ),
     "prints_columns_for_html": (
         "src/format.rt",
-        "        Format::Html => page_report(alloc, names, entries, extras.station),",
+        "        Format::Html => page_report(alloc, names, entries, extras),",
         "        Format::Html => columns_report(alloc, names, entries, extras.station),",
     ),
     "a_page_without_its_station": (
         "src/format.rt",
-        "        Format::Html => page_report(alloc, names, entries, extras.station),",
-        "        Format::Html => page_report(alloc, names, entries, None),",
+        "        Format::Html => page_report(alloc, names, entries, extras),",
+        "        Format::Html => page_report(alloc, names, entries, Extras { station: None, ..extras }),",
+    ),
+    "a_page_without_its_labels": (
+        "src/format.rt",
+        "        Format::Html => page_report(alloc, names, entries, extras),",
+        "        Format::Html => page_report(alloc, names, entries, Extras { labels: &[], ..extras }),",
     ),
     "a_target_by_its_number": ("src/prometheus/target.rt", '"target", target.address.as_bytes())', '"target", digits.format(target.number).as_bytes())'),
     "no_label_that_is_given": ("src/prometheus/instance.rt", "        Some(given) => put_joined(labels, given),", "        Some(_) => Ok(()),"),

@@ -3,8 +3,8 @@
 ghost use Rattle.std.specs.Prelude.{◌≡◌, ◌++◌, IfOk, OnOk, option_map};
 ghost use Rattle.mon_formats.specs.Prometheus.{at_first_dot, at_last_dot, given_labels, instance_labels, is_in_numbers, joined_labels, label_if, more_label, object_and_index, object_labels};
 
-use crate::extras::InstanceLabels;
 use crate::prometheus::text::put_label;
+use mon_page::InstanceLabels;
 use mon_report::Entry;
 use mon_smi::NameTexts;
 use std::alloc::{AllocError, Global};
