@@ -35,8 +35,8 @@ module _ (shown : List ℕ → List ℕ) (ages : List ℕ) where
 -- ---- labels without ifName and ifAlias
 nameless_cell : (shown : List ℕ → List ℕ) (e : Entry) (l : InstanceLabels) → IsNameless l → name_cell shown (e, Some l) ≡ name_cell shown (e, None)
 unfolding name_cell label_lines
-nameless_cell shown e l (name, alias) =
-    λ k. codes "<td>" ++ flat_map escaped (shown e.name) ++ (label_if (codes "ifName") (name k) ++ label_if (codes "ifAlias") (alias k)) ++ engine_text e.engine
+nameless_cell shown e l no =
+    λ k. codes "<td>" ++ flat_map escaped (shown e.name) ++ (label_if (codes "ifName") (no.0 k) ++ label_if (codes "ifAlias") (no.1 k)) ++ engine_text e.engine
 
 nameless_row : (shown : List ℕ → List ℕ) (age : Option ℕ) (e : Entry) (l : InstanceLabels) → IsNameless l → row_text shown age (e, Some l) ≡ row_text shown age (e, None)
 unfolding row_text

@@ -2,7 +2,6 @@
 
 ghost use Rattle.std.specs.Prelude.{◌≡◌, ◌++◌, OnOk, option_map};
 ghost use Rattle.std.specs.List.{flat_map};
-ghost use Rattle.mon_page.specs.Between.{between};
 ghost use Rattle.mon_page.specs.Escape.{escaped};
 ghost use Rattle.mon_page.specs.Page.{engine_text, label_if, label_line, label_lines, label_lines_if, name_cell};
 
