@@ -81,12 +81,18 @@ plain (c ∷ text) = All-append IsPlain (escaped c) (flat_map escaped text) (one
 -- the lines of labels
 pub if_name : (text : List ℕ) → IsLineOf (label_line (codes "ifName") text) (codes "ifName " ++ text)
 unfolding label_line between
-if_name text =
-    (codes "ifName " ++ flat_map escaped text, refl, All-append IsPlain (codes "ifName ") (flat_map escaped text) (by_test (codes "ifName ") refl) (plain text),
-    ap (λ (t : List ℕ). codes "ifName " ++ t) (read_back text))
+if_name text = (
+  codes "ifName " ++ flat_map escaped text,
+  refl,
+  All-append IsPlain (codes "ifName ") (flat_map escaped text) (by_test (codes "ifName ") refl) (plain text),
+  ap (λ (t : List ℕ). codes "ifName " ++ t) (read_back text),
+)
 
 pub if_alias : (text : List ℕ) → IsLineOf (label_line (codes "ifAlias") text) (codes "ifAlias " ++ text)
 unfolding label_line between
-if_alias text =
-    (codes "ifAlias " ++ flat_map escaped text, refl, All-append IsPlain (codes "ifAlias ") (flat_map escaped text) (by_test (codes "ifAlias ") refl) (plain text),
-    ap (λ (t : List ℕ). codes "ifAlias " ++ t) (read_back text))
+if_alias text = (
+  codes "ifAlias " ++ flat_map escaped text,
+  refl,
+  All-append IsPlain (codes "ifAlias ") (flat_map escaped text) (by_test (codes "ifAlias ") refl) (plain text),
+  ap (λ (t : List ℕ). codes "ifAlias " ++ t) (read_back text),
+)

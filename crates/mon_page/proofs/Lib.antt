@@ -2,4 +2,4 @@ pub mod Alarms
 pub mod Escapes
 pub mod Chains
 pub mod Promised
-pub mod Rows
+pub mod InstanceRows

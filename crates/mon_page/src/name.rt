@@ -70,11 +70,7 @@ fn put_labels(text: &mut Vec<u8>, labels: &InstanceLabels) -> Result<(), AllocEr
 }
 
 /// Adds the line of a label, if it is known.
-fn put_label_if(
-    text: &mut Vec<u8>,
-    title: &[u8],
-    label: &Option<String>,
-) -> Result<(), AllocError>
+fn put_label_if(text: &mut Vec<u8>, title: &[u8], label: &Option<String>) -> Result<(), AllocError>
     ensures { OnOk result (text.new.items ≡ text.old.items ++ label_if title.now label.now) }
 {
     match label {

@@ -1,4 +1,4 @@
-use Rattle.mon_page.proofs.Rows.{nameless_page}
+use Rattle.mon_page.proofs.InstanceRows.{nameless_page}
 use Rattle.mon_page.proofs.laws.nameless_labels.Goals as goal
 
 pub returns : goal.returns

@@ -2,7 +2,7 @@ use Rattle.std.proofs.Common.{◌≡◌, ◌∙◌, ◌<◌, ◌≤◌, ◌++◌
 use Rattle.mon_page.specs.Labelled.{Labelled, labelled}
 use Rattle.mon_page.specs.Page.{row_text}
 use Rattle.mon_page.proofs.Promised.{labelled-at, length-labelled}
-use Rattle.mon_page.proofs.Rows.{all_rows, one_row}
+use Rattle.mon_page.proofs.InstanceRows.{all_rows, one_row}
 use Rattle.mon_page.proofs.rows.put_rows.Goals as goal
 
 pub loop-place-preserved : goal.loop-place-preserved

@@ -35,31 +35,31 @@ module _ (shown : List ℕ → List ℕ) (ages : List ℕ) where
 -- ---- labels without ifName and ifAlias
 nameless_cell : (shown : List ℕ → List ℕ) (e : Entry) (l : InstanceLabels) → IsNameless l → name_cell shown (e, Some l) ≡ name_cell shown (e, None)
 unfolding name_cell label_lines
-nameless_cell shown e l no =
-    λ k. codes "<td>" ++ flat_map escaped (shown e.name) ++ (label_if (codes "ifName") (no.0 k) ++ label_if (codes "ifAlias") (no.1 k)) ++ engine_text e.engine
+nameless_cell shown e l nameless =
+    λ k. codes "<td>" ++ flat_map escaped (shown e.name) ++ (label_if (codes "ifName") (nameless.0 k) ++ label_if (codes "ifAlias") (nameless.1 k)) ++ engine_text e.engine
 
 nameless_row : (shown : List ℕ → List ℕ) (age : Option ℕ) (e : Entry) (l : InstanceLabels) → IsNameless l → row_text shown age (e, Some l) ≡ row_text shown age (e, None)
 unfolding row_text
-nameless_row shown age e l no =
-    ap (λ (cell : List ℕ). codes "<tr>" ++ cell ++ figure_cells age e ++ plot_cell e.items e.rules ++ codes "</tr>\n") (nameless_cell shown e l no)
+nameless_row shown age e l nameless =
+    ap (λ (cell : List ℕ). codes "<tr>" ++ cell ++ figure_cells age e ++ plot_cell e.items e.rules ++ codes "</tr>\n") (nameless_cell shown e l nameless)
 
 nameless_rows : (shown : List ℕ → List ℕ) (ages : List ℕ) (place : ℕ) (labels : List InstanceLabels) (es : List Entry) → All IsNameless labels
     → rows_from shown ages place (labelled labels es) ≡ rows_from shown ages place (labelled [] es)
-nameless_rows shown ages place labels [] no = refl
-nameless_rows shown ages place [] (e ∷ es) no = refl
-nameless_rows shown ages place (l ∷ labels) (e ∷ es) no =
-    λ k. nameless_row shown (slice_get ages place) e l (All-head IsNameless l labels no) k ++ nameless_rows shown ages (place + 1) labels es (All-tail IsNameless l labels no) k
+nameless_rows shown ages place labels [] nameless = refl
+nameless_rows shown ages place [] (e ∷ es) nameless = refl
+nameless_rows shown ages place (l ∷ labels) (e ∷ es) nameless =
+    λ k. nameless_row shown (slice_get ages place) e l (All-head IsNameless l labels nameless) k ++ nameless_rows shown ages (place + 1) labels es (All-tail IsNameless l labels nameless) k
 
 nameless_table : (shown : List ℕ → List ℕ) (ages : List ℕ) (labels : List InstanceLabels) (es : List Entry) → All IsNameless labels
     → table_text shown ages (labelled labels es) ≡ table_text shown ages (labelled [] es)
 unfolding table_text
-nameless_table shown ages labels es no =
+nameless_table shown ages labels es nameless =
     let long : length (labelled labels es) ≡ length (labelled [] es) = length-labelled labels es ∙ sym (length-labelled [] es) in
-    λ k. table_head ++ nameless_rows shown ages 0 labels es no k ++ between (codes "</tbody>\n</table>\n<p>") (decimal (long k)) (codes " instances</p>\n")
+    λ k. table_head ++ nameless_rows shown ages 0 labels es nameless k ++ between (codes "</tbody>\n</table>\n<p>") (decimal (long k)) (codes " instances</p>\n")
 
 pub nameless_page : (shown : List ℕ → List ℕ) (labels : List InstanceLabels) (es : List Entry) (station : Option Figures) → All IsNameless labels
     → page_text shown (labelled labels es) station ≡ page_text shown (labelled [] es) station
 unfolding page_text body_text
-nameless_page shown labels es station no =
+nameless_page shown labels es station nameless =
     ap (λ (table : List ℕ). head_text (refresh_of station) ++ (station_if station ++ table ++ between (codes "</body>\n") (codes "</html>\n") []))
-    (nameless_table shown (ages_of station) labels es no)
+    (nameless_table shown (ages_of station) labels es nameless)
