@@ -27,4 +27,6 @@ IsPlain octet = (octet == 60) ≡ false × (octet == 62) ≡ false × (octet == 
 
 -- a `div` whose content has no `<`, `>` or `"`, and is read as this text
 abbrev pub IsLineOf : List ℕ → List ℕ → Type 0
-IsLineOf line text = (content : List ℕ) × (line ≡ codes "<div>" ++ content ++ codes "</div>") × All IsPlain content × (text_read None content ≡ text)
+IsLineOf line text =
+    (content : List ℕ) × (line ≡ codes "<div style=\"max-width:20rem\">" ++ content ++ codes "</div>") × All IsPlain content
+    × (text_read None content ≡ text)

@@ -84,7 +84,7 @@ fn put_label_if(text: &mut Vec<u8>, title: &[u8], label: &Option<String>) -> Res
 fn put_label(text: &mut Vec<u8>, title: &[u8], label: &[u8]) -> Result<(), AllocError>
     ensures { OnOk result (text.new.items ≡ text.old.items ++ label_line title.now label.now) }
 {
-    put_between(text, b"<div>", title, b" ")?;
+    put_between(text, b"<div style=\"max-width:20rem\">", title, b" ")?;
     put_escaped(text, label)?;
     text.extend_from_slice(b"</div>")
 }
