@@ -1,7 +1,6 @@
 -- Texts that are added one after another.
 use Rattle.std.proofs.Common.{◌≡◌, ◌++◌, ◌∙◌, ap, ℕ, List, Result, Ok, Err, append_assoc}
-use Rattle.std.specs.Prelude.{OnOk, if◌then◌else◌}
-use Rattle.std.specs.Result.{is_ok}
+use Rattle.std.specs.Prelude.{OnOk}
 
 -- one text more
 pub join : (start middle end first rest : List ℕ) → middle ≡ start ++ first → end ≡ middle ++ rest → end ≡ start ++ (first ++ rest)
@@ -12,9 +11,3 @@ pub ends : {A E : Type 0} (r : Result A E) (start middle end first rest rest' : 
     → OnOk r (end ≡ middle ++ rest') → OnOk r (end ≡ start ++ (first ++ rest))
 ends (Ok x) start middle end first rest rest' e same f = join start middle end first rest e (f ∙ ap (λ (s : List ℕ). middle ++ s) same)
 ends (Err x) start middle end first rest rest' e same f = tt
-
--- the last octets, which may be refused
-pub last : {A E : Type 0} (r : Result A E) (start middle end first rest : List ℕ) → middle ≡ start ++ first → end ≡ (if is_ok r then middle ++ rest else middle)
-    → OnOk r (end ≡ start ++ (first ++ rest))
-last (Ok x) start middle end first rest e f = join start middle end first rest e f
-last (Err x) start middle end first rest e f = tt

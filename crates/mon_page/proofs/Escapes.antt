@@ -5,8 +5,7 @@ use Rattle.std.specs.List.{flat_map, list_all}
 use Rattle.std.proofs.lemmas.Bool.{eqb-true}
 use Rattle.std.proofs.lemmas.List.Elements.{All-nil, All-cons, All-append}
 use Rattle.mon_page.specs.Escape.{escaped, text_read, IsLineOf, IsPlain}
-use Rattle.mon_page.specs.Between.{between}
-use Rattle.mon_page.specs.Page.{label_line}
+use Rattle.mon_page.specs.Page.{label_line, label_start}
 
 -- an octet is read as itself
 one_read : (c : ℕ) (rest : List ℕ) → text_read None (escaped c ++ rest) ≡ c ∷ text_read None rest
@@ -80,7 +79,7 @@ plain (c ∷ text) = All-append IsPlain (escaped c) (flat_map escaped text) (one
 
 -- the lines of labels
 pub if_name : (text : List ℕ) → IsLineOf (label_line (codes "ifName") text) (codes "ifName " ++ text)
-unfolding label_line between
+unfolding label_line label_start
 if_name text = (
   codes "ifName " ++ flat_map escaped text,
   refl,
@@ -89,7 +88,7 @@ if_name text = (
 )
 
 pub if_alias : (text : List ℕ) → IsLineOf (label_line (codes "ifAlias") text) (codes "ifAlias " ++ text)
-unfolding label_line between
+unfolding label_line label_start
 if_alias text = (
   codes "ifAlias " ++ flat_map escaped text,
   refl,

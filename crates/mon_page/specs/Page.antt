@@ -52,9 +52,13 @@ station_if None = []
 station_if (Some f) = station_list f
 
 -- ---- rows
--- the line of a label below a name: its title and its text, at most 20rem wide, so that a long text does not narrow the other columns
+-- the beginning of the line of a label, at most 20rem wide, so that a long text does not narrow the other columns
+unfoldable pub label_start : List ℕ
+label_start = codes "<div style=\"max-width:20rem\">"
+
+-- the line of a label below a name: its title and its text
 unfoldable pub label_line : List ℕ → List ℕ → List ℕ
-label_line title text = between (codes "<div style=\"max-width:20rem\">") title (codes " ") ++ flat_map escaped text ++ codes "</div>"
+label_line title text = label_start ++ title ++ codes " " ++ flat_map escaped text ++ codes "</div>"
 
 -- that line, if the label is known
 abbrev pub label_if : {A : Type 0} → List ℕ → Option (String A) → List ℕ

@@ -3,7 +3,7 @@
 ghost use Rattle.std.specs.Prelude.{◌≡◌, ◌++◌, OnOk, option_map};
 ghost use Rattle.std.specs.List.{flat_map};
 ghost use Rattle.mon_page.specs.Escape.{escaped};
-ghost use Rattle.mon_page.specs.Page.{engine_text, label_if, label_line, label_lines, label_lines_if, name_cell};
+ghost use Rattle.mon_page.specs.Page.{engine_text, label_if, label_line, label_lines, label_lines_if, label_start, name_cell};
 
 use crate::escape::{put_between, put_escaped};
 use crate::extras::InstanceLabels;
@@ -84,7 +84,17 @@ fn put_label_if(text: &mut Vec<u8>, title: &[u8], label: &Option<String>) -> Res
 fn put_label(text: &mut Vec<u8>, title: &[u8], label: &[u8]) -> Result<(), AllocError>
     ensures { OnOk result (text.new.items ≡ text.old.items ++ label_line title.now label.now) }
 {
-    put_between(text, b"<div style=\"max-width:20rem\">", title, b" ")?;
+    text.extend_from_slice(label_start())?;
+    text.extend_from_slice(title)?;
+    text.extend_from_slice(b" ")?;
     put_escaped(text, label)?;
     text.extend_from_slice(b"</div>")
+}
+
+/// Returns the beginning of the line of a label.
+#[tactic(auto, unfolding(crate::specs::Page::label_start))]
+fn label_start() -> &'static [u8]
+    ensures { result.now ≡ label_start }
+{
+    b"<div style=\"max-width:20rem\">"
 }
