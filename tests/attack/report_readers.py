@@ -36,7 +36,7 @@ class Page(HTMLParser):
             self.rows.append([])
         if tag == "td":
             self.rows[-1].append("")
-        if tag == "small":
+        if tag in ("small", "div"):
             self.rows[-1].append("")
         if tag == "li":
             self.items.append("")
@@ -50,7 +50,7 @@ class Page(HTMLParser):
     def handle_data(self, data):
         if self.open[-1:] != ["style"]:
             self.shown += data
-        if self.open[-1:] in (["td"], ["small"]):
+        if self.open[-1:] in (["td"], ["small"], ["div"]):
             self.rows[-1][-1] += data
         if self.open[-1:] == ["li"]:
             self.items[-1] += data

@@ -1,4 +1,4 @@
-//! Labels for Prometheus of the instances of a station.
+//! Labels of the instances of a station, for Prometheus and the page.
 
 use crate::failure::Failure;
 use crate::files::read_text;

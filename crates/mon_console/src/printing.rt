@@ -20,7 +20,7 @@ use std::rt::Files;
 pub struct Printing {
     format: Format,
     names: Option<Names>,
-    /// Of each instance, in their order, what Prometheus' text has as further labels.
+    /// The labels of each instance, in their order.
     labels: Vec<InstanceLabels>,
 }
 

@@ -1,10 +1,9 @@
 -- Instances that are not stale, and the lines of ages, from a place on.
-use Rattle.std.proofs.Common.{◌≡◌, ℕ, zero, suc, ◌+◌, ◌<◌, ◌≤◌, min, true, false, List, [], ◌∷◌, ◌++◌, length, drop, get_or, slice_get, ap, refl, ◌∙◌, arith}
+use Rattle.std.proofs.Common.{◌≡◌, ℕ, zero, suc, ◌+◌, ◌<◌, ◌≤◌, min, true, false, List, [], ◌∷◌, ◌++◌, length, drop, get_or, slice_get, refl, ◌∙◌, arith}
 use Rattle.std.specs.Prelude.{if◌then◌else◌}
 use Rattle.std.proofs.lemmas.List.{drop_all, drop_more}
-use Rattle.mon_report.specs.Report.{Entry}
-use Rattle.mon_formats.specs.declared.extras.InstanceLabels.{InstanceLabels}
-use Rattle.mon_formats.specs.Prometheus.{Labelled, age_line, age_lines, fresh, is_fresh, labelled}
+use Rattle.mon_page.specs.Labelled.{Labelled}
+use Rattle.mon_formats.specs.Prometheus.{age_line, age_lines, fresh, is_fresh}
 
 -- an instance that is not stale comes before the others
 step_fresh : (limit : ℕ) (ages : List ℕ) (es : List Labelled) (i : ℕ) (e : Labelled) → i < length es → is_fresh limit (slice_get ages i) ≡ true
@@ -53,21 +52,6 @@ ages_end shown [] es i past = λ k. age_lines shown (drop_all i [] (omega arith)
 ages_end shown (a ∷ ages) [] i past = (λ k. age_lines shown (drop i (a ∷ ages)) (drop_all i [] (omega arith) k)) ∙ no_lines shown (drop i (a ∷ ages))
 ages_end shown (a ∷ ages) (e ∷ es) zero past = absurd (omega (arith, past))
 ages_end shown (a ∷ ages) (e ∷ es) (suc i) past = ages_end shown ages es i (omega (arith, past))
-
--- there are as many instances with their labels as instances
-pub length-labelled : (labels : List InstanceLabels) (es : List Entry) → length (labelled labels es) ≡ length es
-length-labelled labels [] = refl
-length-labelled [] (e ∷ es) = ap suc (length-labelled [] es)
-length-labelled (l ∷ labels) (e ∷ es) = ap suc (length-labelled labels es)
-
--- the instance at a place has the labels at that place
-pub labelled-at : (labels : List InstanceLabels) (es : List Entry) (i : ℕ) (e : Entry) (other : Labelled) → i < length es
-    → get_or (labelled labels es) i other ≡ (get_or es i e, slice_get labels i)
-labelled-at labels [] i e other lt = absurd (omega arith)
-labelled-at [] (x ∷ es) zero e other lt = refl
-labelled-at [] (x ∷ es) (suc i) e other lt = labelled-at [] es i e other (omega arith)
-labelled-at (l ∷ labels) (x ∷ es) zero e other lt = refl
-labelled-at (l ∷ labels) (x ∷ es) (suc i) e other lt = labelled-at labels es i e other (omega arith)
 
 next_age : (shown : List ℕ → List ℕ) (ages : List ℕ) (es : List Labelled) (i : ℕ) (e : Labelled) → i < length es → i < length ages
     → age_lines shown (drop i ages) (drop i es) ≡ age_line shown (get_or es i e) (get_or ages i 0) ++ age_lines shown (drop (suc i) ages) (drop (suc i) es)

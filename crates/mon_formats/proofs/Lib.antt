@@ -5,4 +5,5 @@ pub mod Fresh
 pub mod Labels
 pub mod LastDot
 pub mod NoFloats
+pub mod Pushed
 pub mod Tables

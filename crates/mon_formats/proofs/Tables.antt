@@ -1,18 +1,11 @@
 -- Texts of a table.
-use Rattle.std.proofs.Common.{◌≡◌, ℕ, ◌+◌, ◌-◌, ◌<◌, Bool, true, false, List, [], ◌∷◌, ◌++◌, Option, Some, length, map, take, drop, get_or, sym, ap, refl, ◌∙◌, append_assoc, arith, codes, ◌==◌, Result, Ok, Err}
+use Rattle.std.proofs.Common.{◌≡◌, ℕ, ◌+◌, ◌<◌, Bool, List, ◌∷◌, ◌++◌, Option, Some, length, map, take, drop, get_or, sym, ap, ◌∙◌, append_assoc, Result, Ok, Err}
 use Rattle.std.specs.Prelude.{max, OnOk, if◌then◌else◌, slice_get}
 use Rattle.std.specs.declared.alloc.AllocError.{AllocError}
-use Rattle.std.specs.List.{list_any}
 use Rattle.std.specs.Result.{is_ok}
 use Rattle.std.proofs.lemmas.List.{map_more}
 use Rattle.std.proofs.lemmas.List.Sums.{fold_push}
-use Rattle.std.proofs.lemmas.Option.{slice_get-get_or}
-use Rattle.std.proofs.lemmas.Bool.{true≢false}
-use Rattle.std.proofs.lemmas.Bool.Decides.{nat_tests}
-use Rattle.mon_alarms.specs.Rule.{Rule}
-use Rattle.mon_alarms.specs.Observed.{state_by}
 use Rattle.mon_report.specs.Report.{Entry}
-use Rattle.mon_page.specs.Cells.{newest_of}
 use Rattle.mon_formats.specs.declared.columns.Widths.{Widths}
 use Rattle.mon_formats.specs.Columns.{cells_text, engine_if_new, row_line, rows_from, to_left, to_right, widest}
 
@@ -39,11 +32,6 @@ pub cells-last : (r : Result (Unit {0}) AllocError) (w : Widths) (value rate ala
     → t3 ≡ t2 ++ to_left 6 alarm → OnOk r (t4 ≡ t3 ++ to_right 7 samples) → OnOk r (t4 ≡ t0 ++ cells_text w value rate alarm samples)
 cells-last (Ok u) w value rate alarm samples t0 t1 t2 t3 t4 a b c d = cells-then w value rate alarm samples t0 t1 t2 t3 t4 a b c d
 cells-last (Err e) w value rate alarm samples t0 t1 t2 t3 t4 a b c d = tt
-
--- the newest of some samples
-pub newest-is : (items : List ℕ) → slice_get items (length items - 1) ≡ newest_of items
-newest-is [] = refl
-newest-is (x ∷ xs) = ap (slice_get (x ∷ xs)) (let same : length (x ∷ xs) - 1 ≡ length xs = omega arith in same) ∙ slice_get-get_or (x ∷ xs) (length xs) x (omega arith)
 
 -- the widest text with one more
 pub widest-more : (heading : ℕ) (f : Entry → List ℕ) (es : List Entry) (i : ℕ) (e : Entry) → i < length es

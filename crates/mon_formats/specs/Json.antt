@@ -119,12 +119,15 @@ abbrev pub station_member : Option Figures → Members
 station_member None = no_members
 station_member (Some f) = member (codes "station") (station_data f) no_members
 
+-- the instances, how many samples they have, and further members
+abbrev pub file_members : (List ℕ → List ℕ) → List Entry → Members → Members
+file_members shown entries more =
+    member (codes "instances") (array (items_of (map (entry_data shown) entries)))
+    (member (codes "samples") (exact (samples_in entries)) more)
+
 -- the instances, how many samples they have, and what a running station says of itself
 abbrev pub report_data : (List ℕ → List ℕ) → List Entry → Option Figures → Data
-report_data shown entries station = object
-    (member (codes "instances") (array (items_of (map (entry_data shown) entries)))
-    (member (codes "samples") (exact (samples_in entries))
-    (station_member station)))
+report_data shown entries station = object (file_members shown entries (station_member station))
 
 -- the text, with a line feed behind it
 unfoldable pub json_report : (List ℕ → List ℕ) → List Entry → Option Figures → List ℕ

@@ -14,8 +14,9 @@ use Rattle.mon_alarms.specs.Observed.{state_by}
 use Rattle.mon_alarms.specs.declared.alarm.AlarmState.{AlarmState}
 use Rattle.mon_alarms.specs.declared.alarm.AlarmState.TheVariants.{Clear, Raised}
 use Rattle.mon_report.specs.Report.{Entry, rate_text}
+use Rattle.mon_page.specs.Labelled.{Labelled}
+use Rattle.mon_page.specs.declared.extras.InstanceLabels.{InstanceLabels}
 use Rattle.mon_page.specs.declared.figures.Figures.{Figures}
-use Rattle.mon_formats.specs.declared.extras.InstanceLabels.{InstanceLabels}
 use Rattle.mon_page.specs.declared.figures.TargetFigures.{TargetFigures}
 use Rattle.mon_formats.specs.declared.prometheus.metric.Metric.{Metric}
 use Rattle.mon_formats.specs.declared.prometheus.metric.Metric.TheVariants.{Counted, Number, Samples, Rate, Alarm}
@@ -117,16 +118,6 @@ joined_labels l = label_if (codes "target") l.target ++ label_if (codes "ifName"
 abbrev pub given_labels : Option InstanceLabels → List ℕ
 given_labels None = []
 given_labels (Some l) = joined_labels l
-
--- an instance, and the labels that are given for it
-abbrev pub Labelled : Type 0
-Labelled = Entry × Option InstanceLabels
-
--- the instances, each with the labels at its place
-abbrev pub labelled : List InstanceLabels → List Entry → List Labelled
-labelled labels [] = []
-labelled [] (e ∷ es) = (e, None) ∷ labelled [] es
-labelled (l ∷ labels) (e ∷ es) = (e, Some l) ∷ labelled labels es
 
 -- the labels of an instance: its engine id in hex digits, its name as it is shown, its object and index, and what is given for it
 unfoldable pub instance_labels : (List ℕ → List ℕ) → Labelled → List ℕ

@@ -1,6 +1,7 @@
 //! The line of an alarm that changed.
 
 ghost use Rattle.std.specs.Prelude.{◌≡◌, ◌++◌, IfOk, OnOk, slice_get, string_bytes};
+ghost use Rattle.hex.specs.Hex.{encode_lower};
 ghost use Rattle.mon_formats.specs.Changes.{change_line, instance_text, line_at, line_on, thresholds_text};
 ghost use Rattle.mon_report.specs.Report.{state_text};
 
@@ -33,11 +34,32 @@ pub fn instance_text<S: NameTexts>(
 ) -> Result<String, AllocError>
     ensures { IfOk result (λ text. string_bytes text ≡ instance_text (S.shown names.now) instance.now) }
 {
-    let engine = hex::encode(alloc, instance.engine.as_slice())?;
-    let name = names.text(alloc, &instance.name)?;
     let mut text = String::new(alloc);
-    write!(text, "{engine} {name}")?;
+    put_instance(alloc, &mut text, names, instance)?;
     Ok(text)
+}
+
+/// Adds an instance's engine id in hex digits, a blank and its name.
+fn put_instance<S: NameTexts>(
+    alloc: Global,
+    text: &mut String,
+    names: &S,
+    instance: &Instance,
+) -> Result<(), AllocError>
+    ensures { OnOk result (string_bytes text.new ≡ string_bytes text.old ++ instance_text (S.shown names.now) instance.now) }
+{
+    put_engine(alloc, text, instance.engine.as_slice())?;
+    text.push_str(" ")?;
+    let name = names.text(alloc, &instance.name)?;
+    text.push_str(name.as_str())
+}
+
+/// Adds an engine id in hex digits.
+fn put_engine(alloc: Global, text: &mut String, engine: &[u8]) -> Result<(), AllocError>
+    ensures { OnOk result (string_bytes text.new ≡ string_bytes text.old ++ encode_lower engine.now) }
+{
+    let digits = hex::encode(alloc, engine)?;
+    text.push_str(digits.as_str())
 }
 
 /// Returns the line of a rule of a watch that has this state.
@@ -67,7 +89,8 @@ fn line_on<S: NameTexts>(
 ) -> Result<String, AllocError>
     ensures { IfOk result (λ text. string_bytes text ≡ line_on (S.shown names.now) instance.now rule.now state) }
 {
-    let mut text = instance_text(alloc, names, instance)?;
+    let mut text = String::new(alloc);
+    put_instance(alloc, &mut text, names, instance)?;
     put_thresholds(&mut text, rule)?;
     put_state(&mut text, state)?;
     Ok(text)

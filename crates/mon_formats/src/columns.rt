@@ -1,8 +1,8 @@
 //! A report as a table for people.
 
-ghost use Rattle.std.specs.Prelude.{◌≡◌, ◌++◌, None, codes, true, IfOk, OnOk, option_copied, option_map, slice_get, string_bytes};
+ghost use Rattle.std.specs.Prelude.{◌≡◌, ◌++◌, None, codes, decimal, length, true, IfOk, OnOk, option_copied, option_map, slice_get, string_bytes};
 ghost use Rattle.std.specs.List.{flat_map};
-ghost use Rattle.mon_page.specs.Cells.{value_cell, rate_cell, age_cell};
+ghost use Rattle.mon_page.specs.Cells.{newest_of, rate_of, value_cell, rate_cell, age_cell};
 ghost use Rattle.mon_formats.specs.Columns.{to_right, to_left, widths_of, title_cells, title_line, row_cells, row_line, engine_line, engine_if_new, rows_from, count_line, columns_report, age_if, age_title, down_if, down_line, place_text, reason_text, silence_text, table_text};
 
 use crate::cells::count_samples;
@@ -46,48 +46,65 @@ pub(crate) fn columns_report<S: NameTexts>(
 ) -> Result<Vec<u8>, AllocError>
     ensures { IfOk result (λ text. text.items ≡ columns_report (S.shown names.now) entries.now (option_map (λ f. f.now) station.entry)) }
 {
-    match station {
-        None => Ok(table_text(alloc, names, entries, false, &[])?.into_bytes()),
-        Some(figures) => running_report(alloc, names, entries, figures),
-    }
-}
-
-/// The report of a running station as a table, and a line for each target that is down.
-fn running_report<S: NameTexts>(
-    alloc: Global,
-    names: &S,
-    entries: &[Entry],
-    figures: &Figures,
-) -> Result<Vec<u8>, AllocError>
-    ensures { IfOk result (λ text. text.items ≡ table_text (S.shown names.now) true figures.now.ages.items entries.now ++ flat_map down_if figures.now.targets.items) }
-{
-    let mut text = table_text(alloc, names, entries, true, figures.ages.as_slice())?;
-    put_down(&mut text, figures.targets.as_slice())?;
+    let mut text = String::new(alloc);
+    put_report(alloc, &mut text, names, entries, station)?;
     Ok(text.into_bytes())
 }
 
-/// The table, with a column of these ages or without.
-#[tactic(auto, unfolding(crate::specs::Columns::table_text))]
-fn table_text<S: NameTexts>(
+/// Adds the report.
+fn put_report<S: NameTexts>(
     alloc: Global,
+    text: &mut String,
     names: &S,
     entries: &[Entry],
-    is_aged: bool,
-    ages: &[u32],
-) -> Result<String, AllocError>
-    ensures { IfOk result (λ text. string_bytes text ≡ table_text (S.shown names.now) is_aged ages.now entries.now) }
+    station: Option<&Figures>,
+) -> Result<(), AllocError>
+    ensures { OnOk result (string_bytes text.new ≡ string_bytes text.old ++ columns_report (S.shown names.now) entries.now (option_map (λ f. f.now) station.entry)) }
 {
-    let widths = widths_of(alloc, entries)?;
+    let listing = Listing { entries, ages: &[] };
+    match station {
+        None => put_table(alloc, text, names, listing, false),
+        Some(figures) => put_running(alloc, text, names, listing, figures),
+    }
+}
+
+/// Adds the report of a running station: the table with its ages, and a line for each target that is down.
+fn put_running<S: NameTexts>(
+    alloc: Global,
+    text: &mut String,
+    names: &S,
+    listing: Listing,
+    figures: &Figures,
+) -> Result<(), AllocError>
+    ensures { OnOk result (string_bytes text.new ≡ string_bytes text.old ++ (table_text (S.shown names.now) true figures.now.ages.items listing.entry.entries.now ++ flat_map down_if figures.now.targets.items)) }
+{
+    let aged = Listing {
+        ages: figures.ages.as_slice(),
+        ..listing
+    };
+    put_table(alloc, text, names, aged, true)?;
+    put_down(text, figures.targets.as_slice())
+}
+
+/// Adds the table, with a column of ages or without.
+#[tactic(auto, unfolding(crate::specs::Columns::table_text))]
+fn put_table<S: NameTexts>(
+    alloc: Global,
+    text: &mut String,
+    names: &S,
+    listing: Listing,
+    is_aged: bool,
+) -> Result<(), AllocError>
+    ensures { OnOk result (string_bytes text.new ≡ string_bytes text.old ++ table_text (S.shown names.now) is_aged listing.entry.ages.now listing.entry.entries.now) }
+{
     let shape = Shape {
-        widths,
+        widths: widths_of(alloc, listing.entries)?,
         is_aged,
         age: None,
     };
-    let mut text = String::new(alloc);
-    put_title(alloc, &mut text, shape)?;
-    put_rows(alloc, &mut text, names, Listing { entries, ages }, shape)?;
-    put_count(&mut text, entries.len(), count_samples(entries))?;
-    Ok(text)
+    put_title(alloc, text, shape)?;
+    put_rows(alloc, text, names, listing, shape)?;
+    put_count(text, listing.entries.len(), count_samples(listing.entries))
 }
 
 /// Adds a line for each target that is down.
@@ -164,10 +181,24 @@ fn widths_of(alloc: Global, entries: &[Entry]) -> Result<Widths, AllocError>
     let mut value = "VALUE".len();
     let mut rate = "RATE".len();
     for entry in entries {
-        value = value.max(value_cell(alloc, entry.samples().last())?.len());
-        rate = rate.max(rate_cell(alloc, entry.totals().thousandths())?.len());
+        value = value.max(value_width(alloc, entry)?);
+        rate = rate.max(rate_width(alloc, entry)?);
     }
     Ok(Widths { value, rate })
+}
+
+/// Returns how wide the cell of an instance's newest value is.
+fn value_width(alloc: Global, entry: &Entry) -> Result<usize, AllocError>
+    ensures { IfOk result (λ width. width ≡ length (value_cell (newest_of entry.now.items))) }
+{
+    Ok(value_cell(alloc, entry.samples())?.len())
+}
+
+/// Returns how wide the cell of an instance's rate is.
+fn rate_width(alloc: Global, entry: &Entry) -> Result<usize, AllocError>
+    ensures { IfOk result (λ width. width ≡ length (rate_cell (rate_of entry.now.items))) }
+{
+    Ok(rate_cell(alloc, entry)?.len())
 }
 
 /// Adds the line of the columns' titles.
@@ -283,9 +314,21 @@ fn put_row<S: NameTexts>(
 {
     put_cells(alloc, text, shape.widths, entry)?;
     put_age(alloc, text, shape)?;
-    let name = names.text(alloc, entry.name())?;
-    text.push_str(name.as_str())?;
+    put_name(alloc, text, names, entry)?;
     text.push_str("\n")
+}
+
+/// Adds the name of an instance.
+fn put_name<S: NameTexts>(
+    alloc: Global,
+    text: &mut String,
+    names: &S,
+    entry: &Entry,
+) -> Result<(), AllocError>
+    ensures { OnOk result (string_bytes text.new ≡ string_bytes text.old ++ S.shown names.now entry.now.name) }
+{
+    let name = names.text(alloc, entry.name())?;
+    text.push_str(name.as_str())
 }
 
 /// Adds the cells of an instance's line before its name.
@@ -297,14 +340,39 @@ fn put_cells(
 ) -> Result<(), AllocError>
     ensures { OnOk result (string_bytes text.new ≡ string_bytes text.old ++ row_cells widths entry.now) }
 {
-    let value = value_cell(alloc, entry.samples().last())?;
-    let rate = rate_cell(alloc, entry.totals().thousandths())?;
-    let alarm = alarm_cell(alloc, entry)?;
-    let samples = entry.samples().len().to_string(alloc)?;
-    put_right(alloc, text, widths.value, value.as_str())?;
-    put_right(alloc, text, widths.rate, rate.as_str())?;
-    put_left(alloc, text, 6, alarm)?;
-    put_right(alloc, text, 7, samples.as_str())
+    put_value(alloc, text, widths.value, entry)?;
+    put_rate(alloc, text, widths.rate, entry)?;
+    put_left(alloc, text, 6, alarm_cell(alloc, entry)?)?;
+    put_samples(alloc, text, entry.samples())
+}
+
+/// Adds the cell of an instance's newest value.
+fn put_value(
+    alloc: Global,
+    text: &mut String,
+    width: usize,
+    entry: &Entry,
+) -> Result<(), AllocError>
+    ensures { OnOk result (string_bytes text.new ≡ string_bytes text.old ++ to_right width (value_cell (newest_of entry.now.items))) }
+{
+    let cell = value_cell(alloc, entry.samples())?;
+    put_right(alloc, text, width, cell.as_str())
+}
+
+/// Adds the cell of an instance's rate.
+fn put_rate(alloc: Global, text: &mut String, width: usize, entry: &Entry) -> Result<(), AllocError>
+    ensures { OnOk result (string_bytes text.new ≡ string_bytes text.old ++ to_right width (rate_cell (rate_of entry.now.items))) }
+{
+    let cell = rate_cell(alloc, entry)?;
+    put_right(alloc, text, width, cell.as_str())
+}
+
+/// Adds the cell that says how many samples there are.
+fn put_samples(alloc: Global, text: &mut String, samples: &[Sample]) -> Result<(), AllocError>
+    ensures { OnOk result (string_bytes text.new ≡ string_bytes text.old ++ to_right 7 (decimal (length samples.now))) }
+{
+    let cell = samples.len().to_string(alloc)?;
+    put_right(alloc, text, 7, cell.as_str())
 }
 
 /// Adds a cell at the right end of its column, and the two spaces before the next.
@@ -323,21 +391,21 @@ fn put_left(alloc: Global, text: &mut String, width: usize, cell: &str) -> Resul
     write!(text, "{cell}{spaces}  ")
 }
 
-/// The number of the newest sample, or a dash.
-fn value_cell(alloc: Global, newest: Option<&Sample>) -> Result<String, AllocError>
-    ensures { IfOk result (λ text. string_bytes text ≡ value_cell (option_copied newest.entry)) }
+/// Returns the number of the newest sample, or a dash.
+fn value_cell(alloc: Global, samples: &[Sample]) -> Result<String, AllocError>
+    ensures { IfOk result (λ text. string_bytes text ≡ value_cell (newest_of samples.now)) }
 {
-    match newest {
-        None => String::from_str(alloc, "-"),
-        Some(sample) => sample.number().to_string(alloc),
-    }
+    let Some(newest) = samples.last() else {
+        return String::from_str(alloc, "-");
+    };
+    newest.number().to_string(alloc)
 }
 
-/// Writes a rate, given in thousandths, with three digits after the point; a dash if there is none.
-fn rate_cell(alloc: Global, rate: Option<u128>) -> Result<String, AllocError>
-    ensures { IfOk result (λ text. string_bytes text ≡ rate_cell rate) }
+/// Writes an instance's rate with three digits after the point; a dash if there is none.
+fn rate_cell(alloc: Global, entry: &Entry) -> Result<String, AllocError>
+    ensures { IfOk result (λ text. string_bytes text ≡ rate_cell (rate_of entry.now.items)) }
 {
-    match rate {
+    match entry.totals().thousandths() {
         None => String::from_str(alloc, "-"),
         Some(rate) => rate_text(alloc, rate),
     }

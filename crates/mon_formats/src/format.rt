@@ -7,11 +7,10 @@ ghost use Rattle.mon_formats.specs.Json.{ReadsAsReport};
 ghost use Rattle.mon_formats.specs.declared.format.Format.TheVariants.{Json};
 
 use crate::columns::columns_report;
-use crate::extras::Extras;
 use crate::json::json_report;
 use crate::named::named_report;
 use crate::prometheus::prometheus_report;
-use mon_page::page_report;
+use mon_page::{Extras, page_report};
 use mon_report::Entry;
 use mon_smi::NameTexts;
 use std::alloc::{AllocError, Global};
@@ -49,7 +48,11 @@ impl Format {
 }
 
 /// Makes the report of instances in a format, with their names as `names` has them. All but
-/// the lines of text also have what the station says of itself; Prometheus' text has the labels.
+/// the lines of text also have what the station says of itself. Prometheus' text has the labels, and a
+/// page the ifName and the ifAlias among them.
+///
+/// # Errors
+/// `AllocError` if there is no memory for it.
 pub fn format_report<S: NameTexts>(
     alloc: Global,
     format: Format,
@@ -66,6 +69,6 @@ pub fn format_report<S: NameTexts>(
         Format::Json => json_report(alloc, names, entries, extras.station),
         Format::Prometheus => prometheus_report(alloc, names, entries, extras),
         Format::Columns => columns_report(alloc, names, entries, extras.station),
-        Format::Html => page_report(alloc, names, entries, extras.station),
+        Format::Html => page_report(alloc, names, entries, extras),
     }
 }

@@ -1,18 +1,19 @@
 //! A report as JSON.
 
-ghost use Rattle.std.specs.Prelude.{◌≡◌, IfOk, None, Some, map, option_map};
-ghost use Rattle.serde_json.specs.Data.{array, string};
-ghost use Rattle.serde_json.specs.View.{view, items_of};
-ghost use Rattle.mon_report.specs.Report.{samples_in};
+ghost use Rattle.std.specs.Prelude.{◌≡◌, ◌∷◌, ◌++◌, [], IfOk, None, OnOk, Some, map, option_map};
+ghost use Rattle.hex.specs.Hex.{encode_lower};
+ghost use Rattle.serde_json.specs.Data.{array, no_members, object, put as with_member, string};
+ghost use Rattle.serde_json.specs.View.{view, items_of, members_view};
 ghost use Rattle.mon_page.specs.Cells.{rate_of};
-ghost use Rattle.mon_formats.specs.Json.{exact, exact_signed, sample_data, raised_data, alarm_data, rate_data, totals_data, age_data, debt_data, target_data, refusal_data, station_data, entry_data, report_data, json_report, ReadsAsReport};
+ghost use Rattle.mon_formats.specs.Json.{exact, exact_signed, file_members, sample_data, raised_data, alarm_data, rate_data, totals_data, age_data, debt_data, target_data, refusal_data, station_data, entry_data, report_data, json_report, ReadsAsReport};
 
+use crate::cells::count_samples;
 use mon_alarms::{AlarmState, Rule, state};
 use mon_page::{Figures, TargetFigures};
 use mon_report::Entry;
 use mon_sample::Sample;
 use mon_smi::NameTexts;
-use serde_json::{Value, json};
+use serde_json::{Map, Value, json, push, put};
 use std::alloc::{AllocError, Global};
 
 /// The largest whole number that is written as a number: readers that keep numbers as floats of 64 bits have it exactly.
@@ -58,28 +59,118 @@ fn running_value<S: NameTexts>(
 ) -> Result<Value, AllocError>
     ensures { IfOk result (λ v. view v ≡ report_data (S.shown names.now) entries.now (Some figures.now)) }
 {
-    json!(in alloc; {
-        "instances": instances_value(alloc, names, entries)?,
-        "samples": exact_value(alloc, count_samples(entries))?,
-        "station": station_value(alloc, figures)?
-    })
+    let mut members = Map::new(alloc);
+    put_instances(alloc, &mut members, names, entries)?;
+    put(
+        &mut members,
+        alloc,
+        "station",
+        station_value(alloc, figures)?,
+    )?;
+    Ok(Value::Object(members))
+}
+
+/// The report of a file: its instances, and how many samples they have.
+fn file_value<S: NameTexts>(
+    alloc: Global,
+    names: &S,
+    entries: &[Entry],
+) -> Result<Value, AllocError>
+    ensures { IfOk result (λ v. view v ≡ report_data (S.shown names.now) entries.now None) }
+{
+    let mut members = Map::new(alloc);
+    put_instances(alloc, &mut members, names, entries)?;
+    Ok(Value::Object(members))
+}
+
+/// Puts the instances, and how many samples they have, into an object without members.
+fn put_instances<S: NameTexts>(
+    alloc: Global,
+    members: &mut Map<String, Value>,
+    names: &S,
+    entries: &[Entry],
+) -> Result<(), AllocError>
+    requires { members_view members.old.entries ≡ no_members }
+    ensures { OnOk result (members_view members.new.entries ≡ file_members (S.shown names.now) entries.now no_members) }
+{
+    put(
+        members,
+        alloc,
+        "instances",
+        instances_value(alloc, names, entries)?,
+    )?;
+    put(
+        members,
+        alloc,
+        "samples",
+        exact_value(alloc, count_samples(entries))?,
+    )
 }
 
 /// What a station says of itself.
 fn station_value(alloc: Global, figures: &Figures) -> Result<Value, AllocError>
     ensures { IfOk result (λ v. view v ≡ station_data figures.now) }
 {
-    json!(in alloc; {
-        "ages": ages_value(alloc, figures.ages.as_slice())?,
-        "debts": debts_value(alloc, figures.debts.as_slice())?,
-        "failed_saves": exact_value(alloc, u128::from(figures.failed_saves))?,
-        "given_up": exact_value(alloc, u128::from(figures.given_up))?,
-        "incarnation": figures.incarnation,
-        "round_ms": exact_value(alloc, u128::from(figures.round_ms))?,
-        "strangers": exact_value(alloc, u128::from(figures.strangers))?,
-        "taken": exact_value(alloc, u128::from(figures.taken))?,
-        "targets": targets_value(alloc, figures.targets.as_slice())?
-    })
+    let mut members = Map::new(alloc);
+    put_station(alloc, &mut members, figures)?;
+    Ok(Value::Object(members))
+}
+
+/// Puts what a station says of itself into an object without members.
+fn put_station(
+    alloc: Global,
+    members: &mut Map<String, Value>,
+    figures: &Figures,
+) -> Result<(), AllocError>
+    requires { members_view members.old.entries ≡ no_members }
+    ensures { OnOk result (object (members_view members.new.entries) ≡ station_data figures.now) }
+{
+    put(
+        members,
+        alloc,
+        "ages",
+        ages_value(alloc, figures.ages.as_slice())?,
+    )?;
+    put(
+        members,
+        alloc,
+        "debts",
+        debts_value(alloc, figures.debts.as_slice())?,
+    )?;
+    put_exact(
+        alloc,
+        members,
+        "failed_saves",
+        u128::from(figures.failed_saves),
+    )?;
+    put_exact(alloc, members, "given_up", u128::from(figures.given_up))?;
+    put(
+        members,
+        alloc,
+        "incarnation",
+        Value::from(figures.incarnation),
+    )?;
+    put_exact(alloc, members, "round_ms", u128::from(figures.round_ms))?;
+    put_exact(alloc, members, "strangers", u128::from(figures.strangers))?;
+    put_exact(alloc, members, "taken", u128::from(figures.taken))?;
+    put(
+        members,
+        alloc,
+        "targets",
+        targets_value(alloc, figures.targets.as_slice())?,
+    )
+}
+
+/// Puts a whole number into an object.
+fn put_exact(
+    alloc: Global,
+    members: &mut Map<String, Value>,
+    key: &str,
+    number: u128,
+) -> Result<(), AllocError>
+    ensures { OnOk result (members_view members.new.entries ≡ with_member key.now (exact number) (members_view members.old.entries)) }
+{
+    put(members, alloc, key, exact_value(alloc, number)?)
 }
 
 /// The array of ages.
@@ -106,16 +197,21 @@ fn debts_value(alloc: Global, debts: &[(u32, u32)]) -> Result<Value, AllocError>
 {
     let mut values = Vec::new(alloc);
     for (peer, samples) in debts {
-        values.push(debt_value(alloc, *peer, *samples)?)?;
+        push_debt(alloc, &mut values, *peer, *samples)?;
     }
     Ok(Value::Array(values))
 }
 
-/// How many samples the station owes a peer.
-fn debt_value(alloc: Global, peer: u32, samples: u32) -> Result<Value, AllocError>
-    ensures { IfOk result (λ v. view v ≡ debt_data (peer, samples)) }
+/// Adds how many samples the station owes a peer.
+fn push_debt(
+    alloc: Global,
+    values: &mut Vec<Value>,
+    peer: u32,
+    samples: u32,
+) -> Result<(), AllocError>
+    ensures { OnOk result (map view values.new.items ≡ map view values.old.items ++ debt_data (peer, samples) ∷ []) }
 {
-    json!(in alloc; {"peer": peer, "samples": samples})
+    push(values, json!(in alloc; {"peer": peer, "samples": samples})?)
 }
 
 /// The array of what a station says of its targets.
@@ -124,25 +220,63 @@ fn targets_value(alloc: Global, targets: &[TargetFigures]) -> Result<Value, Allo
 {
     let mut values = Vec::new(alloc);
     for target in targets {
-        values.push(target_value(alloc, target)?)?;
+        push_target(alloc, &mut values, target)?;
     }
     Ok(Value::Array(values))
 }
 
-/// What a station says of a target.
-fn target_value(alloc: Global, target: &TargetFigures) -> Result<Value, AllocError>
-    ensures { IfOk result (λ v. view v ≡ target_data target.now) }
+/// Adds what a station says of a target.
+fn push_target(
+    alloc: Global,
+    values: &mut Vec<Value>,
+    target: &TargetFigures,
+) -> Result<(), AllocError>
+    ensures { OnOk result (map view values.new.items ≡ map view values.old.items ++ target_data target.now ∷ []) }
 {
-    json!(in alloc; {
-        "address": String::from_str(alloc, target.address.as_str())?,
-        "engine": hex::encode(alloc, target.engine.as_slice())?,
-        "given_up": exact_value(alloc, u128::from(target.given_up))?,
-        "number": target.number,
-        "refusal": refusal_value(alloc, &target.refusal)?,
-        "rounds": target.rounds,
-        "seconds": exact_value(alloc, u128::from(target.seconds))?,
-        "up": target.up
-    })
+    let mut members = Map::new(alloc);
+    put_target(alloc, &mut members, target)?;
+    push(values, Value::Object(members))
+}
+
+/// Puts what a station says of a target into an object without members.
+fn put_target(
+    alloc: Global,
+    members: &mut Map<String, Value>,
+    target: &TargetFigures,
+) -> Result<(), AllocError>
+    requires { members_view members.old.entries ≡ no_members }
+    ensures { OnOk result (object (members_view members.new.entries) ≡ target_data target.now) }
+{
+    put(
+        members,
+        alloc,
+        "address",
+        text_value(alloc, target.address.as_str())?,
+    )?;
+    put(
+        members,
+        alloc,
+        "engine",
+        engine_value(alloc, target.engine.as_slice())?,
+    )?;
+    put_exact(alloc, members, "given_up", u128::from(target.given_up))?;
+    put(members, alloc, "number", Value::from(target.number))?;
+    put(
+        members,
+        alloc,
+        "refusal",
+        refusal_value(alloc, &target.refusal)?,
+    )?;
+    put(members, alloc, "rounds", Value::from(target.rounds))?;
+    put_exact(alloc, members, "seconds", u128::from(target.seconds))?;
+    put(members, alloc, "up", Value::from(target.up))
+}
+
+/// Returns an engine id in hex digits.
+fn engine_value(alloc: Global, engine: &[u8]) -> Result<Value, AllocError>
+    ensures { IfOk result (λ v. view v ≡ string (encode_lower engine.now)) }
+{
+    Ok(Value::String(hex::encode(alloc, engine)?))
 }
 
 /// Why a target's last response was refused; null if none was.
@@ -151,29 +285,15 @@ fn refusal_value(alloc: Global, refusal: &Option<String>) -> Result<Value, Alloc
 {
     match refusal {
         None => Ok(Value::Null),
-        Some(reason) => reason_value(alloc, reason.as_str()),
+        Some(reason) => text_value(alloc, reason.as_str()),
     }
 }
 
-/// A reason.
-fn reason_value(alloc: Global, reason: &str) -> Result<Value, AllocError>
-    ensures { IfOk result (λ v. view v ≡ string reason.now) }
+/// Returns a text.
+fn text_value(alloc: Global, text: &str) -> Result<Value, AllocError>
+    ensures { IfOk result (λ v. view v ≡ string text.now) }
 {
-    Ok(Value::String(String::from_str(alloc, reason)?))
-}
-
-/// The report of a file: its instances, and how many samples they have.
-fn file_value<S: NameTexts>(
-    alloc: Global,
-    names: &S,
-    entries: &[Entry],
-) -> Result<Value, AllocError>
-    ensures { IfOk result (λ v. view v ≡ report_data (S.shown names.now) entries.now None) }
-{
-    json!(in alloc; {
-        "instances": instances_value(alloc, names, entries)?,
-        "samples": exact_value(alloc, count_samples(entries))?
-    })
+    Ok(Value::String(String::from_str(alloc, text)?))
 }
 
 /// The array of the instances.
@@ -186,34 +306,63 @@ fn instances_value<S: NameTexts>(
 {
     let mut values = Vec::new(alloc);
     for entry in entries {
-        values.push(entry_value(alloc, names, entry)?)?;
+        push_entry(alloc, &mut values, names, entry)?;
     }
     Ok(Value::Array(values))
 }
 
-/// How many samples the instances have.
-fn count_samples(entries: &[Entry]) -> u128
-    ensures { result ≡ samples_in entries.now }
+/// Adds an instance, its name as it is shown.
+fn push_entry<S: NameTexts>(
+    alloc: Global,
+    values: &mut Vec<Value>,
+    names: &S,
+    entry: &Entry,
+) -> Result<(), AllocError>
+    ensures { OnOk result (map view values.new.items ≡ map view values.old.items ++ entry_data (S.shown names.now) entry.now ∷ []) }
 {
-    let mut count = 0;
-    for entry in entries {
-        count += entry.samples().len() as u128;
-    }
-    count
+    let mut members = Map::new(alloc);
+    put_entry(alloc, &mut members, names, entry)?;
+    push(values, Value::Object(members))
 }
 
-/// An instance, its name as it is shown.
-fn entry_value<S: NameTexts>(alloc: Global, names: &S, entry: &Entry) -> Result<Value, AllocError>
-    ensures { IfOk result (λ v. view v ≡ entry_data (S.shown names.now) entry.now) }
+/// Puts what is known of an instance into an object without members.
+fn put_entry<S: NameTexts>(
+    alloc: Global,
+    members: &mut Map<String, Value>,
+    names: &S,
+    entry: &Entry,
+) -> Result<(), AllocError>
+    requires { members_view members.old.entries ≡ no_members }
+    ensures { OnOk result (object (members_view members.new.entries) ≡ entry_data (S.shown names.now) entry.now) }
 {
-    json!(in alloc; {
-        "alarms": alarms_value(alloc, entry)?,
-        "engine": hex::encode(alloc, entry.engine())?,
-        "name": names.text(alloc, entry.name())?,
-        "rate_thousandths": rate_value(alloc, entry)?,
-        "samples": samples_value(alloc, entry.samples())?,
-        "totals": totals_value(alloc, entry)?
-    })
+    put(members, alloc, "alarms", alarms_value(alloc, entry)?)?;
+    put(
+        members,
+        alloc,
+        "engine",
+        engine_value(alloc, entry.engine())?,
+    )?;
+    put(members, alloc, "name", name_value(alloc, names, entry)?)?;
+    put(
+        members,
+        alloc,
+        "rate_thousandths",
+        rate_value(alloc, entry)?,
+    )?;
+    put(
+        members,
+        alloc,
+        "samples",
+        samples_value(alloc, entry.samples())?,
+    )?;
+    put(members, alloc, "totals", totals_value(alloc, entry)?)
+}
+
+/// Returns the name of an instance, as it is shown.
+fn name_value<S: NameTexts>(alloc: Global, names: &S, entry: &Entry) -> Result<Value, AllocError>
+    ensures { IfOk result (λ v. view v ≡ string (S.shown names.now entry.now.name)) }
+{
+    Ok(Value::String(names.text(alloc, entry.name())?))
 }
 
 /// The array of the alarms of an instance.
@@ -230,20 +379,53 @@ fn rules_value(alloc: Global, samples: &[Sample], rules: &[Rule]) -> Result<Valu
 {
     let mut values = Vec::new(alloc);
     for rule in rules {
-        values.push(alarm_value(alloc, samples, rule)?)?;
+        push_alarm(alloc, &mut values, samples, rule)?;
     }
     Ok(Value::Array(values))
 }
 
-/// A rule with its thresholds in thousandths, and when its alarm was raised over these samples.
-fn alarm_value(alloc: Global, samples: &[Sample], rule: &Rule) -> Result<Value, AllocError>
-    ensures { IfOk result (λ v. view v ≡ alarm_data samples.now rule.now) }
+/// Adds a rule with its thresholds in thousandths, and when its alarm was raised over these samples.
+fn push_alarm(
+    alloc: Global,
+    values: &mut Vec<Value>,
+    samples: &[Sample],
+    rule: &Rule,
+) -> Result<(), AllocError>
+    ensures { OnOk result (map view values.new.items ≡ map view values.old.items ++ alarm_data samples.now rule.now ∷ []) }
 {
-    json!(in alloc; {
-        "falling": exact_signed_value(alloc, i128::from(rule.falling()))?,
-        "raised": raised_value(alloc, state(rule, samples))?,
-        "rising": exact_signed_value(alloc, i128::from(rule.rising()))?
-    })
+    let mut members = Map::new(alloc);
+    put_alarm(alloc, &mut members, samples, rule)?;
+    push(values, Value::Object(members))
+}
+
+/// Puts a rule and when its alarm was raised into an object without members.
+fn put_alarm(
+    alloc: Global,
+    members: &mut Map<String, Value>,
+    samples: &[Sample],
+    rule: &Rule,
+) -> Result<(), AllocError>
+    requires { members_view members.old.entries ≡ no_members }
+    ensures { OnOk result (object (members_view members.new.entries) ≡ alarm_data samples.now rule.now) }
+{
+    put(
+        members,
+        alloc,
+        "falling",
+        exact_signed_value(alloc, i128::from(rule.falling()))?,
+    )?;
+    put(
+        members,
+        alloc,
+        "raised",
+        raised_value(alloc, state(rule, samples))?,
+    )?;
+    put(
+        members,
+        alloc,
+        "rising",
+        exact_signed_value(alloc, i128::from(rule.rising()))?,
+    )
 }
 
 /// When an alarm was raised; null where it is clear.
@@ -262,22 +444,44 @@ fn samples_value(alloc: Global, samples: &[Sample]) -> Result<Value, AllocError>
 {
     let mut values = Vec::new(alloc);
     for sample in samples {
-        values.push(sample_value(alloc, sample)?)?;
+        push_sample(alloc, &mut values, sample)?;
     }
     Ok(Value::Array(values))
 }
 
-/// A sample: its stamp, its discontinuity, its kind and the number that its value means.
-fn sample_value(alloc: Global, sample: &Sample) -> Result<Value, AllocError>
-    ensures { IfOk result (λ v. view v ≡ sample_data sample.now) }
+/// Adds a sample: its stamp, its discontinuity, its kind and the number that its value means.
+fn push_sample(alloc: Global, values: &mut Vec<Value>, sample: &Sample) -> Result<(), AllocError>
+    ensures { OnOk result (map view values.new.items ≡ map view values.old.items ++ sample_data sample.now ∷ []) }
 {
-    json!(in alloc; {
-        "boots": sample.boots(),
-        "kind": sample.kind().name(),
-        "mark": sample.discontinuity(),
-        "time": sample.time(),
-        "value": exact_signed_value(alloc, sample.number())?
-    })
+    let mut members = Map::new(alloc);
+    put_sample(alloc, &mut members, sample)?;
+    push(values, Value::Object(members))
+}
+
+/// Puts a sample into an object without members.
+fn put_sample(
+    alloc: Global,
+    members: &mut Map<String, Value>,
+    sample: &Sample,
+) -> Result<(), AllocError>
+    requires { members_view members.old.entries ≡ no_members }
+    ensures { OnOk result (object (members_view members.new.entries) ≡ sample_data sample.now) }
+{
+    put(members, alloc, "boots", Value::from(sample.boots()))?;
+    put(
+        members,
+        alloc,
+        "kind",
+        text_value(alloc, sample.kind().name())?,
+    )?;
+    put(members, alloc, "mark", Value::from(sample.discontinuity()))?;
+    put(members, alloc, "time", Value::from(sample.time()))?;
+    put(
+        members,
+        alloc,
+        "value",
+        exact_signed_value(alloc, sample.number())?,
+    )
 }
 
 /// The rate of an instance in thousandths; null if there is none.
@@ -294,11 +498,23 @@ fn rate_value(alloc: Global, entry: &Entry) -> Result<Value, AllocError>
 fn totals_value(alloc: Global, entry: &Entry) -> Result<Value, AllocError>
     ensures { IfOk result (λ v. view v ≡ totals_data entry.now.items) }
 {
+    let mut members = Map::new(alloc);
+    put_totals(alloc, &mut members, entry)?;
+    Ok(Value::Object(members))
+}
+
+/// Puts the totals of an instance into an object without members.
+fn put_totals(
+    alloc: Global,
+    members: &mut Map<String, Value>,
+    entry: &Entry,
+) -> Result<(), AllocError>
+    requires { members_view members.old.entries ≡ no_members }
+    ensures { OnOk result (object (members_view members.new.entries) ≡ totals_data entry.now.items) }
+{
     let totals = entry.totals();
-    json!(in alloc; {
-        "delta": exact_value(alloc, totals.delta)?,
-        "span": exact_value(alloc, u128::from(totals.span))?
-    })
+    put_exact(alloc, members, "delta", totals.delta)?;
+    put_exact(alloc, members, "span", u128::from(totals.span))
 }
 
 /// A whole number with its sign: as a number up to 2^53 on either side of 0, else as a text.

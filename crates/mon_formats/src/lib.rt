@@ -5,7 +5,6 @@
 mod cells;
 mod changes;
 mod columns;
-mod extras;
 mod format;
 mod json;
 pub mod laws;
@@ -13,6 +12,5 @@ mod named;
 mod prometheus;
 
 pub use changes::{alarm_line, instance_text};
-pub use extras::{Extras, InstanceLabels};
 pub use format::{Format, format_report};
-pub use mon_page::{Figures, TargetFigures};
+pub use mon_page::{Extras, Figures, InstanceLabels, TargetFigures};

@@ -1,7 +1,9 @@
 //! A report as lines of text.
 
-ghost use Rattle.std.specs.Prelude.{◌≡◌, ◌++◌, IfOk, OnOk, string_bytes};
-ghost use Rattle.mon_report.specs.Report.{end_line};
+ghost use Rattle.std.specs.Prelude.{◌≡◌, ◌++◌, IfOk, OnOk, length, string_bytes};
+ghost use Rattle.std.specs.List.{flat_map};
+ghost use Rattle.hex.specs.Hex.{encode_lower};
+ghost use Rattle.mon_report.specs.Report.{end_line, samples_in};
 ghost use Rattle.mon_formats.specs.Named.{named_line, named_report};
 
 use crate::cells::count_samples;
@@ -19,12 +21,24 @@ pub(crate) fn named_report<S: NameTexts>(
     ensures { IfOk result (λ text. text.items ≡ named_report (S.shown names.now) entries.now) }
 {
     let mut text = Vec::new(alloc);
-    for entry in entries {
-        put_line(alloc, &mut text, names, entry)?;
-    }
-    let end = end_line(alloc, entries.len(), count_samples(entries))?;
-    text.extend_from_slice(end.as_bytes())?;
+    put_lines(alloc, &mut text, names, entries)?;
+    put_end(alloc, &mut text, entries)?;
     Ok(text)
+}
+
+/// Adds the lines of instances.
+fn put_lines<S: NameTexts>(
+    alloc: Global,
+    text: &mut Vec<u8>,
+    names: &S,
+    entries: &[Entry],
+) -> Result<(), AllocError>
+    ensures { OnOk result (text.new.items ≡ text.old.items ++ flat_map (named_line (S.shown names.now)) entries.now) }
+{
+    for entry in entries {
+        put_line(alloc, text, names, entry)?;
+    }
+    Ok(())
 }
 
 /// Adds the line of an instance.
@@ -37,15 +51,42 @@ fn put_line<S: NameTexts>(
 ) -> Result<(), AllocError>
     ensures { OnOk result (text.new.items ≡ text.old.items ++ named_line (S.shown names.now) entry.now) }
 {
-    let engine = hex::encode(alloc, entry.engine())?;
-    let name = names.text(alloc, entry.name())?;
-    text.extend_from_slice(engine.as_bytes())?;
+    put_engine(alloc, text, entry)?;
     text.extend_from_slice(b" ")?;
-    text.extend_from_slice(name.as_bytes())?;
+    put_name(alloc, text, names, entry)?;
     if !write_rest(text, true, entry) {
         return Err(AllocError);
     }
     Ok(())
+}
+
+/// Adds the engine id of an instance in hex digits.
+fn put_engine(alloc: Global, text: &mut Vec<u8>, entry: &Entry) -> Result<(), AllocError>
+    ensures { OnOk result (text.new.items ≡ text.old.items ++ encode_lower entry.now.engine) }
+{
+    let engine = hex::encode(alloc, entry.engine())?;
+    text.extend_from_slice(engine.as_bytes())
+}
+
+/// Adds the name of an instance, as it is shown.
+fn put_name<S: NameTexts>(
+    alloc: Global,
+    text: &mut Vec<u8>,
+    names: &S,
+    entry: &Entry,
+) -> Result<(), AllocError>
+    ensures { OnOk result (text.new.items ≡ text.old.items ++ S.shown names.now entry.now.name) }
+{
+    let name = names.text(alloc, entry.name())?;
+    text.extend_from_slice(name.as_bytes())
+}
+
+/// Adds the last line.
+fn put_end(alloc: Global, text: &mut Vec<u8>, entries: &[Entry]) -> Result<(), AllocError>
+    ensures { OnOk result (text.new.items ≡ text.old.items ++ end_line (length entries.now) (samples_in entries.now)) }
+{
+    let end = end_line(alloc, entries.len(), count_samples(entries))?;
+    text.extend_from_slice(end.as_bytes())
 }
 
 /// The last line: how many instances and samples there are.

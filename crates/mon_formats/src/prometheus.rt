@@ -5,7 +5,8 @@ ghost use Rattle.std.specs.Fmt.{signed_decimal};
 ghost use Rattle.std.specs.List.{flat_map};
 ghost use Rattle.mon_report.specs.Report.{Entry as AnEntry};
 ghost use Rattle.mon_page.specs.Cells.{newest_of, value_of, rate_of};
-ghost use Rattle.mon_formats.specs.Prometheus.{prometheus_report, ages_text, age_line, fresh, is_fresh, instances_text, labelled, metric_text, entry_lines, lines_of, counted_line, number_line, samples_line, rate_line, alarm_line, alarm_labels, state_digit, name_of, metric_line, threshold_text};
+ghost use Rattle.mon_page.specs.Labelled.{labelled};
+ghost use Rattle.mon_formats.specs.Prometheus.{prometheus_report, ages_text, age_line, fresh, is_fresh, instances_text, metric_text, entry_lines, lines_of, counted_line, number_line, samples_line, rate_line, alarm_line, alarm_labels, state_digit, name_of, metric_line, threshold_text};
 
 mod instance;
 mod metric;
@@ -13,12 +14,11 @@ mod station;
 mod target;
 mod text;
 
-use crate::extras::{Extras, InstanceLabels};
 use instance::{Labelled, labels_of};
 use itoa::Buffer;
 use metric::Metric;
 use mon_alarms::{AlarmState, Rule, state};
-use mon_page::Figures;
+use mon_page::{Extras, Figures, InstanceLabels};
 use mon_rates::is_counter;
 use mon_report::{Entry, write_rate};
 use mon_sample::Sample;

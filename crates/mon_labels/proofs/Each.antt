@@ -2,7 +2,7 @@
 use Rattle.std.proofs.Common.{◌≡◌, ℕ, ◌+◌, ◌<◌, List, [], ◌∷◌, ◌++◌, length, get_or, drop, map, String, ap, sym, ◌∙◌, append_assoc}
 use Rattle.std.proofs.lemmas.List.{drop_more, map_push}
 use Rattle.mon_board.specs.declared.instance.Watched.{Watched}
-use Rattle.mon_formats.specs.declared.extras.InstanceLabels.{InstanceLabels}
+use Rattle.mon_page.specs.declared.extras.InstanceLabels.{InstanceLabels}
 use Rattle.mon_poller.specs.declared.target.Target.{Target}
 use Rattle.mon_labels.specs.declared.interface.InterfaceLabels.{InterfaceLabels}
 use Rattle.mon_labels.specs.Given.{Given, address_of, given, given_from, labels_for}

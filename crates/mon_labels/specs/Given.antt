@@ -3,7 +3,7 @@ use Rattle.std.specs.Prelude.{ℕ, ◌+◌, ◌-◌, Bool, ◌==◌, List, [], �
 use Rattle.std.specs.List.{find, list_any}
 use Rattle.mon_board.specs.declared.instance.Instance.{Instance}
 use Rattle.mon_board.specs.declared.instance.Watched.{Watched}
-use Rattle.mon_formats.specs.declared.extras.InstanceLabels.{InstanceLabels}
+use Rattle.mon_page.specs.declared.extras.InstanceLabels.{InstanceLabels}
 use Rattle.mon_poller.specs.declared.target.Target.{Target}
 use Rattle.mon_labels.specs.declared.interface.InterfaceLabels.{InterfaceLabels}
 use Rattle.mon_labels.specs.Described.{described, is_of}

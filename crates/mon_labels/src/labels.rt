@@ -5,7 +5,7 @@ ghost use Rattle.mon_labels.specs.Given.{address_of, given, given_from, interfac
 
 use crate::interface::{InterfaceLabels, find_interface};
 use mon_board::{Instance, Watched};
-use mon_formats::InstanceLabels;
+use mon_page::InstanceLabels;
 use mon_poller::Target;
 use std::alloc::{AllocError, Global};
 

@@ -1,10 +1,11 @@
 -- An escaped text has no character that ends a text, and is read as the text that was escaped.
-use Rattle.std.proofs.Common.{◌≡◌, ℕ, List, [], ◌∷◌, ◌++◌, Bool, true, false, Some, None, refl, ap, ◌∙◌, cond}
+use Rattle.std.proofs.Common.{◌≡◌, ℕ, List, [], ◌∷◌, ◌++◌, Bool, true, false, Some, None, refl, ap, ◌∙◌, codes, cond}
 use Rattle.std.specs.Prelude.{◌==◌, ◌&&◌, not, All}
 use Rattle.std.specs.List.{flat_map, list_all}
 use Rattle.std.proofs.lemmas.Bool.{eqb-true}
 use Rattle.std.proofs.lemmas.List.Elements.{All-nil, All-cons, All-append}
-use Rattle.mon_page.specs.Escape.{escaped, text_read, IsPlain}
+use Rattle.mon_page.specs.Escape.{escaped, text_read, IsLineOf, IsPlain}
+use Rattle.mon_page.specs.Page.{label_line, label_start}
 
 -- an octet is read as itself
 one_read : (c : ℕ) (rest : List ℕ) → text_read None (escaped c ++ rest) ≡ c ∷ text_read None rest
@@ -75,3 +76,22 @@ one_plain c = by_less (c == 60) refl
 pub plain : (text : List ℕ) → All IsPlain (flat_map escaped text)
 plain [] = none
 plain (c ∷ text) = All-append IsPlain (escaped c) (flat_map escaped text) (one_plain c) (plain text)
+
+-- the lines of labels
+pub if_name : (text : List ℕ) → IsLineOf (label_line (codes "ifName") text) (codes "ifName " ++ text)
+unfolding label_line label_start
+if_name text = (
+  codes "ifName " ++ flat_map escaped text,
+  refl,
+  All-append IsPlain (codes "ifName ") (flat_map escaped text) (by_test (codes "ifName ") refl) (plain text),
+  ap (λ (t : List ℕ). codes "ifName " ++ t) (read_back text),
+)
+
+pub if_alias : (text : List ℕ) → IsLineOf (label_line (codes "ifAlias") text) (codes "ifAlias " ++ text)
+unfolding label_line label_start
+if_alias text = (
+  codes "ifAlias " ++ flat_map escaped text,
+  refl,
+  All-append IsPlain (codes "ifAlias ") (flat_map escaped text) (by_test (codes "ifAlias ") refl) (plain text),
+  ap (λ (t : List ℕ). codes "ifAlias " ++ t) (read_back text),
+)

@@ -1,3 +1,5 @@
 pub mod Alarms
 pub mod Escapes
 pub mod Chains
+pub mod Promised
+pub mod InstanceRows

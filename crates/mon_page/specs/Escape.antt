@@ -1,6 +1,6 @@
 -- How a text is written between tags and in quoted values of attributes, and how it is read there (HTML Living Standard, sections 13.1.4
 -- and 13.2.5.72 on).
-use Rattle.std.specs.Prelude.{◌≡◌, ℕ, false, List, [], ◌∷◌, ◌++◌, Option, Some, None, codes, ◌==◌, bytes_eq, if◌then◌else◌}
+use Rattle.std.specs.Prelude.{◌≡◌, ℕ, false, List, [], ◌∷◌, ◌++◌, Option, Some, None, All, codes, ◌==◌, bytes_eq, if◌then◌else◌}
 
 -- an octet: `<`, `>`, `&` and `"` are written as character references
 abbrev pub escaped : ℕ → List ℕ
@@ -24,3 +24,9 @@ text_read (Some name) (octet ∷ octets) =
 -- an octet that is no `<`, no `>` and no `"`
 abbrev pub IsPlain : ℕ → Type 0
 IsPlain octet = (octet == 60) ≡ false × (octet == 62) ≡ false × (octet == 34) ≡ false
+
+-- a `div` whose content has no `<`, `>` or `"`, and is read as this text
+abbrev pub IsLineOf : List ℕ → List ℕ → Type 0
+IsLineOf line text =
+    (content : List ℕ) × (line ≡ codes "<div style=\"max-width:20rem\">" ++ content ++ codes "</div>") × All IsPlain content
+    × (text_read None content ≡ text)

@@ -3,11 +3,13 @@ use Rattle.std.specs.Prelude.{ℕ, ◌+◌, Bool, true, false, List, [], ◌∷�
 use Rattle.std.specs.List.{flat_map}
 use Rattle.hex.specs.Hex.{encode_lower}
 use Rattle.mon_report.specs.Report.{Entry}
+use Rattle.mon_page.specs.declared.extras.InstanceLabels.{InstanceLabels}
 use Rattle.mon_page.specs.declared.figures.Figures.{Figures}
 use Rattle.mon_page.specs.declared.figures.TargetFigures.{TargetFigures}
 use Rattle.mon_page.specs.Cells.{newest_of, rate_of, value_cell, rate_cell, alarm_cell, age_cell}
 use Rattle.mon_page.specs.Escape.{escaped}
 use Rattle.mon_page.specs.Between.{between}
+use Rattle.mon_page.specs.Labelled.{Labelled}
 use Rattle.mon_page.specs.Plot.{plot_cell}
 use Rattle.mon_page.specs.Style.{style_text}
 
@@ -50,9 +52,35 @@ station_if None = []
 station_if (Some f) = station_list f
 
 -- ---- rows
--- the cell of a name, with the engine id below it
-unfoldable pub name_cell : (List ℕ → List ℕ) → Entry → List ℕ
-name_cell shown e = codes "<td>" ++ flat_map escaped (shown e.name) ++ between (codes "<small>") (encode_lower e.engine) (codes "</small></td>")
+-- the beginning of the line of a label, at most 20rem wide, so that a long text does not narrow the other columns
+unfoldable pub label_start : List ℕ
+label_start = codes "<div style=\"max-width:20rem\">"
+
+-- the line of a label below a name: its title and its text
+unfoldable pub label_line : List ℕ → List ℕ → List ℕ
+label_line title text = label_start ++ title ++ codes " " ++ flat_map escaped text ++ codes "</div>"
+
+-- that line, if the label is known
+abbrev pub label_if : {A : Type 0} → List ℕ → Option (String A) → List ℕ
+label_if title None = []
+label_if title (Some text) = label_line title (string_bytes text)
+
+-- the lines of the ifName and the ifAlias, as far as they are known
+unfoldable pub label_lines : InstanceLabels → List ℕ
+label_lines l = label_if (codes "ifName") l.if_name ++ label_if (codes "ifAlias") l.if_alias
+
+-- those lines, if labels are given
+abbrev pub label_lines_if : Option InstanceLabels → List ℕ
+label_lines_if None = []
+label_lines_if (Some l) = label_lines l
+
+-- the engine id in hex digits, and the end of the cell of a name
+unfoldable pub engine_text : List ℕ → List ℕ
+engine_text engine = between (codes "<small>") (encode_lower engine) (codes "</small></td>")
+
+-- the cell of a name, with the ifName, the ifAlias and the engine id below it
+unfoldable pub name_cell : (List ℕ → List ℕ) → Labelled → List ℕ
+name_cell shown i = codes "<td>" ++ flat_map escaped (shown i.0.name) ++ label_lines_if i.1 ++ engine_text i.0.engine
 
 -- a cell
 unfoldable pub cell : List ℕ → List ℕ
@@ -68,22 +96,22 @@ figure_cells age e =
     cell (value_cell (newest_of e.items)) ++ cell (rate_cell (rate_of e.items)) ++ class_cell (alarm_cell e.items e.rules) ++ cell (age_cell age)
 
 -- the row of an instance
-unfoldable pub row_text : (List ℕ → List ℕ) → Option ℕ → Entry → List ℕ
-row_text shown age e = codes "<tr>" ++ name_cell shown e ++ figure_cells age e ++ plot_cell e.items e.rules ++ codes "</tr>\n"
+unfoldable pub row_text : (List ℕ → List ℕ) → Option ℕ → Labelled → List ℕ
+row_text shown age i = codes "<tr>" ++ name_cell shown i ++ figure_cells age i.0 ++ plot_cell i.0.items i.0.rules ++ codes "</tr>\n"
 
 -- the rows of instances from a place on
-abbrev pub rows_from : (List ℕ → List ℕ) → List ℕ → ℕ → List Entry → List ℕ
+abbrev pub rows_from : (List ℕ → List ℕ) → List ℕ → ℕ → List Labelled → List ℕ
 rows_from shown ages place [] = []
-rows_from shown ages place (e ∷ es) = row_text shown (slice_get ages place) e ++ rows_from shown ages (place + 1) es
+rows_from shown ages place (i ∷ is) = row_text shown (slice_get ages place) i ++ rows_from shown ages (place + 1) is
 
 -- the titles of the table
 unfoldable pub table_head : List ℕ
 table_head = codes "<table>\n<thead><tr><th>Name</th><th>Value</th><th>Rate</th><th>Alarm</th><th>Age in rounds</th><th>Window</th></tr></thead>\n<tbody>\n"
 
 -- the table, and how many instances there are
-unfoldable pub table_text : (List ℕ → List ℕ) → List ℕ → List Entry → List ℕ
-table_text shown ages entries =
-    table_head ++ rows_from shown ages 0 entries ++ between (codes "</tbody>\n</table>\n<p>") (decimal (length entries)) (codes " instances</p>\n")
+unfoldable pub table_text : (List ℕ → List ℕ) → List ℕ → List Labelled → List ℕ
+table_text shown ages instances =
+    table_head ++ rows_from shown ages 0 instances ++ between (codes "</tbody>\n</table>\n<p>") (decimal (length instances)) (codes " instances</p>\n")
 
 -- ---- the document
 -- after how many seconds a browser loads the page again, if it is to
@@ -118,9 +146,10 @@ ages_of None = []
 ages_of (Some f) = f.ages.items
 
 -- what follows the head: the station, and the table
-unfoldable pub body_text : (List ℕ → List ℕ) → List Entry → Option Figures → List ℕ
-body_text shown entries station = station_if station ++ table_text shown (ages_of station) entries ++ between (codes "</body>\n") (codes "</html>\n") []
+unfoldable pub body_text : (List ℕ → List ℕ) → List Labelled → Option Figures → List ℕ
+body_text shown instances station =
+    station_if station ++ table_text shown (ages_of station) instances ++ between (codes "</body>\n") (codes "</html>\n") []
 
--- the page, of instances and what a running station says of itself
-unfoldable pub page_text : (List ℕ → List ℕ) → List Entry → Option Figures → List ℕ
-page_text shown entries station = head_text (refresh_of station) ++ body_text shown entries station
+-- the page, of instances with their labels and what a running station says of itself
+unfoldable pub page_text : (List ℕ → List ℕ) → List Labelled → Option Figures → List ℕ
+page_text shown instances station = head_text (refresh_of station) ++ body_text shown instances station

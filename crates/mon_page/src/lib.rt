@@ -1,12 +1,15 @@
 //! A report as a page for a browser: one HTML document without a script, readable without its style.
 //!
-//! Each text that comes from an agent, a module or the settings is escaped. It reads nothing but its arguments.
+//! Each text that comes from an agent, a module, the settings or a file of labels is escaped. It reads nothing but
+//! its arguments.
 #![tactic(auto)]
 
 pub(crate) mod cells;
 mod escape;
+mod extras;
 mod figures;
 pub mod laws;
+mod name;
 mod page;
 mod plot;
 mod rows;
@@ -14,5 +17,6 @@ mod station;
 mod style;
 
 pub use cells::alarm_cell;
+pub use extras::{Extras, InstanceLabels};
 pub use figures::{Figures, TargetFigures};
 pub use page::page_report;

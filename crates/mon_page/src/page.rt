@@ -1,11 +1,13 @@
 //! The document.
 
 ghost use Rattle.std.specs.Prelude.{◌≡◌, ◌++◌, IfOk, OnOk, None, Some, ◌==◌, if◌then◌else◌, option_map};
+ghost use Rattle.mon_page.specs.Labelled.{labelled};
 ghost use Rattle.mon_page.specs.Page.{refresh_text, first_lines, title_lines, heading_lines, head_text, refresh_of, ages_of, body_text, page_text};
 
 use crate::escape::put_between;
+use crate::extras::Extras;
 use crate::figures::Figures;
-use crate::rows::put_table;
+use crate::rows::{Listing, put_table};
 use crate::station::put_station_if;
 use crate::style::put_style;
 use itoa::Buffer;
@@ -13,8 +15,8 @@ use mon_report::Entry;
 use mon_smi::NameTexts;
 use std::alloc::{AllocError, Global};
 
-/// Makes the page of a report, with the names of instances as `names` has them. A browser loads the page of a
-/// running station again after the station's interval.
+/// Makes the page of a report, with the names of instances as `names` has them, and below each name the ifName and
+/// the ifAlias of its labels. A browser loads the page of a running station again after the station's interval.
 ///
 /// # Errors
 /// `AllocError` if there is no memory for it.
@@ -23,13 +25,13 @@ pub fn page_report<S: NameTexts>(
     alloc: Global,
     names: &S,
     entries: &[Entry],
-    station: Option<&Figures>,
+    extras: Extras<'_>,
 ) -> Result<Vec<u8>, AllocError>
-    ensures { IfOk result (λ text. text.items ≡ page_text (S.shown names.now) entries.now (option_map (λ f. f.now) station.entry)) }
+    ensures { IfOk result (λ text. text.items ≡ page_text (S.shown names.now) (labelled extras.entry.labels.now entries.now) (option_map (λ f. f.now) extras.entry.station)) }
 {
     let mut text = Vec::new(alloc);
-    put_head(&mut text, refresh_of(station))?;
-    put_body(alloc, &mut text, names, entries, station)?;
+    put_head(&mut text, refresh_of(extras.station))?;
+    put_body(alloc, &mut text, names, entries, extras)?;
     Ok(text)
 }
 
@@ -40,12 +42,17 @@ fn put_body<S: NameTexts>(
     text: &mut Vec<u8>,
     names: &S,
     entries: &[Entry],
-    station: Option<&Figures>,
+    extras: Extras<'_>,
 ) -> Result<(), AllocError>
-    ensures { OnOk result (text.new.items ≡ text.old.items ++ body_text (S.shown names.now) entries.now (option_map (λ f. f.now) station.entry)) }
+    ensures { OnOk result (text.new.items ≡ text.old.items ++ body_text (S.shown names.now) (labelled extras.entry.labels.now entries.now) (option_map (λ f. f.now) extras.entry.station)) }
 {
-    put_station_if(text, station)?;
-    put_table(alloc, text, names, entries, ages_of(station))?;
+    put_station_if(text, extras.station)?;
+    let listing = Listing {
+        entries,
+        labels: extras.labels,
+        ages: ages_of(extras.station),
+    };
+    put_table(alloc, text, names, listing)?;
     put_between(text, b"</body>\n", b"</html>\n", b"")
 }
 

@@ -1,12 +1,16 @@
 //! The table of instances.
 
-ghost use Rattle.std.specs.Prelude.{◌≡◌, ◌++◌, OnOk, Some, slice_get};
+ghost use Rattle.std.specs.Prelude.{◌≡◌, ◌<◌, ◌++◌, OnOk, Some, get_or, length, option_map, slice_get};
+ghost use Rattle.mon_report.specs.Report.{Entry as AnEntry};
 ghost use Rattle.mon_page.specs.Cells.{newest_of, rate_of, value_cell, rate_cell, age_cell};
+ghost use Rattle.mon_page.specs.Labelled.{labelled};
 ghost use Rattle.mon_page.specs.Plot.{plot_cell};
-ghost use Rattle.mon_page.specs.Page.{name_cell, cell, class_cell, figure_cells, row_text, rows_from, table_head, table_text};
+ghost use Rattle.mon_page.specs.Page.{cell, class_cell, figure_cells, row_text, rows_from, table_head, table_text};
 
 use crate::cells::alarm_cell;
-use crate::escape::{put_between, put_escaped};
+use crate::escape::put_between;
+use crate::extras::InstanceLabels;
+use crate::name::put_name;
 use crate::plot::put_plot;
 use itoa::Buffer;
 use mon_report::{Entry, write_rate};
@@ -14,21 +18,54 @@ use mon_sample::Sample;
 use mon_smi::NameTexts;
 use std::alloc::{AllocError, Global};
 
+/// Instances with their labels and their ages, as far as these are given.
+#[derive(Clone, Copy)]
+pub(crate) struct Listing<'a, 'e> {
+    pub(crate) entries: &'a [Entry<'e>],
+    /// Of the first instances.
+    pub(crate) labels: &'a [InstanceLabels],
+    /// Of the first instances.
+    pub(crate) ages: &'a [u32],
+}
+
+/// An instance with its labels and its age, if they are given.
+#[derive(Clone, Copy)]
+struct Row<'a, 'e> {
+    instance: &'a Entry<'e>,
+    labels: Option<&'a InstanceLabels>,
+    age: Option<u32>,
+}
+
+impl<'a, 'e> Listing<'a, 'e> {
+    /// Returns the instance at this place, with its labels and its age.
+    fn at(self, place: usize) -> Row<'a, 'e>
+        requires { place < length self.entries.now }
+        ensures instance { (other : AnEntry) → result.instance.now ≡ get_or self.entry.entries.now place other }
+        ensures labels { option_map (λ l. l.now) result.labels ≡ slice_get self.entry.labels.now place }
+        ensures age { result.age ≡ slice_get self.entry.ages.now place }
+    {
+        Row {
+            instance: &self.entries[place],
+            labels: self.labels.get(place),
+            age: self.ages.get(place).copied(),
+        }
+    }
+}
+
 /// Adds the table, and how many instances there are.
 #[tactic(auto, unfolding(crate::specs::Page::table_text))]
 pub(crate) fn put_table<S: NameTexts>(
     alloc: Global,
     text: &mut Vec<u8>,
     names: &S,
-    entries: &[Entry],
-    ages: &[u32],
+    listing: Listing,
 ) -> Result<(), AllocError>
-    ensures { OnOk result (text.new.items ≡ text.old.items ++ table_text (S.shown names.now) ages.now entries.now) }
+    ensures { OnOk result (text.new.items ≡ text.old.items ++ table_text (S.shown names.now) listing.entry.ages.now (labelled listing.entry.labels.now listing.entry.entries.now)) }
 {
     let mut digits = Buffer::new();
-    let count = digits.format(entries.len());
+    let count = digits.format(listing.entries.len());
     text.extend_from_slice(table_head())?;
-    put_rows(alloc, text, names, entries, ages)?;
+    put_rows(alloc, text, names, listing)?;
     put_between(
         text,
         b"</tbody>\n</table>\n<p>",
@@ -45,27 +82,19 @@ fn table_head() -> &'static [u8]
     b"<table>\n<thead><tr><th>Name</th><th>Value</th><th>Rate</th><th>Alarm</th><th>Age in rounds</th><th>Window</th></tr></thead>\n<tbody>\n"
 }
 
-/// Adds the rows of instances with these ages.
+/// Adds the rows of instances.
 fn put_rows<S: NameTexts>(
     alloc: Global,
     text: &mut Vec<u8>,
     names: &S,
-    entries: &[Entry],
-    ages: &[u32],
+    listing: Listing,
 ) -> Result<(), AllocError>
-    ensures { OnOk result (text.new.items ≡ text.old.items ++ rows_from (S.shown names.now) ages.now 0 entries.now) }
+    ensures { OnOk result (text.new.items ≡ text.old.items ++ rows_from (S.shown names.now) listing.entry.ages.now 0 (labelled listing.entry.labels.now listing.entry.entries.now)) }
 {
-    for place in 0..entries.len() {
-        put_row(alloc, text, names, &entries[place], age_at(ages, place))?;
+    for place in 0..listing.entries.len() {
+        put_row(alloc, text, names, listing.at(place))?;
     }
     Ok(())
-}
-
-/// Returns the age at a place, or `None` if there is none.
-fn age_at(ages: &[u32], place: usize) -> Option<u32>
-    ensures { result ≡ slice_get ages.now place }
-{
-    ages.get(place).copied()
 }
 
 /// Adds the row of an instance.
@@ -74,15 +103,14 @@ fn put_row<S: NameTexts>(
     alloc: Global,
     text: &mut Vec<u8>,
     names: &S,
-    entry: &Entry,
-    age: Option<u32>,
+    row: Row,
 ) -> Result<(), AllocError>
-    ensures { OnOk result (text.new.items ≡ text.old.items ++ row_text (S.shown names.now) age entry.now) }
+    ensures { OnOk result (text.new.items ≡ text.old.items ++ row_text (S.shown names.now) row.entry.age (row.entry.instance.now, option_map (λ l. l.now) row.entry.labels)) }
 {
     text.extend_from_slice(b"<tr>")?;
-    put_name(alloc, text, names, entry)?;
-    put_figures(alloc, text, entry, age)?;
-    put_window(alloc, text, entry)?;
+    put_name(alloc, text, names, row.instance, row.labels)?;
+    put_figures(alloc, text, row.instance, row.age)?;
+    put_window(alloc, text, row.instance)?;
     text.extend_from_slice(b"</tr>\n")
 }
 
@@ -92,23 +120,6 @@ fn put_window(alloc: Global, text: &mut Vec<u8>, entry: &Entry) -> Result<(), Al
 {
     let rules = entry.rules(alloc)?;
     put_plot(text, entry.samples(), rules.as_slice())
-}
-
-/// Adds the cell of a name, with the engine id below it.
-#[tactic(auto, unfolding(crate::specs::Page::name_cell))]
-fn put_name<S: NameTexts>(
-    alloc: Global,
-    text: &mut Vec<u8>,
-    names: &S,
-    entry: &Entry,
-) -> Result<(), AllocError>
-    ensures { OnOk result (text.new.items ≡ text.old.items ++ name_cell (S.shown names.now) entry.now) }
-{
-    let name = names.text(alloc, entry.name())?;
-    let engine = hex::encode(alloc, entry.engine())?;
-    text.extend_from_slice(b"<td>")?;
-    put_escaped(text, name.as_bytes())?;
-    put_between(text, b"<small>", engine.as_bytes(), b"</small></td>")
 }
 
 /// Adds the cells after the name: value, rate, alarm and age.

@@ -17,9 +17,49 @@ BUGS = {
         "        b'&' => text.extend_from_slice(b\"&\"),",
     ),
     "name_as_it_is": (
+        "src/name.rt",
+        "    put_escaped(text, name.as_bytes())",
+        "    text.extend_from_slice(name.as_bytes())",
+    ),
+    "label_as_it_is": (
+        "src/name.rt",
+        "    put_escaped(text, label)?;",
+        "    text.extend_from_slice(label)?;",
+    ),
+    "labels_of_the_neighbour": (
         "src/rows.rt",
-        "    put_escaped(text, name.as_bytes())?;",
-        "    text.extend_from_slice(name.as_bytes())?;",
+        "            labels: self.labels.get(place),",
+        "            labels: self.labels.get(place + 1),",
+    ),
+    "labels_of_the_first": (
+        "src/rows.rt",
+        "            labels: self.labels.get(place),",
+        "            labels: self.labels.first(),",
+    ),
+    "row_without_its_labels": (
+        "src/name.rt",
+        "        Some(labels) => put_labels(text, labels),",
+        "        Some(_) => Ok(()),",
+    ),
+    "page_without_its_labels": (
+        "src/page.rt",
+        "        labels: extras.labels,",
+        "        labels: &[],",
+    ),
+    "if_name_for_if_alias": (
+        "src/name.rt",
+        "    put_label_if(text, b\"ifAlias\", &labels.if_alias)",
+        "    put_label_if(text, b\"ifAlias\", &labels.if_name)",
+    ),
+    "label_under_the_other_title": (
+        "src/name.rt",
+        "    put_label_if(text, b\"ifName\", &labels.if_name)?;",
+        "    put_label_if(text, b\"ifAlias\", &labels.if_name)?;",
+    ),
+    "line_of_a_label_that_is_not_known": (
+        "src/name.rt",
+        "        None => Ok(()),\n        Some(label) =>",
+        "        None => put_label(text, title, b\"\"),\n        Some(label) =>",
     ),
     "address_as_it_is": (
         "src/station.rt",
@@ -53,13 +93,13 @@ BUGS = {
     ),
     "first_row_again": (
         "src/rows.rt",
-        "        put_row(alloc, text, names, &entries[place], age_at(ages, place))?;",
-        "        put_row(alloc, text, names, &entries[0], age_at(ages, place))?;",
+        "            instance: &self.entries[place],",
+        "            instance: &self.entries[0],",
     ),
     "age_of_the_first": (
         "src/rows.rt",
-        "        put_row(alloc, text, names, &entries[place], age_at(ages, place))?;",
-        "        put_row(alloc, text, names, &entries[place], age_at(ages, 0))?;",
+        "            age: self.ages.get(place).copied(),",
+        "            age: self.ages.first().copied(),",
     ),
     "clear_hides_raised": (
         "src/cells.rt",
@@ -145,5 +185,6 @@ BUGS = {
 
 PROMISES = {
     "leaves_less_than": "escape::put_octet",
-    "name_as_it_is": "rows::put_name",
+    "name_as_it_is": "name::put_shown",
+    "label_as_it_is": "name::put_label",
 }

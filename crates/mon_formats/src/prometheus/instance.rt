@@ -1,10 +1,11 @@
 //! The labels of an instance.
 
-ghost use Rattle.std.specs.Prelude.{◌≡◌, ◌++◌, IfOk, OnOk, option_map};
-ghost use Rattle.mon_formats.specs.Prometheus.{at_first_dot, at_last_dot, given_labels, instance_labels, is_in_numbers, joined_labels, label_if, more_label, object_and_index, object_labels};
+ghost use Rattle.std.specs.Prelude.{◌≡◌, ◌++◌, IfOk, OnOk, codes, option_map};
+ghost use Rattle.hex.specs.Hex.{encode_lower};
+ghost use Rattle.mon_formats.specs.Prometheus.{at_first_dot, at_last_dot, given_labels, instance_labels, is_in_numbers, joined_labels, label_if, label_text, more_label, object_and_index, object_labels};
 
-use crate::extras::InstanceLabels;
 use crate::prometheus::text::put_label;
+use mon_page::InstanceLabels;
 use mon_report::Entry;
 use mon_smi::NameTexts;
 use std::alloc::{AllocError, Global};
@@ -34,6 +35,18 @@ pub(crate) fn labels_of<S: NameTexts>(
     put_object(&mut labels, name.as_str())?;
     put_given(&mut labels, labelled.labels)?;
     Ok(labels)
+}
+
+/// Adds an engine id in hex digits as a label.
+pub(crate) fn put_engine(
+    alloc: Global,
+    labels: &mut Vec<u8>,
+    engine: &[u8],
+) -> Result<(), AllocError>
+    ensures { OnOk result (labels.new.items ≡ labels.old.items ++ label_text (codes "engine") (encode_lower engine.now)) }
+{
+    let digits = hex::encode(alloc, engine)?;
+    put_label(labels, "engine", digits.as_bytes())
 }
 
 /// Adds one more label.

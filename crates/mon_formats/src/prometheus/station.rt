@@ -102,7 +102,7 @@ pub(crate) fn put_station(
     put_debts(alloc, text, figures.debts.as_slice())?;
     put_plain(text, StationMetric::FailedSaves, figures.failed_saves)?;
     put_plain(text, StationMetric::Strangers, figures.strangers)?;
-    put_duration(alloc, text, figures.round_ms)?;
+    put_duration(text, figures.round_ms)?;
     put_targets(alloc, text, figures.targets.as_slice())
 }
 
@@ -121,18 +121,16 @@ fn put_plain(text: &mut Vec<u8>, metric: StationMetric, value: u64) -> Result<()
 
 /// Adds how long the last round took, which is given in milliseconds.
 #[tactic(auto, unfolding(crate::specs::Prometheus::duration_text))]
-fn put_duration(alloc: Global, text: &mut Vec<u8>, milliseconds: u64) -> Result<(), AllocError>
+fn put_duration(text: &mut Vec<u8>, milliseconds: u64) -> Result<(), AllocError>
     ensures { OnOk result (text.new.items ≡ text.old.items ++ duration_text milliseconds) }
 {
     let metric = StationMetric::Duration;
-    let mut seconds = Vec::new(alloc);
-    if !write_rate(&mut seconds, true, u128::from(milliseconds)) {
-        return Err(AllocError);
-    }
     put_head(text, metric.name(), metric.help(), metric.kind())?;
     text.extend_from_slice(metric.name().as_bytes())?;
     text.extend_from_slice(b" ")?;
-    text.extend_from_slice(seconds.as_slice())?;
+    if !write_rate(text, true, u128::from(milliseconds)) {
+        return Err(AllocError);
+    }
     text.extend_from_slice(b"\n")
 }
 

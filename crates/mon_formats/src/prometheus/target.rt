@@ -3,6 +3,7 @@
 ghost use Rattle.std.specs.Prelude.{◌≡◌, ◌++◌, OnOk, IfOk, string_bytes};
 ghost use Rattle.mon_formats.specs.Prometheus.{one_if, reason_if, reason_line, refusals_text, target_help, target_labels, target_line, target_metric, target_name, target_type, target_value, targets_text};
 
+use crate::prometheus::instance::put_engine;
 use crate::prometheus::text::{put_head, put_label, put_line};
 use itoa::Buffer;
 use mon_page::TargetFigures;
@@ -135,23 +136,29 @@ fn put_target(
 }
 
 /// The labels of a target: its address, its number, and its engine id in hex digits.
-#[tactic(auto, unfolding(crate::specs::Prometheus::target_labels))]
 fn target_labels(alloc: Global, target: &TargetFigures) -> Result<Vec<u8>, AllocError>
     ensures { IfOk result (λ labels. labels.items ≡ target_labels target.now) }
 {
-    let engine = hex::encode(alloc, target.engine.as_slice())?;
-    let mut digits = Buffer::new();
     let mut labels = Vec::new(alloc);
-    put_label(&mut labels, "target", target.address.as_bytes())?;
-    labels.extend_from_slice(b",")?;
-    put_label(
-        &mut labels,
-        "number",
-        digits.format(target.number).as_bytes(),
-    )?;
-    labels.extend_from_slice(b",")?;
-    put_label(&mut labels, "engine", engine.as_bytes())?;
+    put_target_labels(alloc, &mut labels, target)?;
     Ok(labels)
+}
+
+/// Adds the labels of a target.
+#[tactic(auto, unfolding(crate::specs::Prometheus::target_labels))]
+fn put_target_labels(
+    alloc: Global,
+    labels: &mut Vec<u8>,
+    target: &TargetFigures,
+) -> Result<(), AllocError>
+    ensures { OnOk result (labels.new.items ≡ labels.old.items ++ target_labels target.now) }
+{
+    let mut digits = Buffer::new();
+    put_label(labels, "target", target.address.as_bytes())?;
+    labels.extend_from_slice(b",")?;
+    put_label(labels, "number", digits.format(target.number).as_bytes())?;
+    labels.extend_from_slice(b",")?;
+    put_engine(alloc, labels, target.engine.as_slice())
 }
 
 /// Adds of each target that has a refused response a line with the reason.

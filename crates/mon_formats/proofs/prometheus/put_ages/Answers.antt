@@ -1,7 +1,9 @@
 use Rattle.std.proofs.Common.{◌≡◌, ◌<◌, ◌+◌, ◌++◌, ◌∙◌, ap, sym, length, drop, get_or, option_map, arith, append_assoc, append-nil}
-use Rattle.mon_formats.specs.Prometheus.{Labelled, age_line, age_lines, ages_text, head_text, labelled, station_head}
+use Rattle.mon_page.specs.Labelled.{Labelled, labelled}
+use Rattle.mon_page.proofs.Promised.{labelled-at, length-labelled}
+use Rattle.mon_formats.specs.Prometheus.{age_line, age_lines, ages_text, head_text, station_head}
 use Rattle.mon_formats.specs.declared.prometheus.station.StationMetric.TheVariants.{Age}
-use Rattle.mon_formats.proofs.Fresh.{ages_end, labelled-at, length-labelled, one_age}
+use Rattle.mon_formats.proofs.Fresh.{ages_end, one_age}
 use Rattle.mon_formats.proofs.prometheus.put_ages.Goals as goal
 
 pub loop-place-preserved : goal.loop-place-preserved

@@ -1,5 +1,6 @@
 use Rattle.std.proofs.Common.{◌≡◌, ◌++◌, drop}
-use Rattle.mon_formats.specs.Prometheus.{age_lines, labelled}
+use Rattle.mon_page.specs.Labelled.{labelled}
+use Rattle.mon_formats.specs.Prometheus.{age_lines}
 use Rattle.mon_formats.proofs.prometheus.put_ages.Given as goal
 
 -- what is written, and the lines that are left, are all lines

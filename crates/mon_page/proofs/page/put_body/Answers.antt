@@ -1,5 +1,6 @@
 use Rattle.std.proofs.Common.{◌++◌, ◌∙◌, ap, refl, ℕ, List, [], codes, option_map}
 use Rattle.mon_page.specs.Between.{between}
+use Rattle.mon_page.specs.Labelled.{labelled}
 use Rattle.mon_page.specs.Page.{ages_of, body_text, station_if, table_text}
 use Rattle.mon_page.proofs.Chains.{join, ends}
 use Rattle.mon_page.proofs.page.put_body.Goals as goal
@@ -9,9 +10,10 @@ unfolding body_text
 returns g c =
     let shown = g.S.NameTexts.shown c.args.names.now in
     let start = c.args.text.now.items in
-    let station = option_map (λ f. f.now) c.args.station in
-    let table = table_text shown (ages_of station) c.args.entries.now in
-    let second = c.in_ok-put_table.ensures ∙ ap (λ (ages : List ℕ). c.put_station_if.new.text.items ++ table_text shown ages c.args.entries.now) c.ages_of.ensures in
+    let station = option_map (λ f. f.now) c.args.extras.station in
+    let instances = labelled c.args.extras.labels.now c.args.entries.now in
+    let table = table_text shown (ages_of station) instances in
+    let second = c.in_ok-put_table.ensures ∙ ap (λ (ages : List ℕ). c.put_station_if.new.text.items ++ table_text shown ages instances) c.ages_of.ensures in
     ends c.put_between.result start c.put_table.new.text.items c.put_between.new.text.items (station_if station ++ table) (between (codes "</body>\n") (codes "</html>\n") []) _
     (join start c.put_station_if.new.text.items c.put_table.new.text.items (station_if station) table c.in_ok-put_station_if.ensures second)
     refl c.put_between.ensures

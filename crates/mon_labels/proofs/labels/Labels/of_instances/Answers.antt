@@ -1,5 +1,5 @@
 use Rattle.std.proofs.Common.{◌+◌, ◌++◌, ◌∙◌, List, ap, map, arith}
-use Rattle.mon_formats.specs.declared.extras.InstanceLabels.{InstanceLabels}
+use Rattle.mon_page.specs.declared.extras.InstanceLabels.{InstanceLabels}
 use Rattle.mon_labels.specs.Given.{given, labels_for}
 use Rattle.mon_labels.proofs.Each.{left, one_more}
 use Rattle.mon_labels.proofs.labels.Labels.of_instances.Goals as goal

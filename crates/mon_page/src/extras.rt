@@ -1,18 +1,18 @@
 //! What a report has beside the windows of its instances.
 
-use mon_page::Figures;
+use crate::figures::Figures;
 
 /// What is known beside the windows of a report's instances.
 #[derive(Clone, Copy, Debug)]
 pub struct Extras<'a> {
     /// What the station says of itself, if there is one.
     pub station: Option<&'a Figures>,
-    /// Of each instance, in their order, what Prometheus' text has as further labels. Those beyond
-    /// the last have none.
+    /// The labels of each instance, in their order. An instance beyond the last of them has none.
     pub labels: &'a [InstanceLabels],
 }
 
-/// What Prometheus' text has as further labels of an instance, for a dashboard to join on.
+/// The labels of an instance. Prometheus' text has them all, for a dashboard to join on; a page has the
+/// ifName and the ifAlias.
 #[derive(Debug, Drop)]
 pub struct InstanceLabels {
     /// Where the agent of its target is reached, as `a.b.c.d:port`.

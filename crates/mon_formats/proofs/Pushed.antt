@@ -1,0 +1,13 @@
+-- A value that is added to a list of values.
+use Rattle.std.proofs.Common.{◌≡◌, ◌∙◌, List, [], ◌∷◌, ◌++◌, ap, map, Result, Ok, Err}
+use Rattle.std.specs.Prelude.{OnOk}
+use Rattle.std.proofs.lemmas.List.{map_push}
+use Rattle.serde_json.specs.Data.{Data}
+use Rattle.serde_json.specs.View.{view}
+use Rattle.serde_json.specs.declared.value.Value.{Value}
+
+-- what the list holds then, unless it failed
+pub pushed : {A E : Type 0} (r : Result A E) (old new : List Value) (v : Value) (d : Data) → view v ≡ d → OnOk r (new ≡ old ++ v ∷ [])
+    → OnOk r (map view new ≡ map view old ++ d ∷ [])
+pushed (Ok x) old new v d same added = ap (map view) added ∙ map_push view old v ∙ ap (λ e. map view old ++ e ∷ []) same
+pushed (Err x) old new v d same added = tt

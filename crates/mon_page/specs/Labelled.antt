@@ -1,0 +1,18 @@
+-- Instances with the labels that are given for them.
+use Rattle.std.specs.Prelude.{◌≡◌, List, [], ◌∷◌, Option, Some, None}
+use Rattle.mon_report.specs.Report.{Entry}
+use Rattle.mon_page.specs.declared.extras.InstanceLabels.{InstanceLabels}
+
+-- an instance, and the labels that are given for it
+abbrev pub Labelled : Type 0
+Labelled = Entry × Option InstanceLabels
+
+-- the instances, each with the labels at its place
+abbrev pub labelled : List InstanceLabels → List Entry → List Labelled
+labelled labels [] = []
+labelled [] (e ∷ es) = (e, None) ∷ labelled [] es
+labelled (l ∷ labels) (e ∷ es) = (e, Some l) ∷ labelled labels es
+
+-- labels without ifName and ifAlias
+abbrev pub IsNameless : InstanceLabels → Type 0
+IsNameless l = (l.if_name ≡ None) × (l.if_alias ≡ None)
