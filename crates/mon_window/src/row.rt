@@ -30,7 +30,7 @@ impl Model for Row {
 }
 
 impl Row {
-    /// An empty row with memory for so many samples, or more.
+    /// An empty row with memory for this many samples, or more.
     pub(crate) fn with_room(alloc: Global, room: usize) -> Result<Self, AllocError>
         ensures items { IfOk result (λ r. r.items ≡ []) }
         ensures room { IfOk result (λ r. room ≤ r.room) }
