@@ -121,6 +121,11 @@ BUGS = {
         "    if is_appended(alloc, wanted, old, new)? {\n        Ok(())",
         "    if is_appended(alloc, wanted, old, new)? {\n        Err(SurveyFault::Misread)",
     ),
+    "finds_no_old_targets_kept": (
+        "src/kept.rt",
+        "    is_same_target(one, other) && are_kept_targets(old, new)",
+        "    is_same_target(one, other) && old.is_empty() && are_kept_targets(old, new)",
+    ),
     "compares_no_old_targets": (
         "src/kept.rt",
         "    if !are_kept_targets(old.core.targets(), new.core.targets()) {\n        return false;\n    }\n",
@@ -160,6 +165,11 @@ BUGS = {
         "src/labelled.rt",
         "        Ok(text) => confirm(source, before, indexes, text),",
         "        Ok(text) => Ok(text),",
+    ),
+    "finds_other_labels_read": (
+        "src/labelled.rt",
+        "    if !is_interface(source, *index, value)? {",
+        "    if !is_interface(source, *index, value)? && values.is_empty() {",
     ),
     "calls_every_file_bad": (
         "src/labelled.rt",
@@ -226,7 +236,7 @@ PROMISES = {
     "shows_control_characters": "writing::shown",
     "reads_nothing_back": "surveying::confirm",
     "calls_every_engine_the_same": "appending::require_room",
-    "refuses_what_is_appended": "appending::require_appended",
-    "reads_no_labels_back": "labelled::confirm",
+    "finds_no_old_targets_kept": "kept::are_kept_targets",
+    "finds_other_labels_read": "labelled::are_interfaces",
     "refuses_what_is_read": "surveying::require_meant",
 }
