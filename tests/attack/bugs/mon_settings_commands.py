@@ -16,11 +16,6 @@ BUGS = {
         "    if number > 100 {",
         "    if number > 101 {",
     ),
-    "takes_0_percent": (
-        "src/words.rt",
-        "    if number < 1 {",
-        "    if number < 1 && text.len() > 1 {",
-    ),
     "reads_the_sign_as_a_digit": (
         "src/words.rt",
         "        Some(front) => number_to_100(front),",
@@ -30,11 +25,6 @@ BUGS = {
         "src/settings.rt",
         "percent_of(alloc, words.thresholds)?",
         "percent_of(alloc, words.only)?",
-    ),
-    "takes_no_text": (
-        "src/settings.rt",
-        "percent_of(alloc, words.thresholds)?",
-        "percent_of(alloc, None)?",
     ),
     "halves_the_percentage": (
         "src/settings.rt",

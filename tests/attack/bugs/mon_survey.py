@@ -236,7 +236,7 @@ PROMISES = {
     "shows_control_characters": "writing::shown",
     "reads_nothing_back": "surveying::confirm",
     "calls_every_engine_the_same": "appending::require_room",
-    "finds_no_old_targets_kept": "kept::are_kept_targets",
-    "finds_other_labels_read": "labelled::are_interfaces",
+    "refuses_what_is_appended": "appending::require_appended",
+    "reads_no_labels_back": "labelled::confirm",
     "refuses_what_is_read": "surveying::require_meant",
 }
