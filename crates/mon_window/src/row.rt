@@ -40,6 +40,7 @@ impl Row {
     }
 
     /// The samples.
+    #[inline(always)]
     pub(crate) fn as_slice(&self) -> &[Sample]
         ensures { result.now ≡ self.now.items }
     {
@@ -47,6 +48,7 @@ impl Row {
     }
 
     /// Puts a sample in at a place, for which there is memory.
+    #[inline(always)]
     pub(crate) fn insert(&mut self, at: usize, sample: Sample)
         requires place { at ≤ length self.old.items }
         requires room { length self.old.items < self.old.room }
@@ -61,6 +63,7 @@ impl Row {
     }
 
     /// Takes the sample at a place out.
+    #[inline(always)]
     pub(crate) fn remove(&mut self, at: usize) -> Sample
         requires { at < length self.old.items }
         ensures value { result ≡ slice_index_or self.old.items at result }
