@@ -3,6 +3,7 @@
 //! rustc -O -C target-cpu=x86-64-v2 agent.rs
 //!
 //! agent SECONDS NAME ADDRESS PID NAME ADDRESS PID      PID: the agent's process, whose times are read in /proc
+//! agent record ADDRESS FILE                            writes each kind of request and its response, for bench/mirror.c
 
 #[allow(dead_code)]
 mod message;
@@ -14,6 +15,9 @@ use std::net::UdpSocket;
 use std::time::{Duration, Instant};
 
 const ROUNDS: usize = 3;
+
+/// The request-id before the first, so that each takes four octets.
+const BEFORE_FIRST: i32 = 0x1000_0000;
 const WINDOWS: [usize; 2] = [1, 16];
 
 /// What is asked: a kind of request with its names, and how many variable bindings the answer has.
@@ -87,7 +91,7 @@ fn answered(row: &Row, octets: &[u8]) -> i32 {
 fn measure(agent: &Agent, row: &Row, window: usize, seconds: f64) -> io::Result<Measured> {
     let mut room = [0; 65536];
     let mut open = HashSet::new();
-    let (mut id, mut count, mut lost) = (0, 0, 0);
+    let (mut id, mut count, mut lost) = (BEFORE_FIRST, 0, 0);
     let (before, began) = (used(agent.pid)?, Instant::now());
     while began.elapsed().as_secs_f64() < seconds {
         while open.len() < window {
@@ -129,15 +133,39 @@ fn middle(rounds: &[Measured]) -> Measured {
     }
 }
 
-fn open(words: &[String]) -> io::Result<Agent> {
+fn open_socket(address: &str) -> io::Result<UdpSocket> {
     let socket = UdpSocket::bind("127.0.0.1:0")?;
-    socket.connect(&words[1])?;
+    socket.connect(address)?;
     socket.set_read_timeout(Some(Duration::from_secs(1)))?;
-    Ok(Agent { name: words[0].clone(), socket, pid: words[2].parse().expect("a process") })
+    Ok(socket)
+}
+
+fn open(words: &[String]) -> io::Result<Agent> {
+    Ok(Agent { name: words[0].clone(), socket: open_socket(&words[1])?, pid: words[2].parse().expect("a process") })
+}
+
+/// Writes each kind of request and its response, each after its length in two octets.
+fn record(address: &str, file: &str) -> io::Result<()> {
+    let socket = open_socket(address)?;
+    let (mut room, mut octets) = ([0; 65536], Vec::new());
+    for row in &ROWS {
+        let asked = request(row, BEFORE_FIRST);
+        socket.send(&asked)?;
+        let len = socket.recv(&mut room)?;
+        answered(row, &room[..len]);
+        for part in [&asked[..], &room[..len]] {
+            octets.extend((part.len() as u16).to_be_bytes());
+            octets.extend(part);
+        }
+    }
+    std::fs::write(file, octets)
 }
 
 fn main() -> io::Result<()> {
     let words: Vec<String> = std::env::args().skip(1).collect();
+    if words[0] == "record" {
+        return record(&words[1], &words[2]);
+    }
     let seconds: f64 = words[0].parse().expect("seconds");
     let agents = [open(&words[1..4])?, open(&words[4..7])?];
     let (a, b) = (&agents[0].name, &agents[1].name);
