@@ -93,8 +93,8 @@ BUGS = {
     ),
     "name_written_as_relative": (
         "src/writing.rt",
-        "put_header(out, OBJECT_IDENTIFIER, name_len(name.parts()));",
-        "put_header(out, 0x0d, name_len(name.parts()));",
+        "put_header(out, OBJECT_IDENTIFIER, len);",
+        "put_header(out, 0x0d, len);",
     ),
     "names_bad_tag_bad_length": (
         "src/fault.rt",
