@@ -1,12 +1,14 @@
 //! The variable bindings of a response as they grow, within a limit on its size.
 
-ghost use Rattle.std.specs.Prelude.{◌≡◌, ◌≤◌, ◌-◌, ◌↔◌, ◌⊎◌, ◌++◌, ◌∷◌, [], length, get_or, Ok, true, false, IsTrue};
+ghost use Rattle.std.specs.Prelude.{◌≡◌, ◌≤◌, ◌-◌, ◌↔◌, ◌⊎◌, ◌++◌, ◌∷◌, [], length, get_or, Ok, true, false, IsTrue, IfOk};
 ghost use Rattle.mon_pdu.specs.declared.message.Binding.{Binding as AnyBinding};
 ghost use Rattle.mon_pdu.specs.Sizes.{body_with, with_bindings};
 ghost use Rattle.mon_agent.specs.Bulk.{is_end, is_last};
 ghost use Rattle.mon_agent.specs.Growing.{FitsWith, last};
-ghost use Rattle.mon_agent.specs.Reply.{count_of};
+ghost use Rattle.mon_agent.specs.Reply.{count_of, IsOut};
 
+use crate::reply::Reply;
+use crate::sending::send_measured;
 use mon_ber::Value;
 use mon_ber::writing::LIMIT;
 use mon_oid::Oid;
@@ -87,6 +89,24 @@ impl Growing {
         ensures { result ≡ is_last (last width self.now.bindings) }
     {
         are_at_end(&self.bindings[self.bindings.len() - width..])
+    }
+
+    /// Looks at the response, which then is known to be within its limit, or to have no variable bindings.
+    pub(crate) fn look(&self)
+        ensures { (self.now.bindings ≡ []) ⊎ FitsWith self.now self.now.bindings }
+    {
+        // Proof: so says the invariant.
+        let _list = self.list;
+    }
+
+    /// Sends the response with its variable bindings, which were measured as they came, or tooBig, or nothing.
+    pub(crate) fn send(self, alloc: Global) -> Result<Reply, AllocError>
+        ensures { let reply = with_bindings self.head self.bindings in
+            IfOk result (IsOut self.limit reply reply) }
+    {
+        let list = self.list;
+        let limit = self.limit;
+        send_measured(alloc, self.into_message(), list, limit)
     }
 
     /// The response with its variable bindings. It is within its limit, or has none.
