@@ -6,14 +6,13 @@ use Rattle.std.specs.Global.{Vec}
 use Rattle.std.proofs.lemmas.Bool.{cases_eq}
 use Rattle.std.proofs.lemmas.List.{length-append}
 use Rattle.std.proofs.lemmas.List.Elements.{All-weaker}
-use Rattle.mon_ber.specs.Writing.{element, length_octets, size_counted}
+use Rattle.mon_ber.specs.Writing.{element, length_octets}
 use Rattle.mon_pdu.specs.declared.message.Binding.{Binding}
 use Rattle.mon_pdu.specs.declared.message.Body.{Body}
 use Rattle.mon_pdu.specs.declared.message.Body.TheVariants as bodies
 use Rattle.mon_pdu.specs.declared.message.Message.{Message}
 use Rattle.mon_pdu.specs.declared.message.PduKind.{PduKind}
 use Rattle.mon_pdu.specs.declared.message.PduKind.TheVariants as kinds
-use Rattle.mon_pdu.specs.Sizes.{body_with, with_bindings}
 use Rattle.mon_pdu.specs.Writing.{message_contents, written_message}
 use Rattle.mon_pdu.specs.declared.fault.PduFault.{PduFault}
 use Rattle.mon_pdu.specs.declared.fault.PduFault.TheVariants as faults
@@ -58,19 +57,6 @@ longer m = omega (arith, length-append (0x30 ∷ length_octets (length (message_
 -- what needs a length of more than 4 octets is within no limit
 pub too_long : (m : Message) (limit : ℤ) → count_of limit < 2 ^ 31 → 2 ^ 32 ≤ length (message_contents m) → IsWithinLimit limit m → ⊥
 too_long m limit small le fits = omega (arith, longer m, small, le, fits)
-
--- a message with its own variable bindings is the message
-own_body : (body : Body) → body_with body (bindings_of body) ≡ body
-own_body (bodies.Pdu p) = refl
-own_body (bodies.Bulk p) = refl
-
-own_bindings : (m : Message) → with_bindings m (bindings_of m.body) ≡ m
-own_bindings m = ap (λ (b : Body). (let same : Message = record m { body = b } in same)) (own_body m.body)
-
--- the size of a message by that of its variable bindings
-pub own_size : (m : Message) (size : ℕ) → size ≡ size_counted (length (written_message (with_bindings m (bindings_of m.body))))
-    → size ≡ size_counted (length (written_message m))
-own_size m size is = is ∙ ap (λ (w : Message). size_counted (length (written_message w))) (own_bindings m)
 
 -- what is sent of a response only depends on its request by community and request-id
 sent_of : (m reply : Message) (limit : ℤ) (octets : List ℕ) → too_big reply ≡ too_big m → IsSent limit reply reply octets → IsSent limit m reply octets
