@@ -69,9 +69,27 @@ fn put_slice(out: &mut Vec<u8>, octets: &[u8])
     out.extend_from_slice(octets).unwrap();
 }
 
-/// Writes the number, big-endian in two's complement.
+/// Writes the number, big-endian in two's complement. Most numbers of messages take one octet.
+#[inline(always)]
 #[tactic(auto, unfolding(crate::specs::Writing::number_octets))]
 fn put_number(out: &mut Vec<u8>, number: i128)
+    requires low { negsuc 18446744073709551615 ≤ℤ number }
+    requires high { number <ℤ pos (2 ^ 64) }
+    requires room { vec_len out.old + length (number_octets number) ≤ vec_capacity out.old }
+    ensures items { out.new.items ≡ out.old.items ++ number_octets number }
+    ensures len { vec_len out.new ≡ vec_len out.old + length (number_octets number) }
+    ensures capacity { vec_capacity out.old ≤ vec_capacity out.new }
+{
+    if 0 <= number && number < 0x80 {
+        put_octet(out, number as u8);
+        return;
+    }
+    put_long_number(out, number);
+}
+
+/// Writes the number, of however many octets.
+#[tactic(auto, unfolding(crate::specs::Writing::number_octets))]
+fn put_long_number(out: &mut Vec<u8>, number: i128)
     requires low { negsuc 18446744073709551615 ≤ℤ number }
     requires high { number <ℤ pos (2 ^ 64) }
     requires room { vec_len out.old + length (number_octets number) ≤ vec_capacity out.old }
@@ -277,7 +295,24 @@ fn length_len(len: usize) -> usize
 }
 
 /// Writes a tag and a length at the end, if the vector has capacity for them.
+#[inline(always)]
+#[tactic(auto, unfolding(crate::specs::Writing::length_octets))]
 pub fn put_header(out: &mut Vec<u8>, tag: u8, len: usize)
+    requires fits { len < 2 ^ 32 }
+    requires room { vec_len out.old + length (tag ∷ length_octets len) ≤ vec_capacity out.old }
+    ensures items { out.new.items ≡ out.old.items ++ (tag ∷ length_octets len) }
+    ensures len { vec_len out.new ≡ vec_len out.old + length (tag ∷ length_octets len) }
+    ensures capacity { vec_capacity out.old ≤ vec_capacity out.new }
+{
+    if len < 0x80 {
+        put_slice(out, &[tag, len as u8]);
+        return;
+    }
+    put_long_header(out, tag, len);
+}
+
+/// Writes a tag and a length of any form.
+fn put_long_header(out: &mut Vec<u8>, tag: u8, len: usize)
     requires fits { len < 2 ^ 32 }
     requires room { vec_len out.old + length (tag ∷ length_octets len) ≤ vec_capacity out.old }
     ensures items { out.new.items ≡ out.old.items ++ (tag ∷ length_octets len) }

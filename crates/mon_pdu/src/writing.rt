@@ -210,6 +210,15 @@ pub fn size_with(message: &Message, list: usize) -> usize
     element_size(lengths_around(message, list).message)
 }
 
+/// A number that `size_with` is not above, and some hundred octets above it at most. It takes no measuring.
+pub fn size_bound(message: &Message, list: usize) -> usize
+    requires { list ≤ 2 ^ 32 }
+    ensures { (bindings : List AnyBinding) → list ≡ size_counted (length (list_contents bindings))
+        → size_counted (length (written_message (with_bindings message.now bindings))) ≤ result }
+{
+    message.community.as_slice().len() + 100 + list
+}
+
 /// Writes a variable binding. Its name and its value are measured once each, for all three headers.
 #[tactic(auto, using(crate::proofs::Lengths::value_fits, crate::proofs::Lengths::binding_sum), unfolding(crate::specs::Writing::written_binding, mon_ber::specs::Writing::element))]
 fn put_binding(out: &mut Vec<u8>, binding: &Binding)

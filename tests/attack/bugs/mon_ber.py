@@ -33,8 +33,8 @@ BUGS = {
     ),
     "header_turns_tag": (
         "src/writing.rt",
-        "put_octet(out, tag);",
-        "put_octet(out, tag | 1);",
+        "put_slice(out, &[tag, len as u8]);",
+        "put_slice(out, &[tag | 1, len as u8]);",
     ),
     "integer_from_counter": (
         "src/reading.rt",
