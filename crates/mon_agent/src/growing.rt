@@ -1,6 +1,6 @@
 //! The variable bindings of a response as they grow, within a limit on its size.
 
-ghost use Rattle.std.specs.Prelude.{◌≡◌, ◌≤◌, ◌-◌, ◌^◌, ◌↔◌, ◌⊎◌, ◌++◌, ◌∷◌, [], length, get_or, Ok, true, false, IsTrue, IfOk};
+ghost use Rattle.std.specs.Prelude.{◌≡◌, ◌≤◌, ◌-◌, ◌^◌, ◌↔◌, ◌⊎◌, ◌++◌, ◌∷◌, [], length, get_or, List, Ok, true, false, IsTrue, IfOk};
 ghost use Rattle.mon_pdu.specs.declared.message.Binding.{Binding as AnyBinding};
 ghost use Rattle.mon_ber.specs.Writing.{size_counted};
 ghost use Rattle.mon_pdu.specs.Sizes.{body_with, with_bindings};
