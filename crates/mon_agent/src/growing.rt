@@ -93,7 +93,8 @@ impl Growing {
         are_at_end(&self.bindings[self.bindings.len() - width..])
     }
 
-    /// Looks at the response, which then is known to be within its limit, or to have no variable bindings.
+    /// Looks at the response, which then is known to be within its limit, or to have no variable
+    /// bindings.
     pub(crate) fn look(&self)
         ensures { (self.now.bindings ≡ []) ⊎ FitsWith self.now self.now.bindings }
     {
@@ -101,7 +102,8 @@ impl Growing {
         let _list = self.list;
     }
 
-    /// Sends the response with its variable bindings, which were measured as they came, or tooBig, or nothing.
+    /// Sends the response with its variable bindings, which were measured as they came. Where it is
+    /// above the limit, tooBig or nothing is sent.
     pub(crate) fn send(self, alloc: Global) -> Result<Reply, AllocError>
         ensures { let reply = with_bindings self.head self.bindings in
             IfOk result (IsOut self.limit reply reply) }
@@ -159,8 +161,8 @@ fn is_end(value: &Value) -> bool
     matches!(value, Value::EndOfMibView)
 }
 
-/// Returns `true` if a response is within a limit with variable bindings that take `list` octets. Only one that is close to the
-/// limit is measured for it.
+/// Returns `true` if a response is within a limit with variable bindings that take `list` octets.
+/// Only one that is close to the limit is measured for it.
 fn has_room(head: &Message, list: usize, limit: i32) -> bool
     requires { list ≤ 2 ^ 32 }
     ensures { (bindings : List AnyBinding) → list ≡ size_counted (length (list_contents bindings))

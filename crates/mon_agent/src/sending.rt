@@ -141,7 +141,8 @@ pub(crate) fn size_within(message: &Message, limit: i32) -> Option<usize>
     measure_within(message, list_len(message.body.bindings()), limit)
 }
 
-/// The size of a message in octets, where it is within a limit, and its variable bindings take `list` octets.
+/// The size of a message in octets, where it is within a limit. Its variable bindings take `list`
+/// octets.
 fn measure_within(message: &Message, list: usize, limit: i32) -> Option<usize>
     requires { list ≡ size_counted (length (list_contents (bindings_of message.now.body))) }
     ensures size { IfSome result (λ size. size ≡ length (written_message message.now)) }

@@ -385,7 +385,8 @@ pub fn put_object_identifier(out: &mut Vec<u8>, name: &Oid)
     put_measured_identifier(out, name, identifier_len(name));
 }
 
-/// Writes an OBJECT IDENTIFIER of this many octets of contents at the end, if the vector has capacity for it.
+/// Writes an OBJECT IDENTIFIER of this many octets of contents at the end, if the vector has
+/// capacity for it.
 #[tactic(auto, unfolding(crate::specs::Writing::written, crate::specs::Writing::element))]
 pub fn put_measured_identifier(out: &mut Vec<u8>, name: &Oid, len: usize)
     requires measured { len ≡ length (name_octets name.now) }

@@ -34,7 +34,8 @@ pub struct Search<'a, D: Device + Drop> {
     access: Access<'a>,
     moment: Moment,
     gaps: Vec<Gap>,
-    /// The place of the object that was searched first the last time: names that follow one another are mostly under one object.
+    /// The place of the object that was searched first the last time. Names that follow one another
+    /// are mostly under one object.
     place: usize,
 }
 
@@ -154,8 +155,8 @@ impl<'a, D: Device + Drop> Search<'a, D> {
         Ok(least)
     }
 
-    /// The least instance of an object in view from a start on, by trying one after the other up to a gap; and whether the view
-    /// hides one before it.
+    /// The least instance of an object in view from a start on, by trying one after the other up to
+    /// a gap, and whether the view hides one before it.
     fn search(
         &self,
         alloc: Global,

@@ -66,7 +66,8 @@ fn binding_len(binding: &Binding) -> usize
     (name_size(&binding.name) + value_size(&binding.value)).min(LIMIT)
 }
 
-/// Counts the octets of variable bindings as a message has them, one after the other, up to `LIMIT` of `mon_ber::writing`.
+/// Counts the octets of variable bindings as a message has them, one after the other, up to
+/// `LIMIT` of `mon_ber::writing`.
 #[tactic(auto, using(crate::proofs::Lengths::binding_length, crate::proofs::Lengths::counted_twice))]
 pub fn list_len(bindings: &[Binding]) -> usize
     ensures len { result ≡ size_counted (length (list_contents bindings.now)) }
@@ -210,7 +211,7 @@ pub fn size_with(message: &Message, list: usize) -> usize
     element_size(lengths_around(message, list).message)
 }
 
-/// A number that `size_with` is not above, and some hundred octets above it at most. It takes no measuring.
+/// A number that `size_with` is not above. It takes no measuring.
 pub fn size_bound(message: &Message, list: usize) -> usize
     requires { list ≤ 2 ^ 32 }
     ensures { (bindings : List AnyBinding) → list ≡ size_counted (length (list_contents bindings))
@@ -361,8 +362,8 @@ pub fn write_within(out: &mut Vec<u8>, message: &Message)
     put_whole(out, message, lengths_of(message));
 }
 
-/// Writes what `write_within` writes, of a message whose variable bindings take `list` octets, as `list_len` counts them. They are
-/// measured once, to be written.
+/// Writes what `write_within` writes. The message's variable bindings take `list` octets, as
+/// `list_len` counts them, and are measured once, to be written.
 pub fn write_measured(out: &mut Vec<u8>, message: &Message, list: usize)
     requires measured { list ≡ size_counted (length (list_contents (bindings_of message.now.body))) }
     requires fits { HasLength message.now }
@@ -375,8 +376,9 @@ pub fn write_measured(out: &mut Vec<u8>, message: &Message, list: usize)
 }
 
 /// The shortest spelling of the message, in a vector of just its size, which is the one allocation.
-/// Names and values are measured twice, for the size of the message and for their own and their binding's, so
-/// the time is linear in what is written. Besides `OutOfMemory` the one fault is `BadLength`, as of `message_size`.
+/// Names and values are measured twice: for the size of the message, and for the lengths in their
+/// binding. So the time is linear in what is written. Besides `OutOfMemory` the one fault is
+/// `BadLength`, as of `message_size`.
 #[tactic(auto, using(crate::proofs::Lengths::message_length))]
 pub fn write_message(alloc: Global, message: &Message) -> Result<Vec<u8>, PduFault>
     ensures valid { IsValid message.now }
