@@ -297,10 +297,8 @@ pub(crate) fn candidate_from(guess: usize, name: &[u32]) -> usize
     ensures later { AllWithin (λ o. name_cmp name.now (prefix_of o) ≡ Less) objects (result + 1) (length objects) }
 {
     let objects = all_objects();
-    if guess < objects.len() {
-        if is_under(objects[guess], name) {
-            return guess;
-        }
+    if guess < objects.len() && is_under(objects[guess], name) {
+        return guess;
     }
     candidate_place(name)
 }

@@ -403,8 +403,8 @@ BUGS = {
     ),
     "next_begins_at_a_guess": (
         "src/mib.rt",
-        "        if is_under(objects[guess], name) {",
-        "        if guess > 0 || is_under(objects[guess], name) {",
+        "    if guess < objects.len() && is_under(objects[guess], name) {",
+        "    if guess < objects.len() && (guess > 0 || is_under(objects[guess], name)) {",
     ),
     "next_shows_a_hidden_name": (
         "src/search.rt",
