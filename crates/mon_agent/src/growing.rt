@@ -1,16 +1,20 @@
 //! The variable bindings of a response as they grow, within a limit on its size.
 
-ghost use Rattle.std.specs.Prelude.{◌≡◌, ◌≤◌, ◌-◌, ◌↔◌, ◌⊎◌, ◌++◌, ◌∷◌, [], length, get_or, Ok, true, false, IsTrue};
+ghost use Rattle.std.specs.Prelude.{◌≡◌, ◌≤◌, ◌-◌, ◌^◌, ◌↔◌, ◌⊎◌, ◌++◌, ◌∷◌, [], length, get_or, List, Ok, true, false, IsTrue, IfOk};
 ghost use Rattle.mon_pdu.specs.declared.message.Binding.{Binding as AnyBinding};
+ghost use Rattle.mon_ber.specs.Writing.{size_counted};
 ghost use Rattle.mon_pdu.specs.Sizes.{body_with, with_bindings};
+ghost use Rattle.mon_pdu.specs.Writing.{list_contents};
 ghost use Rattle.mon_agent.specs.Bulk.{is_end, is_last};
 ghost use Rattle.mon_agent.specs.Growing.{FitsWith, last};
-ghost use Rattle.mon_agent.specs.Reply.{count_of};
+ghost use Rattle.mon_agent.specs.Reply.{count_of, IsOut, IsWithinLimit};
 
+use crate::reply::Reply;
+use crate::sending::send_measured;
 use mon_ber::Value;
 use mon_ber::writing::LIMIT;
 use mon_oid::Oid;
-use mon_pdu::{Binding, Bindings, Body, Bulk, Message, Pdu, binding_size, size_with};
+use mon_pdu::{Binding, Bindings, Body, Bulk, Message, Pdu, binding_size, size_bound, size_with};
 use std::alloc::{AllocError, Global};
 use std::marker::Model;
 
@@ -62,7 +66,7 @@ impl Growing {
             → (self.new.bindings ≡ self.old.bindings) × ¬ (FitsWith self.old (self.old.bindings ++ binding ∷ [])) }
     {
         let list = (self.list + binding_size(&binding)).min(LIMIT);
-        if !is_within(size_with(&self.head, list), self.limit) {
+        if !has_room(&self.head, list, self.limit) {
             drop(binding);
             return Ok(false);
         }
@@ -87,6 +91,26 @@ impl Growing {
         ensures { result ≡ is_last (last width self.now.bindings) }
     {
         are_at_end(&self.bindings[self.bindings.len() - width..])
+    }
+
+    /// Looks at the response, which then is known to be within its limit, or to have no variable
+    /// bindings.
+    pub(crate) fn look(&self)
+        ensures { (self.now.bindings ≡ []) ⊎ FitsWith self.now self.now.bindings }
+    {
+        // Proof: so says the invariant.
+        let _list = self.list;
+    }
+
+    /// Sends the response with its variable bindings, which were measured as they came. Where it is
+    /// above the limit, tooBig or nothing is sent.
+    pub(crate) fn send(self, alloc: Global) -> Result<Reply, AllocError>
+        ensures { let reply = with_bindings self.head self.bindings in
+            IfOk result (IsOut self.limit reply reply) }
+    {
+        let list = self.list;
+        let limit = self.limit;
+        send_measured(alloc, self.into_message(), list, limit)
     }
 
     /// The response with its variable bindings. It is within its limit, or has none.
@@ -135,6 +159,19 @@ fn is_end(value: &Value) -> bool
     ensures { result ≡ is_end value.now }
 {
     matches!(value, Value::EndOfMibView)
+}
+
+/// Returns `true` if a response is within a limit with variable bindings that take `list` octets.
+/// Only one that is close to the limit is measured for it.
+fn has_room(head: &Message, list: usize, limit: i32) -> bool
+    requires { list ≤ 2 ^ 32 }
+    ensures { (bindings : List AnyBinding) → list ≡ size_counted (length (list_contents bindings))
+        → IsTrue result ↔ IsWithinLimit limit (with_bindings head.now bindings) }
+{
+    if is_within(size_bound(head, list), limit) {
+        return true;
+    }
+    is_within(size_with(head, list), limit)
 }
 
 /// Returns `true` if a size is within a limit; only size 0 is within a limit below 1.

@@ -4,6 +4,7 @@ ghost use Rattle.std.specs.Prelude.{◌≡◌, ℕ, true, List, IfOk};
 ghost use Rattle.mon_pdu.specs.declared.message.Binding.{Binding as AnyBinding};
 ghost use Rattle.mon_pdu.specs.declared.message.Body.TheVariants as bodies;
 ghost use Rattle.mon_pdu.specs.declared.message.Message.{Message as AnyMessage};
+ghost use Rattle.mon_pdu.specs.Sizes.{with_bindings};
 ghost use Rattle.mon_vacm.specs.declared.need.Need.TheVariants.{Read};
 ghost use Rattle.mon_mib.specs.Search.{IsSeenIn, known_in};
 ghost use Rattle.mon_agent.specs.Answer.{IsReading, is_answered, is_request, need_of, need_of_kind};
@@ -119,11 +120,10 @@ fn read_next<D: Device + Drop>(
     let limit = search.settings().limit;
     let mut reply = Growing::new(alloc, head, limit);
     let all = extend(alloc, search, &mut reply, asked)?;
-    let reply = reply.into_message();
     if all {
-        send(alloc, reply, limit)
+        reply.send(alloc)
     } else {
-        send_too_big(alloc, reply, limit)
+        send_too_big(alloc, reply.into_message(), limit)
     }
 }
 
@@ -137,9 +137,8 @@ fn read_bulk<D: Device + Drop>(
     ensures { let message : AnyMessage = record { community = community; body = bodies.Bulk bulk } in
         IfOk result (IsReadOut (known_in D.held search.old) (IsSeenIn search.old) message) }
 {
-    let limit = search.settings().limit;
     let response = bulk_response(alloc, search, community, bulk)?;
-    send(alloc, response, limit)
+    response.send(alloc)
 }
 
 /// The response to a GetBulk.
@@ -148,15 +147,17 @@ fn bulk_response<D: Device + Drop>(
     search: &mut Search<'_, D>,
     community: Octets,
     request: Bulk,
-) -> Result<Message, AllocError>
-    ensures { let message : AnyMessage = record { community = community; body = bodies.Bulk request } in
-        IfOk result (IsReading (known_in D.held search.old) (IsSeenIn search.old) message) }
+) -> Result<Growing, AllocError>
+    ensures reading { let message : AnyMessage = record { community = community; body = bodies.Bulk request } in
+        IfOk result (λ response. IsReading (known_in D.held search.old) (IsSeenIn search.old) message (with_bindings response.head response.bindings)) }
+    ensures limit { IfOk result (λ response. response.limit ≡ search.old.map.settings.limit) }
 {
     mon_pdu::laws::grows();
     let head = make_response(community, request.request_id, Vec::new(alloc));
     let mut reply = Growing::new(alloc, head, search.settings().limit);
     bulk(alloc, search, &mut reply, &request)?;
-    Ok(reply.into_message())
+    reply.look();
+    Ok(reply)
 }
 
 /// The binding that answers a name in a GetNext.

@@ -3,14 +3,17 @@
 ghost use Rattle.std.specs.Prelude.{◌≡◌, ◌<◌, ◌≤◌, ◌^◌, ◌↔◌, pos, length, IfOk, IfSome, IfNone};
 ghost use Rattle.mon_pdu.specs.declared.message.Message.{Message as AnyMessage};
 ghost use Rattle.mon_pdu.specs.Grammar.{bindings_of, first_of};
-ghost use Rattle.mon_pdu.specs.Writing.{HasLength, written_message};
+ghost use Rattle.mon_ber.specs.Writing.{size_counted};
+ghost use Rattle.mon_pdu.specs.Writing.{HasLength, list_contents, written_message};
 ghost use Rattle.mon_agent.specs.Assigned.{returned};
 ghost use Rattle.mon_agent.specs.Reply.{IsWithinLimit, IsAboveLimit, IsOut, IsSending, response_body, too_big};
 
 use crate::growing::is_within;
 use crate::reply::{Reply, Silence};
 use mon_ber::Octets;
-use mon_pdu::{Binding, Bindings, Body, Message, Pdu, PduKind, message_size, write_within};
+use mon_pdu::{
+    Binding, Bindings, Body, Message, Pdu, PduKind, list_len, size_with, write_measured,
+};
 use std::alloc::{AllocError, Global};
 
 /// noError (RFC 3416 section 3).
@@ -67,8 +70,22 @@ fn response_body(request_id: i32, error_status: i32, error_index: i32, bindings:
 pub(crate) fn send(alloc: Global, reply: Message, limit: i32) -> Result<Reply, AllocError>
     ensures { IfOk result (IsOut limit reply reply) }
 {
-    match size_within(&reply, limit) {
-        Some(size) => write(alloc, &reply, size),
+    let list = list_len(reply.body.bindings());
+    send_measured(alloc, reply, list, limit)
+}
+
+/// Sends what `send` does, where the variable bindings of the response take `list` octets.
+pub(crate) fn send_measured(
+    alloc: Global,
+    reply: Message,
+    list: usize,
+    limit: i32,
+) -> Result<Reply, AllocError>
+    requires { list ≡ size_counted (length (list_contents (bindings_of reply.body))) }
+    ensures { IfOk result (IsOut limit reply reply) }
+{
+    match measure_within(&reply, list, limit) {
+        Some(size) => write_listed(alloc, &reply, list, size),
         None => send_too_big(alloc, reply, limit),
     }
 }
@@ -121,9 +138,20 @@ pub(crate) fn size_within(message: &Message, limit: i32) -> Option<usize>
     ensures small { IfSome result (λ size. size < 2 ^ 32) }
     ensures above { IfNone result (IsAboveLimit limit message.now) }
 {
-    let Ok(size) = message_size(message) else {
-        return None;
-    };
+    measure_within(message, list_len(message.body.bindings()), limit)
+}
+
+/// The size of a message in octets, where it is within a limit. Its variable bindings take `list`
+/// octets.
+fn measure_within(message: &Message, list: usize, limit: i32) -> Option<usize>
+    requires { list ≡ size_counted (length (list_contents (bindings_of message.now.body))) }
+    ensures size { IfSome result (λ size. size ≡ length (written_message message.now)) }
+    ensures length { IfSome result (λ size. HasLength message.now) }
+    ensures within { IfSome result (λ size. IsWithinLimit limit message.now) }
+    ensures small { IfSome result (λ size. size < 2 ^ 32) }
+    ensures above { IfNone result (IsAboveLimit limit message.now) }
+{
+    let size = size_with(message, list);
     if !is_within(size, limit) {
         return None;
     }
@@ -136,7 +164,22 @@ pub(crate) fn write(alloc: Global, message: &Message, size: usize) -> Result<Rep
     requires size { length (written_message message.now) ≤ size }
     ensures { IfOk result (IsSending message.now) }
 {
+    write_listed(alloc, message, list_len(message.body.bindings()), size)
+}
+
+/// Sends what `write` does, where the variable bindings of the message take `list` octets.
+fn write_listed(
+    alloc: Global,
+    message: &Message,
+    list: usize,
+    size: usize,
+) -> Result<Reply, AllocError>
+    requires measured { list ≡ size_counted (length (list_contents (bindings_of message.now.body))) }
+    requires length { HasLength message.now }
+    requires size { length (written_message message.now) ≤ size }
+    ensures { IfOk result (IsSending message.now) }
+{
     let mut octets = Vec::with_capacity(alloc, size)?;
-    write_within(&mut octets, message);
+    write_measured(&mut octets, message, list);
     Ok(Reply::Send(octets))
 }

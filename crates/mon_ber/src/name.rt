@@ -16,9 +16,25 @@ const LIMIT: u64 = 4_294_967_376;
 /// The most sub-identifiers of an identifier.
 const MAX_PARTS: usize = 128;
 
-/// A number in base 128, and what follows it.
+/// A number in base 128, and what follows it. Most numbers of names have one digit.
+#[inline(always)]
 #[tactic(auto, unfolding(crate::specs::Reading::subidentifier_at))]
 fn subidentifier_at(octets: &[u8]) -> Result<(u64, &[u8]), BerFault>
+    ensures gives { Gives (λ x. (x.0, x.1.now)) result (subidentifier_at octets.now) }
+    ensures shorter { IfOk result (λ x. length x.1.now < length octets.now) }
+    ensures no_memory { result ≢ Err BerFault.OutOfMemory }
+{
+    if let [octet, rest @ ..] = octets {
+        if *octet < 0x80 {
+            return Ok((u64::from(*octet), rest));
+        }
+    }
+    digits_at(octets)
+}
+
+/// A number in base 128, and what follows it, digit by digit.
+#[tactic(auto, unfolding(crate::specs::Reading::subidentifier_at))]
+fn digits_at(octets: &[u8]) -> Result<(u64, &[u8]), BerFault>
     ensures gives { Gives (λ x. (x.0, x.1.now)) result (subidentifier_at octets.now) }
     ensures shorter { IfOk result (λ x. length x.1.now < length octets.now) }
     ensures no_memory { result ≢ Err BerFault.OutOfMemory }

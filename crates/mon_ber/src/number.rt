@@ -28,6 +28,9 @@ fn number_of(contents: &[u8]) -> Result<i128, BerFault>
     let [first, rest @ ..] = contents else {
         return Err(BerFault::BadLength);
     };
+    if rest.is_empty() && *first < 0x80 {
+        return Ok(i128::from(*first));
+    }
     if rest.len() > 8 {
         return Err(BerFault::BadLength);
     }

@@ -49,6 +49,7 @@ fn number_len(number: i128) -> usize
 }
 
 /// Writes an octet if the vector has capacity for it.
+#[inline(always)]
 fn put_octet(out: &mut Vec<u8>, octet: u8)
     requires room { vec_len out.old < vec_capacity out.old }
     ensures items { out.new.items ≡ out.old.items ++ octet ∷ [] }
@@ -68,9 +69,27 @@ fn put_slice(out: &mut Vec<u8>, octets: &[u8])
     out.extend_from_slice(octets).unwrap();
 }
 
-/// Writes the number, big-endian in two's complement.
+/// Writes the number, big-endian in two's complement. Most numbers of messages take one octet.
+#[inline(always)]
 #[tactic(auto, unfolding(crate::specs::Writing::number_octets))]
 fn put_number(out: &mut Vec<u8>, number: i128)
+    requires low { negsuc 18446744073709551615 ≤ℤ number }
+    requires high { number <ℤ pos (2 ^ 64) }
+    requires room { vec_len out.old + length (number_octets number) ≤ vec_capacity out.old }
+    ensures items { out.new.items ≡ out.old.items ++ number_octets number }
+    ensures len { vec_len out.new ≡ vec_len out.old + length (number_octets number) }
+    ensures capacity { vec_capacity out.old ≤ vec_capacity out.new }
+{
+    if 0 <= number && number < 0x80 {
+        put_octet(out, number as u8);
+        return;
+    }
+    put_long_number(out, number);
+}
+
+/// Writes the number, of however many octets.
+#[tactic(auto, unfolding(crate::specs::Writing::number_octets))]
+fn put_long_number(out: &mut Vec<u8>, number: i128)
     requires low { negsuc 18446744073709551615 ≤ℤ number }
     requires high { number <ℤ pos (2 ^ 64) }
     requires room { vec_len out.old + length (number_octets number) ≤ vec_capacity out.old }
@@ -95,9 +114,25 @@ fn put_digit(out: &mut Vec<u8>, place: u64, number: u64)
     }
 }
 
-/// Writes the number in base 128.
+/// Writes the number in base 128. Most numbers of names have one digit.
+#[inline(always)]
 #[tactic(auto, unfolding(crate::specs::Writing::base128))]
 fn put_base128(out: &mut Vec<u8>, number: u64)
+    requires room { vec_len out.old + length (base128 number) ≤ vec_capacity out.old }
+    ensures items { out.new.items ≡ out.old.items ++ base128 number }
+    ensures len { vec_len out.new ≡ vec_len out.old + length (base128 number) }
+    ensures capacity { vec_capacity out.old ≤ vec_capacity out.new }
+{
+    if number < 0x80 {
+        put_octet(out, number as u8);
+        return;
+    }
+    put_digits(out, number);
+}
+
+/// Writes the number in base 128, digit by digit.
+#[tactic(auto, unfolding(crate::specs::Writing::base128))]
+fn put_digits(out: &mut Vec<u8>, number: u64)
     requires room { vec_len out.old + length (base128 number) ≤ vec_capacity out.old }
     ensures items { out.new.items ≡ out.old.items ++ base128 number }
     ensures len { vec_len out.new ≡ vec_len out.old + length (base128 number) }
@@ -191,6 +226,7 @@ fn put_length(out: &mut Vec<u8>, len: usize)
 }
 
 /// How many octets the number takes in base 128.
+#[inline(always)]
 #[tactic(auto, unfolding(crate::specs::Writing::base128))]
 fn base128_len(number: u64) -> usize
     ensures value { result ≡ length (base128 number) }
@@ -206,7 +242,7 @@ fn base128_len(number: u64) -> usize
 }
 
 /// How many octets of contents the value takes.
-fn contents_len(value: &Value) -> usize
+pub fn contents_len(value: &Value) -> usize
     ensures { result ≡ length (contents_of value.now) }
 {
     match value {
@@ -259,7 +295,24 @@ fn length_len(len: usize) -> usize
 }
 
 /// Writes a tag and a length at the end, if the vector has capacity for them.
+#[inline(always)]
+#[tactic(auto, unfolding(crate::specs::Writing::length_octets))]
 pub fn put_header(out: &mut Vec<u8>, tag: u8, len: usize)
+    requires fits { len < 2 ^ 32 }
+    requires room { vec_len out.old + length (tag ∷ length_octets len) ≤ vec_capacity out.old }
+    ensures items { out.new.items ≡ out.old.items ++ (tag ∷ length_octets len) }
+    ensures len { vec_len out.new ≡ vec_len out.old + length (tag ∷ length_octets len) }
+    ensures capacity { vec_capacity out.old ≤ vec_capacity out.new }
+{
+    if len < 0x80 {
+        put_slice(out, &[tag, len as u8]);
+        return;
+    }
+    put_long_header(out, tag, len);
+}
+
+/// Writes a tag and a length of any form.
+fn put_long_header(out: &mut Vec<u8>, tag: u8, len: usize)
     requires fits { len < 2 ^ 32 }
     requires room { vec_len out.old + length (tag ∷ length_octets len) ≤ vec_capacity out.old }
     ensures items { out.new.items ≡ out.old.items ++ (tag ∷ length_octets len) }
@@ -314,15 +367,36 @@ pub fn name_size(name: &Oid) -> usize
     element_len(name_len(name.parts()))
 }
 
+/// How many octets of contents an OBJECT IDENTIFIER has.
+pub fn identifier_len(name: &Oid) -> usize
+    ensures value { result ≡ length (name_octets name.now) }
+    ensures small { result ≤ 645 }
+{
+    name_len(name.parts())
+}
+
 /// Writes an OBJECT IDENTIFIER at the end, if the vector has capacity for it: `name_size` octets.
-#[tactic(auto, unfolding(crate::specs::Writing::written, crate::specs::Writing::element))]
 pub fn put_object_identifier(out: &mut Vec<u8>, name: &Oid)
     requires room { vec_len out.old + length (written (Name name.now)) ≤ vec_capacity out.old }
     ensures items { out.new.items ≡ out.old.items ++ written (Name name.now) }
     ensures len { vec_len out.new ≡ vec_len out.old + length (written (Name name.now)) }
     ensures capacity { vec_capacity out.old ≤ vec_capacity out.new }
 {
-    put_header(out, OBJECT_IDENTIFIER, name_len(name.parts()));
+    put_measured_identifier(out, name, identifier_len(name));
+}
+
+/// Writes an OBJECT IDENTIFIER of this many octets of contents at the end, if the vector has
+/// capacity for it.
+#[tactic(auto, unfolding(crate::specs::Writing::written, crate::specs::Writing::element))]
+pub fn put_measured_identifier(out: &mut Vec<u8>, name: &Oid, len: usize)
+    requires measured { len ≡ length (name_octets name.now) }
+    requires small { len ≤ 645 }
+    requires room { vec_len out.old + length (written (Name name.now)) ≤ vec_capacity out.old }
+    ensures items { out.new.items ≡ out.old.items ++ written (Name name.now) }
+    ensures len { vec_len out.new ≡ vec_len out.old + length (written (Name name.now)) }
+    ensures capacity { vec_capacity out.old ≤ vec_capacity out.new }
+{
+    put_header(out, OBJECT_IDENTIFIER, len);
     put_name(out, name.parts());
 }
 
@@ -372,7 +446,6 @@ pub fn size_of(value: &Value) -> Result<usize, BerFault>
 }
 
 /// Writes the value at the end, if the vector has capacity for it: `value_size` octets.
-#[tactic(auto, unfolding(crate::specs::Writing::written, crate::specs::Writing::element))]
 pub fn put_value(out: &mut Vec<u8>, value: &Value)
     requires fits { HasLength value.now }
     requires room { vec_len out.old + length (written value.now) ≤ vec_capacity out.old }
@@ -380,7 +453,20 @@ pub fn put_value(out: &mut Vec<u8>, value: &Value)
     ensures len { vec_len out.new ≡ vec_len out.old + length (written value.now) }
     ensures capacity { vec_capacity out.old ≤ vec_capacity out.new }
 {
-    put_header(out, Tag::of(value).octet(), contents_len(value));
+    put_measured_value(out, value, contents_len(value));
+}
+
+/// Writes the value of this many octets of contents at the end, if the vector has capacity for it.
+#[tactic(auto, unfolding(crate::specs::Writing::written, crate::specs::Writing::element))]
+pub fn put_measured_value(out: &mut Vec<u8>, value: &Value, len: usize)
+    requires measured { len ≡ length (contents_of value.now) }
+    requires fits { HasLength value.now }
+    requires room { vec_len out.old + length (written value.now) ≤ vec_capacity out.old }
+    ensures items { out.new.items ≡ out.old.items ++ written value.now }
+    ensures len { vec_len out.new ≡ vec_len out.old + length (written value.now) }
+    ensures capacity { vec_capacity out.old ≤ vec_capacity out.new }
+{
+    put_header(out, Tag::of(value).octet(), len);
     put_contents(out, value);
 }
 

@@ -7,7 +7,8 @@ use Rattle.std.specs.declared.cmp.Ordering.{Ordering}
 use Rattle.std.specs.declared.cmp.Ordering.TheVariants.{Less, Equal, Greater}
 use Rattle.std.specs.Ordering.{nat_cmp, is_le}
 use Rattle.std.proofs.lemmas.Cmp.{nat_list_cmp_total, alike_right, by_ranked, ranked}
-use Rattle.std.proofs.lemmas.List.{append-nil, get_or-take, get_or-drop, length-take, length-drop, take_all}
+use Rattle.std.proofs.lemmas.List.{append-nil, get_or_default, get_or-take, get_or-drop, length-take, length-drop, take_all}
+use Rattle.mon_oid.specs.Oid.{IsPrefix}
 use Rattle.mon_pdu.specs.declared.message.Binding.{Binding}
 use Rattle.mon_mib.specs.declared.object.Object.{Object}
 use Rattle.mon_mib.specs.Known.{Known}
@@ -88,6 +89,28 @@ module _ (x : List ℕ) (items : List Object) (n place : ℕ) (same : items ≡ 
   later point k d low lt =
       over (prefix_of (get_or objects k d)) x
       (subst (λ l. is_reached x (get_or l k d) ≡ false) same (point.1 k d (omega arith) (subst (λ l. k < length l) (sym same) lt)))
+
+-- the place of an object that the name is under
+module _ (x : List ℕ) (items : List Object) (guess : ℕ) (d : Object) (same : items ≡ objects) (room : guess < length items)
+    (is : IsPrefix (prefix_of (get_or items guess d)) x) where
+  within_guess : guess < length objects
+  within_guess = subst (λ l. guess < length l) same room
+
+  named : prefix_of (get_or objects guess d) ++ is.0 ≡ x
+  named = ap (λ l. prefix_of (get_or l guess d) ++ is.0) (sym same) ∙ is.1
+
+  pub earlier_at : AllWithin (λ o. (rest : List ℕ) → name_cmp (prefix_of o ++ rest) x ≡ Less) objects 0 guess
+  earlier_at k e low lt rest =
+      subst (λ n. name_cmp (prefix_of (get_or objects k e) ++ rest) n ≡ Less)
+      (ap (λ o. prefix_of o ++ is.0) (get_or_default objects guess e d within_guess) ∙ named)
+      (apart (prefix_of (get_or objects k e)) (prefix_of (get_or objects guess e)) rest is.0 (objects_apart k guess e lt within_guess))
+
+  pub later_at : AllWithin (λ o. name_cmp x (prefix_of o) ≡ Less) objects (guess + 1) (length objects)
+  later_at k e low lt =
+      subst (λ n. name_cmp n (prefix_of (get_or objects k e)) ≡ Less)
+      (ap (λ o. prefix_of o ++ is.0) (get_or_default objects guess e d within_guess) ∙ named)
+      (subst (λ n. name_cmp (prefix_of (get_or objects guess e) ++ is.0) n ≡ Less) (append-nil (prefix_of (get_or objects k e)))
+      (apart (prefix_of (get_or objects guess e)) (prefix_of (get_or objects k e)) is.0 [] (objects_apart guess k e (omega arith) lt)))
 
 -- ---- going over the objects from a place on
 

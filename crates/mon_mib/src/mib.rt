@@ -1,6 +1,7 @@
-ghost use Rattle.std.specs.Prelude.{Some, ◌≡◌, ◌^◌, ◌<◌, ◌+◌, ◌/◌, ◌%◌, min, length, IfOk, IfSome, IfNone, ◌++◌, Contains, ℕ, List};
+ghost use Rattle.std.specs.Prelude.{Some, ◌≡◌, ◌^◌, ◌<◌, ◌+◌, ◌/◌, ◌%◌, min, length, IfOk, IfSome, IfNone, IsTrue, ◌++◌, Contains, ℕ, List};
 ghost use Rattle.std.specs.List.{AllWithin};
 ghost use Rattle.std.specs.declared.cmp.Ordering.TheVariants.{Less};
+ghost use Rattle.mon_oid.specs.Oid.{IsPrefix};
 ghost use Rattle.mon_mib.specs.Counters.{counted, no_counts};
 ghost use Rattle.mon_mib.specs.Held.{IsAbove, IsLeastOf, text_at};
 ghost use Rattle.mon_mib.specs.Known.{instances, variable_value, scalar_value, column_value};
@@ -287,6 +288,26 @@ pub(crate) fn candidate_place(name: &[u32]) -> usize
 {
     let reached = all_objects().partition_point(|object| object.prefix().cmp(&name).is_le());
     reached.saturating_sub(1)
+}
+
+/// The place that `candidate_place` tells. The object at a place that is guessed is tried first.
+pub(crate) fn candidate_from(guess: usize, name: &[u32]) -> usize
+    ensures within { result < length objects }
+    ensures earlier { AllWithin (λ o. (rest : List ℕ) → name_cmp (prefix_of o ++ rest) name.now ≡ Less) objects 0 result }
+    ensures later { AllWithin (λ o. name_cmp name.now (prefix_of o) ≡ Less) objects (result + 1) (length objects) }
+{
+    let objects = all_objects();
+    if guess < objects.len() && is_under(objects[guess], name) {
+        return guess;
+    }
+    candidate_place(name)
+}
+
+/// Returns `true` if a name begins with an object's own.
+fn is_under(object: Object, name: &[u32]) -> bool
+    ensures { IsTrue result → IsPrefix (prefix_of object) name.now }
+{
+    name.starts_with(object.prefix())
 }
 
 /// How many interfaces a device has, which is below 2^31.

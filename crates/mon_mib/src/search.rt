@@ -14,7 +14,7 @@ ghost use Rattle.mon_mib.specs.Search.{Sought, IsSeenIn, known_in};
 use crate::device::Device;
 use crate::gaps::Gap;
 use crate::got::Got;
-use crate::mib::{Mib, candidate_place};
+use crate::mib::{Mib, candidate_from};
 use crate::moment::Moment;
 use crate::object::{Object, all_objects};
 use crate::settings::Settings;
@@ -34,6 +34,9 @@ pub struct Search<'a, D: Device + Drop> {
     access: Access<'a>,
     moment: Moment,
     gaps: Vec<Gap>,
+    /// The place of the object that was searched first the last time. Names that follow one another
+    /// are mostly under one object.
+    place: usize,
 }
 
 impl<'a, D: Device + Drop> Model for Search<'a, D> {
@@ -67,6 +70,7 @@ impl<'a, D: Device + Drop> Search<'a, D> {
             access,
             moment,
             gaps: Vec::new(alloc),
+            place: 0,
         }
     }
 
@@ -93,7 +97,8 @@ impl<'a, D: Device + Drop> Search<'a, D> {
         ensures next { IfOk result (IsNext objects (known_in D.held self.old) (IsSeenIn self.old) name.now) }
         ensures stays { self.new ≡ self.old }
     {
-        let place = candidate_place(name.parts());
+        let place = candidate_from(self.place, name.parts());
+        self.place = place;
         for object in &all_objects()[place..] {
             let found = self.next_of(alloc, *object, name)?;
             if let Some(binding) = found {
@@ -139,8 +144,8 @@ impl<'a, D: Device + Drop> Search<'a, D> {
         if let Some(gap) = self.find_gap(object, start) {
             return Ok(gap.least);
         }
-        let least = self.search(alloc, object, start)?;
-        if least != self.next_instance(object, start) {
+        let (least, hides) = self.search(alloc, object, start)?;
+        if hides {
             self.gaps.push(Gap {
                 object,
                 start,
@@ -150,21 +155,29 @@ impl<'a, D: Device + Drop> Search<'a, D> {
         Ok(least)
     }
 
-    /// The least instance of an object in view from a start on, by trying one after the other up to a gap.
-    fn search(&self, alloc: Global, object: Object, start: Start) -> Result<Option<u32>, AllocError>
-        ensures { IfOk result (IsLeastInView (D.held self.now.map.device) (IsSeenIn self.now) object start) }
+    /// The least instance of an object in view from a start on, by trying one after the other up to
+    /// a gap, and whether the view hides one before it.
+    fn search(
+        &self,
+        alloc: Global,
+        object: Object,
+        start: Start,
+    ) -> Result<(Option<u32>, bool), AllocError>
+        ensures { IfOk result (λ found. IsLeastInView (D.held self.now.map.device) (IsSeenIn self.now) object start found.0) }
     {
+        let mut hides = false;
         let mut rest = start;
         while let Some(instance) = self.next_instance(object, rest) {
             if self.sees(alloc, object, instance)? {
-                return Ok(Some(instance));
+                return Ok((Some(instance), hides));
             }
+            hides = true;
             rest = Start::Above(instance);
             if let Some(gap) = self.find_gap(object, rest) {
-                return Ok(gap.least);
+                return Ok((gap.least, hides));
             }
         }
-        Ok(None)
+        Ok((None, hides))
     }
 
     /// The least instance of an object from a start on.

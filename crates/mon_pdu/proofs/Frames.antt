@@ -22,10 +22,10 @@ use Rattle.mon_pdu.specs.declared.message.Pdu.{Pdu as AnyPdu}
 use Rattle.mon_pdu.specs.declared.frame.Frame.{Frame}
 use Rattle.mon_pdu.specs.Kinds.{octet_of, kind_of}
 use Rattle.mon_pdu.specs.Reading.{is_one}
-use Rattle.mon_pdu.specs.Grammar.{IsBinding, IsList, IsBody, BeginsWithMessage}
+use Rattle.mon_pdu.specs.Grammar.{IsBinding, IsBody, BeginsWithMessage}
 use Rattle.mon_pdu.specs.Framed.{Held, framed, held, IsPduFrame, BeginsWithFrame, fields_of, kind_at, frame_of, frame_at}
-use Rattle.mon_pdu.proofs.Messages.{Parts, kind_is, kind_again}
-use Rattle.mon_pdu.proofs.Whole.{IsRead, is_one_true}
+use Rattle.mon_pdu.proofs.Messages.{kind_is, kind_again}
+use Rattle.mon_pdu.proofs.Whole.{is_one_true}
 
 -- where reading yields a value, a call that allocates nothing yielded one
 pub is_given : {X Y : Type 0} (view : X → Y) (r : Result X BerFault) (read : Result Y BerFault) (y : Y) → r ≢ Err OutOfMemory → Gives view r read → read ≡ Ok y → IsSome (result_ok r)

@@ -7,7 +7,7 @@ use Rattle.std.proofs.lemmas.Int.{to_z-of_z}
 use Rattle.std.proofs.lemmas.Bool.{cases_lt}
 use Rattle.std.proofs.lemmas.List.{length-append, append_assoc, take_more, flat_map_more}
 use Rattle.mon_ber.specs.declared.value.Value.TheVariants.{Integer, Octets, Name}
-use Rattle.mon_ber.specs.Writing.{contents_of, written, size_for, size_counted}
+use Rattle.mon_ber.specs.Writing.{contents_of, name_octets, length_octets, element, written, size_for, size_counted}
 use Rattle.mon_ber.proofs.Promised.{length-element, written_size, size_longer}
 use Rattle.mon_pdu.specs.declared.message.Binding.{Binding}
 use Rattle.mon_pdu.specs.declared.message.Body.{Body}
@@ -43,6 +43,27 @@ message_length m = length-element 0x30 (message_contents m)
 
 pub binding_total : (b : Binding) → length (binding_contents b) ≡ length (written (Name b.name)) + length (written b.value)
 binding_total b = length-append (written (Name b.name)) (written b.value)
+
+-- and by the contents of both
+pub binding_sum : (b : Binding) → length (binding_contents b) ≡ size_for (length (name_octets b.name)) + size_for (length (contents_of b.value))
+binding_sum b = omega (arith, binding_total b, written_size (Name b.name), written_size b.value)
+
+pub sum_is : (b : Binding) (n m name value : ℕ) → n ≡ length (name_octets b.name) → m ≡ length (contents_of b.value) → name ≡ size_for n → value ≡ size_for m
+    → name + value ≡ length (binding_contents b)
+sum_is b n m name value own others is also = omega (arith, binding_sum b, ap size_for own, ap size_for others, is, also)
+
+-- a header of the length of what is inside, and the name and the value
+pub binding_text : (b : Binding) (n : ℕ) → n ≡ length (binding_contents b) → (0x30 ∷ length_octets n) ++ binding_contents b ≡ written_binding b
+unfolding written_binding element
+binding_text b n is = ap (λ (k : ℕ). (0x30 ∷ length_octets k) ++ binding_contents b) is
+
+pub behind_header : (front header name value : List ℕ) → ((front ++ header) ++ name) ++ value ≡ front ++ (header ++ (name ++ value))
+behind_header front header name value = append_assoc (front ++ header) name value ∙ append_assoc front header (name ++ value)
+
+pub binding_parts : (b : Binding) (n : ℕ) → n ≡ length (binding_contents b)
+    → length (written_binding b) ≡ length (0x30 ∷ length_octets n) + length (written (Name b.name)) + length (written b.value)
+binding_parts b n is =
+    omega (arith, ap length (binding_text b n is), length-append (0x30 ∷ length_octets n) (binding_contents b), binding_total b)
 
 pub body_total : (body : Body) → length (body_contents body) ≡ length (leading_integers body) + size_for (length (list_contents (bindings_of body)))
 body_total body = omega (arith, length-append (leading_integers body) (written_list (bindings_of body)), list_length (bindings_of body))

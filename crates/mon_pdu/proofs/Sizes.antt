@@ -1,17 +1,18 @@
 -- The size of a message by the size of its variable bindings.
-use Rattle.std.proofs.Common.{◌≡◌, ℕ, ◌+◌, ◌<◌, ◌≤◌, pos, List, [], ◌∷◌, ◌++◌, length, ap, ◌∙◌, arith}
+use Rattle.std.proofs.Common.{◌≡◌, ℕ, ◌+◌, ◌<◌, ◌≤◌, ℤ, pos, negsuc, List, [], ◌∷◌, ◌++◌, length, ap, ◌∙◌, arith}
+use Rattle.std.specs.Int.{w128, cast_unsigned}
 use Rattle.std.proofs.lemmas.List.{length-append}
 use Rattle.std.proofs.lemmas.Grind.{flat_map-append}
 use Rattle.std.proofs.lemmas.Bool.Decides.{nat_tests}
 use Rattle.mon_ber.specs.declared.value.Value.TheVariants.{Integer}
-use Rattle.mon_ber.specs.Writing.{written, size_for, length_octets, number_octets, octets_for}
+use Rattle.mon_ber.specs.Writing.{written, size_for, size_counted, length_octets, number_octets, octets_for, width}
 use Rattle.mon_ber.proofs.Promised.{length-high_first, written_size, size_longer}
 use Rattle.mon_pdu.specs.declared.message.Binding.{Binding}
 use Rattle.mon_pdu.specs.declared.message.Body.{Body}
 use Rattle.mon_pdu.specs.declared.message.Body.TheVariants.{Pdu, Bulk}
 use Rattle.mon_pdu.specs.declared.message.Message.{Message}
 use Rattle.mon_pdu.specs.declared.message.Pdu.{Pdu as AnyPdu}
-use Rattle.mon_pdu.specs.Grammar.{bindings_of}
+use Rattle.mon_pdu.specs.Grammar.{bindings_of, first_of, second_of, third_of}
 use Rattle.mon_pdu.specs.Sizes.{body_with, with_bindings, with_error}
 use Rattle.mon_pdu.specs.Writing.{binding_contents, written_binding, list_contents, leading_integers, body_contents, message_contents, written_message}
 use Rattle.mon_pdu.proofs.Lengths.{body_total, message_total, message_length, binding_length, flat_length, numbers_total}
@@ -44,6 +45,46 @@ message_grows m bindings more =
     let body : size_for (length (leading_integers m.body) + size_for (length (list_contents bindings)))
     ≤ size_for (length (leading_integers m.body) + size_for (length (list_contents (bindings ++ more)))) = size_grows _ _ (omega arith) in
     rw (whole_size m bindings, whole_size m (bindings ++ more)) (size_grows _ _ (omega arith))
+
+-- a size by numbers that are as great as they may be
+size_small : (n : ℕ) → size_for n ≤ n + 6
+unfolding size_for length_octets
+size_small n = grind (arith, nat_tests, length-high_first)
+
+octets_few : (n : ℕ) → octets_for n ≤ 9
+octets_few n = grind (arith, nat_tests)
+
+width_few : (z : ℤ) → width z ≤ 9
+width_few (pos n) = octets_few n
+width_few (negsuc n) = octets_few n
+
+number_few : (z : ℤ) → length (number_octets z) ≤ 9
+unfolding number_octets
+number_few z = omega (arith, width_few z, length-high_first (width z) (cast_unsigned w128 z))
+
+integer_few : (z : ℤ) → length (written (Integer z)) ≤ 15
+integer_few z = omega (arith, written_size (Integer z), number_few z, size_small (length (number_octets z)))
+
+pub bounded : (m : Message) (bindings : List Binding) (list : ℕ) → list ≡ size_counted (length (list_contents bindings))
+    → size_counted (length (written_message (with_bindings m bindings))) ≤ length m.community + 100 + list
+bounded m bindings list is =
+    let first = length (written (Integer (pos 1))) in
+    let numbers = length (leading_integers m.body) in
+    let inner = length (list_contents bindings) in
+    omega (
+      arith,
+      is,
+      whole_size m bindings,
+      size_small inner,
+      size_small (numbers + size_for inner),
+      size_small (length m.community),
+      size_small (first + size_for (length m.community) + size_for (numbers + size_for inner)),
+      integer_few (pos 1),
+      numbers_total m.body,
+      integer_few (first_of m.body),
+      integer_few (second_of m.body),
+      integer_few (third_of m.body),
+    )
 
 -- an element takes an octet at least
 some : (n : ℕ) → 1 ≤ size_for n

@@ -15,5 +15,6 @@ pub use frame::{Frame, named_value, read_frame};
 pub use message::{Binding, Bindings, Body, Bulk, Message, Pdu, PduKind};
 pub use reading::read_message;
 pub use writing::{
-    binding_size, message_size, size_with, write_bindings, write_message, write_with, write_within,
+    binding_size, list_len, message_size, size_bound, size_with, write_bindings, write_measured,
+    write_message, write_with, write_within,
 };

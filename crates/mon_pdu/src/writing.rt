@@ -15,8 +15,8 @@ ghost use Rattle.mon_pdu.specs.Writing.{HasLength, binding_contents, written_bin
 use crate::fault::PduFault;
 use crate::message::{Binding, Body, Message};
 use mon_ber::writing::{
-    LIMIT, element_len, element_size, integer_size, name_size, put_header, put_integer,
-    put_object_identifier, put_octets, put_value, value_size,
+    LIMIT, contents_len, element_len, element_size, identifier_len, integer_size, name_size,
+    put_header, put_integer, put_measured_identifier, put_measured_value, put_octets, value_size,
 };
 use mon_ber::{SEQUENCE, Value};
 use std::alloc::Global;
@@ -66,9 +66,10 @@ fn binding_len(binding: &Binding) -> usize
     (name_size(&binding.name) + value_size(&binding.value)).min(LIMIT)
 }
 
-/// How many octets the bindings take, counted up to the limit.
+/// Counts the octets of variable bindings as a message has them, one after the other, up to
+/// `LIMIT` of `mon_ber::writing`.
 #[tactic(auto, using(crate::proofs::Lengths::binding_length, crate::proofs::Lengths::counted_twice))]
-fn list_len(bindings: &[Binding]) -> usize
+pub fn list_len(bindings: &[Binding]) -> usize
     ensures len { result ≡ size_counted (length (list_contents bindings.now)) }
     ensures valid { AllByRecursion IsValidBinding bindings.now }
 {
@@ -157,6 +158,17 @@ fn lengths_around(message: &Message, list: usize) -> Lengths
     }
 }
 
+/// Measures a message whose variable bindings take `list` octets, counted up to the limit.
+fn lengths_by(message: &Message, list: usize) -> Lengths
+    requires { list ≡ size_counted (length (list_contents (bindings_of message.now.body))) }
+    ensures list { result.list ≡ list }
+    ensures body { result.body ≡ size_counted (length (body_contents message.now.body)) }
+    ensures message { result.message ≡ size_counted (length (message_contents message.now)) }
+    ensures fits { FitsSigned w32 (first_of message.now.body) × FitsSigned w32 (second_of message.now.body) × FitsSigned w32 (third_of message.now.body) }
+{
+    lengths_around(message, list)
+}
+
 /// Measures a message, each of its variable bindings once.
 fn lengths_of(message: &Message) -> Lengths
     ensures list { result.list ≡ size_counted (length (list_contents (bindings_of message.now.body))) }
@@ -164,7 +176,7 @@ fn lengths_of(message: &Message) -> Lengths
     ensures message { result.message ≡ size_counted (length (message_contents message.now)) }
     ensures valid { IsValid message.now }
 {
-    lengths_around(message, list_len(message.body.bindings()))
+    lengths_by(message, list_len(message.body.bindings()))
 }
 
 /// Counts the octets that `write_message` writes. Allocates nothing and takes time linear in the
@@ -199,7 +211,17 @@ pub fn size_with(message: &Message, list: usize) -> usize
     element_size(lengths_around(message, list).message)
 }
 
-#[tactic(auto, using(crate::proofs::Lengths::value_fits), unfolding(crate::specs::Writing::written_binding, mon_ber::specs::Writing::element))]
+/// A number that `size_with` is not above. It takes no measuring.
+pub fn size_bound(message: &Message, list: usize) -> usize
+    requires { list ≤ 2 ^ 32 }
+    ensures { (bindings : List AnyBinding) → list ≡ size_counted (length (list_contents bindings))
+        → size_counted (length (written_message (with_bindings message.now bindings))) ≤ result }
+{
+    message.community.as_slice().len() + 100 + list
+}
+
+/// Writes a variable binding. Its name and its value are measured once each, for all three headers.
+#[tactic(auto, using(crate::proofs::Lengths::value_fits, crate::proofs::Lengths::binding_sum), unfolding(crate::specs::Writing::written_binding, mon_ber::specs::Writing::element))]
 fn put_binding(out: &mut Vec<u8>, binding: &Binding)
     requires fits { length (binding_contents binding.now) < 2 ^ 32 }
     requires room { vec_len out.old + length (written_binding binding.now) ≤ vec_capacity out.old }
@@ -207,9 +229,11 @@ fn put_binding(out: &mut Vec<u8>, binding: &Binding)
     ensures len { vec_len out.new ≡ vec_len out.old + length (written_binding binding.now) }
     ensures capacity { vec_capacity out.old ≤ vec_capacity out.new }
 {
-    put_header(out, SEQUENCE, binding_len(binding));
-    put_object_identifier(out, &binding.name);
-    put_value(out, &binding.value);
+    let name = identifier_len(&binding.name);
+    let value = contents_len(&binding.value);
+    put_header(out, SEQUENCE, element_len(name) + element_len(value));
+    put_measured_identifier(out, &binding.name, name);
+    put_measured_value(out, &binding.value, value);
 }
 
 fn put_bindings(out: &mut Vec<u8>, bindings: &[Binding])
@@ -324,7 +348,7 @@ fn put_whole(out: &mut Vec<u8>, message: &Message, lengths: Lengths)
 /// Writes the shortest spelling of the message after what `out` holds, if the vector has capacity
 /// for it: `message_size` octets. Allocates nothing and never fails, so memory can be allocated
 /// before and the message written once nothing else can go wrong. Names and values are measured
-/// three times, as by `write_message`, so the time is linear in what is written.
+/// twice, as by `write_message`, so the time is linear in what is written.
 pub fn write_within(out: &mut Vec<u8>, message: &Message)
     requires fits { HasLength message.now }
     requires room { vec_len out.old + length (written_message message.now) ≤ vec_capacity out.old }
@@ -338,9 +362,23 @@ pub fn write_within(out: &mut Vec<u8>, message: &Message)
     put_whole(out, message, lengths_of(message));
 }
 
+/// Writes what `write_within` writes. The message's variable bindings take `list` octets, as
+/// `list_len` counts them, and are measured once, to be written.
+pub fn write_measured(out: &mut Vec<u8>, message: &Message, list: usize)
+    requires measured { list ≡ size_counted (length (list_contents (bindings_of message.now.body))) }
+    requires fits { HasLength message.now }
+    requires room { vec_len out.old + length (written_message message.now) ≤ vec_capacity out.old }
+    ensures items { out.new.items ≡ out.old.items ++ written_message message.now }
+    ensures len { vec_len out.new ≡ vec_len out.old + length (written_message message.now) }
+    ensures capacity { vec_capacity out.old ≤ vec_capacity out.new }
+{
+    put_whole(out, message, lengths_by(message, list));
+}
+
 /// The shortest spelling of the message, in a vector of just its size, which is the one allocation.
-/// Names and values are measured three times, for the size of the message, of their binding and of their own, so
-/// the time is linear in what is written. Besides `OutOfMemory` the one fault is `BadLength`, as of `message_size`.
+/// Names and values are measured twice: for the size of the message, and for the lengths in their
+/// binding. So the time is linear in what is written. Besides `OutOfMemory` the one fault is
+/// `BadLength`, as of `message_size`.
 #[tactic(auto, using(crate::proofs::Lengths::message_length))]
 pub fn write_message(alloc: Global, message: &Message) -> Result<Vec<u8>, PduFault>
     ensures valid { IsValid message.now }

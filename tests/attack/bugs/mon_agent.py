@@ -161,10 +161,20 @@ BUGS = {
         "        Reply::Silent(Silence::BadVersion) => mib.count(Counter::BadVersions),",
         "        Reply::Silent(Silence::BadVersion) => {}",
     ),
+    "has_room_by_its_bindings_alone": (
+        "src/growing.rt",
+        "    if is_within(size_bound(head, list), limit) {",
+        "    if is_within(list, limit) {",
+    ),
+    "sends_within_any_limit": (
+        "src/growing.rt",
+        "        send_measured(alloc, self.into_message(), list, limit)",
+        "        send_measured(alloc, self.into_message(), list, limit.max(484))",
+    ),
     "sends_what_was_cut": (
         "src/reading.rt",
-        "        send_too_big(alloc, reply, limit)\n    }",
-        "        send(alloc, reply, limit)\n    }",
+        "        send_too_big(alloc, reply.into_message(), limit)\n    }",
+        "        reply.send(alloc)\n    }",
     ),
     "counts_nothing_of_what_it_tells": (
         "src/agent.rt",
@@ -173,8 +183,8 @@ BUGS = {
     ),
     "sends_too_big_without_a_cut": (
         "src/reading.rt",
-        "    if all {\n        send(",
-        "    if false && all {\n        send(",
+        "    if all {\n        reply.send(",
+        "    if false && all {\n        reply.send(",
     ),
     "answers_get_as_next": (
         "src/reading.rt",

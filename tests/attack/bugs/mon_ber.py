@@ -31,10 +31,25 @@ BUGS = {
         "Value::Gauge32(_) => Tag::Gauge32,",
         "Value::Gauge32(_) => Tag::Counter32,",
     ),
+    "digits_of_128_cut": (
+        "src/writing.rt",
+        "    if number < 0x80 {\n        put_octet(out, number as u8);",
+        "    if number < 0x100 {\n        put_octet(out, number as u8);",
+    ),
+    "digit_of_128_read": (
+        "src/name.rt",
+        "        if *octet < 0x80 {\n            return Ok((u64::from(*octet), rest));",
+        "        if *octet <= 0x80 {\n            return Ok((u64::from(*octet), rest));",
+    ),
+    "octet_of_128_written": (
+        "src/writing.rt",
+        "    if 0 <= number && number < 0x80 {",
+        "    if 0 <= number && number <= 0x80 {",
+    ),
     "header_turns_tag": (
         "src/writing.rt",
-        "put_octet(out, tag);",
-        "put_octet(out, tag | 1);",
+        "put_slice(out, &[tag, len as u8]);",
+        "put_slice(out, &[tag | 1, len as u8]);",
     ),
     "integer_from_counter": (
         "src/reading.rt",
@@ -93,8 +108,8 @@ BUGS = {
     ),
     "name_written_as_relative": (
         "src/writing.rt",
-        "put_header(out, OBJECT_IDENTIFIER, name_len(name.parts()));",
-        "put_header(out, 0x0d, name_len(name.parts()));",
+        "put_header(out, OBJECT_IDENTIFIER, len);",
+        "put_header(out, 0x0d, len);",
     ),
     "names_bad_tag_bad_length": (
         "src/fault.rt",

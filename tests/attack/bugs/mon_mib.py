@@ -401,10 +401,15 @@ BUGS = {
         "            rest = Start::Above(instance);",
         "            rest = Start::Nowhere;",
     ),
+    "next_begins_at_a_guess": (
+        "src/mib.rt",
+        "    if guess < objects.len() && is_under(objects[guess], name) {",
+        "    if guess < objects.len() && (guess > 0 || is_under(objects[guess], name)) {",
+    ),
     "next_shows_a_hidden_name": (
         "src/search.rt",
-        "        let least = self.search(alloc, object, start)?;",
-        "        let least = if object == Object::Scalar(crate::scalar::Scalar::SysDescr) { self.mib.next_instance(object, start) } else { self.search(alloc, object, start)? };",
+        "        let (least, hides) = self.search(alloc, object, start)?;",
+        "        let (least, hides) = if object == Object::Scalar(crate::scalar::Scalar::SysDescr) { (self.mib.next_instance(object, start), false) } else { self.search(alloc, object, start)? };",
     ),
     "hides_a_name_as_no_instance": (
         "src/search.rt",

@@ -141,6 +141,16 @@ BUGS = {
         "(numbers_len(&message.body) + element_size(list)).min(LIMIT)",
         "(numbers_len(&message.body) + element_size(list) + 1).min(LIMIT)",
     ),
+    "bounds_a_size_without_its_numbers": (
+        "src/writing.rt",
+        "    message.community.as_slice().len() + 100 + list",
+        "    message.community.as_slice().len() + 10 + list",
+    ),
+    "writes_the_header_of_a_name_alone": (
+        "src/writing.rt",
+        "    put_header(out, SEQUENCE, element_len(name) + element_len(value));",
+        "    put_header(out, SEQUENCE, element_len(name));",
+    ),
     "takes_too_little_room": (
         "src/writing.rt",
         "    let mut out = Vec::with_capacity(alloc, element_len(lengths.message))?;\n    put_message(",

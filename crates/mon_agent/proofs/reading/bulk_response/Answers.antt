@@ -9,8 +9,8 @@ use Rattle.mon_agent.proofs.Longest.{longest}
 use Rattle.mon_agent.proofs.Rounds.{ended_same, fits_same}
 use Rattle.mon_agent.proofs.reading.bulk_response.Goals as goal
 
-pub returns : goal.returns
-returns g c =
+pub returns-clause-reading : goal.returns-clause-reading
+returns-clause-reading g c =
     let m : Message = record { community = c.args.community; body = bodies.Bulk c.args.request } in
     let start : Grown = record { head = answered m []; limit = c.args.search.now.map.settings.limit; bindings = [] } in
     let reply = c.bulk.new.reply in
@@ -22,7 +22,7 @@ returns g c =
       (λ next steps. longest (FitsWith start)
           (λ bindings more fits. omega (arith, c.grows.ensures (answered m []) bindings more, fits))
           (full_list next c.args.request.non_repeaters c.args.request.max_repetitions c.args.request.bindings) reply.bindings
-          (elim c.into_message.ensures.within [ inl none ↦ inl none | inr fits ↦ inr (fits_same start reply reply.bindings head_now limit_now fits) ])
+          (elim c.look.ensures [ inl none ↦ inl none | inr fits ↦ inr (fits_same start reply reply.bindings head_now limit_now fits) ])
           (ended_same start c.new-reply.result _ reply.bindings head limit (c.in_ok-bulk.ensures.put next steps))),
-      c.into_message.ensures.message ∙ ap (λ (h : Message). with_bindings h reply.bindings) head_now,
+      ap (λ (h : Message). with_bindings h reply.bindings) head_now,
     )

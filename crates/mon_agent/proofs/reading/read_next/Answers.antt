@@ -19,16 +19,16 @@ returns-then-all g c =
     let found = c.stepper.ensures known sought.families sought.view in
     let start = c.new-reply.result in
     let limit_is : start.limit ≡ sought.map.settings.limit = search rules in
-    let passed = sym c.new-reply.ensures.limit ∙ limit_is in
     let reply = c.extend.new.reply in
     let all : List Binding = map found.0 (names_of c.args.asked.now) in
     let put : reply.bindings ≡ start.bindings ++ all =
     subst (λ b. IsPut (FitsWith start) (start.bindings ++ all) b reply.bindings) c.if-all.true (c.in_ok-all.ensures.put found.0 found.1) in
     let bindings : reply.bindings ≡ all = put ∙ ap (λ l. l ++ all) c.new-reply.ensures.empty in
     let head : reply.head ≡ c.args.head = c.in_ok-all.ensures.head ∙ c.new-reply.ensures.head in
-    sent_for sought.map.settings.limit (IsNextAnswer known sees) c.args.head found.0 c.args.asked.now found.1 c.into_message-reply.result c.send.result
-    (c.into_message-reply.ensures.message ∙ (λ i. with_bindings (head i) (bindings i)))
-    (subst (λ (z : ℤ). IfOk c.send.result (IsOut z c.into_message-reply.result c.into_message-reply.result)) passed c.send.ensures)
+    sent_for sought.map.settings.limit (IsNextAnswer known sees) c.args.head found.0 c.args.asked.now found.1 (with_bindings reply.head reply.bindings) c.send.result
+    (λ i. with_bindings (head i) (bindings i))
+    (subst (λ (z : ℤ). IfOk c.send.result (IsOut z (with_bindings reply.head reply.bindings) (with_bindings reply.head reply.bindings)))
+    (c.in_ok-all.ensures.limit ∙ limit_is) c.send.ensures)
 
 pub returns-else-all : goal.returns-else-all
 returns-else-all g c =
@@ -49,8 +49,8 @@ returns-else-all g c =
     cut_is (FitsWith own) (start.bindings ++ all) all reply.bindings (ap (λ l. l ++ all) c.new-reply.ensures.empty)
     (cut_same own start (start.bindings ++ all) reply.bindings c.new-reply.ensures.head limit_is cut) in
     let head : reply.head ≡ c.args.head = c.in_ok-all.ensures.head ∙ c.new-reply.ensures.head in
-    let same : too_big c.into_message-reply.result ≡ too_big (with_bindings c.args.head all) =
-    ap too_big (c.into_message-reply.ensures.message ∙ (λ i. with_bindings (head i) reply.bindings)) ∙ same_head c.args.head reply.bindings all in
+    let same : too_big c.into_message.result ≡ too_big (with_bindings c.args.head all) =
+    ap too_big (c.into_message.ensures.message ∙ (λ i. with_bindings (head i) reply.bindings)) ∙ same_head c.args.head reply.bindings all in
     let above : IsAboveLimit limit (with_bindings c.args.head all) = cut_above limit c.args.head all reply.bindings c.grows.ensures cut_all in
     sent_for limit (IsNextAnswer known sees) c.args.head found.0 c.args.asked.now found.1 (with_bindings c.args.head all) c.send_too_big.result
     (λ i. with_bindings c.args.head all)

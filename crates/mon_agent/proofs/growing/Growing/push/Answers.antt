@@ -3,14 +3,14 @@ use Rattle.mon_agent.specs.Growing.{Grown, IsSized}
 use Rattle.mon_agent.proofs.Rounds.{not_full, unless_err}
 use Rattle.mon_agent.proofs.growing.Growing.push.Goals as goal
 
-pub returns-then-not-is_within-clause-head : goal.returns-then-not-is_within-clause-head
-returns-then-not-is_within-clause-head c = refl
+pub returns-then-not-has_room-clause-head : goal.returns-then-not-has_room-clause-head
+returns-then-not-has_room-clause-head c = refl
 
-pub returns-then-not-is_within-clause-limit : goal.returns-then-not-is_within-clause-limit
-returns-then-not-is_within-clause-limit c = refl
+pub returns-then-not-has_room-clause-limit : goal.returns-then-not-has_room-clause-limit
+returns-then-not-has_room-clause-limit c = refl
 
-pub returns-then-not-is_within-clause-more : goal.returns-then-not-is_within-clause-more
-returns-then-not-is_within-clause-more c = not_full
+pub returns-then-not-has_room-clause-more : goal.returns-then-not-has_room-clause-more
+returns-then-not-has_room-clause-more c = not_full
 
 pub returns-in_err-push-clause-head : goal.returns-in_err-push-clause-head
 returns-in_err-push-clause-head c = ap (λ (g : Grown). g.head) c.self.view_is
