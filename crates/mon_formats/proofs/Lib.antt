@@ -1,4 +1,5 @@
 pub mod Aligned
+pub mod Arrays
 pub mod Depths
 pub mod Entries
 pub mod Fresh

@@ -1,0 +1,6 @@
+use Rattle.mon_formats.specs.Json.{age_data}
+use Rattle.mon_formats.proofs.Arrays.{all_made}
+use Rattle.mon_formats.proofs.json.ages_value.Goals as goal
+
+pub returns : goal.returns
+returns c = all_made age_data c.args.ages.now c.loop-age.values c.loop-age.age-index c.loop-age-test.false c.loop-age.invariant

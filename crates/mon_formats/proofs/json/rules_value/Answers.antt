@@ -1,0 +1,6 @@
+use Rattle.mon_formats.specs.Json.{alarm_data}
+use Rattle.mon_formats.proofs.Arrays.{all_made}
+use Rattle.mon_formats.proofs.json.rules_value.Goals as goal
+
+pub returns : goal.returns
+returns c = all_made (alarm_data c.args.samples.now) c.args.rules.now c.loop-rule.values c.loop-rule.rule-index c.loop-rule-test.false c.loop-rule.invariant

@@ -1,0 +1,6 @@
+use Rattle.mon_formats.specs.Json.{target_data}
+use Rattle.mon_formats.proofs.Arrays.{all_made}
+use Rattle.mon_formats.proofs.json.targets_value.Goals as goal
+
+pub returns : goal.returns
+returns c = all_made target_data c.args.targets.now c.loop-target.values c.loop-target.target-index c.loop-target-test.false c.loop-target.invariant
