@@ -1,5 +1,5 @@
 use Rattle.std.proofs.Common.{rules, arith, ◌≡◌, ◌+◌, ◌-◌, length}
-use Rattle.mon_disk.proofs.Carried.{put_in}
+use Rattle.mon_disk.proofs.TakenBack.{put_in}
 use Rattle.mon_disk.proofs.memory.put_within.Goals as goal
 
 pub returns : goal.returns
