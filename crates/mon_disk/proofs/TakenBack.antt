@@ -1,6 +1,6 @@
 -- Writes in place, and writes that are taken back.
-use Rattle.std.proofs.Common.{ℕ, ◌≡◌, ◌≤◌, ◌<◌, ◌+◌, ◌-◌, min, max, List, [], ◌∷◌, ◌++◌, length, take, drop, map, get_or, replicate, refl, sym, ◌∙◌, ap, subst, arith, inl, inr, ⊎_elim, append_assoc, take-append-drop, length-take, length-drop}
-use Rattle.std.proofs.lemmas.List.{take_all, take_at, drop_all, take_more, take-take, length-take-le, drop-drop, drop-append-le, append-nil}
+use Rattle.std.proofs.Common.{ℕ, ◌≡◌, ◌≤◌, ◌<◌, ◌+◌, ◌-◌, min, List, [], ◌∷◌, ◌++◌, length, take, drop, map, get_or, replicate, refl, sym, ◌∙◌, ap, arith, ⊎_elim, append_assoc, take-append-drop, length-take, length-drop}
+use Rattle.std.proofs.lemmas.List.{take_all, take_at, take_more, take-take, length-take-le, drop-drop, drop-append-le, append-nil}
 use Rattle.std.proofs.lemmas.Slice.{put_mid-paste}
 use Rattle.std.proofs.lemmas.Bool.{cases_lt}
 use borrow.Rule.Slice.PartMut.{put_mid}

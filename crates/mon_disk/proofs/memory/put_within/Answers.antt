@@ -1,4 +1,4 @@
-use Rattle.std.proofs.Common.{rules, arith, ◌≡◌, ◌+◌, ◌-◌, length}
+use Rattle.std.proofs.Common.{arith, ◌+◌, ◌-◌, length}
 use Rattle.mon_disk.proofs.TakenBack.{put_in}
 use Rattle.mon_disk.proofs.memory.put_within.Goals as goal
 

@@ -1,6 +1,5 @@
 use Rattle.std.proofs.Common.{rules, arith, ◌≡◌, ◌<◌, ◌+◌, ◌-◌, sym, ◌∙◌, ap, List, length, take}
 use Rattle.mon_disk.specs.Record.{restored, put_back}
-use Rattle.mon_disk.specs.declared.memory.Replaced.{Replaced}
 use Rattle.mon_disk.proofs.TakenBack.{one_back}
 use Rattle.mon_disk.proofs.memory.take_back.Goals as goal
 
