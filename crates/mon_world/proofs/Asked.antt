@@ -12,7 +12,7 @@ use Rattle.mon_disk.specs.declared.memory.MemoryDisk.{MemoryDisk}
 use Rattle.mon_disk.specs.Disk.{Leaves, LeavesSince}
 use Rattle.mon_disk.specs.Keeper.{FindsBody, IsAs}
 use Rattle.mon_disk.specs.Kept.{device_of, last_body}
-use Rattle.mon_disk.specs.Memory.{memory_leaves}
+use Rattle.mon_disk.specs.Memory.{memory_first, memory_leaves}
 use Rattle.mon_disk.specs.Outcomes.{counts}
 use Rattle.mon_disk.specs.Record.{leaves_since}
 use Rattle.mon_exchange.specs.declared.claim.Claim.{Claim}
@@ -82,8 +82,8 @@ numbered watch (Share y) e is = subst (IsNumberedIn watch) (sym is) tt
 numbered watch Save e is = subst (IsNumberedIn watch) (sym is) tt
 
 -- ---- what an opening finds after an event
-pub torn : (old new : MemoryDisk) (P : List ℕ → Type 0) → LeavesSince (λ m. length m.calls.items) (λ m. leaves_since m.first.items m.calls.items) old new P → Leaves (memory_leaves new) P
-torn old new P since c left = since.each c (counts new.first.items new.calls.items (length old.calls.items) c since.later left)
+pub torn : (old new : MemoryDisk) (P : List ℕ → Type 0) → LeavesSince (λ m. length m.calls.items) (λ m. leaves_since (memory_first m) m.calls.items) old new P → Leaves (memory_leaves new) P
+torn old new P since c left = since.each c (counts (memory_first new) new.calls.items (length old.calls.items) c since.later left)
 
 pub finds_as : (lives : List (Entry × State)) (c old : List ℕ) → IsAs c old → FindsOne lives old → FindsOne lives c
 finds_as lives c old same one = record {

@@ -13,7 +13,7 @@ use Rattle.mon_disk.specs.declared.memory.MemoryDisk.{MemoryDisk}
 use Rattle.mon_disk.specs.Disk.{Leaves}
 use Rattle.mon_disk.specs.Keeper.{found_body}
 use Rattle.mon_disk.specs.Kept.{device_of}
-use Rattle.mon_disk.specs.Memory.{memory_leaves, memory_octets}
+use Rattle.mon_disk.specs.Memory.{memory_first, memory_leaves, memory_octets}
 use Rattle.mon_disk.specs.Outcomes.{seen_left}
 use Rattle.mon_core.specs.StationCore.{Core}
 use Rattle.mon_station.specs.declared.fault.StationFault.{StationFault}
@@ -39,7 +39,7 @@ use Rattle.mon_world.proofs.Lives.{before, not_some, setting_is, some_same}
 
 -- what a read of a disk in memory gives, a crash may leave
 pub seen_is_left : (disk : MemoryDisk) → memory_leaves disk (memory_octets disk)
-seen_is_left disk = seen_left disk.first.items disk.calls.items disk.octets.items disk.read
+seen_is_left disk = seen_left (memory_first disk) disk.calls.items disk.octets.items disk.read
 
 -- ---- saved states have the setting of their lives
 abbrev HasSetting : Setting → Option State → Type 0

@@ -143,8 +143,8 @@ BUGS = {
     ),
     "clones_unsynced_octets_as_synced": (
         "src/memory.rt",
-        "first: self.synced.to_vec(self.alloc)?,",
-        "first: self.octets.to_vec(self.alloc)?,",
+        "replaced: copy_replaced(self.alloc, &self.replaced[self.replaced_since..])?,",
+        "replaced: copy_replaced(self.alloc, &self.replaced[self.replaced.len()..])?,",
     ),
     "reads_from_the_front": (
         "src/memory.rt",
@@ -230,6 +230,81 @@ BUGS = {
         "src/memory.rt",
         "        if keep {",
         "        if !keep {",
+    ),
+    "keeps_none_but_synced_octets": (
+        "src/memory.rt",
+        "        if keep {",
+        "        if keep && self.replaced.is_empty() {",
+    ),
+    "keeps_all_that_is_lost": (
+        "src/memory.rt",
+        "            &self.replaced[self.replaced_since..],",
+        "            &self.replaced[self.replaced.len()..],",
+    ),
+    "loses_all_that_was_ever_written": (
+        "src/memory.rt",
+        "            &self.replaced[self.replaced_since..],",
+        "            &self.replaced[..],",
+    ),
+    "syncs_all_but_the_last_write": (
+        "src/memory.rt",
+        "self.replaced_since = self.replaced.len();",
+        "self.replaced_since = self.replaced.len().saturating_sub(1);",
+    ),
+    "writes_one_octet_further_on": (
+        "src/memory.rt",
+        "    file[at..at + octets.len()].copy_from_slice(octets);",
+        "    let at = if file.len() - octets.len() > at { at + 1 } else { at };\n    file[at..at + octets.len()].copy_from_slice(octets);",
+    ),
+    "writes_all_but_the_last_octet": (
+        "src/memory.rt",
+        "    file[at..at + octets.len()].copy_from_slice(octets);",
+        "    let octets = &octets[..octets.len().saturating_sub(1)];\n    file[at..at + octets.len()].copy_from_slice(octets);",
+    ),
+    "writes_past_the_end_in_place": (
+        "src/memory.rt",
+        "octets.len() <= file.len() - at {",
+        "octets.len() <= file.len() {",
+    ),
+    "writes_before_it_has_memory": (
+        "src/memory.rt",
+        "        self.replaced.reserve(1)?;\n        put(self.alloc, &mut self.octets, at as usize, octets)?;",
+        "        put(self.alloc, &mut self.octets, at as usize, octets)?;\n        self.replaced.reserve(1)?;",
+    ),
+    "takes_the_first_write_back_first": (
+        "src/memory.rt",
+        "        left -= 1;\n        take_one_back(alloc, file, &replaced[left])?;",
+        "        take_one_back(alloc, file, &replaced[replaced.len() - left])?;\n        left -= 1;",
+    ),
+    "takes_all_but_the_first_write_back": (
+        "src/memory.rt",
+        "    while left > 0 {",
+        "    while left > 1 {",
+    ),
+    "takes_octets_back_and_no_size": (
+        "src/memory.rt",
+        "    file.truncate(one.size);\n",
+        "",
+    ),
+    "takes_a_size_back_and_no_octets": (
+        "src/memory.rt",
+        "    put(alloc, file, one.at, &one.octets)?;\n",
+        "",
+    ),
+    "remembers_half_of_what_it_replaces": (
+        "src/memory.rt",
+        "octets.len().min(file.len() - from);",
+        "(octets.len() / 2).min(file.len() - from);",
+    ),
+    "remembers_the_size_after_a_write": (
+        "src/memory.rt",
+        "        size: file.len(),",
+        "        size: file.len().max(from + octets.len().min(7)),",
+    ),
+    "clones_replaced_octets_elsewhere": (
+        "src/memory.rt",
+        "        at: one.at,",
+        "        at: one.size,",
     ),
     "writes_the_found_slot": (
         "src/saving.rt",
@@ -355,13 +430,13 @@ BUGS = {
     ),
     "keeps_what_was_synced_before": (
         "src/memory.rt",
-        "        let synced = self.octets.to_vec(self.alloc)?;",
-        "        let synced = self.synced.to_vec(self.alloc)?;",
+        "self.replaced_since = self.replaced.len();",
+        "self.replaced_since = self.replaced_since.min(self.replaced.len());",
     ),
     "syncs_before_it_is_recorded": (
         "src/memory.rt",
-        "        self.calls.push(Call::Sync)?;\n        self.synced = synced;",
-        "        self.synced = synced;\n        self.calls.push(Call::Sync)?;",
+        "        self.calls.push(Call::Sync)?;\n        self.since = self.calls.len();\n        self.replaced_since = self.replaced.len();",
+        "        self.replaced_since = self.replaced.len();\n        self.calls.push(Call::Sync)?;\n        self.since = self.calls.len();",
     ),
     "makes_the_call_that_it_fails": (
         "src/fuse.rt",
