@@ -153,4 +153,19 @@ BUGS = {
         "    items.binary_search_by(|kept| kept.compare(sample))",
         "    items.binary_search_by(|kept| kept.compare(sample)).or(Ok(0))",
     ),
+    "takes_the_newest_for_a_newer_one": (
+        "src/window.rt",
+        "    items[items.len() - 1].compare(sample).is_lt()",
+        "    items[items.len() - 1].compare(sample).is_le()",
+    ),
+    "is_newer_than_the_oldest": (
+        "src/window.rt",
+        "    items[items.len() - 1].compare(sample).is_lt()",
+        "    items[0].compare(sample).is_lt()",
+    ),
+    "goes_behind_all_of_seven": (
+        "src/window.rt",
+        "    if is_newest(items, sample) {",
+        "    if items.len() == 7 || is_newest(items, sample) {",
+    ),
 }
