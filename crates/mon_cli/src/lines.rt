@@ -362,7 +362,7 @@ const LABELS: Line = Line {
     takes: Takes::One(Value::Text),
     needed: false,
     shown: "FILE",
-    help: "A TOML file of ifName and ifAlias by engine id and ifIndex, which --format prometheus has as labels",
+    help: "A TOML file of ifName and ifAlias by engine id and ifIndex, for the labels of --format prometheus and the page of --format html",
 };
 
 const STATIONS: Line = Line {

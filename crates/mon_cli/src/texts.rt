@@ -185,7 +185,7 @@ const REPORT_FILE_MORE: &str =
 
 --format json prints an object, --format prometheus the text that Prometheus reads, --format html a page for a browser, --columns a
 table for people. With --names names stand as ifInOctets.1, by the modules of the settings and those that -m gives. With --labels
-FILE Prometheus' text has ifName and ifAlias of each interface that FILE lists.
+FILE Prometheus' text and the page have ifName and ifAlias of each interface that FILE lists.
 
 Examples: snmpmon report examples/station.toml
           snmpmon report examples/station.toml --columns --names -m examples/served.mib
