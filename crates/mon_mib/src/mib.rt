@@ -290,7 +290,8 @@ pub(crate) fn candidate_place(name: &[u32]) -> usize
     reached.saturating_sub(1)
 }
 
-/// The place that `candidate_place` tells. The object at a place that is guessed is tried first.
+/// The place of the one served object that a name can be under, as of `candidate_place`. The object at
+/// the guessed place is tried first: a request's names are mostly under one object.
 pub(crate) fn candidate_from(guess: usize, name: &[u32]) -> usize
     ensures within { result < length objects }
     ensures earlier { AllWithin (λ o. (rest : List ℕ) → name_cmp (prefix_of o ++ rest) name.now ≡ Less) objects 0 result }
