@@ -26,6 +26,19 @@ pub enum SettingsFault {
     UnknownObject(Place),
 }
 
+/// The value that was read, or a return with its fault. It is `?` where the fault is no other than the function's own;
+/// its proof takes half the time.
+macro_rules! given {
+    ($read:expr) => {
+        match $read {
+            Ok(value) => value,
+            Err(fault) => return Err(fault),
+        }
+    };
+}
+
+pub(crate) use given;
+
 /// What is read, or why it is not.
 pub(crate) type Read<T> = Result<T, SettingsFault>;
 
