@@ -91,8 +91,8 @@ fn read_tree(reader: &Reader<'_>) -> Read<AgentSettings>
 {
     given!(reader.only(top_keys(SettingsKind::Agent)));
     let system = given!(read_system(reader));
-    let policy = given!(read_policy(reader));
-    let interfaces = given!(read_interfaces(reader));
+    let policy = given!(read_policy(reader), drop system);
+    let interfaces = given!(read_interfaces(reader), drop policy, drop system);
     Ok(AgentSettings {
         listen: system.listen,
         settings: system.settings,

@@ -26,13 +26,16 @@ pub enum SettingsFault {
     UnknownObject(Place),
 }
 
-/// The value that was read, or a return with its fault. It is `?` where the fault is no other than the function's own;
-/// its proof takes half the time.
+/// The value that was read, or a return with its fault, before which what follows `drop` is dropped. It is `?` where the
+/// fault is of the function's own type, and its proof takes half the time.
 macro_rules! given {
-    ($read:expr) => {
+    ($read:expr $(, drop $owned:ident)*) => {
         match $read {
             Ok(value) => value,
-            Err(fault) => return Err(fault),
+            Err(fault) => {
+                $(drop($owned);)*
+                return Err(fault);
+            }
         }
     };
 }

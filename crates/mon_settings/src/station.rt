@@ -191,7 +191,7 @@ fn read_tree(reader: &Reader<'_>, names: &Names) -> Read<StationSettings>
     };
     let modules = given!(modules_at(reader));
     let targets: Vec<TargetRow> = given!(reader.rows(&around, Key::Target, 1, 64));
-    let instances = instances_of(reader.alloc, targets.as_slice())?;
+    let instances = given!(instances_of(reader.alloc, targets.as_slice()));
     let peers = given!(peers_at(reader, scalars.station, targets.as_slice()));
     let rules = given!(rules_at(reader, &around, instances.as_slice()));
     let peer_addresses = addresses_of(reader.alloc, peers.as_slice())?;

@@ -12,6 +12,7 @@ ghost use Rattle.toml.specs.View.{table_view};
 use crate::fault::{Read, SettingsFault, given};
 use crate::grammar::table_keys;
 use crate::key::Key;
+use crate::keys::find;
 use crate::leaf::Reader;
 use crate::list::Row;
 use crate::place::Step;
@@ -143,13 +144,16 @@ fn growth_of(reader: &Reader<'_>) -> Read<Growth>
 fn growth_at(reader: &Reader<'_>, key: Key) -> Read<Growth>
     ensures { result ≡ growth_at key (table_view reader.now.table.now) }
 {
-    match reader.need(key)?.as_table() {
-        Some(table) => growth_of(&Reader {
-            alloc: reader.alloc,
-            table,
-        })
-        .map_err(|fault| fault.within(Step::Value(key))),
-        None => Err(SettingsFault::bad(key)),
+    let Some(value) = find(reader.table, key) else {
+        return Err(SettingsFault::missing(key));
+    };
+    let Some(table) = value.as_table() else {
+        return Err(SettingsFault::bad(key));
+    };
+    let alloc = reader.alloc;
+    match growth_of(&Reader { alloc, table }) {
+        Ok(growth) => Ok(growth),
+        Err(fault) => Err(fault.within(Step::Value(key))),
     }
 }
 

@@ -17,11 +17,11 @@ core_from-requires-clause-core c =
     let find = resolution c.args.names.now in
     let scalars : Scalars = scalars_view c.in-Ok-read_scalars.value in
     let targets = c.in-Ok-rows.value.items in
-    let instances = c.in_ok-instances.instances.items in
+    let instances = c.in-Ok-instances_of.value.items in
     let peers = c.in-Ok-peers_at.value.items in
     let rules = c.in-Ok-rules_at.value.items in
     let read = core_read find tree scalars targets instances peers rules c.in-Ok-read_scalars.ensures.station c.in-Ok-read_scalars.ensures.gives c.in-Ok-rows.ensures
-    (ap instances_of_rows (sym c.as_slice.ensures.value) ∙ c.in_ok-instances.ensures.gives) c.in-Ok-peers_at.ensures.others
+    (ap instances_of_rows (sym c.as_slice.ensures.value) ∙ c.in-Ok-instances_of.ensures.gives) c.in-Ok-peers_at.ensures.others
     (ap (λ (l : List Watched). rules_at find scalars.sizes l tree) (sym c.as_slice-3.ensures.value) ∙ c.in-Ok-rules_at.ensures) in
     subst (λ (l : List PeerRow). IsCore (core_from scalars.station c.as_slice-5.result.now l instances rules)) (sym c.as_slice-6.ensures.value)
     (subst (λ (l : List TargetRow). IsCore (core_from scalars.station l peers instances rules)) (sym c.as_slice-5.ensures.value) read)
