@@ -338,13 +338,13 @@ BUGS = {
     ),
     "leaves_out_the_table_of_a_count": (
         "src/tables.rt",
-        "        .map_err(|fault| fault.within(Step::Value(key))),",
-        "        .map_err(|fault| fault),",
+        "        Err(fault) => Err(fault.within(Step::Value(key))),",
+        "        Err(fault) => Err(fault),",
     ),
     "leaves_out_the_alarm": (
         "src/placing.rt",
-        "Step::Entry(\n        Key::Alarm,\n        number,\n    )))",
-        "Step::Value(Key::Alarm)))",
+        "Step::Entry(Key::Alarm, number))),",
+        "Step::Value(Key::Alarm))),",
     ),
     "leaves_out_the_target_around_an_object": (
         "src/place.rt",
