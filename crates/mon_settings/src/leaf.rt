@@ -1,13 +1,11 @@
 //! What the keys of a table give.
 
-ghost use Rattle.std.specs.Prelude.{◌≡◌, ◌≢◌, ◌<◌, ◌≤◌, ◌^◌, [], IfErr, IfOk, IfSome, None, Some, option_map, Err};
-ghost use Rattle.toml.specs.Data.{as_bool, as_integer, get_member};
+ghost use Rattle.std.specs.Prelude.{◌≡◌, ◌≢◌, ◌<◌, ◌≤◌, ◌^◌, [], IfOk, IfSome, option_map, Err};
+ghost use Rattle.toml.specs.Data.{as_bool, as_integer};
 ghost use Rattle.toml.specs.View.{view, table_view};
-ghost use Rattle.mon_settings.specs.Key.{key_name};
 ghost use Rattle.mon_settings.specs.Keys.{needed_at, default_at, only, optional_at, or_bad, Reads};
 ghost use Rattle.mon_settings.specs.Leaf.{number_in, int_in, text_in, hex_of, hex_in, oid_of, oid_in, refuse, addr_in, model_of, model_in};
 ghost use Rattle.mon_settings.specs.Resolving.{resolution, or_unknown, unresolved, name_at, name_or_none};
-ghost use Rattle.mon_settings.specs.SettingsFault.{missing_key};
 
 use crate::fault::{Read, SettingsFault, given};
 use crate::key::Key;
@@ -39,14 +37,6 @@ impl<'t> Reader<'t> {
             Some(_) => Err(SettingsFault::UnknownKey(Place::Whole)),
             None => Ok(()),
         }
-    }
-
-    /// The value at a key, which must be there.
-    pub(crate) fn need(&self, key: Key) -> Read<&'t Value>
-        ensures there { IfOk result (λ v. get_member (key_name key) (table_view self.now.table.now) ≡ Some (view v.now)) }
-        ensures missing { IfErr result (λ e. (get_member (key_name key) (table_view self.now.table.now) ≡ None) × (e ≡ missing_key key)) }
-    {
-        find(self.table, key).ok_or(SettingsFault::missing(key))
     }
 
     /// The number at a key, from least to most.

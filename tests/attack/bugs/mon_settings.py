@@ -72,9 +72,9 @@ BUGS = {
         "self.rows(&(), key, 0, 255)",
     ),
     "calls_a_missing_list_a_bad_value": (
-        "src/leaf.rt",
-        "        find(self.table, key).ok_or(SettingsFault::missing(key))",
-        "        find(self.table, key).ok_or(SettingsFault::bad(key))",
+        "src/list.rt",
+        "            return Err(SettingsFault::missing(key));",
+        "            return Err(SettingsFault::bad(key));",
     ),
     "refuses_the_greatest_number": (
         "src/leaf.rt",
