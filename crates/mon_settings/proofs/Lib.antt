@@ -7,6 +7,7 @@ pub mod Handed
 pub mod Insertions
 pub mod KeyNames
 pub mod Limits
+pub mod ModuleTexts
 pub mod Named
 pub mod Oids
 pub mod PeerLists

@@ -2,11 +2,9 @@
 -- What is accepted is said in StationAccepted, and a law ties both.
 use Rattle.std.specs.Prelude.{Bool, not, ◌&&◌, ℕ, ◌==◌, nat_le, List, [], length, map, Option, Result, Ok, Err, string_bytes, if◌then◌else◌}
 use Rattle.std.specs.List.{list_all, list_any}
-use Rattle.std.specs.Str.{bytes_eq}
 use Rattle.mon_alarms.specs.Rule.{Rule}
 use Rattle.mon_board.specs.declared.instance.Watched.{Watched}
 use Rattle.mon_oid.specs.Steps.{◌>>=◌}
-use Rattle.mon_udp.specs.declared.addr.Addr.{Addr}
 use Rattle.mon_udp.specs.Addr.{same_addr}
 use Rattle.toml.specs.Data.{Members}
 use Rattle.mon_settings.specs.StationAccepted.{Scalars, Station, core_from}

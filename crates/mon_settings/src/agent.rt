@@ -9,7 +9,7 @@ ghost use Rattle.mon_settings.specs.Keys.{Reads};
 ghost use Rattle.mon_settings.specs.Text.{IsReadAs, IsRefusal, Says};
 ghost use Rattle.toml.specs.View.{table_view};
 
-use crate::fault::{Read, SettingsFault};
+use crate::fault::{Read, SettingsFault, given};
 use crate::grammar::{SettingsKind, top_keys};
 use crate::key::Key;
 use crate::leaf::Reader;
@@ -48,9 +48,9 @@ pub(crate) struct System {
 fn read_texts(reader: &Reader<'_>) -> Read<SysTexts>
     ensures { Reads (λ s. s) (set_texts_of (table_view reader.now.table.now)) result }
 {
-    let contact = reader.octets(Key::Contact, 0, 255)?;
-    let name = reader.octets(Key::Name, 0, 255)?;
-    let location = reader.octets(Key::Location, 0, 255)?;
+    let contact = given!(reader.octets(Key::Contact, 0, 255));
+    let name = given!(reader.octets(Key::Name, 0, 255));
+    let location = given!(reader.octets(Key::Location, 0, 255));
     Ok(SysTexts {
         contact,
         name,
@@ -62,14 +62,14 @@ fn read_texts(reader: &Reader<'_>) -> Read<SysTexts>
 fn read_system(reader: &Reader<'_>) -> Read<System>
     ensures { Reads (λ s. s) (system_of (table_view reader.now.table.now)) result }
 {
-    let listen = reader.addr(Key::Listen)?;
-    let limit = reader.int(Key::Limit, 484, 8192)?;
-    let engine = reader.hex(Key::Engine, 5, 32)?;
-    let boots = reader.int_or(Key::Boots, 1, 1, 2147483647)?;
-    let descr = reader.octets(Key::Descr, 0, 255)?;
-    let object_id = reader.oid(Key::ObjectId)?;
-    let texts = read_texts(reader)?;
-    let services = reader.int(Key::Services, 0, 127)?;
+    let listen = given!(reader.addr(Key::Listen));
+    let limit = given!(reader.int(Key::Limit, 484, 8192));
+    let engine = given!(reader.hex(Key::Engine, 5, 32));
+    let boots = given!(reader.int_or(Key::Boots, 1, 1, 2147483647));
+    let descr = given!(reader.octets(Key::Descr, 0, 255));
+    let object_id = given!(reader.oid(Key::ObjectId));
+    let texts = given!(read_texts(reader));
+    let services = given!(reader.int(Key::Services, 0, 127));
     Ok(System {
         listen,
         settings: Settings {
@@ -89,10 +89,10 @@ fn read_tree(reader: &Reader<'_>) -> Read<AgentSettings>
     ensures gives { Reads (λ s. agent_view s) (agent_of (table_view reader.now.table.now)) result }
     ensures indexes { IfOk result (λ s. AreIndexes (indexes_of s.interfaces.items)) }
 {
-    reader.only(top_keys(SettingsKind::Agent))?;
-    let system = read_system(reader)?;
-    let policy = read_policy(reader)?;
-    let interfaces = read_interfaces(reader)?;
+    given!(reader.only(top_keys(SettingsKind::Agent)));
+    let system = given!(read_system(reader));
+    let policy = given!(read_policy(reader), drop system);
+    let interfaces = given!(read_interfaces(reader), drop policy, drop system);
     Ok(AgentSettings {
         listen: system.listen,
         settings: system.settings,

@@ -1,15 +1,13 @@
 //! What the keys of a table give.
 
-ghost use Rattle.std.specs.Prelude.{◌≡◌, ◌≢◌, ◌<◌, ◌≤◌, ◌^◌, [], IfErr, IfOk, IfSome, None, Some, option_map, Err};
-ghost use Rattle.toml.specs.Data.{as_bool, as_integer, get_member};
+ghost use Rattle.std.specs.Prelude.{◌≡◌, ◌≢◌, ◌<◌, ◌≤◌, ◌^◌, [], IfOk, IfSome, option_map, Err};
+ghost use Rattle.toml.specs.Data.{as_bool, as_integer};
 ghost use Rattle.toml.specs.View.{view, table_view};
-ghost use Rattle.mon_settings.specs.Key.{key_name};
 ghost use Rattle.mon_settings.specs.Keys.{needed_at, default_at, only, optional_at, or_bad, Reads};
 ghost use Rattle.mon_settings.specs.Leaf.{number_in, int_in, text_in, hex_of, hex_in, oid_of, oid_in, refuse, addr_in, model_of, model_in};
 ghost use Rattle.mon_settings.specs.Resolving.{resolution, or_unknown, unresolved, name_at, name_or_none};
-ghost use Rattle.mon_settings.specs.SettingsFault.{missing_key};
 
-use crate::fault::{Read, SettingsFault};
+use crate::fault::{Read, SettingsFault, given};
 use crate::key::Key;
 use crate::keys::{find, first_unknown};
 use crate::place::{Place, Step};
@@ -41,23 +39,15 @@ impl<'t> Reader<'t> {
         }
     }
 
-    /// The value at a key, which must be there.
-    pub(crate) fn need(&self, key: Key) -> Read<&'t Value>
-        ensures there { IfOk result (λ v. get_member (key_name key) (table_view self.now.table.now) ≡ Some (view v.now)) }
-        ensures missing { IfErr result (λ e. (get_member (key_name key) (table_view self.now.table.now) ≡ None) × (e ≡ missing_key key)) }
-    {
-        find(self.table, key).ok_or(SettingsFault::missing(key))
-    }
-
     /// The number at a key, from least to most.
     pub(crate) fn number(&self, key: Key, least: u64, most: u64) -> Read<u64>
         ensures value { result ≡ needed_at key (number_in least most) (table_view self.now.table.now) }
         ensures great { IfOk result (λ n. least ≤ n) }
         ensures small { IfOk result (λ n. n ≤ most) }
     {
-        match number_in(self.need(key)?, least, most) {
-            Some(n) => Ok(n),
-            None => Err(SettingsFault::bad(key)),
+        match find(self.table, key) {
+            Some(value) => number_in(value, least, most).ok_or(SettingsFault::bad(key)),
+            None => Err(SettingsFault::missing(key)),
         }
     }
 
@@ -66,7 +56,7 @@ impl<'t> Reader<'t> {
         ensures { result ≡ default_at key default (number_in 1 most) (table_view self.now.table.now) }
     {
         match find(self.table, key) {
-            Some(_) => Ok(self.number(key, 1, most as u64)? as usize),
+            Some(_) => Ok(given!(self.number(key, 1, most as u64)) as usize),
             None => Ok(default),
         }
     }
@@ -76,7 +66,10 @@ impl<'t> Reader<'t> {
         requires { most < 2 ^ 31 }
         ensures { result ≡ needed_at key (int_in least most) (table_view self.now.table.now) }
     {
-        int_in(self.need(key)?, least, most).ok_or(SettingsFault::bad(key))
+        match find(self.table, key) {
+            Some(value) => int_in(value, least, most).ok_or(SettingsFault::bad(key)),
+            None => Err(SettingsFault::missing(key)),
+        }
     }
 
     /// Returns the signed number at a key, or another number if the key is left out.
@@ -94,30 +87,46 @@ impl<'t> Reader<'t> {
     pub(crate) fn long(&self, key: Key) -> Read<i64>
         ensures { result ≡ needed_at key as_integer (table_view self.now.table.now) }
     {
-        self.need(key)?.as_integer().ok_or(SettingsFault::bad(key))
+        match find(self.table, key) {
+            Some(value) => value.as_integer().ok_or(SettingsFault::bad(key)),
+            None => Err(SettingsFault::missing(key)),
+        }
     }
 
     /// The truth value at a key.
     pub(crate) fn truth(&self, key: Key) -> Read<bool>
         ensures { result ≡ needed_at key as_bool (table_view self.now.table.now) }
     {
-        self.need(key)?.as_bool().ok_or(SettingsFault::bad(key))
+        match find(self.table, key) {
+            Some(value) => value.as_bool().ok_or(SettingsFault::bad(key)),
+            None => Err(SettingsFault::missing(key)),
+        }
     }
 
     /// The address at a key.
     pub(crate) fn addr(&self, key: Key) -> Read<Addr>
         ensures { result ≡ needed_at key addr_in (table_view self.now.table.now) }
     {
-        let text = self.need(key)?.as_str();
-        text.and_then(Addr::parse).ok_or(SettingsFault::bad(key))
+        match find(self.table, key) {
+            Some(value) => {
+                let text = value.as_str();
+                text.and_then(Addr::parse).ok_or(SettingsFault::bad(key))
+            }
+            None => Err(SettingsFault::missing(key)),
+        }
     }
 
     /// The security model at a key.
     pub(crate) fn model(&self, key: Key) -> Read<SecurityModel>
         ensures { result ≡ needed_at key model_in (table_view self.now.table.now) }
     {
-        let number = self.need(key)?.as_integer();
-        number.and_then(model_of).ok_or(SettingsFault::bad(key))
+        match find(self.table, key) {
+            Some(value) => {
+                let number = value.as_integer();
+                number.and_then(model_of).ok_or(SettingsFault::bad(key))
+            }
+            None => Err(SettingsFault::missing(key)),
+        }
     }
 
     /// The text at a key, of least to most octets.
@@ -125,9 +134,9 @@ impl<'t> Reader<'t> {
         ensures gives { Reads (λ s. s.now) (needed_at key (text_in least most) (table_view self.now.table.now)) result }
         ensures no_memory { result ≢ Err SettingsFault.OutOfMemory }
     {
-        match text_in(self.need(key)?, least, most) {
-            Some(text) => Ok(text),
-            None => Err(SettingsFault::bad(key)),
+        match find(self.table, key) {
+            Some(value) => text_in(value, least, most).ok_or(SettingsFault::bad(key)),
+            None => Err(SettingsFault::missing(key)),
         }
     }
 
@@ -135,7 +144,7 @@ impl<'t> Reader<'t> {
     pub(crate) fn octets(&self, key: Key, least: usize, most: usize) -> Read<Octets>
         ensures { Reads (λ o. o) (needed_at key (text_in least most) (table_view self.now.table.now)) result }
     {
-        let text = self.text(key, least, most)?;
+        let text = given!(self.text(key, least, most));
         Ok(Octets::from_slice(self.alloc, text.as_bytes())?)
     }
 
@@ -156,7 +165,10 @@ impl<'t> Reader<'t> {
     pub(crate) fn hex(&self, key: Key, least: usize, most: usize) -> Read<Octets>
         ensures { Reads (λ o. o) (needed_at key (hex_in least most) (table_view self.now.table.now)) result }
     {
-        match self.need(key)?.as_str() {
+        let Some(value) = find(self.table, key) else {
+            return Err(SettingsFault::missing(key));
+        };
+        match value.as_str() {
             Some(text) => decode_hex(self.alloc, text, key, least, most),
             None => Err(SettingsFault::bad(key)),
         }
@@ -177,7 +189,10 @@ impl<'t> Reader<'t> {
     pub(crate) fn oid(&self, key: Key) -> Read<Oid>
         ensures { Reads (λ o. o) (needed_at key oid_in (table_view self.now.table.now)) result }
     {
-        match self.need(key)?.as_str() {
+        let Some(value) = find(self.table, key) else {
+            return Err(SettingsFault::missing(key));
+        };
+        match value.as_str() {
             Some(text) => parse_oid(self.alloc, text, key),
             None => Err(SettingsFault::bad(key)),
         }
@@ -188,7 +203,10 @@ impl<'t> Reader<'t> {
     pub(crate) fn object(&self, names: &Names, key: Key) -> Read<Oid>
         ensures { Reads (λ o. o) (name_at (resolution names.now) key (table_view self.now.table.now)) result }
     {
-        match self.need(key)?.as_str() {
+        let Some(value) = find(self.table, key) else {
+            return Err(SettingsFault::missing(key));
+        };
+        match value.as_str() {
             Some(text) => resolve_name(self.alloc, names, key, text),
             None => Err(SettingsFault::bad(key)),
         }
@@ -200,7 +218,7 @@ impl<'t> Reader<'t> {
         ensures { Reads (λ o. o) (name_or_none (resolution names.now) key (table_view self.now.table.now)) result }
     {
         match find(self.table, key) {
-            Some(_) => Ok(Some(self.object(names, key)?)),
+            Some(_) => Ok(Some(given!(self.object(names, key)))),
             None => Ok(None),
         }
     }

@@ -35,9 +35,10 @@ fn read_row<C, R: Row<C>>(alloc: Global, around: &C, step: Step, value: &Value) 
     ensures { Reads (λ r. r) (row step (R.row_of around.now) (view value.now)) result }
 {
     match value.as_table() {
-        Some(table) => {
-            R::read(around, &Reader { alloc, table }).map_err(|fault| fault.within(step))
-        }
+        Some(table) => match R::read(around, &Reader { alloc, table }) {
+            Ok(row) => Ok(row),
+            Err(fault) => Err(fault.within(step)),
+        },
         None => Err(SettingsFault::BadValue(Place::At(step))),
     }
 }
@@ -84,7 +85,10 @@ impl Reader<'_> {
     ) -> Read<Vec<R>>
         ensures { Reads (λ rs. rs.items) (rows_between key least most (R.row_of around.now) (table_view self.now.table.now)) result }
     {
-        match list_between(self.need(key)?, least, most) {
+        let Some(value) = find(self.table, key) else {
+            return Err(SettingsFault::missing(key));
+        };
+        match list_between(value, least, most) {
             Some(values) => read_rows(self.alloc, around, key, values),
             None => Err(SettingsFault::bad(key)),
         }

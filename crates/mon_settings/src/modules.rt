@@ -8,7 +8,7 @@ ghost use Rattle.mon_settings.specs.Station.{modules_at};
 ghost use Rattle.mon_settings.specs.Text.{IsReadAs, IsRefusal, Says};
 ghost use Rattle.toml.specs.View.{view, table_view, items_view};
 
-use crate::fault::{Read, SettingsFault};
+use crate::fault::{Read, SettingsFault, given};
 use crate::key::Key;
 use crate::keys::find;
 use crate::leaf::{Reader, text_in};
@@ -31,7 +31,8 @@ fn texts_of(alloc: Global, values: &[Value]) -> Read<Vec<String>>
 {
     let mut texts = Vec::new(alloc);
     for value in values {
-        texts.push(text_of(alloc, value)?)?;
+        let text = given!(text_of(alloc, value));
+        texts.push(text)?;
     }
     Ok(texts)
 }

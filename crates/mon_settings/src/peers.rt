@@ -8,7 +8,7 @@ ghost use Rattle.std.specs.List.{list_any};
 ghost use Rattle.mon_udp.specs.Addr.{same_addr};
 ghost use Rattle.toml.specs.View.{table_view};
 
-use crate::fault::{Read, SettingsFault};
+use crate::fault::{Read, SettingsFault, given};
 use crate::key::Key;
 use crate::leaf::Reader;
 use crate::station_tables::{PeerRow, TargetRow};
@@ -101,6 +101,6 @@ pub(crate) fn peers_at(reader: &Reader<'_>, own: u32, targets: &[TargetRow]) -> 
     ensures gives { Reads (λ v. v.items) (peers_at own targets.now (table_view reader.now.table.now)) result }
     ensures others { IfOk result (λ v. ArePeersOf own (map (λ p. p.station) v.items)) }
 {
-    let peers = reader.rows_or_none(&(), Key::Peer, MOST_PEERS)?;
+    let peers = given!(reader.rows_or_none(&(), Key::Peer, MOST_PEERS));
     checked_peers(reader.alloc, own, targets, peers)
 }

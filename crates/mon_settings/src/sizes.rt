@@ -1,5 +1,5 @@
 /// The sizes of a window where an object gives none of its own.
-#[derive(Clone, Copy, Debug, PartialEq, Eq)]
+#[derive(Clone, Copy)]
 pub(crate) struct Sizes {
     /// How many samples it holds, 1 to 64.
     pub(crate) window: usize,

@@ -10,7 +10,7 @@ ghost use Rattle.mon_core.specs.StationCore.{IsCore};
 ghost use Rattle.mon_settings.specs.Text.{IsReadAs, IsRefusal, Says};
 ghost use Rattle.toml.specs.View.{table_view};
 
-use crate::fault::{Read, SettingsFault};
+use crate::fault::{Read, SettingsFault, given};
 use crate::grammar::{SettingsKind, top_keys};
 use crate::key::Key;
 use crate::leaf::Reader;
@@ -61,12 +61,12 @@ fn read_scalars(reader: &Reader<'_>) -> Read<Scalars>
     ensures gives { Reads scalars_view (scalars_of (table_view reader.now.table.now)) result }
     ensures station { IfOk result (λ s. 1 ≤ s.station) }
 {
-    let station = reader.number(Key::Station, 1, 4294967295)? as u32;
-    let listen = reader.addr(Key::Listen)?;
-    let file = reader.text(Key::File, 0, 4095)?;
-    let window = reader.number(Key::Window, 1, 64)? as usize;
-    let epoch = reader.size_or(Key::Epoch, window, window)?;
-    let wait_ms = reader.number(Key::WaitMs, 1, 60000)? as u32;
+    let station = given!(reader.number(Key::Station, 1, 4294967295)) as u32;
+    let listen = given!(reader.addr(Key::Listen));
+    let file = given!(reader.text(Key::File, 0, 4095));
+    let window = given!(reader.number(Key::Window, 1, 64)) as usize;
+    let epoch = given!(reader.size_or(Key::Epoch, window, window));
+    let wait_ms = given!(reader.number(Key::WaitMs, 1, 60000)) as u32;
     Ok(Scalars {
         station,
         listen,
@@ -175,7 +175,7 @@ fn rules_at(reader: &Reader<'_>, around: &Around<'_>, instances: &[Watched]) -> 
     requires { length instances.now ≤ 256 }
     ensures { Reads (λ v. v.items) (rules_at (resolution around.now.names.now) around.now.sizes instances.now (table_view reader.now.table.now)) result }
 {
-    let alarms: Vec<AlarmRow> = reader.rows_or_none(around, Key::Alarm, 256)?;
+    let alarms: Vec<AlarmRow> = given!(reader.rows_or_none(around, Key::Alarm, 256));
     rules_of(reader.alloc, instances, alarms.as_slice())
 }
 
@@ -183,17 +183,17 @@ fn rules_at(reader: &Reader<'_>, around: &Around<'_>, instances: &[Watched]) -> 
 fn read_tree(reader: &Reader<'_>, names: &Names) -> Read<StationSettings>
     ensures { Reads station_view (station_of (resolution names.now) (table_view reader.now.table.now)) result }
 {
-    reader.only(top_keys(SettingsKind::Station))?;
-    let scalars = read_scalars(reader)?;
+    given!(reader.only(top_keys(SettingsKind::Station)));
+    let scalars = given!(read_scalars(reader));
     let around = Around {
         names,
         sizes: scalars.sizes,
     };
-    let modules = modules_at(reader)?;
-    let targets: Vec<TargetRow> = reader.rows(&around, Key::Target, 1, 64)?;
-    let instances = instances_of(reader.alloc, targets.as_slice())?;
-    let peers = peers_at(reader, scalars.station, targets.as_slice())?;
-    let rules = rules_at(reader, &around, instances.as_slice())?;
+    let modules = given!(modules_at(reader));
+    let targets: Vec<TargetRow> = given!(reader.rows(&around, Key::Target, 1, 64));
+    let instances = given!(instances_of(reader.alloc, targets.as_slice()));
+    let peers = given!(peers_at(reader, scalars.station, targets.as_slice()));
+    let rules = given!(rules_at(reader, &around, instances.as_slice()));
     let peer_addresses = addresses_of(reader.alloc, peers.as_slice())?;
     let core = core_from(
         reader.alloc,

@@ -2,7 +2,7 @@
 
 ghost use Rattle.std.specs.Prelude.{◌≡◌};
 
-use crate::fault::Read;
+use crate::fault::{Read, given};
 use crate::grammar::table_keys;
 use crate::key::Key;
 use crate::leaf::Reader;
@@ -88,11 +88,11 @@ impl Row<Around<'_>> for ObjectRow {
 
     #[tactic(auto, unfolding(crate::specs::StationTables::object_of))]
     fn read(around: &Around<'_>, reader: &Reader<'_>) -> Read<Self> {
-        reader.only(table_keys(Key::Objects))?;
-        let name = reader.object(around.names, Key::Name)?;
-        let discontinuity = reader.object_or_none(around.names, Key::Mark)?;
-        let window = reader.size_or(Key::Window, around.sizes.window, 64)?;
-        let epoch = reader.size_or(Key::Epoch, around.sizes.epoch.min(window), window)?;
+        given!(reader.only(table_keys(Key::Objects)));
+        let name = given!(reader.object(around.names, Key::Name));
+        let discontinuity = given!(reader.object_or_none(around.names, Key::Mark));
+        let window = given!(reader.size_or(Key::Window, around.sizes.window, 64));
+        let epoch = given!(reader.size_or(Key::Epoch, around.sizes.epoch.min(window), window));
         Ok(ObjectRow {
             name,
             discontinuity,
@@ -110,12 +110,12 @@ impl Row<Around<'_>> for TargetRow {
 
     #[tactic(auto, unfolding(crate::specs::StationTables::target_of))]
     fn read(around: &Around<'_>, reader: &Reader<'_>) -> Read<Self> {
-        reader.only(table_keys(Key::Target))?;
-        let address = reader.addr(Key::Address)?;
-        let community = reader.octets(Key::Community, 1, 512)?;
-        let engine = reader.hex(Key::Engine, 5, 32)?;
-        let tries = reader.number(Key::Tries, 1, 8)? as u8;
-        let items = reader.rows(around, Key::Objects, 1, 16)?;
+        given!(reader.only(table_keys(Key::Target)));
+        let address = given!(reader.addr(Key::Address));
+        let community = given!(reader.octets(Key::Community, 1, 512));
+        let engine = given!(reader.hex(Key::Engine, 5, 32));
+        let tries = given!(reader.number(Key::Tries, 1, 8)) as u8;
+        let items = given!(reader.rows(around, Key::Objects, 1, 16));
         Ok(TargetRow {
             address,
             community,
@@ -133,9 +133,9 @@ impl Row<()> for PeerRow {
 
     #[tactic(auto, unfolding(crate::specs::StationTables::peer_of))]
     fn read(_around: &(), reader: &Reader<'_>) -> Read<Self> {
-        reader.only(table_keys(Key::Peer))?;
-        let station = reader.number(Key::Station, 1, 4294967295)? as u32;
-        let address = reader.addr(Key::Address)?;
+        given!(reader.only(table_keys(Key::Peer)));
+        let station = given!(reader.number(Key::Station, 1, 4294967295)) as u32;
+        let address = given!(reader.addr(Key::Address));
         Ok(PeerRow { station, address })
     }
 }
@@ -148,11 +148,11 @@ impl Row<Around<'_>> for AlarmRow {
 
     #[tactic(auto, unfolding(crate::specs::StationTables::alarm_of))]
     fn read(around: &Around<'_>, reader: &Reader<'_>) -> Read<Self> {
-        reader.only(table_keys(Key::Alarm))?;
-        let engine = reader.hex(Key::Engine, 5, 32)?;
-        let name = reader.object(around.names, Key::Name)?;
-        let rising = reader.long(Key::Rising)?;
-        let falling = reader.long(Key::Falling)?;
+        given!(reader.only(table_keys(Key::Alarm)));
+        let engine = given!(reader.hex(Key::Engine, 5, 32));
+        let name = given!(reader.object(around.names, Key::Name));
+        let rising = given!(reader.long(Key::Rising));
+        let falling = given!(reader.long(Key::Falling));
         Ok(AlarmRow {
             engine,
             name,

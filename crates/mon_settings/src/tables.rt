@@ -9,9 +9,10 @@ ghost use Rattle.mon_settings.specs.Keys.{Reads};
 ghost use Rattle.mon_settings.specs.Tables.{access_entry_of, community_of, family_of, group_of, list_of, policy_of, policy_in};
 ghost use Rattle.toml.specs.View.{table_view};
 
-use crate::fault::{Read, SettingsFault};
+use crate::fault::{Read, SettingsFault, given};
 use crate::grammar::table_keys;
 use crate::key::Key;
+use crate::keys::find;
 use crate::leaf::Reader;
 use crate::list::Row;
 use crate::place::Step;
@@ -29,9 +30,9 @@ impl Row<()> for Community {
 
     #[tactic(auto, unfolding(crate::specs::Tables::community_of))]
     fn read(_around: &(), reader: &Reader<'_>) -> Read<Self> {
-        reader.only(table_keys(Key::Community))?;
-        let name = reader.octets(Key::Community, 1, 512)?;
-        let security_name = reader.octets(Key::Security, 1, 32)?;
+        given!(reader.only(table_keys(Key::Community)));
+        let name = given!(reader.octets(Key::Community, 1, 512));
+        let security_name = given!(reader.octets(Key::Security, 1, 32));
         Ok(Community {
             name,
             security_name,
@@ -44,9 +45,9 @@ impl Row<()> for Group {
 
     #[tactic(auto, unfolding(crate::specs::Tables::group_of))]
     fn read(_around: &(), reader: &Reader<'_>) -> Read<Self> {
-        reader.only(table_keys(Key::Group))?;
-        let security_name = reader.octets(Key::Security, 1, 32)?;
-        let group_name = reader.octets(Key::Group, 1, 32)?;
+        given!(reader.only(table_keys(Key::Group)));
+        let security_name = given!(reader.octets(Key::Security, 1, 32));
+        let group_name = given!(reader.octets(Key::Group, 1, 32));
         Ok(Group {
             security_name,
             group_name,
@@ -59,11 +60,11 @@ impl Row<()> for AccessEntry {
 
     #[tactic(auto, unfolding(crate::specs::Tables::access_entry_of))]
     fn read(_around: &(), reader: &Reader<'_>) -> Read<Self> {
-        reader.only(table_keys(Key::Access))?;
-        let group_name = reader.octets(Key::Group, 1, 32)?;
-        let security_model = reader.model(Key::Model)?;
-        let read_view = reader.name_or_none(Key::Read, 32)?;
-        let write_view = reader.name_or_none(Key::Write, 32)?;
+        given!(reader.only(table_keys(Key::Access)));
+        let group_name = given!(reader.octets(Key::Group, 1, 32));
+        let security_model = given!(reader.model(Key::Model));
+        let read_view = given!(reader.name_or_none(Key::Read, 32));
+        let write_view = given!(reader.name_or_none(Key::Write, 32));
         Ok(AccessEntry {
             group_name,
             security_model,
@@ -78,11 +79,11 @@ impl Row<()> for Family {
 
     #[tactic(auto, unfolding(crate::specs::Tables::family_of))]
     fn read(_around: &(), reader: &Reader<'_>) -> Read<Self> {
-        reader.only(table_keys(Key::View))?;
-        let view_name = reader.octets(Key::View, 1, 32)?;
-        let subtree = reader.oid(Key::Subtree)?;
-        let mask = reader.hex_or_none(Key::Mask, 16)?;
-        let included = reader.truth(Key::Included)?;
+        given!(reader.only(table_keys(Key::View)));
+        let view_name = given!(reader.octets(Key::View, 1, 32));
+        let subtree = given!(reader.oid(Key::Subtree));
+        let mask = given!(reader.hex_or_none(Key::Mask, 16));
+        let included = given!(reader.truth(Key::Included));
         Ok(Family {
             view_name,
             subtree,
@@ -117,10 +118,10 @@ fn policy_of(tables: Tables) -> Read<Policy>
 pub(crate) fn read_policy(reader: &Reader<'_>) -> Read<Policy>
     ensures { Reads (λ p. p) (policy_in (table_view reader.now.table.now)) result }
 {
-    let communities = reader.list(Key::Community)?;
-    let groups = reader.list(Key::Group)?;
-    let accesses = reader.list(Key::Access)?;
-    let families = reader.list(Key::View)?;
+    let communities = given!(reader.list(Key::Community));
+    let groups = given!(reader.list(Key::Group));
+    let accesses = given!(reader.list(Key::Access));
+    let families = given!(reader.list(Key::View));
     policy_of(Tables {
         communities,
         groups,
@@ -133,9 +134,9 @@ pub(crate) fn read_policy(reader: &Reader<'_>) -> Read<Policy>
 fn growth_of(reader: &Reader<'_>) -> Read<Growth>
     ensures { result ≡ growth_of (table_view reader.now.table.now) }
 {
-    reader.only(table_keys(Key::InOctets))?;
-    let start = reader.number(Key::Start, 0, LONG)?;
-    let rate = reader.number(Key::Rate, 0, LONG)?;
+    given!(reader.only(table_keys(Key::InOctets)));
+    let start = given!(reader.number(Key::Start, 0, LONG));
+    let rate = given!(reader.number(Key::Rate, 0, LONG));
     Ok(Growth { start, rate })
 }
 
@@ -143,13 +144,16 @@ fn growth_of(reader: &Reader<'_>) -> Read<Growth>
 fn growth_at(reader: &Reader<'_>, key: Key) -> Read<Growth>
     ensures { result ≡ growth_at key (table_view reader.now.table.now) }
 {
-    match reader.need(key)?.as_table() {
-        Some(table) => growth_of(&Reader {
-            alloc: reader.alloc,
-            table,
-        })
-        .map_err(|fault| fault.within(Step::Value(key))),
-        None => Err(SettingsFault::bad(key)),
+    let Some(value) = find(reader.table, key) else {
+        return Err(SettingsFault::missing(key));
+    };
+    let Some(table) = value.as_table() else {
+        return Err(SettingsFault::bad(key));
+    };
+    let alloc = reader.alloc;
+    match growth_of(&Reader { alloc, table }) {
+        Ok(growth) => Ok(growth),
+        Err(fault) => Err(fault.within(Step::Value(key))),
     }
 }
 
@@ -166,10 +170,10 @@ pub(crate) struct Counts {
 fn counts_of(reader: &Reader<'_>) -> Read<Counts>
     ensures { result ≡ counts_of (table_view reader.now.table.now) }
 {
-    let in_octets = growth_at(reader, Key::InOctets)?;
-    let in_packets = growth_at(reader, Key::InPackets)?;
-    let out_octets = growth_at(reader, Key::OutOctets)?;
-    let out_packets = growth_at(reader, Key::OutPackets)?;
+    let in_octets = given!(growth_at(reader, Key::InOctets));
+    let in_packets = given!(growth_at(reader, Key::InPackets));
+    let out_octets = given!(growth_at(reader, Key::OutOctets));
+    let out_packets = given!(growth_at(reader, Key::OutPackets));
     Ok(Counts {
         in_octets,
         in_packets,
@@ -183,16 +187,16 @@ impl Row<()> for Interface {
 
     #[tactic(auto, unfolding(crate::specs::Interfaces::interface_of))]
     fn read(_around: &(), reader: &Reader<'_>) -> Read<Self> {
-        reader.only(table_keys(Key::Interface))?;
-        let index = reader.number(Key::Index, 1, INT)? as u32;
-        let descr = reader.octets(Key::Descr, 0, 255)?;
-        let kind = reader.int(Key::Type, 0, INT)?;
-        let mtu = reader.int(Key::Mtu, 0, INT)?;
-        let speed = reader.number(Key::Speed, 0, LONG)?;
-        let phys = reader.hex(Key::Phys, 0, 255)?;
-        let name = reader.octets(Key::Name, 0, 255)?;
-        let alias = reader.octets(Key::Alias, 0, 64)?;
-        let counts = counts_of(reader)?;
+        given!(reader.only(table_keys(Key::Interface)));
+        let index = given!(reader.number(Key::Index, 1, INT)) as u32;
+        let descr = given!(reader.octets(Key::Descr, 0, 255));
+        let kind = given!(reader.int(Key::Type, 0, INT));
+        let mtu = given!(reader.int(Key::Mtu, 0, INT));
+        let speed = given!(reader.number(Key::Speed, 0, LONG));
+        let phys = given!(reader.hex(Key::Phys, 0, 255));
+        let name = given!(reader.octets(Key::Name, 0, 255));
+        let alias = given!(reader.octets(Key::Alias, 0, 64));
+        let counts = given!(counts_of(reader));
         Ok(Interface {
             index,
             descr,
@@ -231,7 +235,7 @@ pub(crate) fn read_interfaces(reader: &Reader<'_>) -> Read<Vec<Interface>>
     ensures gives { Reads (λ ps. ps.items) (interfaces_in (table_view reader.now.table.now)) result }
     ensures indexes { IfOk result (λ ps. AreIndexes (indexes_of ps.items)) }
 {
-    let interfaces: Vec<Interface> = reader.list(Key::Interface)?;
+    let interfaces: Vec<Interface> = given!(reader.list(Key::Interface));
     if rise(&interfaces) {
         Ok(interfaces)
     } else {

@@ -13,7 +13,7 @@ use crate::choice::Choice;
 use crate::comparing::Wanted;
 use crate::counter::Planned;
 use crate::drafting::{AgentPlan, addition};
-use crate::fault::SurveyFault;
+use crate::fault::{SurveyFault, given};
 use crate::kept::is_appended;
 use crate::options::Options;
 use crate::planning::plan;
@@ -173,15 +173,15 @@ pub fn append(
     ensures reads { IfOk result (λ text. IsAppendedText existing.now.names.now choice.now options.now existing.now.text.now (station_view existing.now.station.now) agent.now.engine.now agent.now.answers.now (string_bytes text)) }
     ensures fault { IfErr result (IsAppendFault existing.now.names.now choice.now options.now existing.now.text.now (station_view existing.now.station.now) agent.now.engine.now agent.now.answers.now) }
 {
-    let planned = plan(alloc, agent.answers, choice)?;
-    require_room(existing.station, agent.engine, &planned)?;
+    let planned = given!(plan(alloc, agent.answers, choice));
+    given!(require_room(existing.station, agent.engine, &planned));
     let wanted = Wanted {
         options,
         engine: agent.engine,
         answers: agent.answers,
         planned: &planned,
     };
-    let text = draft_addition(alloc, existing, agent, &wanted.agent_plan())?;
-    read_appended(alloc, existing, &wanted, text.as_str())?;
+    let text = given!(draft_addition(alloc, existing, agent, &wanted.agent_plan()));
+    given!(read_appended(alloc, existing, &wanted, text.as_str()));
     Ok(text)
 }

@@ -103,7 +103,7 @@ pub fn columns() -> [Column; 27]
 }
 
 /// Where a name lies.
-#[derive(Clone, Copy, Debug, PartialEq, Eq)]
+#[derive(Clone, Copy)]
 pub enum Spot {
     /// In this column, at this index.
     Cell(Column, u32),

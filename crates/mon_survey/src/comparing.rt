@@ -48,7 +48,7 @@ impl<'a> Wanted<'a> {
 }
 
 /// An alarm on an instance, with its thresholds in thousandths.
-#[derive(Clone, Copy, Debug, PartialEq, Eq)]
+#[derive(Clone, Copy)]
 pub struct Alarm {
     /// The number of the instance.
     pub instance: usize,

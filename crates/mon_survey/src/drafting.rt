@@ -45,7 +45,7 @@ fn put_closing(text: &mut String, count: usize, place: usize) -> Result<(), Allo
 }
 
 /// What is the same for all objects of a text.
-#[derive(Clone, Copy)]
+#[derive(Drop)]
 struct Around<'a, S> {
     shown: &'a Naming<'a, S>,
     options: &'a Options<'a>,
@@ -173,6 +173,35 @@ fn put_addition<S: NameTexts>(
     put_alarms(text, shown, plan.options.percent, engine, plan.planned)
 }
 
+/// The text of the settings.
+fn settings_of<S: NameTexts>(
+    shown: &Naming<'_, S>,
+    plan: &AgentPlan<'_>,
+) -> Result<String, AllocError>
+    requires { plan.now.options.now.percent ≤ 100 }
+    ensures { IfOk result (λ text. string_bytes text ≡ settings_text (S.shown shown.now.names.now) plan.now.options.now plan.now.engine.now shown.now.answers.now plan.now.planned.now) }
+{
+    let digits = hex::encode(shown.alloc, plan.engine)?;
+    let mut text = String::new(shown.alloc);
+    put_settings(&mut text, shown, plan, digits.as_str())?;
+    Ok(text)
+}
+
+/// The settings with what is added.
+fn settings_with<S: NameTexts>(
+    shown: &Naming<'_, S>,
+    plan: &AgentPlan<'_>,
+    settings: &str,
+) -> Result<String, AllocError>
+    requires { plan.now.options.now.percent ≤ 100 }
+    ensures { IfOk result (λ text. string_bytes text ≡ added_text (S.shown shown.now.names.now) settings.now plan.now.options.now plan.now.engine.now shown.now.answers.now plan.now.planned.now) }
+{
+    let digits = hex::encode(shown.alloc, plan.engine)?;
+    let mut text = String::from_str(shown.alloc, settings)?;
+    put_addition(&mut text, shown, plan, digits.as_str())?;
+    Ok(text)
+}
+
 /// Returns the text of the settings of a station that polls these counters of an agent.
 ///
 /// # Errors
@@ -189,10 +218,10 @@ pub(crate) fn draft<S: NameTexts>(
     if !plan.options.are_plain() {
         return Err(SurveyFault::BadText);
     }
-    let digits = hex::encode(shown.alloc, plan.engine)?;
-    let mut text = String::new(shown.alloc);
-    put_settings(&mut text, shown, plan, digits.as_str())?;
-    Ok(text)
+    match settings_of(shown, plan) {
+        Ok(text) => Ok(text),
+        Err(_) => Err(SurveyFault::OutOfMemory),
+    }
 }
 
 /// Returns settings with the targets of an agent and their alarms at their end.
@@ -211,8 +240,8 @@ pub(crate) fn addition<S: NameTexts>(
     if !plan.options.are_plain() {
         return Err(SurveyFault::BadText);
     }
-    let digits = hex::encode(shown.alloc, plan.engine)?;
-    let mut text = String::from_str(shown.alloc, settings)?;
-    put_addition(&mut text, shown, plan, digits.as_str())?;
-    Ok(text)
+    match settings_with(shown, plan, settings) {
+        Ok(text) => Ok(text),
+        Err(_) => Err(SurveyFault::OutOfMemory),
+    }
 }

@@ -10,7 +10,7 @@ ghost use Rattle.mon_survey.specs.Labels.{AreInterfaces, Continue, ContinueIn, I
 
 use crate::answers::Answers;
 use crate::choice::Choice;
-use crate::fault::SurveyFault;
+use crate::fault::{SurveyFault, given};
 use crate::planning::counters_of;
 use crate::surveying::Surveyed;
 use crate::tables::{Source, indexes_of, text_of};
@@ -292,7 +292,7 @@ fn labels_of(source: &Source<'_>, old: &str, indexes: &[u32]) -> Result<String, 
     ensures reads { IfOk result (λ text. IsLabels old.now source.now.engine.now source.now.answers.now indexes.now (string_bytes text)) }
     ensures fault { IfErr result (IsNoLabels old.now source.now.engine.now source.now.answers.now indexes.now) }
 {
-    let was = tree(source.alloc, old)?;
+    let was = given!(tree(source.alloc, old));
     labels_by(source, old, interfaces(&was), indexes)
 }
 
@@ -310,7 +310,7 @@ fn labels_by(
     let Some(before) = before else {
         return Err(SurveyFault::BadLabels);
     };
-    require_room(source, old, before, indexes)?;
+    given!(require_room(source, old, before, indexes));
     labels_after(source, old, before, indexes)
 }
 
@@ -323,7 +323,7 @@ fn indexes_by(
     ensures gives { IfOk result (λ v. v.items ≡ indexes_of choice.now answers.now) }
     ensures memory { IfErr result (λ e. e ≡ SurveyFault.OutOfMemory) }
 {
-    let counters = counters_of(alloc, answers, choice)?;
+    let counters = given!(counters_of(alloc, answers, choice));
     Ok(indexes_of(alloc, &counters)?)
 }
 
@@ -344,7 +344,7 @@ pub fn labels(
     ensures reads { IfOk result (λ text. IsLabels old.now (encode_lower agent.now.engine.now) agent.now.answers.now (indexes_of choice.now agent.now.answers.now) (string_bytes text)) }
     ensures fault { IfErr result (IsNoLabels old.now (encode_lower agent.now.engine.now) agent.now.answers.now (indexes_of choice.now agent.now.answers.now)) }
 {
-    let indexes = indexes_by(alloc, agent.answers, choice)?;
+    let indexes = given!(indexes_by(alloc, agent.answers, choice));
     let digits = hex::encode(alloc, agent.engine)?;
     let source = Source {
         alloc,

@@ -10,7 +10,7 @@ use crate::answers::{Answers, Cell};
 use crate::choice::Choice;
 use crate::column::Column;
 use crate::counter::{Counter, Kind, Planned, column_of};
-use crate::fault::SurveyFault;
+use crate::fault::{SurveyFault, given};
 use std::alloc::{AllocError, AllocFailed, Global};
 
 /// The most instances of a station.
@@ -190,9 +190,9 @@ pub fn plan(
     ensures gives { IfOk result (λ v. planned_of choice.now answers.now ≡ Ok v.items) }
     ensures fault { IfErr result (λ e. (e ≡ SurveyFault.OutOfMemory) ⊎ (planned_of choice.now answers.now ≡ Err e)) }
 {
-    let all = counters_of(alloc, answers, choice)?;
+    let all = given!(counters_of(alloc, answers, choice));
     let counters = group_of(alloc, choice.group, all)?;
-    require_few(&counters)?;
+    given!(require_few(&counters));
     Ok(counters)
 }
 

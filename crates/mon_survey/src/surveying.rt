@@ -9,7 +9,7 @@ use crate::answers::Answers;
 use crate::choice::Choice;
 use crate::comparing::{Wanted, is_meant};
 use crate::drafting::draft;
-use crate::fault::SurveyFault;
+use crate::fault::{SurveyFault, given};
 use crate::options::Options;
 use crate::planning::plan;
 use crate::writing::Naming;
@@ -75,7 +75,7 @@ fn confirm(
     ensures gives { IfOk result (λ same. (same ≡ text) × IsReadBack names.now wanted.now.options.now wanted.now.engine.now wanted.now.answers.now wanted.now.planned.now (string_bytes text)) }
     ensures fault { IfErr result (IsNotReadBack names.now wanted.now.options.now wanted.now.engine.now wanted.now.answers.now wanted.now.planned.now (string_bytes text)) }
 {
-    read_back(alloc, names, wanted, text.as_str())?;
+    given!(read_back(alloc, names, wanted, text.as_str()));
     Ok(text)
 }
 
@@ -91,15 +91,15 @@ fn settings_by<S: NameTexts>(
     ensures reads { IfOk result (λ text. IsSettingsText names.now (S.shown shown.now.names.now) choice.now options.now engine.now shown.now.answers.now (string_bytes text)) }
     ensures fault { IfErr result (IsFault names.now (S.shown shown.now.names.now) choice.now options.now engine.now shown.now.answers.now) }
 {
-    let planned = plan(shown.alloc, shown.answers, choice)?;
+    let planned = given!(plan(shown.alloc, shown.answers, choice));
     let wanted = Wanted {
         options,
         engine,
         answers: shown.answers,
         planned: &planned,
     };
-    let text = draft(shown, &wanted.agent_plan())?;
-    let text = confirm(shown.alloc, names, &wanted, text)?;
+    let text = given!(draft(shown, &wanted.agent_plan()));
+    let text = given!(confirm(shown.alloc, names, &wanted, text));
     Ok(text)
 }
 

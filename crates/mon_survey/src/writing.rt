@@ -19,7 +19,7 @@ use std::alloc::{AllocError, Global};
 const MOST_SHOWN: usize = 64;
 
 /// An agent's answers, and how a text shows names.
-#[derive(Clone, Copy)]
+#[derive(Drop)]
 pub(crate) struct Naming<'a, S> {
     pub(crate) alloc: Global,
     pub(crate) names: &'a S,

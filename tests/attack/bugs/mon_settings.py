@@ -28,8 +28,8 @@ BUGS = {
     ),
     "starts_with_two_boots": (
         "src/agent.rt",
-        "Key::Boots, 1, 1, 2147483647)?;",
-        "Key::Boots, 2, 1, 2147483647)?;",
+        "Key::Boots, 1, 1, 2147483647));",
+        "Key::Boots, 2, 1, 2147483647));",
     ),
     "takes_257_entries": (
         "src/list.rt",
@@ -38,33 +38,33 @@ BUGS = {
     ),
     "takes_a_community_of_513_octets": (
         "src/tables.rt",
-        "Key::Community, 1, 512)?;",
-        "Key::Community, 1, 513)?;",
+        "Key::Community, 1, 512));",
+        "Key::Community, 1, 513));",
     ),
     "takes_a_mask_of_17_octets": (
         "src/tables.rt",
-        "Key::Mask, 16)?;",
-        "Key::Mask, 17)?;",
+        "Key::Mask, 16));",
+        "Key::Mask, 17));",
     ),
     "takes_a_window_of_0": (
         "src/leaf.rt",
-        "self.number(key, 1, most as u64)?",
-        "self.number(key, 0, most as u64)?",
+        "self.number(key, 1, most as u64))",
+        "self.number(key, 0, most as u64))",
     ),
     "takes_a_window_of_0_for_all": (
         "src/station.rt",
-        "Key::Window, 1, 64)? as usize;",
-        "Key::Window, 0, 64)? as usize;",
+        "Key::Window, 1, 64)) as usize;",
+        "Key::Window, 0, 64)) as usize;",
     ),
     "takes_an_alias_of_65_octets": (
         "src/tables.rt",
-        "Key::Alias, 0, 64)?;",
-        "Key::Alias, 0, 65)?;",
+        "Key::Alias, 0, 64));",
+        "Key::Alias, 0, 65));",
     ),
     "takes_services_of_128": (
         "src/agent.rt",
-        "Key::Services, 0, 127)?;",
-        "Key::Services, 0, 128)?;",
+        "Key::Services, 0, 127));",
+        "Key::Services, 0, 128));",
     ),
     "refuses_256_entries": (
         "src/list.rt",
@@ -72,9 +72,9 @@ BUGS = {
         "self.rows(&(), key, 0, 255)",
     ),
     "calls_a_missing_list_a_bad_value": (
-        "src/leaf.rt",
-        "        find(self.table, key).ok_or(SettingsFault::missing(key))",
-        "        find(self.table, key).ok_or(SettingsFault::bad(key))",
+        "src/list.rt",
+        "            return Err(SettingsFault::missing(key));",
+        "            return Err(SettingsFault::bad(key));",
     ),
     "refuses_the_greatest_number": (
         "src/leaf.rt",
@@ -83,8 +83,8 @@ BUGS = {
     ),
     "takes_a_limit_of_483": (
         "src/agent.rt",
-        "    let limit = reader.int(Key::Limit, 484, 8192)?;",
-        "    let limit = reader.int(Key::Limit, 483, 8192)?;",
+        "    let limit = given!(reader.int(Key::Limit, 484, 8192));",
+        "    let limit = given!(reader.int(Key::Limit, 483, 8192));",
     ),
     "reads_model_1_as_2": (
         "src/leaf.rt",
@@ -98,8 +98,8 @@ BUGS = {
     ),
     "refuses_a_mask_of_16_octets": (
         "src/tables.rt",
-        "reader.hex_or_none(Key::Mask, 16)?;",
-        "reader.hex_or_none(Key::Mask, 15)?;",
+        "reader.hex_or_none(Key::Mask, 16));",
+        "reader.hex_or_none(Key::Mask, 15));",
     ),
     "takes_no_key_for_known": (
         "src/keys.rt",
@@ -113,8 +113,8 @@ BUGS = {
     ),
     "takes_a_community_of_no_octets": (
         "src/tables.rt",
-        "Key::Community, 1, 512)?;",
-        "Key::Community, 0, 512)?;",
+        "Key::Community, 1, 512));",
+        "Key::Community, 0, 512));",
     ),
     "takes_a_view_of_no_octets": (
         "src/leaf.rt",
@@ -128,17 +128,17 @@ BUGS = {
     ),
     "boots_from_0": (
         "src/agent.rt",
-        "    let boots = reader.int_or(Key::Boots, 1, 1, 2147483647)?;",
-        "    let boots = reader.int_or(Key::Boots, 0, 1, 2147483647)?;",
+        "    let boots = given!(reader.int_or(Key::Boots, 1, 1, 2147483647));",
+        "    let boots = given!(reader.int_or(Key::Boots, 0, 1, 2147483647));",
     ),
     "takes_boots_of_0": (
         "src/agent.rt",
-        "    let boots = reader.int_or(Key::Boots, 1, 1, 2147483647)?;",
-        "    let boots = reader.int_or(Key::Boots, 1, 0, 2147483647)?;",
+        "    let boots = given!(reader.int_or(Key::Boots, 1, 1, 2147483647));",
+        "    let boots = given!(reader.int_or(Key::Boots, 1, 0, 2147483647));",
     ),
     "forgets_to_look_for_unknown_keys": (
         "src/agent.rt",
-        "    reader.only(top_keys(SettingsKind::Agent))?;\n",
+        "    given!(reader.only(top_keys(SettingsKind::Agent)));\n",
         "",
     ),
     "calls_memory_not_toml": (
@@ -148,13 +148,13 @@ BUGS = {
     ),
     "reads_the_read_view_for_writing": (
         "src/tables.rt",
-        "reader.name_or_none(Key::Write, 32)?;",
-        "reader.name_or_none(Key::Read, 32)?;",
+        "reader.name_or_none(Key::Write, 32));",
+        "reader.name_or_none(Key::Read, 32));",
     ),
     "reads_groups_before_communities": (
         "src/tables.rt",
-        "    let communities = reader.list(Key::Community)?;\n    let groups = reader.list(Key::Group)?;",
-        "    let groups = reader.list(Key::Group)?;\n    let communities = reader.list(Key::Community)?;",
+        "    let communities = given!(reader.list(Key::Community));\n    let groups = given!(reader.list(Key::Group));",
+        "    let groups = given!(reader.list(Key::Group));\n    let communities = given!(reader.list(Key::Community));",
     ),
     "blames_the_view_for_an_access": (
         "src/tables.rt",
@@ -163,38 +163,38 @@ BUGS = {
     ),
     "takes_a_limit_of_8193": (
         "src/agent.rt",
-        "Key::Limit, 484, 8192)?;",
-        "Key::Limit, 484, 8193)?;",
+        "Key::Limit, 484, 8192));",
+        "Key::Limit, 484, 8193));",
     ),
     "takes_an_engine_of_4_octets": (
         "src/agent.rt",
-        "Key::Engine, 5, 32)?;",
-        "Key::Engine, 4, 32)?;",
+        "Key::Engine, 5, 32));",
+        "Key::Engine, 4, 32));",
     ),
     "takes_the_window_as_the_epoch": (
         "src/station_tables.rt",
-        "Key::Epoch, around.sizes.epoch.min(window), window)?;",
-        "Key::Epoch, window, window)?;",
+        "Key::Epoch, around.sizes.epoch.min(window), window));",
+        "Key::Epoch, window, window));",
     ),
     "takes_17_objects": (
         "src/station_tables.rt",
-        "Key::Objects, 1, 16)?;",
-        "Key::Objects, 1, 17)?;",
+        "Key::Objects, 1, 16));",
+        "Key::Objects, 1, 17));",
     ),
     "takes_no_objects": (
         "src/station_tables.rt",
-        "around, Key::Objects, 1, 16)?;",
-        "around, Key::Objects, 0, 16)?;",
+        "around, Key::Objects, 1, 16));",
+        "around, Key::Objects, 0, 16));",
     ),
     "takes_65_targets": (
         "src/station.rt",
-        "Key::Target, 1, 64)?;",
-        "Key::Target, 1, 65)?;",
+        "Key::Target, 1, 64));",
+        "Key::Target, 1, 65));",
     ),
     "takes_9_tries": (
         "src/station_tables.rt",
-        "Key::Tries, 1, 8)?",
-        "Key::Tries, 1, 9)?",
+        "Key::Tries, 1, 8))",
+        "Key::Tries, 1, 9))",
     ),
     "takes_257_instances": (
         "src/placing.rt",
@@ -253,8 +253,8 @@ BUGS = {
     ),
     "reads_the_name_as_the_mark": (
         "src/station_tables.rt",
-        "reader.object_or_none(around.names, Key::Mark)?;",
-        "reader.object_or_none(around.names, Key::Name)?;",
+        "reader.object_or_none(around.names, Key::Mark));",
+        "reader.object_or_none(around.names, Key::Name));",
     ),
     "numbers_unknown_object_5": (
         "src/fault.rt",
@@ -263,13 +263,13 @@ BUGS = {
     ),
     "takes_a_wait_of_60001": (
         "src/station.rt",
-        "Key::WaitMs, 1, 60000)?",
-        "Key::WaitMs, 1, 60001)?",
+        "Key::WaitMs, 1, 60000))",
+        "Key::WaitMs, 1, 60001))",
     ),
     "takes_a_file_of_4096_octets": (
         "src/station.rt",
-        "Key::File, 0, 4095)?;",
-        "Key::File, 0, 4096)?;",
+        "Key::File, 0, 4095));",
+        "Key::File, 0, 4096));",
     ),
     "takes_a_module_of_4096_octets": (
         "src/modules.rt",
@@ -283,13 +283,13 @@ BUGS = {
     ),
     "takes_a_peer_of_number_0": (
         "src/station_tables.rt",
-        "Key::Station, 1, 4294967295)?",
-        "Key::Station, 0, 4294967295)?",
+        "Key::Station, 1, 4294967295))",
+        "Key::Station, 0, 4294967295))",
     ),
     "takes_an_epoch_of_65": (
         "src/station.rt",
-        "reader.size_or(Key::Epoch, window, window)?;",
-        "reader.size_or(Key::Epoch, window, 65)?;",
+        "reader.size_or(Key::Epoch, window, window));",
+        "reader.size_or(Key::Epoch, window, 65));",
     ),
     "needs_modules": (
         "src/modules.rt",
@@ -338,13 +338,13 @@ BUGS = {
     ),
     "leaves_out_the_table_of_a_count": (
         "src/tables.rt",
-        "        .map_err(|fault| fault.within(Step::Value(key))),",
-        "        .map_err(|fault| fault),",
+        "        Err(fault) => Err(fault.within(Step::Value(key))),",
+        "        Err(fault) => Err(fault),",
     ),
     "leaves_out_the_alarm": (
         "src/placing.rt",
-        "Step::Entry(\n        Key::Alarm,\n        number,\n    )))",
-        "Step::Value(Key::Alarm)))",
+        "Step::Entry(Key::Alarm, number))),",
+        "Step::Value(Key::Alarm))),",
     ),
     "leaves_out_the_target_around_an_object": (
         "src/place.rt",
@@ -363,7 +363,7 @@ BUGS = {
     ),
     "ignores_the_epoch": (
         "src/station.rt",
-        "    let epoch = reader.size_or(Key::Epoch, window, window)?;",
+        "    let epoch = given!(reader.size_or(Key::Epoch, window, window));",
         "    let epoch = window;",
     ),
     "includes_what_is_excluded": (
@@ -378,8 +378,8 @@ BUGS = {
     ),
     "reads_the_name_as_contact": (
         "src/agent.rt",
-        "reader.octets(Key::Contact, 0, 255)?;",
-        "reader.octets(Key::Name, 0, 255)?;",
+        "reader.octets(Key::Contact, 0, 255));",
+        "reader.octets(Key::Name, 0, 255));",
     ),
     "takes_equal_indexes": (
         "src/tables.rt",
@@ -403,8 +403,8 @@ BUGS = {
     ),
     "takes_an_epoch_above_its_window": (
         "src/station_tables.rt",
-        "sizes.epoch.min(window), window)?;",
-        "sizes.epoch.min(window), 64)?;",
+        "sizes.epoch.min(window), window));",
+        "sizes.epoch.min(window), 64));",
     ),
     "takes_itself_as_a_peer": (
         "src/peers.rt",
@@ -418,7 +418,7 @@ BUGS = {
     ),
     "skips_the_keys_of_a_peer": (
         "src/station_tables.rt",
-        "        reader.only(table_keys(Key::Peer))?;\n",
+        "        given!(reader.only(table_keys(Key::Peer)));\n",
         "",
     ),
     "knows_the_keys_of_a_group_in_a_community": (

@@ -78,8 +78,8 @@ BUGS = {
     ),
     "writes_texts_as_they_are": (
         "src/drafting.rt",
-        "    if !plan.options.are_plain() {\n        return Err(SurveyFault::BadText);\n    }\n    let digits = hex::encode(shown.alloc, plan.engine)?;\n    let mut text = String::new(shown.alloc);",
-        "    if !plan.options.are_plain() && plan.options.percent == 0 {\n        return Err(SurveyFault::BadText);\n    }\n    let digits = hex::encode(shown.alloc, plan.engine)?;\n    let mut text = String::new(shown.alloc);",
+        "    if !plan.options.are_plain() {\n        return Err(SurveyFault::BadText);\n    }\n    match settings_of(shown, plan) {",
+        "    if !plan.options.are_plain() && plan.options.percent == 0 {\n        return Err(SurveyFault::BadText);\n    }\n    match settings_of(shown, plan) {",
     ),
     "writes_no_alarms": (
         "src/drafting.rt",
@@ -88,8 +88,8 @@ BUGS = {
     ),
     "adds_no_alarms": (
         "src/drafting.rt",
-        "    put_targets(text, shown, plan, engine)?;\n    put_alarms(text, shown, plan.options.percent, engine, plan.planned)\n}\n\n/// Returns the text of the settings",
-        "    put_targets(text, shown, plan, engine)\n}\n\n/// Returns the text of the settings",
+        "    put_targets(text, shown, plan, engine)?;\n    put_alarms(text, shown, plan.options.percent, engine, plan.planned)\n}\n\n/// The text of the settings",
+        "    put_targets(text, shown, plan, engine)\n}\n\n/// The text of the settings",
     ),
     "forgets_the_old_text": (
         "src/drafting.rt",
@@ -203,18 +203,18 @@ BUGS = {
     ),
     "reads_nothing_back": (
         "src/surveying.rt",
-        "    read_back(alloc, names, wanted, text.as_str())?;\n    Ok(text)",
+        "    given!(read_back(alloc, names, wanted, text.as_str()));\n    Ok(text)",
         "    let _ = read_back(alloc, names, wanted, text.as_str());\n    Ok(text)",
     ),
     "confirms_no_settings": (
         "src/surveying.rt",
-        "    let text = confirm(shown.alloc, names, &wanted, text)?;\n    Ok(text)",
+        "    let text = given!(confirm(shown.alloc, names, &wanted, text));\n    Ok(text)",
         "    Ok(text)",
     ),
     "returns_another_text": (
         "src/surveying.rt",
-        "    read_back(alloc, names, wanted, text.as_str())?;\n    Ok(text)",
-        "    read_back(alloc, names, wanted, text.as_str())?;\n    let mut text = text;\n    text.push_str(\"#\")?;\n    Ok(text)",
+        "    given!(read_back(alloc, names, wanted, text.as_str()));\n    Ok(text)",
+        "    given!(read_back(alloc, names, wanted, text.as_str()));\n    let mut text = text;\n    text.push_str(\"#\")?;\n    Ok(text)",
     ),
     "refuses_what_is_read": (
         "src/surveying.rt",

@@ -9,5 +9,5 @@ returns-then-rise-clause-indexes c =
     let rises = c.rise.ensures in
     let same = c.deref.ensures.value in
     let passed = c.if-rise.true in
-    let up : rise_from 0 c.in_ok-interfaces.interfaces.items ≡ true = cc in
-    listed_indexes (table_view c.args.reader.now.table.now) c.in_ok-interfaces.interfaces.items c.in_ok-interfaces.ensures up
+    let up : rise_from 0 c.in-Ok.value.items ≡ true = cc in
+    listed_indexes (table_view c.args.reader.now.table.now) c.in-Ok.value.items c.in-Ok.ensures up
