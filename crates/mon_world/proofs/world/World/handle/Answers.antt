@@ -23,16 +23,16 @@ returns-in_err-reserve c =
     let err = c.from_residual.ensures.0 in
     let is = c.from_residual.ensures.1 in
     record {
-  outcome = λ past was. leads_unasked self.core self.stations.items self.sent.items c.reserve.new.self.items past (Hands (setting_at self.core n c.args.number) c.args.number (owned c.args.event)) r f is (refl) c.in_err-reserve.ensures.items was;
-  there = IfOk-from_err r _ err;
-  cause = err_is r (IsStationCause n c.args.number) f is tt;
-  first = IfOk-from_err r _ err;
-  count = IfOk-from_err r _ err;
-  refused = err_is r (λ _. c.reserve.new.self.items ≡ self.sent.items) f is c.in_err-reserve.ensures.items;
-  kept = err_is r (AreKept self.stations.items self.stations.items) f is (kept_same self.stations.items self.stations.items f refl);
-  core = refl;
-  stations = refl;
-}
+      outcome = λ past was. leads_unasked self.core self.stations.items self.sent.items c.reserve.new.self.items past (Hands (setting_at self.core n c.args.number) c.args.number (owned c.args.event)) r f is (refl) c.in_err-reserve.ensures.items was;
+      there = IfOk-from_err r _ err;
+      cause = err_is r (IsStationCause n c.args.number) f is tt;
+      first = IfOk-from_err r _ err;
+      count = IfOk-from_err r _ err;
+      refused = err_is r (λ _. c.reserve.new.self.items ≡ self.sent.items) f is c.in_err-reserve.ensures.items;
+      kept = err_is r (AreKept self.stations.items self.stations.items) f is (kept_same self.stations.items self.stations.items f refl);
+      core = refl;
+      stations = refl;
+    }
 
 pub returns-in_err-place : goal.returns-in_err-place
 returns-in_err-place c =
@@ -43,36 +43,36 @@ returns-in_err-place c =
     let err = c.from_residual-in_err-place.ensures.0 in
     let is = c.from_residual-in_err-place.ensures.1 in
     record {
-  outcome = λ past was. leads_unasked self.core self.stations.items self.sent.items c.reserve.new.self.items past (Hands (setting_at self.core n c.args.number) c.args.number (owned c.args.event)) r f is (ap refusal_in c.in_err-place.ensures.strange) c.in_ok-reserve.ensures.items was;
-  there = IfOk-from_err r _ err;
-  cause = err_is r (IsStationCause n c.args.number) f is c.in_err-place.ensures.fault;
-  first = IfOk-from_err r _ err;
-  count = IfOk-from_err r _ err;
-  refused = err_is r (λ _. c.reserve.new.self.items ≡ self.sent.items) f is c.in_ok-reserve.ensures.items;
-  kept = err_is r (AreKept self.stations.items self.stations.items) f is (kept_same self.stations.items self.stations.items f refl);
-  core = refl;
-  stations = refl;
-}
+      outcome = λ past was. leads_unasked self.core self.stations.items self.sent.items c.reserve.new.self.items past (Hands (setting_at self.core n c.args.number) c.args.number (owned c.args.event)) r f is (ap refusal_in c.in_err-place.ensures.strange) c.in_ok-reserve.ensures.items was;
+      there = IfOk-from_err r _ err;
+      cause = err_is r (IsStationCause n c.args.number) f is c.in_err-place.ensures.fault;
+      first = IfOk-from_err r _ err;
+      count = IfOk-from_err r _ err;
+      refused = err_is r (λ _. c.reserve.new.self.items ≡ self.sent.items) f is c.in_ok-reserve.ensures.items;
+      kept = err_is r (AreKept self.stations.items self.stations.items) f is (kept_same self.stations.items self.stations.items f refl);
+      core = refl;
+      stations = refl;
+    }
 
 pub returns : goal.returns
 returns c =
     let self = c.args.self.now in
     let same = c.in_ok-reserve.ensures.items in
     record {
-  outcome = λ past was.
-      leads_ok self.core self.stations.items c.ask.new.stations.items self.sent.items past c.args.number c.in_ok-place.place c.in_ok-place.ensures.place was (owned c.args.event)
-      (to_peers c.in_ok-told.told.sends.items) c.append.new.sent.items
-      (c.append.ensures.appended ∙ ap (λ (l : List Datagram). l ++ to_peers c.in_ok-told.told.sends.items) c.in_ok-reserve.ensures.items)
-      (c.in_ok-told.ensures.told self.core past was.shown) c.append.result;
-  there = number_to (length self.stations.items) c.in_ok-place.place c.args.number c.in_ok-place.ensures.place c.in_ok-place.ensures.within;
-  cause = tt;
-  first = c.append.ensures.first ∙ ap (λ (l : List Datagram). length l + 1) same;
-  count = ap (λ (l : List Datagram). length l + c.append.result.count) (sym same) ∙ c.append.ensures.count;
-  refused = tt;
-  kept = tt;
-  core = refl;
-  stations = c.ask.ensures.count;
-}
+      outcome = λ past was.
+          leads_ok self.core self.stations.items c.ask.new.stations.items self.sent.items past c.args.number c.in_ok-place.place c.in_ok-place.ensures.place was (owned c.args.event)
+          (to_peers c.in_ok-told.told.sends.items) c.append.new.sent.items
+          (c.append.ensures.appended ∙ ap (λ (l : List Datagram). l ++ to_peers c.in_ok-told.told.sends.items) c.in_ok-reserve.ensures.items)
+          (c.in_ok-told.ensures.told self.core past was.shown) c.append.result;
+      there = number_to (length self.stations.items) c.in_ok-place.place c.args.number c.in_ok-place.ensures.place c.in_ok-place.ensures.within;
+      cause = tt;
+      first = c.append.ensures.first ∙ ap (λ (l : List Datagram). length l + 1) same;
+      count = ap (λ (l : List Datagram). length l + c.append.result.count) (sym same) ∙ c.append.ensures.count;
+      refused = tt;
+      kept = tt;
+      core = refl;
+      stations = c.ask.ensures.count;
+    }
 
 pub returns-in_err-told : goal.returns-in_err-told
 returns-in_err-told c =
@@ -84,17 +84,17 @@ returns-in_err-told c =
     let err = c.from_residual-in_err-told.ensures.0 in
     let is = c.from_residual-in_err-told.ensures.1 in
     record {
-  outcome = λ past was.
-      leads_err self.core c.ask.new.stations.items c.reserve.new.self.items past (Hands (setting_at self.core (length self.stations.items) c.args.number) c.args.number (owned c.args.event))
-      c.from_residual-in_err-told.result c.in_err-told.field-0.0 c.from_residual-in_err-told.ensures.1
-      (leads_refused self.core self.stations.items c.ask.new.stations.items self.sent.items past c.args.number c.in_ok-place.place c.in_ok-place.ensures.place was (owned c.args.event)
-      c.in_err-told.field-0.0 c.reserve.new.self.items c.in_ok-reserve.ensures.items (c.in_err-told.ensures.refused self.core past was.shown));
-  there = IfOk-from_err r _ err;
-  cause = err_is r (IsStationCause n c.args.number) f is (subst (λ x. IsStationCause n x f) (sym c.in_ok-place.ensures.place) c.in_err-told.ensures.cause);
-  first = IfOk-from_err r _ err;
-  count = IfOk-from_err r _ err;
-  refused = err_is r (λ _. c.reserve.new.self.items ≡ self.sent.items) f is same;
-  kept = err_is r (AreKept self.stations.items c.ask.new.stations.items) f is c.in_err-told.ensures.kept;
-  core = refl;
-  stations = c.ask.ensures.count;
-}
+      outcome = λ past was.
+          leads_err self.core c.ask.new.stations.items c.reserve.new.self.items past (Hands (setting_at self.core (length self.stations.items) c.args.number) c.args.number (owned c.args.event))
+          c.from_residual-in_err-told.result c.in_err-told.field-0.0 c.from_residual-in_err-told.ensures.1
+          (leads_refused self.core self.stations.items c.ask.new.stations.items self.sent.items past c.args.number c.in_ok-place.place c.in_ok-place.ensures.place was (owned c.args.event)
+          c.in_err-told.field-0.0 c.reserve.new.self.items c.in_ok-reserve.ensures.items (c.in_err-told.ensures.refused self.core past was.shown));
+      there = IfOk-from_err r _ err;
+      cause = err_is r (IsStationCause n c.args.number) f is (subst (λ x. IsStationCause n x f) (sym c.in_ok-place.ensures.place) c.in_err-told.ensures.cause);
+      first = IfOk-from_err r _ err;
+      count = IfOk-from_err r _ err;
+      refused = err_is r (λ _. c.reserve.new.self.items ≡ self.sent.items) f is same;
+      kept = err_is r (AreKept self.stations.items c.ask.new.stations.items) f is c.in_err-told.ensures.kept;
+      core = refl;
+      stations = c.ask.ensures.count;
+    }
