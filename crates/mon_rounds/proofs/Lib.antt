@@ -4,3 +4,4 @@ mod Onward
 mod Notices
 mod Becoming
 mod Wholly
+mod Pushed

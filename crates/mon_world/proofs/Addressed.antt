@@ -1,5 +1,5 @@
 -- Every letter goes to a station of the world, and each datagram is one.
-use Rattle.std.proofs.Common.{ℕ, zero, suc, ◌≡◌, ◌+◌, ◌∙◌, inl, inr, List, [], ◌∷◌, length, map, Option, Some, None, Ok, Err, refl, sym, ap, subst, arith}
+use Rattle.std.proofs.Common.{ℕ, zero, suc, ◌≡◌, ◌+◌, ◌<◌, ◌∙◌, inl, inr, List, [], ◌∷◌, length, map, Option, Some, None, Ok, Err, refl, sym, ap, subst, arith}
 use Rattle.std.specs.Prelude.{slice_get}
 use Rattle.std.specs.List.{AllByRecursion}
 use Rattle.mon_disk.specs.declared.disk.Disk.{Ghosts}
@@ -20,7 +20,7 @@ use Rattle.mon_world.specs.declared.sending.Datagram.{Datagram}
 use Rattle.mon_world.specs.Moves.{AreLives, AreMoves, Letter, Move, letter, letters_by, lives_of, sent_in}
 use Rattle.mon_world.specs.declared.fault.WorldFault.{WorldFault}
 use Rattle.mon_world.specs.declared.fault.WorldFault.TheVariants as world
-use Rattle.mon_world.specs.Fault.{IsStationCause}
+use Rattle.mon_world.specs.Fault.{IsDeliveryCause, IsStationCause}
 use Rattle.mon_world.specs.Places.{HasNumber, IsNoNumberTo, IsNumberTo, setting_at}
 use Rattle.mon_world.specs.Outcome.{Delivers, Hands}
 use Rattle.mon_world.specs.Shows.{Parcel, Shows, parcel_of, parcel_with}
@@ -117,3 +117,16 @@ not_there count x f is there cause = by (subst (IsStationCause count x) is cause
     by : IsNoNumberTo count x → ⊥
     by (inl none) = omega (arith, there.0, none)
     by (inr beyond) = omega (arith, there.1, beyond)
+
+-- the number of a place
+pub number_to : (count place number : ℕ) → number ≡ place + 1 → place < count → IsNumberTo count number
+number_to count place number same within = (omega (arith, same), omega (arith, same, within))
+
+-- why the station of a datagram did not take it is why the delivery failed
+pub delivery_cause : (stations datagrams place number k : ℕ) → place < stations → number ≡ k + 1 → k < datagrams → (f : WorldFault) → IsStationCause stations (place + 1) f → IsDeliveryCause datagrams number f
+delivery_cause stations datagrams place number k within same there world.OutOfMemory cause = tt
+delivery_cause stations datagrams place number k within same there world.NoSuchStation cause = absurd (not_there stations (place + 1) world.NoSuchStation refl (number_to stations place (place + 1) refl within) cause)
+delivery_cause stations datagrams place number k within same there world.NoSuchDatagram cause = absurd cause
+delivery_cause stations datagrams place number k within same there (world.Refused g) cause = number_to datagrams k number same there
+delivery_cause stations datagrams place number k within same there world.BadCount cause = absurd cause
+delivery_cause stations datagrams place number k within same there world.BadStop cause = absurd cause

@@ -94,3 +94,9 @@ pub leads_same : {G : Ghosts MemoryDisk} (core new_core : Core) (stations : List
     → LeadsTo core stations sent P → LeadsTo new_core stations new_sent P
 leads_same core new_core stations sent new_sent P same_core same_sent leads =
     subst (λ c. LeadsTo c stations new_sent P) (sym same_core) (subst (λ l. LeadsTo core stations l P) (sym same_sent) leads)
+
+-- nothing happened where a call failed and no station refused
+pub leads_unasked : {G : Ghosts MemoryDisk} (core : Core) (stations : List (Station MemoryDisk G)) (sent now_sent : List Datagram) (past : List Move) (makes : Option StationFault → List Move → List Move → Type 0) (result : Result Sent WorldFault)
+    (f : WorldFault) → IsErrAnd result (λ x. x ≡ f) → refusal_in f ≡ None → now_sent ≡ sent → Shows core stations sent past → LeadsTo core stations now_sent (λ now. Does makes result past now)
+leads_unasked core stations sent now_sent past makes result f is none same was =
+    leads_same core core stations sent now_sent (λ now. Does makes result past now) refl same (leads_err core stations sent past makes result f is (leads_nowhere core stations sent past makes f none was))

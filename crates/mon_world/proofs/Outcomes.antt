@@ -1,5 +1,6 @@
 -- Steps and their results, one after another.
-use Rattle.std.proofs.Common.{ℕ, ◌≡◌, List, [], ◌∷◌, ◌++◌, Result, refl, sym, subst}
+use Rattle.std.proofs.Common.{ℕ, ◌≡◌, ◌+◌, ◌∙◌, List, [], ◌∷◌, ◌++◌, Result, Ok, Err, length, ap, refl, sym, subst, arith}
+use Rattle.std.specs.Prelude.{IfErr, IfOk, OnErr, OnOk}
 use Rattle.mon_disk.specs.declared.disk.Disk.{Ghosts}
 use Rattle.mon_disk.specs.declared.memory.MemoryDisk.{MemoryDisk}
 use Rattle.mon_core.specs.StationCore.{Core}
@@ -9,6 +10,7 @@ use Rattle.mon_world.specs.declared.fault.WorldFault.{WorldFault}
 use Rattle.mon_world.specs.declared.sending.Datagram.{Datagram}
 use Rattle.mon_world.specs.declared.sending.Sent.{Sent}
 use Rattle.mon_world.specs.declared.step.Step.{Step}
+use Rattle.mon_world.specs.Fault.{IsCause, IsThere}
 use Rattle.mon_world.specs.Moves.{Move}
 use Rattle.mon_world.specs.Outcome.{AreStepOutcomes, IsStepMade, IsStepOutcome}
 use Rattle.mon_world.specs.Shows.{LeadsTo, Shows}
@@ -41,3 +43,22 @@ outcomes_step core core_middle core_now settings settings_middle n n_middle midd
           (outcomes_more settings n steps results step result past were.now leads.now were.is
           (subst (λ m. IsStepMade settings m step result were.now leads.now) same_n (subst (λ (w : ℕ → Setting). IsStepMade w n_middle step result were.now leads.now) same leads.is))));
     }
+
+-- what a step names, and its cause, by the kind of the step
+pub there_of : (stations datagrams : ℕ) (entry step : Step) (result : Result Sent WorldFault) → entry ≡ step → OnOk result (IsThere stations datagrams step) → OnOk result (IsThere stations datagrams entry)
+there_of stations datagrams entry step result is there = subst (λ (s : Step). OnOk result (IsThere stations datagrams s)) (sym is) there
+
+pub cause_of : (stations datagrams : ℕ) (entry step : Step) (result : Result Sent WorldFault) → entry ≡ step → IfErr result (IsCause stations datagrams step) → IfErr result (IsCause stations datagrams entry)
+cause_of stations datagrams entry step result is cause = subst (λ (s : Step). IfErr result (IsCause stations datagrams s)) (sym is) cause
+
+add_nothing : (n : ℕ) → n + 0 ≡ n
+add_nothing n = omega arith
+
+-- a step that sends nothing
+pub none_sent : (old new : List Datagram) (result : Result Sent WorldFault) → new ≡ old → IfOk result (λ sent. sent.count ≡ 0) → IfOk result (λ sent. length old + sent.count ≡ length new)
+none_sent old new (Ok sent) same none = (λ i. length old + none i) ∙ add_nothing (length old) ∙ ap length (sym same)
+none_sent old new (Err f) same none = tt
+
+pub stay_on : (old new : List Datagram) (result : Result Sent WorldFault) → new ≡ old → OnErr result (new ≡ old)
+stay_on old new (Ok sent) same = tt
+stay_on old new (Err f) same = same
