@@ -1,6 +1,7 @@
 -- Reading sub-identifiers one after the other, as a loop does.
 use Rattle.std.proofs.Common.{◌≡◌, ℕ, zero, suc, ◌+◌, ◌-◌, ◌*◌, ◌^◌, ◌<◌, ◌≤◌, List, [], ◌∷◌, ◌++◌, length, get_or, ltb, eqb, cond, true, false, Result, Ok, Err, refl, sym, ap, subst, ◌∙◌, append_assoc, arith, inl, inr}
 use Rattle.std.specs.List.{AllByRecursion}
+use Rattle.std.specs.Str.{IsAscii}
 use Rattle.std.proofs.lemmas.Bool.{lt-ltb, le-ltb, ltb-true, ltb-false, eqb-false, ne_eqb}
 use Rattle.std.proofs.Math.Nat.{pow-suc, pow-le-pow_right}
 use Rattle.std.proofs.lemmas.Nat.{mul-le}
@@ -222,6 +223,18 @@ subidentifiers_again (suc room) bytes (n ∷ ns) is =
     let first : subidentifier_at (s.0 ++ s.1) ≡ Ok (n, s.1) = subidentifier_again s.0 n s.1 s.3 (omega (arith, f.0)) in
     let others : subidentifiers_of room s.1 ≡ Ok ns = subidentifiers_again room s.1 ns (record { spelled = s.4; few = omega (arith, is.few); fit = f.1 }) in
     ap (subidentifiers_of (suc room)) s.2 ∙ step room (s.0 ++ s.1) some ∙ rw (first, lt-ltb n (2 ^ 32) f.0, others) refl
+
+-- octets below 128 are sub-identifiers of one octet each
+pub octets_are_numbers : (room : ℕ) (bs : List ℕ) → length bs ≤ room → IsAscii bs → subidentifiers_of room bs ≡ Ok bs
+unfolding subidentifiers_of
+octets_are_numbers room [] few small = refl
+octets_are_numbers zero (b ∷ bs) few small = absurd (omega arith)
+octets_are_numbers (suc room) (b ∷ bs) few small =
+    let low : b < 128 = small 0 in
+    let one : IsSubidentifier (b ∷ []) b = record { value = (low, refl); begins = λ h. absurd (omega (arith, low, h)) } in
+    let first : subidentifier_at (b ∷ bs) ≡ Ok (b, bs) = subidentifier_again (b ∷ []) b bs one (omega (arith, low)) in
+    let others : subidentifiers_of room bs ≡ Ok bs = octets_are_numbers room bs (omega arith) (λ i. small (suc i)) in
+    step room (b ∷ bs) (omega arith) ∙ rw (first, lt-ltb b (2 ^ 32) (omega (arith, low)), others) refl
 
 -- the two numbers in the first one
 first_two_is : (n a b : ℕ) → first_two n ≡ Ok (a, b) → n ≡ 40 * a + b

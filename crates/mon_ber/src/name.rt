@@ -1,6 +1,6 @@
 //! Object identifiers, in base 128 (X.690 8.19).
 
-ghost use Rattle.std.specs.Prelude.{◌≡◌, ◌≢◌, ◌≤◌, ◌<◌, ◌-◌, ◌^◌, ℕ, List, Ok, length, IfOk, IsOk};
+ghost use Rattle.std.specs.Prelude.{◌≡◌, ◌≢◌, ◌≤◌, ◌<◌, ◌-◌, ◌^◌, ◌∷◌, ℕ, List, Ok, length, IfOk, IsOk};
 ghost use Rattle.mon_oid.specs.Oid.{IsOid};
 ghost use Rattle.mon_ber.specs.Reading.{Gives, digits_at, subidentifier_at, subidentifiers_of, first_two, name_of};
 ghost use Rattle.mon_ber.specs.Many.{with_front};
@@ -8,10 +8,14 @@ ghost use Rattle.mon_ber.specs.Many.{with_front};
 use crate::fault::BerFault;
 use mon_oid::{Oid, laws};
 use smallvec::SmallVec;
-use std::alloc::Global;
+use std::alloc::{AllocError, Global};
 
 /// Numbers from here on spell no sub-identifier, nor the first two.
 const LIMIT: u64 = 4_294_967_376;
+
+/// Up to this many sub-identifiers of one octet behind the first two are read at once, since they
+/// take no heap memory.
+const SHORT: usize = 14;
 
 /// The most sub-identifiers of an identifier.
 const MAX_PARTS: usize = 128;
@@ -99,14 +103,37 @@ fn with_others(mut parts: SmallVec<u32, 16>, octets: &[u8]) -> Result<SmallVec<u
     Ok(parts)
 }
 
+/// The first two sub-identifiers and the others, each of which is an octet.
+fn with_octets(
+    alloc: Global,
+    first: u32,
+    second: u32,
+    octets: &[u8],
+) -> Result<SmallVec<u32, 16>, AllocError>
+    requires { length octets.now ≤ 14 }
+    ensures items { IfOk result (λ v. v.items ≡ first ∷ second ∷ octets.now) }
+    ensures made { IsOk result }
+{
+    let mut parts = [0; 16];
+    parts[0] = first;
+    parts[1] = second;
+    for i in 0..octets.len() {
+        parts[i + 2] = u32::from(octets[i]);
+    }
+    SmallVec::from_slice(alloc, &parts[..octets.len() + 2])
+}
+
 /// The identifier that contents spell. Up to 16 sub-identifiers take no heap memory.
-#[tactic(auto, using(crate::proofs::Names::first_two_valid), unfolding(crate::specs::Reading::name_of))]
+#[tactic(auto, using(crate::proofs::Names::first_two_valid, crate::proofs::Names::octets_are_numbers), unfolding(crate::specs::Reading::name_of))]
 pub fn name_of(alloc: Global, contents: &[u8]) -> Result<Oid, BerFault>
     ensures gives { Gives (λ o. o) result (name_of contents.now) }
     ensures inline { (parts : List ℕ) → name_of contents.now ≡ Ok parts → length parts ≤ 16 → IsOk result }
 {
     let (number, rest) = subidentifier_at(contents)?;
     let (first, second) = first_two(number)?;
+    if rest.len() <= SHORT && rest.is_ascii() {
+        return Ok(Oid::from_valid(with_octets(alloc, first, second, rest)?));
+    }
     let mut parts = SmallVec::new(alloc);
     parts.push(first)?;
     parts.push(second)?;
