@@ -1,6 +1,21 @@
 """Bugs of mon_ber for planted_bugs: by a name the file, what stands there once, and the bug in its place."""
 
 BUGS = {
+    "each_octet_is_a_number": (
+        "src/name.rt",
+        "    if rest.len() <= SHORT && rest.is_ascii() {",
+        "    if rest.len() <= SHORT {",
+    ),
+    "first_octet_after_two_is_passed_over": (
+        "src/name.rt",
+        "    SmallVec::from_slice(alloc, &parts[..octets.len() + 2])",
+        "    SmallVec::from_slice(alloc, &parts[..octets.len() + 1])",
+    ),
+    "second_number_first": (
+        "src/name.rt",
+        "    parts[0] = first;\n    parts[1] = second;",
+        "    parts[0] = second;\n    parts[1] = first;",
+    ),
     "clone_turns_opaque": (
         "src/value.rt",
         "Value::Opaque(octets) => Value::Opaque(octets.try_clone(alloc)?),",

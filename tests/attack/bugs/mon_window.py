@@ -26,6 +26,21 @@ BUGS = {
         "        self.all.remove(self.start + at)",
         "        self.all.remove(at)",
     ),
+    "oldest_goes_in_second": (
+        "src/window.rt",
+        "        return Err(0);",
+        "        return Err(1);",
+    ),
+    "the_oldest_again_is_older": (
+        "src/window.rt",
+        "    items[0].compare(sample).is_gt()",
+        "    items[0].compare(sample).is_ge()",
+    ),
+    "older_than_the_newest_is_oldest": (
+        "src/window.rt",
+        "    items[0].compare(sample).is_gt()",
+        "    items[items.len() - 1].compare(sample).is_gt()",
+    ),
     "size_counts_the_samples": (
         "src/window.rt",
         "    pub fn size(&self) -> usize\n        ensures size { result ≡ self.now.size }\n        ensures sizes { AreSizes self.now.size self.now.epoch }\n    {\n        self.size\n",
