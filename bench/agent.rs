@@ -14,7 +14,7 @@ use std::io;
 use std::net::UdpSocket;
 use std::time::{Duration, Instant};
 
-const ROUNDS: usize = 3;
+const ROUNDS: usize = 5;
 
 /// The request-id before the first, so that each takes four octets.
 const BEFORE_FIRST: i32 = 0x1000_0000;

@@ -1,10 +1,11 @@
 #!/usr/bin/env python3
-"""Runs commands on one input, in turn, five times each; they have to print the same. Prints the least processor time
-(user and system) of each, and the ratio of the first to the second.
+"""Runs commands on one input, in turn, five times each; they have to print the same. Prints the median of each one's
+processor times (user and system), and the ratio of the first to the second.
 
 usage: compare.py INPUT "NAME: WORD .." "NAME: WORD .."
 """
 import resource
+import statistics
 import subprocess
 import sys
 
@@ -31,8 +32,8 @@ def main():
         sys.exit("they print different texts")
     print("the same text of", len(texts.pop()), "octets")
     for name, _ in runs:
-        print(f"{name}: {min(times[name]):.3f} s of processor time")
-    first, second = (min(times[name]) for name, _ in runs)
+        print(f"{name}: {statistics.median(times[name]):.3f} s of processor time")
+    first, second = (statistics.median(times[name]) for name, _ in runs)
     print(f"ratio {first / second:.2f}")
 
 
