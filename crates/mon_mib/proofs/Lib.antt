@@ -7,6 +7,7 @@ pub mod Finding
 pub mod Gapped
 pub mod Identifiers
 pub mod Judging
+pub mod Lasting
 pub mod Planning
 pub mod Rising
 pub mod Searching

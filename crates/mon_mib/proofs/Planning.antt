@@ -1,9 +1,11 @@
 -- Going over the bindings of a Set plans the last of each name.
-use Rattle.std.proofs.Common.{◌≡◌, ◌≢◌, ℕ, ◌+◌, ◌-◌, ◌<◌, ◌≤◌, true, false, List, [], ◌∷◌, ◌++◌, length, get_or, take, drop, refl, sym, ◌∙◌, ap, subst, arith, inl, inr}
-use Rattle.std.specs.Prelude.{Bool, IsTrue, ◌↔◌, ◌⊎◌, Result, Ok, Err, IfOk, Contains, All, AllPairs, Any, nat_eq}
+use Rattle.std.proofs.Common.{◌≡◌, ◌≢◌, ℕ, ◌+◌, ◌<◌, ◌≤◌, true, false, List, [], ◌∷◌, ◌++◌, length, get_or, take, drop, refl, sym, ◌∙◌, ap, subst, arith, inl, inr}
+use Rattle.std.specs.Prelude.{Bool, IsTrue, ◌↔◌, ◌⊎◌, Result, Ok, Err, IfOk, Contains, All, AllPairs, Any, IsSomeAnd, nat_eq}
+use Rattle.std.specs.Borrow.{Bor}
+use Rattle.std.specs.BTreeMap.{BTreeMap}
 use Rattle.std.proofs.lemmas.Bool.{false≢true}
 use Rattle.std.proofs.lemmas.Bool.Decides.{nat_tests}
-use Rattle.std.proofs.lemmas.List.{get_or-drop, length-drop, take_all, get_or_default, take_more}
+use Rattle.std.proofs.lemmas.List.{take_all, get_or_default, take_more}
 use Rattle.std.proofs.lemmas.List.Elements.{All-push, Contains-push, Contains-append_left}
 use Rattle.std.proofs.lemmas.List.Quantifiers.{all_pairs_push}
 use Rattle.mon_ber.specs.declared.value.Value.{Value}
@@ -18,9 +20,11 @@ use Rattle.mon_mib.specs.declared.step.Step.{Step}
 use Rattle.mon_mib.specs.Assignment.{IsChange, IsAskedChange, IsLast, IsNumberedAssignment, IsSetPlan, AreApart, scalar_of}
 use Rattle.mon_mib.specs.Change.{same_target, same_text}
 use Rattle.mon_mib.specs.Known.{Known, instances}
+use Rattle.mon_mib.specs.LastPlaces.{AreLastPlaces, place_of}
 use Rattle.mon_mib.specs.Objects.{prefix_of}
 use Rattle.mon_mib.specs.Refusal.{IsAccepted}
 use Rattle.mon_mib.specs.Tried.{IsPlannedTo}
+use Rattle.mon_mib.proofs.Lasting.{later}
 use Rattle.mon_mib.proofs.Under.{one}
 
 -- ---- two names, two targets
@@ -65,13 +69,6 @@ module _ (k : Known) where
           one_target is.object was.object is.instance was.instance a.value b.value c d is.there was.there is.is was.is e in
           absurd (other (was.named ∙ (sym (ap (λ q. prefix_of q ++ was.instance ∷ []) at.0) ∙ (sym (ap (λ n. prefix_of is.object ++ n ∷ []) at.1) ∙ sym is.named))))
       by_test false e = refl
-
-  later : (bs : List Binding) (i j : ℕ) (b : Binding) (P : Binding → Type 0) → i < j → j < length bs → get_or bs j b ≡ b → P b → Any P (drop (i + 1) bs)
-  later bs i j b P lt within at holds =
-      (j - (i + 1), b, rw (length-drop (i + 1) bs) (omega arith), get_or-drop (i + 1) bs (j - (i + 1)) b ∙ (ap (λ n. get_or bs n b) back ∙ at), holds)
-    where
-      back : (i + 1) + (j - (i + 1)) ≡ j
-      back = omega arith
 
   pub apart : (bs : List Binding) (steps : List Step) → AllPairs (λ s t. s.index < t.index) steps → All (IsNumberedAssignment k bs) steps → AreApart steps
   apart bs steps rising each i j d lt within =
@@ -134,17 +131,15 @@ module _ (k : Known) where
         same_binding : (a : Binding) (j : ℕ) → j ≡ n → get_or bs j a ≡ a → b ≡ a
         same_binding a j same at = sym is ∙ (get_or_default bs n b a within ∙ (ap (λ m. get_or bs m a) (sym same) ∙ at))
 
-    all_later : take (length bs - (n + 1)) (drop (n + 1) bs) ≡ drop (n + 1) bs
-    all_later = take_all (length bs - (n + 1)) (drop (n + 1) bs) (rw (length-drop (n + 1) bs) (omega arith))
+    -- what the last place of its name says of a binding
+    module _ (places : BTreeMap (Bor (List ℕ)) ℕ) (last : AreLastPlaces bs places) (r : Bool) (items : List Step)
+        (exact : IsTrue r ↔ IsSomeAnd (place_of places b.name) (λ p. n < p)) where
+      pub planned_when : r ≡ false → items ≡ steps ++ record { index = n + 1; change = c } ∷ [] → IsPlannedTo k sees bs (n + 1) items
+      planned_when no_later e = subst (IsPlannedTo k sees bs (n + 1)) (sym e)
+          (planned (λ again. false≢true (sym no_later ∙ exact.1 ((last b.name n).1 again))))
 
-    pub planned_when : (r : Bool) (items : List Step) → IsTrue r ↔ Any (λ c. c.name ≡ b.name) (take (length bs - (n + 1)) (drop (n + 1) bs)) → r ≡ false
-        → items ≡ steps ++ record { index = n + 1; change = c } ∷ [] → IsPlannedTo k sees bs (n + 1) items
-    planned_when r items exact no_later e = subst (IsPlannedTo k sees bs (n + 1)) (sym e)
-        (planned (λ again. false≢true (sym no_later ∙ exact.1 (subst (Any (λ c. c.name ≡ b.name)) (sym all_later) again))))
-
-    pub passed_when : (r : Bool) (items : List Step) → IsTrue r ↔ Any (λ c. c.name ≡ b.name) (take (length bs - (n + 1)) (drop (n + 1) bs)) → r ≡ true
-        → items ≡ steps → IsPlannedTo k sees bs (n + 1) items
-    passed_when r items exact some e = subst (IsPlannedTo k sees bs (n + 1)) (sym e) (passed (subst (Any (λ c. c.name ≡ b.name)) all_later (exact.0 some)))
+      pub passed_when : r ≡ true → items ≡ steps → IsPlannedTo k sees bs (n + 1) items
+      passed_when some e = subst (IsPlannedTo k sees bs (n + 1)) (sym e) (passed ((last b.name n).0 (exact.0 some)))
 
   pub finished : (sees : List ℕ → Type 0) (bs : List Binding) (n : ℕ) (steps : List Step) → length bs ≤ n → IsPlannedTo k sees bs n steps → IsSetPlan k bs steps
   finished sees bs n steps le to = record { rising = to.rising; each = to.each; all = λ j b last. to.all j b (omega (arith, last.within)) last }

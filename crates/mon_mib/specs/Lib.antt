@@ -8,6 +8,7 @@ pub mod Gaps
 pub mod Held
 pub mod Instances
 pub mod Known
+pub mod LastPlaces
 pub mod Map
 pub mod Moment
 pub mod Next

@@ -1,6 +1,6 @@
 //! A Set in two phases: which bindings are refused and what the others change, and then the changes (RFC 3416 section 4.2.5).
 
-ghost use Rattle.std.specs.Prelude.{◌≡◌, ℕ, ◌↔◌, ◌++◌, ◌∷◌, [], ◌^◌, ◌<◌, ◌≤◌, length, IfOk, IfErr, IfSome, IfNone, IsTrue, Any, All, Contains};
+ghost use Rattle.std.specs.Prelude.{◌≡◌, ℕ, ◌↔◌, ◌++◌, ◌∷◌, [], ◌^◌, ◌<◌, ◌≤◌, length, IfOk, IfErr, IfSome, IfNone, IsSomeAnd, IsTrue, All, Contains};
 ghost use Rattle.mon_mib.specs.declared.binding_fault.BindingFault.{BindingFault as AnyFault};
 ghost use Rattle.mon_mib.specs.declared.object.Object.{Object as AnyObject};
 ghost use Rattle.mon_mib.specs.declared.object.Object.TheVariants as served;
@@ -8,6 +8,7 @@ ghost use Rattle.mon_mib.specs.declared.column.Column.TheVariants.{IfAdminStatus
 ghost use Rattle.mon_mib.specs.Assignment.{scalar_of, IsSetPlan};
 ghost use Rattle.mon_mib.specs.Commit.{IsCommitted, failures_by_then};
 ghost use Rattle.mon_mib.specs.Held.{facts_at};
+ghost use Rattle.mon_mib.specs.LastPlaces.{AreLastPlaces, place_of};
 ghost use Rattle.mon_mib.specs.Objects.{prefix_of};
 ghost use Rattle.mon_mib.specs.Refusal.{IsWritable, IsAccepted, IsSetFault};
 ghost use Rattle.mon_mib.specs.Tried.{object_of, IsTried, IsJudged, fault_at};
@@ -30,8 +31,8 @@ use mon_ber::{Octets, Value};
 use mon_oid::Oid;
 use mon_pdu::Binding;
 use mon_vacm::{Access, Policy};
-use std::alloc::Global;
-use std::collections::VecDeque;
+use std::alloc::{AllocError, Global};
+use std::collections::{BTreeMap, VecDeque};
 
 /// The most octets of a text of the system group (RFC 3418 section 2).
 const SYS_TEXT_MAX: usize = 255;
@@ -62,11 +63,12 @@ impl<D: Device + Drop> Mib<D> {
         ensures refused { let known = known_by D.held self.now moment in
             IfErr result (IsSetFault known (IsInView policy.now.families (view_of access.entry)) bindings.now) }
     {
+        let places = last_places(alloc, bindings)?;
         let mut steps = VecDeque::new(alloc);
         for (i, binding) in bindings.iter().enumerate() {
             let index = i + 1;
             let change = self.assign_at(alloc, policy, access, index, binding, moment)?;
-            if !is_named(&bindings[index..], &binding.name) {
+            if !is_named_after(&places, i, &binding.name) {
                 steps.push_back(Step { index, change })?;
             }
         }
@@ -218,9 +220,24 @@ fn find_writable(name: &[u32]) -> Option<(Writable, &[u32])>
     Some((object.writable()?, rest))
 }
 
-/// Returns `true` if one of the bindings has a name.
-fn is_named(bindings: &[Binding], name: &Oid) -> bool
-    ensures { IsTrue result ↔ Any (λ b. b.name ≡ name.now) bindings.now }
+/// Returns the last place of each name that a binding after the first has. It allocates nothing for
+/// a single binding.
+fn last_places(alloc: Global, bindings: &[Binding]) -> Result<BTreeMap<&Oid, usize>, AllocError>
+    ensures { IfOk result (AreLastPlaces bindings.now) }
 {
-    bindings.iter().any(|b| b.name == *name)
+    let mut places = BTreeMap::new(alloc);
+    for i in 1..bindings.len() {
+        places.insert(&bindings[i].name, i)?;
+    }
+    Ok(places)
+}
+
+/// Returns `true` if the last place of a name is after a place.
+fn is_named_after<'a>(places: &BTreeMap<&'a Oid, usize>, place: usize, name: &'a Oid) -> bool
+    ensures { IsTrue result ↔ IsSomeAnd (place_of places.now name.now) (λ last. place < last) }
+{
+    match places.get(&name) {
+        Some(last) => place < *last,
+        None => false,
+    }
 }

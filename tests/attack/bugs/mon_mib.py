@@ -278,8 +278,38 @@ BUGS = {
     ),
     "looks_for_a_name_at_itself": (
         "src/setting.rt",
-        "            if !is_named(&bindings[index..], &binding.name) {",
-        "            if !is_named(&bindings[i..], &binding.name) {",
+        "        Some(last) => place < *last,",
+        "        Some(last) => place <= *last,",
+    ),
+    "looks_for_a_name_after_the_next_binding": (
+        "src/setting.rt",
+        "            if !is_named_after(&places, i, &binding.name) {",
+        "            if !is_named_after(&places, index, &binding.name) {",
+    ),
+    "looks_for_the_first_name_only": (
+        "src/setting.rt",
+        "            if !is_named_after(&places, i, &binding.name) {",
+        "            if !is_named_after(&places, i, &bindings[0].name) {",
+    ),
+    "leaves_out_the_last_binding_s_name": (
+        "src/setting.rt",
+        "    for i in 1..bindings.len() {",
+        "    for i in 1..bindings.len().saturating_sub(1) {",
+    ),
+    "leaves_out_the_second_binding_s_name": (
+        "src/setting.rt",
+        "    for i in 1..bindings.len() {",
+        "    for i in 2..bindings.len() {",
+    ),
+    "keeps_the_first_place_of_a_name": (
+        "src/setting.rt",
+        "        places.insert(&bindings[i].name, i)?;",
+        "        let name = &bindings[i].name; if !places.contains_key(&name) { places.insert(name, i)?; }",
+    ),
+    "keeps_no_place_of_a_name": (
+        "src/setting.rt",
+        "    Ok(places)",
+        "    drop(places); Ok(BTreeMap::new(alloc))",
     ),
     "denies_a_read_only_object_creation": (
         "src/setting.rt",
@@ -383,8 +413,8 @@ BUGS = {
     ),
     "first_of_a_name_is_assigned": (
         "src/setting.rt",
-        "            if !is_named(&bindings[index..], &binding.name) {",
-        "            if !is_named(&bindings[..i], &binding.name) {",
+        "            if !is_named_after(&places, i, &binding.name) {",
+        "            if i == 0 || !is_named_after(&places, i, &binding.name) {",
     ),
     "type_before_view": (
         "src/setting.rt",

@@ -3,23 +3,23 @@ use Rattle.mon_vacm.specs.View.{IsInView}
 use Rattle.mon_mib.specs.Known.{Known, known_of}
 use Rattle.mon_mib.proofs.Planning.{planned_when, passed_when, finished, all_accepted, apart, plan_made, on_ok}
 use Rattle.mon_mib.proofs.mib.Mib.test_set.Goals as goal
-use Rattle.mon_mib.proofs.mib.Mib.test_set.Goals.{then-not-is_named+in_ok-push_back, else-not-is_named+in-SysText-1, else-not-is_named+in-Alias-1, else-not-is_named+in-Admin-1}
+use Rattle.mon_mib.proofs.mib.Mib.test_set.Goals.{then-not-is_named_after+in_ok-push_back, else-not-is_named_after+in-SysText-1, else-not-is_named_after+in-Alias-1, else-not-is_named_after+in-Admin-1}
 
 pub loop-i-preserved : goal.loop-i-preserved
 loop-i-preserved g c =
     let known : Known = known_of c.args.self.now.settings c.args.self.now.counters (g.D.Device.held c.args.self.now.device) c.args.moment in
-    elim c.if-not-is_named.branch [
-      | then-not-is_named+in_ok-push_back w ↦ planned_when known (IsInView c.args.policy.now.families c.args.access.view.now) c.args.bindings.now c.loop-i.i c.loop-i.steps.items c.index-bindings-i.result c.in_ok-change.change
-          c.loop-i.invariant c.loop-i-test.true (sym c.index-bindings-i.is) c.in_ok-change.ensures.made c.is_named.result c.if-not-is_named.steps.items c.is_named.ensures w.if-not-is_named.true
+    elim c.if-not-is_named_after.branch [
+      | then-not-is_named_after+in_ok-push_back w ↦ planned_when known (IsInView c.args.policy.now.families c.args.access.view.now) c.args.bindings.now c.loop-i.i c.loop-i.steps.items c.index-bindings-i.result c.in_ok-change.change
+          c.loop-i.invariant c.loop-i-test.true (sym c.index-bindings-i.is) c.in_ok-change.ensures.made c.in_ok-places.places c.in_ok-places.ensures c.is_named_after.result c.if-not-is_named_after.steps.items c.is_named_after.ensures w.if-not-is_named_after.true
           (ap (λ q. q.items) w.steps-is ∙ w.in_ok-push_back.ensures.items)
-      | else-not-is_named+in-SysText-1 w ↦ passed_when known (IsInView c.args.policy.now.families c.args.access.view.now) c.args.bindings.now c.loop-i.i c.loop-i.steps.items c.index-bindings-i.result c.in_ok-change.change
-          c.loop-i.invariant c.loop-i-test.true (sym c.index-bindings-i.is) c.in_ok-change.ensures.made c.is_named.result c.if-not-is_named.steps.items c.is_named.ensures w.if-not-is_named.false
+      | else-not-is_named_after+in-SysText-1 w ↦ passed_when known (IsInView c.args.policy.now.families c.args.access.view.now) c.args.bindings.now c.loop-i.i c.loop-i.steps.items c.index-bindings-i.result c.in_ok-change.change
+          c.loop-i.invariant c.loop-i-test.true (sym c.index-bindings-i.is) c.in_ok-change.ensures.made c.in_ok-places.places c.in_ok-places.ensures c.is_named_after.result c.if-not-is_named_after.steps.items c.is_named_after.ensures w.if-not-is_named_after.false
           (ap (λ q. q.items) w.steps-is)
-      | else-not-is_named+in-Alias-1 w ↦ passed_when known (IsInView c.args.policy.now.families c.args.access.view.now) c.args.bindings.now c.loop-i.i c.loop-i.steps.items c.index-bindings-i.result c.in_ok-change.change
-          c.loop-i.invariant c.loop-i-test.true (sym c.index-bindings-i.is) c.in_ok-change.ensures.made c.is_named.result c.if-not-is_named.steps.items c.is_named.ensures w.if-not-is_named.false
+      | else-not-is_named_after+in-Alias-1 w ↦ passed_when known (IsInView c.args.policy.now.families c.args.access.view.now) c.args.bindings.now c.loop-i.i c.loop-i.steps.items c.index-bindings-i.result c.in_ok-change.change
+          c.loop-i.invariant c.loop-i-test.true (sym c.index-bindings-i.is) c.in_ok-change.ensures.made c.in_ok-places.places c.in_ok-places.ensures c.is_named_after.result c.if-not-is_named_after.steps.items c.is_named_after.ensures w.if-not-is_named_after.false
           (ap (λ q. q.items) w.steps-is)
-      | else-not-is_named+in-Admin-1 w ↦ passed_when known (IsInView c.args.policy.now.families c.args.access.view.now) c.args.bindings.now c.loop-i.i c.loop-i.steps.items c.index-bindings-i.result c.in_ok-change.change
-          c.loop-i.invariant c.loop-i-test.true (sym c.index-bindings-i.is) c.in_ok-change.ensures.made c.is_named.result c.if-not-is_named.steps.items c.is_named.ensures w.if-not-is_named.false
+      | else-not-is_named_after+in-Admin-1 w ↦ passed_when known (IsInView c.args.policy.now.families c.args.access.view.now) c.args.bindings.now c.loop-i.i c.loop-i.steps.items c.index-bindings-i.result c.in_ok-change.change
+          c.loop-i.invariant c.loop-i-test.true (sym c.index-bindings-i.is) c.in_ok-change.ensures.made c.in_ok-places.places c.in_ok-places.ensures c.is_named_after.result c.if-not-is_named_after.steps.items c.is_named_after.ensures w.if-not-is_named_after.false
           (ap (λ q. q.items) w.steps-is)
     ]
 
