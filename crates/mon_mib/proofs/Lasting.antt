@@ -23,11 +23,11 @@ pub record IsNamedWithin (bs : List Binding) (place n : ℕ) (name : List ℕ) :
   pub is : get_or bs at binding ≡ binding
   pub named : binding.name ≡ name
 
--- a function gives the last place of each name among the bindings before a place
+-- a function returns the last place of each name among the bindings before a place
 abbrev pub AreLastBefore : List Binding → ℕ → (List ℕ → Option ℕ) → Type 0
 AreLastBefore bs n f = (name : List ℕ) (place : ℕ) → IsSomeAnd (f name) (λ last. place < last) ↔ IsNamedWithin bs place n name
 
--- the same of a map
+-- a map holds the last place of each name among the bindings before a place
 abbrev pub AreLastUpTo : List Binding → ℕ → BTreeMap (Bor (List ℕ)) ℕ → Type 0
 AreLastUpTo bs n places = AreLastBefore bs n (place_of places)
 
