@@ -65,6 +65,7 @@ fn value_of(alloc: Global, tag: Tag, contents: &[u8]) -> Result<Value, BerFault>
 }
 
 /// A value, and what follows it. The octets and long identifiers in it are copied to the heap.
+#[inline(always)]
 #[tactic(auto, unfolding(crate::specs::Reading::value_at))]
 pub fn value_at(alloc: Global, octets: &[u8]) -> Result<(Value, &[u8]), BerFault>
     ensures gives { Gives (λ x. (x.0, x.1.now)) result (value_at octets.now) }

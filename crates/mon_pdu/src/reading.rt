@@ -52,6 +52,7 @@ fn all_bindings(alloc: Global, contents: &[u8]) -> Result<Vec<Binding>, PduFault
 }
 
 /// The SEQUENCE of variable bindings, and what follows it.
+#[inline(always)]
 #[tactic(auto, unfolding(crate::specs::Reading::list_at))]
 fn list_at(alloc: Global, octets: &[u8]) -> Result<(Bindings, &[u8]), PduFault>
     ensures { Gives (λ x. (x.0, x.1.now)) result (list_at octets.now) }
@@ -62,6 +63,7 @@ fn list_at(alloc: Global, octets: &[u8]) -> Result<(Bindings, &[u8]), PduFault>
 }
 
 /// The PDU of this kind, or the GetBulk, that the contents spell, all of the contents.
+#[inline(always)]
 #[tactic(auto, unfolding(crate::specs::Reading::body_of))]
 fn body_of(alloc: Global, kind: Option<PduKind>, contents: &[u8]) -> Result<Body, PduFault>
     ensures { Gives (λ b. b) result (body_of kind contents.now) }
@@ -89,6 +91,7 @@ fn body_of(alloc: Global, kind: Option<PduKind>, contents: &[u8]) -> Result<Body
 }
 
 /// The PDU after its tag, and what follows it.
+#[inline(always)]
 #[tactic(auto, unfolding(crate::specs::Reading::behind_tag))]
 fn behind_tag(
     alloc: Global,
@@ -102,6 +105,7 @@ fn behind_tag(
 }
 
 /// The PDU, and what follows it.
+#[inline(always)]
 #[tactic(auto, unfolding(crate::specs::Reading::body_at))]
 fn body_at(alloc: Global, octets: &[u8]) -> Result<(Body, &[u8]), PduFault>
     ensures { Gives (λ x. (x.0, x.1.now)) result (body_at octets.now) }
@@ -119,6 +123,7 @@ fn body_at(alloc: Global, octets: &[u8]) -> Result<(Body, &[u8]), PduFault>
 }
 
 /// The message that the contents of the outer SEQUENCE spell, all of the contents.
+#[inline(always)]
 #[tactic(auto, unfolding(crate::specs::Reading::message_of))]
 fn message_of(alloc: Global, contents: &[u8]) -> Result<Message, PduFault>
     ensures gives { Gives (λ m. m) result (message_of contents.now) }
@@ -137,6 +142,7 @@ fn message_of(alloc: Global, contents: &[u8]) -> Result<Message, PduFault>
 }
 
 /// The message; what follows it is passed over.
+#[inline(always)]
 #[tactic(auto, unfolding(crate::specs::Reading::message_at))]
 fn message_at(alloc: Global, octets: &[u8]) -> Result<Message, PduFault>
     ensures gives { Gives (λ m. m) result (message_at octets.now) }

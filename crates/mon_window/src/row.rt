@@ -87,6 +87,6 @@ fn move_down(all: &mut Vec<Sample>, start: usize)
     ensures capacity { vec_capacity all.new ≡ vec_capacity all.old }
 {
     let left = all.len() - start;
-    all.rotate_left(start);
+    all.copy_within(start.., 0);
     all.truncate(left);
 }

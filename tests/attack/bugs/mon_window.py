@@ -13,7 +13,7 @@ BUGS = {
     ),
     "moves_none_down": (
         "src/row.rt",
-        "    all.rotate_left(start);\n",
+        "    all.copy_within(start.., 0);\n",
         "",
     ),
     "puts_in_where_the_memory_begins": (
