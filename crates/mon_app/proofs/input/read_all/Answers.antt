@@ -2,6 +2,7 @@ use Rattle.std.proofs.Common.{◌≡◌, ℕ, ◌<◌, arith, List, [], ◌++◌
 use Rattle.std.specs.Prelude.{IfSome, Option, Some, None, Result, Ok}
 use Rattle.std.specs.Io.KnownBytes.{Consumes, IsAtEnd, ReadConsumes}
 use Rattle.std.proofs.lemmas.List.{append-nil}
+use Rattle.std.proofs.lemmas.Grind.{common_steps}
 use Rattle.mon_app.proofs.input.read_all.Goals as goal
 
 -- where a read gives nothing, what was read before is all
@@ -24,3 +25,12 @@ returns-in-Ok-eq0-clause-whole g c =
     whole (g.R.Read.remaining c.args.reader.now.reader) (g.R.Read.remaining c.loop.reader.reader) (g.R.Read.remaining c.read.new.self.reader) c.loop.octets.items
     c.read.new.room c.read.result c.in-Ok-eq0.field-0 c.loop.invariant.read c.in-Ok-eq0.field-0-test c.in-Ok-eq0.is c.read.ensures.bytes
     (omega (arith, c.read.auto.room, ap length c.as_mut_slice.ensures.value, c.loop.invariant.room))
+
+pub loop-preserved : goal.loop-preserved
+loop-preserved g c = grind (arith, common_steps)
+
+pub slice_bounds-extend_from_slice-end : goal.slice_bounds-extend_from_slice-end
+slice_bounds-extend_from_slice-end g c = grind (arith, common_steps)
+
+pub returns-then-ne-clause-fault : goal.returns-then-ne-clause-fault
+returns-then-ne-clause-fault g c = grind (arith, common_steps)

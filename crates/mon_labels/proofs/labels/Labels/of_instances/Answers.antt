@@ -1,4 +1,5 @@
 use Rattle.std.proofs.Common.{◌+◌, ◌++◌, ◌∙◌, List, ap, map, arith}
+use Rattle.std.proofs.lemmas.Grind.{common_steps}
 use Rattle.mon_page.specs.declared.extras.InstanceLabels.{InstanceLabels}
 use Rattle.mon_labels.specs.Given.{given, labels_for}
 use Rattle.mon_labels.proofs.Each.{left, one_more}
@@ -15,3 +16,6 @@ loop-place-preserved c =
     let same = c.in_ok-labels.ensures ∙ ap (λ a. labels_for all a w.instance) c.address_of-address.ensures in
     ap (λ (v : List InstanceLabels). map given v ++ left all targets addresses ws (at + 1)) c.in_ok-push.ensures.items
     ∙ one_more all targets addresses ws at w _ _ _ (omega arith) c.index-instances-place.is same c.loop-place.invariant
+
+pub returns : goal.returns
+returns c = grind (arith, common_steps)
