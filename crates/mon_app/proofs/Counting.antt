@@ -73,6 +73,43 @@ no_fewer taken more =
 pub rows_counted : (n : ℕ) (taken : List Offer) (rows : List Row) → rows ≡ rows_of n taken → length rows ≡ len (instances taken)
 rows_counted n taken rows is = length-rows n taken rows is ∙ sym (len-rising instance_cmp_total instance_cmp-IsAntisymmetric (instances taken))
 
+-- an offer is of one instance
+one_at_most : (taken : List Offer) (x : Offer) → len (instances (taken ++ x ∷ [])) ≤ len (instances taken) + 1
+one_at_most taken x =
+    subst (λ n. n ≤ len (instances taken) + 1) (sym (ap len (instances-push taken x) ∙ len-insert instance_cmp_total (instances taken) x.instance))
+    (by_test (contains (instances taken) x.instance))
+  where
+    by_test : (t : Bool) → cond t (len (instances taken)) (len (instances taken) + 1) ≤ len (instances taken) + 1
+    by_test true = omega arith
+    by_test false = omega arith
+
+-- offers add no more instances than there are offers
+no_more : (taken more : List Offer) → len (instances (taken ++ more)) ≤ len (instances taken) + length more
+no_more taken [] = subst (λ xs. len (instances xs) ≤ len (instances taken) + 0) (sym (append-nil taken)) (omega arith)
+no_more taken (x ∷ xs) =
+    let one : len (instances (taken ++ x ∷ [])) ≤ len (instances taken) + 1 = one_at_most taken x in
+    let others : len (instances ((taken ++ x ∷ []) ++ xs)) ≤ len (instances (taken ++ x ∷ [])) + length xs = no_more (taken ++ x ∷ []) xs in
+    subst (λ ys. len (instances ys) ≤ len (instances taken) + length (x ∷ xs)) (append_assoc taken (x ∷ []) xs) (omega arith)
+
+-- variable bindings offer no more samples than there are bindings
+few_offers : (stamp : Stamp) (bs : List Binding) → length (offers_of stamp bs) ≤ length bs
+unfolding offers_of
+few_offers stamp [] = omega arith
+few_offers stamp (b ∷ bs) = by_offer (offer_in stamp b) (few_offers stamp bs)
+  where
+    by_offer : (o : Option Offer) → length (offers_of stamp bs) ≤ length bs → length (cons_option o (offers_of stamp bs)) ≤ length (b ∷ bs)
+    by_offer (Some x) others = omega arith
+    by_offer None others = omega arith
+
+-- there is room for all instances of a response if there is room for as many as it has bindings
+pub all_fit : (n : ℕ) (taken : List Offer) (rows : List Row) (stamp : Stamp) (bs : List Binding) → rows ≡ rows_of n taken → length rows + length bs ≤ 256
+    → len (instances (taken ++ offers_of stamp bs)) ≤ 256
+all_fit n taken rows stamp bs is room =
+    let held : length rows ≡ len (instances taken) = rows_counted n taken rows is in
+    let more : len (instances (taken ++ offers_of stamp bs)) ≤ len (instances taken) + length (offers_of stamp bs) = no_more taken (offers_of stamp bs) in
+    let few : length (offers_of stamp bs) ≤ length bs = few_offers stamp bs in
+    omega arith
+
 -- what a search says of the instances
 pub held : (n : ℕ) (taken : List Offer) (rows : List Row) → rows ≡ rows_of n taken → (i : Instance) (r : Result ℕ ℕ) → IfOk r (λ at. at < length rows)
     → StandsAt (instances_of rows) i r → is_err r ≡ not (contains (instances taken) i)

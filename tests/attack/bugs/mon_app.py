@@ -1,6 +1,16 @@
 """Bugs of mon_app for planted_bugs: by a name the file, what stands there once, and the bug in its place."""
 
 BUGS = {
+    "has_room_by_the_rows_alone": (
+        "src/table.rt",
+        "        if self.rows.len() + response.bindings.len() <= LIMIT {",
+        "        if self.rows.len() <= LIMIT {",
+    ),
+    "has_room_for_one_more": (
+        "src/table.rt",
+        "        if self.rows.len() + response.bindings.len() <= LIMIT {",
+        "        if self.rows.len() + response.bindings.len() <= LIMIT + 1 {",
+    ),
     "asks_for_a_set_as_get": (
         "src/question.rt",
         "            Asking::Set(_) => plain(PduKind::Set, request_id, bindings),",

@@ -1,4 +1,4 @@
-use Rattle.std.proofs.Common.{◌≡◌, ◌+◌, ◌++◌, ◌∷◌, [], length, not, ◌||◌, take, refl, sym, ap, ◌∙◌, subst, arith, rules, Some, None}
+use Rattle.std.proofs.Common.{◌≡◌, ◌+◌, ◌≤◌, ◌++◌, ◌∷◌, [], length, not, ◌||◌, take, refl, sym, ap, ◌∙◌, subst, arith, rules, Some, None}
 use Rattle.std.specs.FinSet.{contains}
 use Rattle.std.specs.Option.{option_map}
 use Rattle.mon_board.specs.Instance.{named}
@@ -6,7 +6,7 @@ use Rattle.mon_app.specs.Offer.{Offer}
 use Rattle.mon_app.specs.Reading.{offer_in, offers_of}
 use Rattle.mon_app.specs.Response.{stamp_in, offered_by}
 use Rattle.mon_app.specs.Windows.{instances}
-use Rattle.mon_app.proofs.Counting.{Counted, is_one_of, none_counted, found_new, counted_known, counted_before, offers_more, offers_same, no_offers, not_true, not_false}
+use Rattle.mon_app.proofs.Counting.{Counted, all_fit, is_one_of, none_counted, found_new, counted_known, counted_before, offers_more, offers_same, no_offers, not_true, not_false}
 use Rattle.mon_app.proofs.table.Table.has_room.Goals as goal
 use Rattle.mon_app.proofs.table.Table.has_room.Goals.{then-is_new+in_ok-push+else-len-gt-LIMIT, else-is_new}
 
@@ -46,8 +46,8 @@ returns-then-len-gt-LIMIT c = λ taken is.
     (found_new taken stamp response.bindings.now at binding c.in-Some.field-0 rows fresh _ (c.loop-binding.invariant taken is)
     c.loop-binding-test.true c.binding-item.is offered refl (not_true _ (sym new ∙ c.if-is_new.true))) in
     let many = counted_before taken stamp response.bindings.now (at + 1) stamp.engine rows c.push.new.self.items counted in
-    let held : c.len.result ≡ length rows = search rules in
-    let listed : c.len-then-is_new.result ≡ length c.push.new.self.items = search rules in
+    let held : c.len-then-is_new.result ≡ length rows = search rules in
+    let listed : c.len-then-is_new-2.result ≡ length c.push.new.self.items = search rules in
     (λ t. absurd (search rules), λ few. absurd (omega arith))
 
 pub loop-binding-preserved : goal.loop-binding-preserved
@@ -75,3 +75,11 @@ loop-binding-preserved c = λ taken is.
           (subst (λ f. Counted taken (offers ++ x ∷ []) stamp.engine rows f) (sym (ap (λ v. v.items) w.fresh-is))
           (counted_known taken offers stamp.engine rows fresh counted binding.name c.in-Some.field-0 (not_false _ (sym new ∙ w.if-is_new.false))))
     ]
+
+pub returns-then-len-response-le-LIMIT : goal.returns-then-len-response-le-LIMIT
+returns-then-len-response-le-LIMIT c = λ taken is.
+    let response = c.args.response.now in
+    let rows = c.args.self.now.rows.items in
+    let held : c.len.result ≡ length rows = search rules in
+    let room : length rows + length response.bindings.now ≤ 256 = search rules in
+    (λ yes. all_fit c.args.self.now.size taken rows (stamp_in response) response.bindings.now is room, λ few. refl)
