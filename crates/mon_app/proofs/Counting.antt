@@ -101,7 +101,7 @@ few_offers stamp (b ∷ bs) = by_offer (offer_in stamp b) (few_offers stamp bs)
     by_offer (Some x) others = omega arith
     by_offer None others = omega arith
 
--- there is room for all instances of a response if there is room for as many as it has bindings
+-- all instances of a response fit if as many as it has bindings do
 pub all_fit : (n : ℕ) (taken : List Offer) (rows : List Row) (stamp : Stamp) (bs : List Binding) → rows ≡ rows_of n taken → length rows + length bs ≤ 256
     → len (instances (taken ++ offers_of stamp bs)) ≤ 256
 all_fit n taken rows stamp bs is room =
