@@ -15,10 +15,19 @@ use std::alloc::Global;
 use std::cell::Cell;
 
 /// A device over another one that counts how often it is asked for facts and for a next index.
-#[derive(Drop)]
 struct CountingDevice<D: Drop> {
     device: D,
     calls: Cell<u64>,
+}
+
+// By hand: where one is let go, a proof has one call and not a drop of each field.
+impl<D: Drop> Drop for CountingDevice<D> {
+    fn drop(self) {
+        let CountingDevice {
+            device: _,
+            calls: _,
+        } = self;
+    }
 }
 
 impl<D: Device + Drop> CountingDevice<D> {
@@ -105,10 +114,16 @@ fn device(interfaces: Vec<Interface>, texts: SysTexts) -> Option<CountingDevice<
 }
 
 /// The map of the small agent over a device of other interfaces, and who may read what of it.
-#[derive(Drop)]
 struct Large {
     policy: Policy,
     mib: Mib<CountingDevice<SimDevice>>,
+}
+
+// By hand: where one is let go, a proof has one call and not a drop of each field.
+impl Drop for Large {
+    fn drop(self) {
+        let Large { policy: _, mib: _ } = self;
+    }
 }
 
 impl Large {

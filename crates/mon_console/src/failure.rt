@@ -12,10 +12,17 @@ use std::io;
 
 /// A fault, and what else is known of it: the file, the address or the argument in which it arose,
 /// and what must be there.
-#[derive(Debug, Drop)]
+#[derive(Debug)]
 pub struct Failure {
     pub fault: Fault,
     more: Option<String>,
+}
+
+// By hand: where one is let go, a proof has one call and not a drop of each field.
+impl Drop for Failure {
+    fn drop(self) {
+        let Failure { fault: _, more: _ } = self;
+    }
 }
 
 impl Failure {

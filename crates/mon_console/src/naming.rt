@@ -11,11 +11,17 @@ use std::alloc::{AllocError, Global};
 use std::rt::Files;
 
 /// The built-in names and those of modules, and which module defines which.
-#[derive(Drop)]
 pub struct KnownNames {
     names: Names,
     /// Of each module its name, and how many definitions there are up to its end.
     ends: Vec<(String, usize)>,
+}
+
+// By hand: where one is let go, a proof has one call and not a drop of each field.
+impl Drop for KnownNames {
+    fn drop(self) {
+        let KnownNames { names: _, ends: _ } = self;
+    }
 }
 
 impl KnownNames {
@@ -34,7 +40,8 @@ impl KnownNames {
 
     /// The names, without which module defines which.
     pub fn into_names(self) -> Names {
-        self.names
+        let KnownNames { names, ends: _ } = self;
+        names
     }
 
     /// Adds the names of the module in a file.

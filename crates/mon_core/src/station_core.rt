@@ -13,12 +13,23 @@ use std::marker::Model;
 /// What a station needs to know of itself and the world: its number, the watch, the agents that it polls and its peers.
 /// In every core the targets are within the poller's limits, their objects are instances of the watch, and the peers are at
 /// most 15 other stations, none twice.
-#[derive(Drop)]
 pub struct Core {
     station: u32,
     watch: Watch,
     targets: Vec<Target>,
     peers: Vec<u32>,
+}
+
+// By hand: where one is let go, a proof has one call and not a drop of each field.
+impl Drop for Core {
+    fn drop(self) {
+        let Core {
+            station: _,
+            watch: _,
+            targets: _,
+            peers: _,
+        } = self;
+    }
 }
 
 impl Model for Core {
@@ -106,11 +117,17 @@ impl Core {
         ensures whole { IsCore self }
         ensures numbered { All (λ t. All (λ o. o.instance < length self.watch.instances) t.objects) self.targets }
     {
+        let Core {
+            station,
+            watch,
+            targets,
+            peers,
+        } = self;
         CoreParts {
-            station: self.station,
-            watch: self.watch,
-            targets: self.targets,
-            peers: self.peers,
+            station,
+            watch,
+            targets,
+            peers,
         }
     }
 

@@ -11,6 +11,9 @@ ghost use Rattle.mon_fields.specs.Layout.{numbers_octets, instance_octets, sampl
 use mon_oid::Oid;
 use mon_sample::Sample;
 
+/// The octets of a sample's record.
+const RECORD: usize = 21;
+
 /// Appends an octet.
 pub fn put_octet(out: &mut Vec<u8>, octet: u8)
     requires room { vec_len out.old < vec_capacity out.old }
@@ -85,7 +88,7 @@ pub fn samples_size(samples: &[Sample]) -> usize
     requires { length samples.now < 256 }
     ensures { result ≡ length (samples_octets samples.now) }
 {
-    21 * samples.len()
+    RECORD * samples.len()
 }
 
 /// Appends samples, a record of 21 octets each.
@@ -96,7 +99,20 @@ pub fn put_samples(out: &mut Vec<u8>, samples: &[Sample])
     ensures capacity { vec_capacity out.old ≤ vec_capacity out.new }
     ensures samples { AllByRecursion IsSample samples.now }
 {
+    let start = out.len();
+    out.resize(start + RECORD * samples.len(), 0).unwrap();
+    write_records(&mut out[start..], samples);
+}
+
+/// Writes the records of samples over as many octets.
+fn write_records(octets: &mut [u8], samples: &[Sample])
+    requires { length octets.old ≡ 21 * length samples.now }
+    ensures octets { octets.new ≡ samples_octets samples.now }
+    ensures samples { AllByRecursion IsSample samples.now }
+{
+    let mut at = 0;
     for sample in samples {
-        put_octets(out, &sample.to_record());
+        octets[at..at + RECORD].copy_from_slice(&sample.to_record());
+        at += RECORD;
     }
 }

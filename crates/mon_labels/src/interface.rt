@@ -5,7 +5,7 @@ ghost use Rattle.std.specs.List.{find, list_any};
 ghost use Rattle.mon_labels.specs.Described.{described, is_of};
 
 /// The labels of an interface.
-#[derive(Debug, Drop)]
+#[derive(Debug)]
 pub struct InterfaceLabels {
     /// The engine id of its agent, 5 to 32 octets (RFC 3411 section 5, snmpEngineID).
     pub engine: Vec<u8>,
@@ -15,6 +15,18 @@ pub struct InterfaceLabels {
     pub if_name: Option<String>,
     /// Its ifAlias, if it is given (RFC 2863).
     pub if_alias: Option<String>,
+}
+
+// By hand: where one is let go, a proof has one call and not a drop of each field.
+impl Drop for InterfaceLabels {
+    fn drop(self) {
+        let InterfaceLabels {
+            engine: _,
+            index: _,
+            if_name: _,
+            if_alias: _,
+        } = self;
+    }
 }
 
 impl InterfaceLabels {

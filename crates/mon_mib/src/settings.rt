@@ -2,7 +2,7 @@ use mon_ber::Octets;
 use mon_oid::Oid;
 
 /// What the agent is given at its start, and serves as it is.
-#[derive(Debug, Drop)]
+#[derive(Debug)]
 pub struct Settings {
     /// sysDescr (RFC 3418 section 2).
     pub descr: Octets,
@@ -16,4 +16,18 @@ pub struct Settings {
     pub boots: i32,
     /// snmpEngineMaxMessageSize, in octets, 484 to 8192 (RFC 3411 section 5).
     pub limit: i32,
+}
+
+// By hand: where one is let go, a proof has one call and not a drop of each field.
+impl Drop for Settings {
+    fn drop(self) {
+        let Settings {
+            descr: _,
+            object_id: _,
+            services: _,
+            engine: _,
+            boots: _,
+            limit: _,
+        } = self;
+    }
 }

@@ -16,11 +16,21 @@ use std::marker::Model;
 
 /// A simulated device: interfaces that count evenly, and the texts that can be set. It fails only changes of interfaces
 /// that it lacks. Contracts see the list of the interfaces, the texts, and how many changes have failed.
-#[derive(Drop)]
 pub struct SimDevice {
     interfaces: Vec<Interface>,
     texts: SysTexts,
     failures: u64,
+}
+
+// By hand: where one is let go, a proof has one call and not a drop of each field.
+impl Drop for SimDevice {
+    fn drop(self) {
+        let SimDevice {
+            interfaces: _,
+            texts: _,
+            failures: _,
+        } = self;
+    }
 }
 
 impl Model for SimDevice {

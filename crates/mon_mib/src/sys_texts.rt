@@ -7,7 +7,7 @@ use mon_ber::Octets;
 use std::mem;
 
 /// The texts of a device that can be set (RFC 3418 section 2).
-#[derive(Debug, Drop)]
+#[derive(Debug)]
 pub struct SysTexts {
     /// sysContact.
     pub contact: Octets,
@@ -15,6 +15,17 @@ pub struct SysTexts {
     pub name: Octets,
     /// sysLocation.
     pub location: Octets,
+}
+
+// By hand: where one is let go, a proof has one call and not a drop of each field.
+impl Drop for SysTexts {
+    fn drop(self) {
+        let SysTexts {
+            contact: _,
+            name: _,
+            location: _,
+        } = self;
+    }
 }
 
 impl SysTexts {

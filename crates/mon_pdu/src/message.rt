@@ -9,12 +9,19 @@ use mon_oid::Oid;
 use std::marker::Model;
 
 /// A variable binding, or varbind: the name of a variable with a value (RFC 3416 section 3, `VarBind`).
-#[derive(Debug, Drop)]
+#[derive(Debug)]
 pub struct Binding {
     /// The variable's name.
     pub name: Oid,
     /// Its value, Null in a request that asks for it, or why there is none.
     pub value: Value,
+}
+
+// By hand: where one is let go, a proof has one call and not a drop of each field.
+impl Drop for Binding {
+    fn drop(self) {
+        let Binding { name: _, value: _ } = self;
+    }
 }
 
 /// The variable bindings of a PDU, in their order (RFC 3416 section 3, `VarBindList`). Contracts see them as their list.

@@ -192,12 +192,21 @@ fn agent_address() -> Addr {
 }
 
 /// A trial with a good end.
-#[derive(Drop)]
 pub struct Trial {
     /// The station's report and `selftest: ok`.
     pub text: Vec<u8>,
     /// The station that was tried, with what it took.
     pub station: Station<MemoryDisk>,
+}
+
+// By hand: where one is let go, a proof has one call and not a drop of each field.
+impl Drop for Trial {
+    fn drop(self) {
+        let Trial {
+            text: _,
+            station: _,
+        } = self;
+    }
 }
 
 /// Tries a station on a disk in memory. It polls an agent in memory, which counts 1000 octets a

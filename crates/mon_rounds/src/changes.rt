@@ -32,12 +32,23 @@ pub struct Change {
 }
 
 /// What is wrong with each target, peer and instance, as far as it was said.
-#[derive(Drop)]
 pub struct Troubles {
     silent_targets: Vec<bool>,
     other_engines: Vec<bool>,
     silent_peers: Vec<bool>,
     stale_instances: Vec<bool>,
+}
+
+// By hand: where one is let go, a proof has one call and not a drop of each field.
+impl Drop for Troubles {
+    fn drop(self) {
+        let Troubles {
+            silent_targets: _,
+            other_engines: _,
+            silent_peers: _,
+            stale_instances: _,
+        } = self;
+    }
 }
 
 impl Troubles {

@@ -83,7 +83,6 @@ pub struct Spell {
 
 /// How long ago targets answered, peers sent something and instances had a new sample, and what went
 /// wrong.
-#[derive(Drop)]
 pub struct Freshness {
     targets: Vec<TargetAge>,
     peers: Vec<PeerAge>,
@@ -91,6 +90,20 @@ pub struct Freshness {
     failed_saves: u64,
     strangers: u64,
     round_ms: u64,
+}
+
+// By hand: where one is let go, a proof has one call and not a drop of each field.
+impl Drop for Freshness {
+    fn drop(self) {
+        let Freshness {
+            targets: _,
+            peers: _,
+            instances: _,
+            failed_saves: _,
+            strangers: _,
+            round_ms: _,
+        } = self;
+    }
 }
 
 impl Freshness {

@@ -103,11 +103,21 @@ impl Sends for Socket {
 }
 
 /// Sends a station's datagrams by its socket.
-#[derive(Drop)]
 pub struct SocketOutbox<'a, S: Sends> {
     socket: &'a S,
     addresses: Addresses,
     failures: u64,
+}
+
+// By hand: where one is let go, a proof has one call and not a drop of each field.
+impl<'a, S: Sends> Drop for SocketOutbox<'a, S> {
+    fn drop(self) {
+        let SocketOutbox {
+            socket: _,
+            addresses: _,
+            failures: _,
+        } = self;
+    }
 }
 
 impl<'a, S: Sends> SocketOutbox<'a, S> {

@@ -9,11 +9,21 @@ use std::io::{BufRead, BufReader, Result as IoResult};
 use std::mem;
 
 /// What lines change: a station's peers and windows, a station over its disk, and a poller.
-#[derive(Drop)]
 pub struct Subjects {
     exchange: Exchange,
     stage: Stage,
     polls: Poller,
+}
+
+// By hand: where one is let go, a proof has one call and not a drop of each field.
+impl Drop for Subjects {
+    fn drop(self) {
+        let Subjects {
+            exchange: _,
+            stage: _,
+            polls: _,
+        } = self;
+    }
 }
 
 impl Subjects {

@@ -126,6 +126,7 @@ impl Sample {
 
     /// Returns the sample's record: boots 4 octets, time 4, discontinuity 4, tag 1, value 8, each
     /// big-endian.
+    #[inline(always)]
     pub fn to_record(&self) -> [u8; 21]
         ensures octets { result ≡ octets_of self.now }
         ensures sample { IsSample self.now }
@@ -199,6 +200,7 @@ fn digits_of(octets: &[u8; 21]) -> Parts
 }
 
 #[tactic(auto, unfolding(crate::specs::Record::layout))]
+#[inline(always)]
 fn laid_out(boots: u32, time: u32, discontinuity: u32, tag: u8, value: u64) -> [u8; 21]
     ensures { result ≡ layout boots time discontinuity tag value }
 {

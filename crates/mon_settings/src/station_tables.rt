@@ -22,12 +22,23 @@ pub(crate) struct Around<'n> {
 }
 
 /// An object that is polled, with the sizes of its window.
-#[derive(Drop)]
 pub(crate) struct ObjectRow {
     pub(crate) name: Oid,
     pub(crate) discontinuity: Option<Oid>,
     pub(crate) window: usize,
     pub(crate) epoch: usize,
+}
+
+// By hand: where one is let go, a proof has one call and not a drop of each field.
+impl Drop for ObjectRow {
+    fn drop(self) {
+        let ObjectRow {
+            name: _,
+            discontinuity: _,
+            window: _,
+            epoch: _,
+        } = self;
+    }
 }
 
 /// Objects in the order of their list, which contracts see as the list.
@@ -55,13 +66,25 @@ impl ObjectRows {
 }
 
 /// An agent that is polled.
-#[derive(Drop)]
 pub(crate) struct TargetRow {
     pub(crate) address: Addr,
     pub(crate) community: Octets,
     pub(crate) engine: Octets,
     pub(crate) tries: u8,
     pub(crate) objects: ObjectRows,
+}
+
+// By hand: where one is let go, a proof has one call and not a drop of each field.
+impl Drop for TargetRow {
+    fn drop(self) {
+        let TargetRow {
+            address: _,
+            community: _,
+            engine: _,
+            tries: _,
+            objects: _,
+        } = self;
+    }
 }
 
 /// A peer, and where it is reached.
@@ -72,12 +95,23 @@ pub(crate) struct PeerRow {
 }
 
 /// An alarm on an object at an engine, with its thresholds in thousandths.
-#[derive(Drop)]
 pub(crate) struct AlarmRow {
     pub(crate) engine: Octets,
     pub(crate) name: Oid,
     pub(crate) rising: i64,
     pub(crate) falling: i64,
+}
+
+// By hand: where one is let go, a proof has one call and not a drop of each field.
+impl Drop for AlarmRow {
+    fn drop(self) {
+        let AlarmRow {
+            engine: _,
+            name: _,
+            rising: _,
+            falling: _,
+        } = self;
+    }
 }
 
 impl Row<Around<'_>> for ObjectRow {

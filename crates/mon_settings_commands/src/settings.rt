@@ -167,11 +167,21 @@ impl<'m, 'a> Ground<'m, 'a> {
 
 /// The texts that options lend, next to those of the arguments: where a station and its peers are, and
 /// its file.
-#[derive(Drop)]
 struct Texts {
     listen: String,
     file: String,
     peers: Vec<Peer>,
+}
+
+// By hand: where one is let go, a proof has one call and not a drop of each field.
+impl Drop for Texts {
+    fn drop(self) {
+        let Texts {
+            listen: _,
+            file: _,
+            peers: _,
+        } = self;
+    }
 }
 
 impl Texts {

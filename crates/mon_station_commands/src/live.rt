@@ -25,7 +25,6 @@ use std::rt::Clock;
 use std::time::Instant;
 
 /// What a running station works with.
-#[derive(Drop)]
 pub(crate) struct Live<S: Receiver + Drop, O: Outbox + Drop> {
     pub(crate) station: Station<FileDisk>,
     pub(crate) transport: Transport<S, O>,
@@ -48,8 +47,27 @@ pub(crate) struct Live<S: Receiver + Drop, O: Outbox + Drop> {
     pub(crate) unprinted: Option<Failure>,
 }
 
+// By hand: where one is let go, a proof has one call and not a drop of each field.
+impl<S: Receiver + Drop, O: Outbox + Drop> Drop for Live<S, O> {
+    fn drop(self) {
+        let Live {
+            station: _,
+            transport: _,
+            run: _,
+            course: _,
+            freshness: _,
+            troubles: _,
+            reports: _,
+            file: _,
+            origin: _,
+            ended: _,
+            unsaved: _,
+            unprinted: _,
+        } = self;
+    }
+}
+
 /// What a station receives and sends by, and where its targets and peers are reached.
-#[derive(Drop)]
 pub(crate) struct Transport<S: Receiver + Drop, O: Outbox + Drop> {
     pub(crate) rounds: Rounds<S>,
     pub(crate) outbox: O,
@@ -63,14 +81,40 @@ pub(crate) struct Transport<S: Receiver + Drop, O: Outbox + Drop> {
     pub(crate) polled: Vec<Option<u16>>,
 }
 
+// By hand: where one is let go, a proof has one call and not a drop of each field.
+impl<S: Receiver + Drop, O: Outbox + Drop> Drop for Transport<S, O> {
+    fn drop(self) {
+        let Transport {
+            rounds: _,
+            outbox: _,
+            addresses: _,
+            number: _,
+            peers: _,
+            engines: _,
+            polled: _,
+        } = self;
+    }
+}
+
 /// How a station's reports are printed, the file that each round's report is written to, from how many
 /// rounds without a new sample on an instance is stale, and how many seconds lie between two rounds.
-#[derive(Drop)]
 pub(crate) struct Reports {
     pub(crate) printing: Printing,
     pub(crate) out: Option<String>,
     pub(crate) stale_after: u32,
     pub(crate) interval: u32,
+}
+
+// By hand: where one is let go, a proof has one call and not a drop of each field.
+impl Drop for Reports {
+    fn drop(self) {
+        let Reports {
+            printing: _,
+            out: _,
+            stale_after: _,
+            interval: _,
+        } = self;
+    }
 }
 
 /// Where a station keeps its windows and is reached, and since when.

@@ -11,10 +11,19 @@ use mon_station::{Event, LentEvent, Station};
 use std::alloc::Global;
 
 /// The station, or the disk that it is opened from: one of the two is there.
-#[derive(Drop)]
 pub struct Stage {
     station: Option<Station<FuseDisk<MemoryDisk>>>,
     disk: Option<MemoryDisk>,
+}
+
+// By hand: where one is let go, a proof has one call and not a drop of each field.
+impl Drop for Stage {
+    fn drop(self) {
+        let Stage {
+            station: _,
+            disk: _,
+        } = self;
+    }
 }
 
 impl Stage {

@@ -11,7 +11,6 @@ use crate::need::Need;
 use mon_ber::Octets;
 
 /// The views that a group has under a security model (vacmAccessTable, RFC 3415 section 4).
-#[derive(Drop)]
 pub struct AccessEntry {
     pub group_name: Octets,
     pub security_model: SecurityModel,
@@ -19,6 +18,18 @@ pub struct AccessEntry {
     pub read_view: Option<Octets>,
     /// The view for writing, if there is one.
     pub write_view: Option<Octets>,
+}
+
+// By hand: where one is let go, a proof has one call and not a drop of each field.
+impl Drop for AccessEntry {
+    fn drop(self) {
+        let AccessEntry {
+            group_name: _,
+            security_model: _,
+            read_view: _,
+            write_view: _,
+        } = self;
+    }
 }
 
 impl AccessEntry {

@@ -18,9 +18,15 @@ use std::marker::Model;
 
 /// Tables that give no community and no subtree of a view twice, and name no view that has no family.
 /// Contracts see the tables as lists.
-#[derive(Drop)]
 pub struct Policy {
     tables: Tables,
+}
+
+// By hand: where one is let go, a proof has one call and not a drop of each field.
+impl Drop for Policy {
+    fn drop(self) {
+        let Policy { tables: _ } = self;
+    }
 }
 
 impl Model for Policy {

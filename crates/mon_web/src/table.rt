@@ -36,7 +36,6 @@ fn seat_in(stage: Stage, now: u64) -> Seat {
 }
 
 /// The connections, and the listener that they come by.
-#[derive(Drop)]
 pub(crate) struct Table {
     alloc: Global,
     listener: TcpListener,
@@ -48,6 +47,22 @@ pub(crate) struct Table {
     next: usize,
     buffer: Vec<u8>,
     pub(crate) site: Site,
+}
+
+// By hand: where one is let go, a proof has one call and not a drop of each field.
+impl Drop for Table {
+    fn drop(self) {
+        let Table {
+            alloc: _,
+            listener: _,
+            seats: _,
+            clients: _,
+            has_newcomer: _,
+            next: _,
+            buffer: _,
+            site: _,
+        } = self;
+    }
 }
 
 impl Table {

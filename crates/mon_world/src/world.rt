@@ -36,13 +36,24 @@ const MOST: u32 = 16;
 
 /// Several stations with equal watches and targets, all peers of each other, each on its own disk in memory, and every datagram that
 /// was sent between them.
-#[derive(Drop)]
 pub struct World {
     core: Core,
     stations: Vec<Station<MemoryDisk>>,
     sent: Vec<Datagram>,
     alloc: Global,
     ghost few: { length stations.items ≤ 16 },
+}
+
+// By hand: where one is let go, a proof has one call and not a drop of each field.
+impl Drop for World {
+    fn drop(self) {
+        let World {
+            core: _,
+            stations: _,
+            sent: _,
+            alloc: _,
+        } = self;
+    }
 }
 
 impl World {
