@@ -13,6 +13,7 @@ pub struct Octets {
 
 // By hand: where one is let go, a proof has one call and not a drop of each field.
 impl Drop for Octets {
+    #[inline(always)]
     fn drop(self) {
         let Octets { octets: _ } = self;
     }

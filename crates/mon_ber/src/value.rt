@@ -40,6 +40,7 @@ pub enum Value {
 
 // By hand: where one is let go, a proof has one call and not a drop of each field.
 impl Drop for Value {
+    #[inline(always)]
     fn drop(self) {
         match self {
             Value::Integer(_)

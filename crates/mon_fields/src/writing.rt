@@ -14,6 +14,9 @@ use mon_sample::Sample;
 /// The octets of a sample's record.
 const RECORD: usize = 21;
 
+/// The octets of a number.
+const NUMBER: usize = 4;
+
 /// Appends an octet.
 pub fn put_octet(out: &mut Vec<u8>, octet: u8)
     requires room { vec_len out.old < vec_capacity out.old }
@@ -51,8 +54,20 @@ fn put_numbers(out: &mut Vec<u8>, numbers: &[u32])
     ensures len { vec_len out.new ≡ vec_len out.old + 4 * length numbers.now }
     ensures capacity { vec_capacity out.old ≤ vec_capacity out.new }
 {
+    let start = out.len();
+    out.resize(start + NUMBER * numbers.len(), 0).unwrap();
+    write_numbers(&mut out[start..], numbers);
+}
+
+/// Writes numbers, four octets each, over as many octets.
+fn write_numbers(octets: &mut [u8], numbers: &[u32])
+    requires { length octets.old ≡ 4 * length numbers.now }
+    ensures { octets.new ≡ numbers_octets numbers.now }
+{
+    let mut at = 0;
     for number in numbers {
-        put_u32(out, *number);
+        octets[at..at + NUMBER].copy_from_slice(&number.to_be_bytes());
+        at += NUMBER;
     }
 }
 

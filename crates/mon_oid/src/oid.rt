@@ -20,6 +20,7 @@ pub struct Oid {
 
 // By hand: where one is let go, a proof has one call and not a drop of each field.
 impl Drop for Oid {
+    #[inline(always)]
     fn drop(self) {
         let Oid { parts: _ } = self;
     }

@@ -19,6 +19,7 @@ pub struct Binding {
 
 // By hand: where one is let go, a proof has one call and not a drop of each field.
 impl Drop for Binding {
+    #[inline(always)]
     fn drop(self) {
         let Binding { name: _, value: _ } = self;
     }
