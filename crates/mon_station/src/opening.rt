@@ -97,7 +97,7 @@ impl<D: Disk + Drop> Station<D> {
         };
         match station.save(alloc) {
             Ok(_) => Ok(station),
-            Err(fault) => Err((fault, station.into_disk())),
+            Err(fault) => Err((fault, station.keeper.into_disk())),
         }
     }
 }

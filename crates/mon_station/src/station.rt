@@ -16,6 +16,7 @@ use mon_disk::{Disk, FuseDisk, Keeper, KeeperFault};
 use std::alloc::Global;
 
 /// A station: one life, and the keeper of its file.
+#[derive(Drop)]
 pub struct Station<D: Disk + Drop> {
     pub(crate) life: Life,
     pub(crate) keeper: Keeper<D>,
@@ -23,17 +24,6 @@ pub struct Station<D: Disk + Drop> {
     /// one. Its capacity is kept from save to save: if it were freed each time, its pages would be
     /// asked of the system again.
     pub(crate) image: Vec<u8>,
-}
-
-// By hand: where one is let go, a proof has one call and not a drop of each field.
-impl<D: Disk + Drop> Drop for Station<D> {
-    fn drop(self) {
-        let Station {
-            life: _,
-            keeper: _,
-            image: _,
-        } = self;
-    }
 }
 
 impl<D: Disk + Drop> Station<D> {
@@ -197,12 +187,7 @@ impl<D: Disk + Drop> Station<D> {
     pub fn into_disk(self) -> D
         ensures { result ≡ device_of self.keeper }
     {
-        let Station {
-            life: _,
-            keeper,
-            image: _,
-        } = self;
-        keeper.into_disk()
+        self.keeper.into_disk()
     }
 }
 

@@ -28,7 +28,7 @@ BUGS = {
     ),
     "hands_over_no_peers": (
         "src/station_core.rt",
-        "            peers: self.peers,\n        }\n    }\n\n    /// An equal core.",
-        "            peers: { let mut peers = self.peers; peers.clear(); peers },\n        }\n    }\n\n    /// An equal core.",
+        "            targets,\n            peers,\n        }\n    }\n\n    /// An equal core.",
+        "            targets,\n            peers: { let mut peers = peers; peers.clear(); peers },\n        }\n    }\n\n    /// An equal core.",
     ),
 }

@@ -73,8 +73,33 @@ BUGS = {
     ),
     "measures_20_octets_a_sample": (
         "src/writing.rt",
-        "    21 * samples.len()",
-        "    20 * samples.len()",
+        "    RECORD * samples.len()\n}",
+        "    (RECORD - 1) * samples.len()\n}",
+    ),
+    "writes_each_record_over_the_first": (
+        "src/writing.rt",
+        "        at += RECORD;",
+        "        at += RECORD * usize::from(octets.is_empty());",
+    ),
+    "leaves_the_last_record_out": (
+        "src/writing.rt",
+        "    for sample in samples {\n        octets",
+        "    for sample in &samples[..samples.len().saturating_sub(1)] {\n        octets",
+    ),
+    "makes_no_space_for_the_last_record": (
+        "src/writing.rt",
+        "    write_records(&mut out[start..], samples);",
+        "    let most = samples.len().saturating_sub(1);\n    write_records(&mut out[start..start + RECORD * most], &samples[..most]);",
+    ),
+    "numbers_of_a_name_in_the_other_order": (
+        "src/writing.rt",
+        "copy_from_slice(&number.to_be_bytes());",
+        "copy_from_slice(&number.to_le_bytes());",
+    ),
+    "each_number_of_a_name_is_the_first": (
+        "src/writing.rt",
+        "        octets[at..at + NUMBER].copy_from_slice(&number.to_be_bytes());",
+        "        octets[at..at + NUMBER].copy_from_slice(&numbers[usize::from(*number > u32::MAX)].to_be_bytes());",
     ),
     "writes_the_engines_length_twice": (
         "src/writing.rt",
