@@ -41,7 +41,7 @@ impl Silence {
 }
 
 /// What an agent does about a datagram.
-#[derive(Debug, Drop)]
+#[derive(Drop)]
 pub enum Reply {
     /// It sends these octets to where the datagram came from.
     Send(Vec<u8>),

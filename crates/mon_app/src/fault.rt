@@ -20,7 +20,7 @@ pub struct SocketFault {
 }
 
 /// Why a command of the program failed, where no crate below names a fault of its own, in the order of the faults' numbers.
-#[derive(Clone, Copy, Debug, PartialEq, Eq, Error)]
+#[derive(Clone, Copy, Debug, Error)]
 pub enum AppFault {
     #[error("out of memory")]
     OutOfMemory,

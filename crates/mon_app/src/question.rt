@@ -9,7 +9,7 @@ use mon_pdu::{Binding, Bindings, Body, Bulk, Message, Pdu, PduKind};
 use std::alloc::{AllocError, Global};
 
 /// Which request asks (RFC 3416 sections 4.2.1 to 4.2.3 and 4.2.5).
-#[derive(Clone, Copy, Debug, PartialEq, Eq)]
+#[derive(Clone, Copy)]
 pub enum Asking<'a> {
     /// For the variables of the names.
     Get,

@@ -13,7 +13,7 @@ use std::alloc::Global;
 use std::net::Ipv4Addr;
 
 /// How a text is read as a value.
-#[derive(Clone, Copy, Debug, PartialEq, Eq)]
+#[derive(Clone, Copy, PartialEq, Eq)]
 pub enum ValueKind {
     /// A decimal number from -2147483648 to 2147483647.
     Integer,

@@ -25,7 +25,7 @@ use std::slice;
 const REQUESTS: u32 = 65_536;
 
 /// By which request a walk asks for what comes next.
-#[derive(Clone, Copy, Debug, PartialEq, Eq)]
+#[derive(Clone, Copy)]
 pub enum Stride {
     /// By GetNext, for one variable (RFC 3416 section 4.2.2).
     Next,

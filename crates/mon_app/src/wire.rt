@@ -3,7 +3,7 @@
 use crate::fault::SocketFault;
 
 /// What a wire received.
-#[derive(Clone, Copy, Debug, PartialEq, Eq)]
+#[derive(Clone, Copy)]
 pub enum Heard {
     /// A datagram of the agent's, of this many octets at the front of the buffer.
     Datagram(usize),

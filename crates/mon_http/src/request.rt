@@ -39,7 +39,7 @@ pub struct Refusal {
 }
 
 /// What a head comes to.
-#[derive(Clone, Copy, Debug, PartialEq, Eq)]
+#[derive(Clone, Copy)]
 pub enum Verdict {
     Asked(Request),
     Refused(Refusal),

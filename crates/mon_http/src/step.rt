@@ -3,7 +3,7 @@
 use crate::request::Request;
 
 /// What a step of a connection comes to.
-#[derive(Clone, Copy, Debug, PartialEq, Eq)]
+#[derive(Clone, Copy)]
 pub enum Step {
     /// More octets are needed.
     Wait,

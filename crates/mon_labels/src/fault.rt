@@ -10,7 +10,7 @@ use std::error::Error;
 use std::fmt;
 
 /// A table of the text.
-#[derive(Clone, Copy, Debug, PartialEq, Eq)]
+#[derive(Clone, Copy, Debug)]
 pub enum Place {
     /// The top table.
     Top,
@@ -29,7 +29,7 @@ impl fmt::Display for Place {
 }
 
 /// Why there are no labels, and where.
-#[derive(Clone, Copy, Debug, PartialEq, Eq)]
+#[derive(Clone, Copy, Debug)]
 pub enum LabelsFault {
     /// Memory was refused.
     OutOfMemory,

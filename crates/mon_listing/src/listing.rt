@@ -10,7 +10,7 @@ use mon_smi::{Definition, Names, NamesFault};
 use std::alloc::{AllocError, AllocFailed, Global};
 
 /// Why names are not listed.
-#[derive(Clone, Copy, Debug)]
+#[derive(Clone, Copy)]
 pub enum ListFault<'a> {
     /// Memory was refused.
     OutOfMemory,

@@ -9,7 +9,7 @@ use crate::set_status::SetStatus;
 use std::alloc::AllocError;
 
 /// Why a binding asks for no change.
-#[derive(Clone, Copy, Debug, PartialEq, Eq)]
+#[derive(Clone, Copy)]
 pub(crate) enum BindingFault {
     /// Memory was refused.
     OutOfMemory,

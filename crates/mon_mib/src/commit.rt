@@ -13,7 +13,7 @@ use crate::set_plan::SetPlan;
 use crate::step::Step;
 
 /// What the second phase of a Set has come to.
-#[derive(Debug, Drop)]
+#[derive(Drop)]
 pub enum Commit {
     /// All is assigned.
     Done,

@@ -1,7 +1,7 @@
 use mon_ber::Value;
 
 /// What is at a name (RFC 3416 section 4.2.1).
-#[derive(Debug, Drop, PartialEq, Eq)]
+#[derive(Drop)]
 pub enum Got {
     /// A variable with this value.
     Found(Value),

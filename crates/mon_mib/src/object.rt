@@ -14,7 +14,7 @@ use smallvec::SmallVec;
 use std::alloc::{AllocError, Global};
 
 /// A served object.
-#[derive(Clone, Copy, Debug, PartialEq, Eq)]
+#[derive(Clone, Copy, PartialEq, Eq)]
 pub enum Object {
     /// One with a single variable.
     Scalar(Scalar),

@@ -6,7 +6,7 @@ use crate::row::{Row, read_only, read_write};
 use mon_ber::Tag;
 
 /// The served objects with one variable, whose instance is 0 (RFC 2578 section 7.7).
-#[derive(Clone, Copy, Debug, PartialEq, Eq)]
+#[derive(Clone, Copy, PartialEq, Eq)]
 pub enum Scalar {
     /// sysDescr: what the entity is (RFC 3418).
     SysDescr,

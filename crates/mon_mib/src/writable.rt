@@ -11,7 +11,7 @@ use crate::set_status::SetStatus;
 use mon_ber::Value;
 
 /// An object that a Set may change.
-#[derive(Clone, Copy, Debug, PartialEq, Eq)]
+#[derive(Clone, Copy)]
 pub(crate) enum Writable {
     /// sysContact, sysName or sysLocation.
     SysText(SysText),

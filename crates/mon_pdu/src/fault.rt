@@ -9,7 +9,7 @@ use std::alloc::{AllocError, AllocFailed};
 use thiserror::Error;
 
 /// Why a message could not be read or written, in the order of the faults' numbers.
-#[derive(Clone, Copy, Debug, PartialEq, Eq, Error)]
+#[derive(Clone, Copy, Debug, Error)]
 pub enum PduFault {
     /// Memory ran out. Every other fault follows from the octets or the message only.
     #[error("out of memory")]

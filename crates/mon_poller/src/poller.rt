@@ -40,7 +40,7 @@ pub struct Request {
 }
 
 /// What a timeout leads to.
-#[derive(Debug, Drop)]
+#[derive(Drop)]
 pub enum TimedOut {
     /// The poll's datagram must be sent again.
     Again {

@@ -17,7 +17,7 @@ use std::alloc::{AllocError, Global};
 use std::fmt;
 
 /// Why a message gives an instance no new sample.
-#[derive(Clone, Copy, Debug, PartialEq, Eq)]
+#[derive(Clone, Copy)]
 pub enum Reason {
     /// Its value is of this kind, which is no sample: also that the agent has no such object or
     /// instance, or hides it (RFC 3416 section 4.2.1).

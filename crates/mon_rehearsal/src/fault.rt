@@ -11,7 +11,7 @@ use std::alloc::{AllocError, AllocFailed};
 use thiserror::Error;
 
 /// Why a script was not read.
-#[derive(Clone, Copy, Debug, PartialEq, Eq, Error)]
+#[derive(Clone, Copy, Debug, Error)]
 pub enum ScriptFault {
     /// Memory was refused.
     #[error("out of memory")]
@@ -22,7 +22,7 @@ pub enum ScriptFault {
 }
 
 /// Why a rehearsal was not printed.
-#[derive(Clone, Copy, Debug, PartialEq, Eq, Error)]
+#[derive(Clone, Copy, Debug, Error)]
 pub enum RehearsalFault {
     /// Memory was refused.
     #[error("out of memory")]

@@ -12,7 +12,7 @@ use mon_world::Step;
 use std::alloc::{AllocError, Global};
 
 /// What a line of a script says. Stations and targets count from 1, and so do the datagrams between stations.
-#[derive(Debug, Drop)]
+#[derive(Drop)]
 pub enum ScriptStep {
     /// `poll S T`: a station starts a poll of a target.
     StartPoll(u32, u32),

@@ -102,7 +102,7 @@ end 1 instances 3 samples
 const DONE: &str = "selftest: ok\n";
 
 /// Why a trial has no good end.
-#[derive(Clone, Copy, Debug, PartialEq, Eq, Error)]
+#[derive(Clone, Copy, Debug, Error)]
 pub enum TrialFault {
     /// Memory was refused.
     #[error("out of memory")]

@@ -71,7 +71,7 @@ pub struct InstanceAge {
 }
 
 /// A round, or the time after it, that is over.
-#[derive(Clone, Copy, Debug)]
+#[derive(Clone, Copy)]
 pub struct Spell {
     /// Which of the two it was.
     pub span: Span,

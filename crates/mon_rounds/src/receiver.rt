@@ -5,7 +5,7 @@ use mon_udp::Addr;
 use thiserror::Error;
 
 /// Which wait a reception is part of.
-#[derive(Clone, Copy, Debug, PartialEq, Eq)]
+#[derive(Clone, Copy)]
 pub enum Wait {
     /// One that begins now and lasts this many milliseconds.
     Anew(u32),
@@ -14,7 +14,7 @@ pub enum Wait {
 }
 
 /// What a reception gave.
-#[derive(Debug, Drop)]
+#[derive(Drop)]
 pub enum Arrival {
     /// A datagram, and where it came from.
     Datagram(Addr, Octets),

@@ -11,7 +11,7 @@ use mon_udp::Addr;
 use std::alloc::{AllocError, Global};
 
 /// What is reported of an event to an operator.
-#[derive(Clone, Copy, Debug, PartialEq, Eq)]
+#[derive(Clone, Copy)]
 pub enum Notice {
     /// The target of this number answered none of its poll's datagrams.
     GaveUp(u16),

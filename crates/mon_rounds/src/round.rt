@@ -28,7 +28,7 @@ const MOST_FAILURES: u32 = 16;
 const ROOM: usize = 4700;
 
 /// What a station is run through.
-#[derive(Clone, Copy, Debug, PartialEq, Eq)]
+#[derive(Clone, Copy, PartialEq, Eq)]
 pub enum Span {
     /// A round.
     Round,
@@ -37,7 +37,7 @@ pub enum Span {
 }
 
 /// The phase of a round.
-#[derive(Clone, Copy, Debug, PartialEq, Eq)]
+#[derive(Clone, Copy, PartialEq, Eq)]
 pub enum Phase {
     /// The target of this number is polled next.
     Polling(u16),

@@ -9,7 +9,7 @@ use std::error::Error;
 use std::fmt;
 
 /// Why there are no settings, and the place of the cause.
-#[derive(Clone, Copy, Debug, PartialEq, Eq)]
+#[derive(Clone, Copy)]
 pub enum SettingsFault {
     /// Memory was refused.
     OutOfMemory,
@@ -123,6 +123,13 @@ impl fmt::Display for SettingsFault {
                 write!(f, "{place}: no object has this name; {wanted}")
             }
         }
+    }
+}
+
+/// As it is displayed.
+impl fmt::Debug for SettingsFault {
+    fn fmt<W: fmt::Write>(&self, f: &mut fmt::Formatter<W>) -> fmt::Result {
+        write!(f, "{self}")
     }
 }
 

@@ -4,7 +4,7 @@ ghost use Rattle.mon_settings.specs.Key.{inner_key_name, key_name};
 use std::fmt;
 
 /// A key of the settings.
-#[derive(Clone, Copy, Debug, PartialEq, Eq)]
+#[derive(Clone, Copy, PartialEq, Eq)]
 pub enum Key {
     Listen,
     Limit,

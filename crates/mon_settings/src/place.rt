@@ -7,7 +7,7 @@ use crate::key::Key;
 use std::fmt;
 
 /// One step into a table.
-#[derive(Clone, Copy, Debug, PartialEq, Eq)]
+#[derive(Clone, Copy)]
 pub enum Step {
     /// The value of a key.
     Value(Key),
@@ -17,7 +17,7 @@ pub enum Step {
 
 /// A place in the settings: `limit`, `access[2].model`, `interface[1].in_octets.rate` or
 /// `target[1].objects[2].name`. Tables nest no deeper.
-#[derive(Clone, Copy, Debug, PartialEq, Eq)]
+#[derive(Clone, Copy)]
 pub enum Place {
     /// The table that is read, as a whole: of a text its top table.
     Whole,

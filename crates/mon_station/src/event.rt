@@ -8,7 +8,7 @@ use mon_exchange::Noted;
 use mon_udp::Addr;
 
 /// What a station is handed: of an agent's datagram a `D`, and of a peer's a `P`.
-#[derive(Clone, Copy, Debug, PartialEq, Eq, Drop)]
+#[derive(Clone, Copy, Drop)]
 pub enum Event<D, P> {
     /// To poll the target of this number.
     StartPoll(u16),
@@ -49,7 +49,7 @@ impl OwnedEvent {
 }
 
 /// Where a datagram goes.
-#[derive(Clone, Copy, Debug, PartialEq, Eq)]
+#[derive(Clone, Copy, Debug)]
 pub enum To {
     /// To the target of this number.
     Target(u16),

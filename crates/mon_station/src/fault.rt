@@ -13,7 +13,7 @@ use std::fmt;
 use thiserror::Error;
 
 /// Why a station refused an event, or was not opened. A part's lack of memory is the station's own.
-#[derive(Clone, Copy, Debug, PartialEq, Eq, Error)]
+#[derive(Clone, Copy, Debug, Error)]
 pub enum StationFault {
     /// Memory was refused.
     #[error("out of memory")]

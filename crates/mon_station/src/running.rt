@@ -72,7 +72,7 @@ pub trait Outbox {
 }
 
 /// What became of an event.
-#[derive(Clone, Copy, Debug, PartialEq, Eq)]
+#[derive(Clone, Copy)]
 pub enum Answer {
     /// It was handled, and offered this many samples.
     Handled(u64),

@@ -12,7 +12,6 @@ use std::alloc::Global;
 use std::marker::Model;
 
 /// A cell of a table of interfaces.
-#[derive(Debug)]
 pub struct Cell {
     /// The number of its place, which rises as names do.
     pub key: u128,

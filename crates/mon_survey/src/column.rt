@@ -16,7 +16,7 @@ const IF_X_ENTRY: [u32; 10] = [1, 3, 6, 1, 2, 1, 31, 1, 1, 1];
 const INDEXES: u128 = 4294967296;
 
 /// A column of a table of interfaces, by its number (RFC 2863 section 6).
-#[derive(Clone, Copy, Debug, PartialEq, Eq)]
+#[derive(Clone, Copy, PartialEq, Eq)]
 pub enum Column {
     /// A column of ifTable.
     If(u32),

@@ -19,7 +19,7 @@ pub enum Kind {
 }
 
 /// A counter of an interface (RFC 2863 section 6).
-#[derive(Clone, Copy, Debug, PartialEq, Eq)]
+#[derive(Clone, Copy, PartialEq, Eq)]
 pub enum Counter {
     /// ifHCInOctets or ifInOctets.
     InOctets,
@@ -84,7 +84,7 @@ impl Counter {
 }
 
 /// A counter of an interface that is polled.
-#[derive(Clone, Copy, Debug, PartialEq, Eq)]
+#[derive(Clone, Copy, PartialEq, Eq)]
 pub struct Planned {
     /// Which counter.
     pub counter: Counter,

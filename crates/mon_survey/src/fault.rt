@@ -22,7 +22,7 @@ macro_rules! given {
 pub(crate) use given;
 
 /// Why an agent's answers give no settings.
-#[derive(Clone, Copy, Debug, PartialEq, Eq, Error)]
+#[derive(Clone, Copy, Debug, Error)]
 pub enum SurveyFault {
     /// Memory was refused.
     #[error("out of memory")]

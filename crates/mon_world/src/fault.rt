@@ -9,7 +9,7 @@ use std::alloc::{AllocError, AllocFailed};
 use thiserror::Error;
 
 /// Why a step was not made, or a world not opened. A station's lack of memory is the world's own.
-#[derive(Clone, Copy, Debug, PartialEq, Eq, Error)]
+#[derive(Clone, Copy, Debug, Error)]
 pub enum WorldFault {
     /// Memory was refused.
     #[error("out of memory")]

@@ -1,7 +1,7 @@
 //! The steps of a world.
 
 /// What happens in a world. Stations and targets count from 1, and so do the datagrams between stations.
-#[derive(Clone, Copy, Debug, PartialEq, Eq)]
+#[derive(Clone, Copy)]
 pub enum Step<'a> {
     /// A station starts a poll of a target.
     StartPoll(u32, u32),

@@ -11,7 +11,7 @@ use mon_report::write_rate;
 use std::alloc::{AllocError, Global};
 
 /// A metric of the station itself.
-#[derive(Clone, Copy, Debug, PartialEq, Eq)]
+#[derive(Clone, Copy, PartialEq, Eq)]
 pub(crate) enum StationMetric {
     /// How often the station was started over its file.
     Incarnation,
