@@ -26,6 +26,16 @@ BUGS = {
         "        self.all.remove(self.start + at)",
         "        self.all.remove(at)",
     ),
+    "what_is_older_is_the_newest_again": (
+        "src/window.rt",
+        "    items[items.len() - 1].compare(sample).is_eq()",
+        "    items[items.len() - 1].compare(sample).is_ge()",
+    ),
+    "of_no_samples_the_newest_is_repeated": (
+        "src/window.rt",
+        "        return false;\n    }\n    items[items.len() - 1].compare(sample).is_eq()",
+        "        return true;\n    }\n    items[items.len() - 1].compare(sample).is_eq()",
+    ),
     "oldest_goes_in_second": (
         "src/window.rt",
         "        return Err(0);",
