@@ -193,4 +193,40 @@ BUGS = {
         "    if is_newest(items, sample) {",
         "    if items.len() == 7 || is_newest(items, sample) {",
     ),
+    "applies_the_size_before_the_epoch": (
+        "src/plan.rt",
+        "if at >= epoch && items[at - epoch].boots() == boots {",
+        "if items.len() < size && at >= epoch && items[at - epoch].boots() == boots {",
+        "if fills_epoch(items, epoch, first, boots) {",
+        "if items.len() < size && fills_epoch(items, epoch, first, boots) {",
+    ),
+    "drops_the_oldest_for_an_older": (
+        "src/window.rt",
+        "return Plan::TooOld;",
+        "return Plan::Replaces { at: at + 1, out: 0 };",
+    ),
+    "drops_the_oldest_of_all_for_a_full_share": (
+        "src/plan.rt",
+        "return Some(first);",
+        "return Some(if at > 0 { 0 } else { first });",
+    ),
+    "joins_the_newer_alone": (
+        "src/window.rt",
+        "        let _ = &self.items;",
+        "        let _ = &self.items; if let (Some(own), Some(theirs)) = (self.items.as_slice().last(), other.items.as_slice().last()) { if own.compare(theirs).is_gt() { return; } }",
+    ),
+    "keeps_a_repeated_sample_twice": (
+        "src/window.rt",
+        "Ok(_) => return Plan::Known,",
+        "Ok(at) => at,",
+    ),
+}
+
+# Those that break a promise as a whole, each with its function: tests/bodies tries them in the gate.
+PROMISES = {
+    "applies_the_size_before_the_epoch": "plan::full_epoch",
+    "drops_the_oldest_for_an_older": "window::Window::plan",
+    "drops_the_oldest_of_all_for_a_full_share": "plan::leaving",
+    "joins_the_newer_alone": "window::Window::join",
+    "keeps_a_repeated_sample_twice": "window::Window::plan",
 }
