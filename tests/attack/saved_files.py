@@ -134,12 +134,13 @@ def station(octets, path, targets):
         return 1, "", failed(fault, path), slots.laid_out(octets)
     said = short(octets, path)
     said += f"snmpmon: station 1 at HERE, incarnation {incarnation}, file {path}, targets: {len(targets)}, peers: 0\n"
-    said += "".join(f"snmpmon: round 1: target {number} at {address} gave up\n" for number, address in enumerate(targets, 1))
+    silent = "".join(f"snmpmon: round 1: target {number} at {address} gave up\n" for number, address in enumerate(targets, 1))
     try:
-        file = slots.saved(file, image_of(incarnation, windows))
+        return 0, report_of(windows), said + silent, slots.saved(file, image_of(incarnation, windows))
     except slots.Refused as fault:
-        said += f"snmpmon: round 1: not saved, mon_disk {fault.args[0]}\n"
-    return 0, report_of(windows), said, file
+        # Its last save failed, so the command does, after its report.
+        unsaved = f"snmpmon: round 1: not saved, mon_disk {fault.args[0]}\n"
+        return 1, report_of(windows), said + unsaved + silent + failed(Fault("mon_disk", *fault.args), path), file
 
 
 def counted(chance):
