@@ -1,5 +1,5 @@
 -- The listing of names.
-use Rattle.std.proofs.Common.{◌≡◌, ◌<◌, ◌≤◌, ◌+◌, ℕ, true, false, List, [], ◌∷◌, ◌++◌, length, get_or, take, map, refl, sym, ap, subst, ◌∙◌, ◌⊎◌, inl, inr, arith}
+use Rattle.std.proofs.Common.{◌≡◌, ◌≢◌, ◌<◌, ◌≤◌, ◌+◌, ℕ, true, false, List, [], ◌∷◌, ◌++◌, length, get_or, take, map, refl, sym, ap, subst, ◌∙◌, ◌⊎◌, inl, inr, arith}
 use Rattle.std.specs.Borrow.{Bor}
 use Rattle.std.specs.Cmp.Lexicographic.{slice_cmp, nat_list_cmp_total}
 use Rattle.std.specs.List.{All, Contains, flat_map}
@@ -13,10 +13,11 @@ use Rattle.std.proofs.lemmas.List.MinMax.{ranks_by}
 use Rattle.std.proofs.lemmas.List.Sorted.{sorted_far, Contains-permutation, IsPermutation-sym}
 use Rattle.mon_smi.specs.declared.definition.Definition.{Definition}
 use Rattle.mon_smi.specs.declared.fault.NamesFault.{NamesFault}
+use Rattle.mon_smi.specs.declared.fault.NamesFault.TheVariants as reason
 use Rattle.mon_smi.specs.Names.{IsFaultOfNameText}
 use Rattle.mon_listing.specs.declared.listing.ListFault.{ListFault}
 use Rattle.mon_listing.specs.declared.listing.ListFault.TheVariants.{OutOfMemory, Unnamed}
-use Rattle.mon_listing.specs.Listing.{IsFirstUnnamed, IsListFault, IsListing, IsMeant, Row, row_cmp, row_line, row_lines, seen, shown_cmp, text_cmp}
+use Rattle.mon_listing.specs.Listing.{IsFaultAt, IsFirstUnnamed, IsListFault, IsListing, IsMeant, Row, row_cmp, row_line, row_lines, seen, shown_cmp, text_cmp}
 
 -- a lent name
 abbrev pub Name : Type 0
@@ -62,10 +63,11 @@ is_listing known names rows text same meant order is = record {
 -- of rising names the one at a place, of which all before it were found, is the first without an identifier
 pub is_first : (known : List Definition) (names : List Name) (rows : List Lent) (i : ℕ) (d : Name) (fault : NamesFault) → IsSorted text_cmp names → i < length names
     → map (λ r. r.1.now) rows ≡ map (λ n. n.now) (take i names) → All (λ r. IsMeant known (seen r)) rows → IsFaultOfNameText fault known (get_or names i d).now
-    → IsFirstUnnamed known (map (λ n. n.now) names) (get_or names i d).now fault
-is_first known names rows i d fault sorted less same meant why = record {
+    → fault ≢ reason.OutOfMemory → IsFirstUnnamed known (map (λ n. n.now) names) (get_or names i d).now fault
+is_first known names rows i d fault sorted less same meant why own = record {
   listed = (i, omega (arith, less, length-map names (λ (n : Name). n.now)), get_or-map (λ (n : Name). n.now) names i d (get_or names i d).now less);
   unmeant = why;
+  own = own;
   lesser = λ other found before. by_place other found before (cases_lt found.0 i);
 }
   where
@@ -96,12 +98,22 @@ is_first known names rows i d fault sorted less same meant why = record {
         (λ k. is_lt (slice_cmp nat_cmp (there k) (get_or names i d).now)) ∙ ap is_lt before in
         absurd cc
 
+-- so what is told of it is a fault of the names
+pub is_fault : (known : List Definition) (names : List Name) (rows : List Lent) (i : ℕ) (d : Name) (why : NamesFault) (fault : ListFault) → IsSorted text_cmp names → i < length names
+    → map (λ r. r.1.now) rows ≡ map (λ n. n.now) (take i names) → All (λ r. IsMeant known (seen r)) rows → IsFaultOfNameText why known (get_or names i d).now
+    → IsFaultAt (get_or names i d).now why fault → IsListFault known (map (λ n. n.now) names) fault
+is_fault known names rows i d why OutOfMemory sorted less same meant unmeant at = tt
+is_fault known names rows i d why (Unnamed name fault) sorted less same meant unmeant (text, is, own) =
+    subst (λ (f : NamesFault). IsFirstUnnamed known (map (λ n. n.now) names) name.now f) (sym is)
+    (subst (λ (t : List ℕ). IsFirstUnnamed known (map (λ n. n.now) names) t why) (sym text) (is_first known names rows i d why sorted less same meant unmeant own))
+
 -- a fault of the names in another order is one of the names
 pub fault_moved : (known : List Definition) (names moved : List (List ℕ)) (fault : ListFault) → IsPermutation names moved → IsListFault known moved fault → IsListFault known names fault
 fault_moved known names moved OutOfMemory same is = tt
 fault_moved known names moved (Unnamed name fault) same is = record {
   listed = Contains-permutation moved names name.now (IsPermutation-sym names moved same) is.listed;
   unmeant = is.unmeant;
+  own = is.own;
   lesser = λ other found before. is.lesser other (Contains-permutation names moved other same found) before;
 }
 

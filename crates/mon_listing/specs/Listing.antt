@@ -1,5 +1,5 @@
 -- The listing of the names that a module defines.
-use Rattle.std.specs.Prelude.{◌≡◌, ℕ, List, ◌++◌, codes, map}
+use Rattle.std.specs.Prelude.{◌≡◌, ◌≢◌, ℕ, List, ◌++◌, codes, map}
 use Rattle.std.specs.Borrow.{Bor}
 use Rattle.std.specs.Ordering.{nat_cmp, ordering_then}
 use Rattle.std.specs.Cmp.Lexicographic.{slice_cmp}
@@ -10,6 +10,7 @@ use Rattle.std.specs.List.Sorted.{IsPermutation, IsSorted}
 use Rattle.mon_oid.specs.Oid.{IsOid, dotted}
 use Rattle.mon_smi.specs.declared.definition.Definition.{Definition}
 use Rattle.mon_smi.specs.declared.fault.NamesFault.{NamesFault}
+use Rattle.mon_smi.specs.declared.fault.NamesFault.TheVariants as reason
 use Rattle.mon_smi.specs.Names.{IsFaultOfNameText, MeansNumbers}
 use Rattle.mon_listing.specs.declared.listing.ListFault.{ListFault}
 use Rattle.mon_listing.specs.declared.listing.ListFault.TheVariants.{OutOfMemory, Unnamed}
@@ -47,16 +48,22 @@ pub record IsListing (known : List Definition) (names : List (List ℕ)) (text :
   pub is : text ≡ row_lines rows
 
 -- a name of these that means no identifier, for this reason, where each of them that comes before
--- it by bytes means one
+-- it by bytes means one; that memory was refused is no such reason
 pub record IsFirstUnnamed (known : List Definition) (names : List (List ℕ)) (name : List ℕ) (fault : NamesFault) : Type 0 where
   pub listed : Contains names name
   pub unmeant : IsFaultOfNameText fault known name
+  pub own : fault ≢ reason.OutOfMemory
   pub lesser : (other : List ℕ) → Contains names other → slice_cmp nat_cmp other name ≡ Less → (q : List ℕ) × IsMeant known (q, other)
 
 -- why names are not listed
 abbrev pub IsListFault : List Definition → List (List ℕ) → ListFault → Type 0
 IsListFault known names OutOfMemory = Unit {0}
 IsListFault known names (Unnamed name fault) = IsFirstUnnamed known names name.now fault
+
+-- why names are not listed where one of them is not found: memory was refused, or the reason is the name's
+abbrev pub IsFaultAt : List ℕ → NamesFault → ListFault → Type 0
+IsFaultAt name why OutOfMemory = why ≡ reason.OutOfMemory
+IsFaultAt name why (Unnamed lent fault) = (lent.now ≡ name) × (fault ≡ why) × (why ≢ reason.OutOfMemory)
 
 -- a row with its name as it is lent
 abbrev pub seen : List ℕ × Bor (List ℕ) → Row

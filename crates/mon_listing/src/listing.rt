@@ -3,7 +3,7 @@
 ghost use Rattle.std.specs.Prelude.{◌≡◌, ◌++◌, IfErr, IfOk, OnOk, map, string_bytes};
 ghost use Rattle.std.specs.List.{All, flat_map};
 ghost use Rattle.std.specs.List.Sorted.{IsPermutation, IsSorted};
-ghost use Rattle.mon_listing.specs.Listing.{IsListFault, IsListing, IsMeant, names_in, row_line, seen, shown_cmp, text_cmp};
+ghost use Rattle.mon_listing.specs.Listing.{IsFaultAt, IsListFault, IsListing, IsMeant, names_in, row_line, seen, shown_cmp, text_cmp};
 
 use mon_oid::Oid;
 use mon_smi::{Definition, Names, NamesFault};
@@ -114,11 +114,25 @@ fn found_of<'a>(
     for name in names {
         match known.resolve(alloc, name) {
             Ok(oid) => rows.push((oid, *name))?,
-            Err(NamesFault::OutOfMemory) => return Err(ListFault::OutOfMemory),
-            Err(fault) => return Err(ListFault::Unnamed(name, fault)),
+            Err(fault) => return Err(fault_at(name, fault)),
         }
     }
     Ok(rows)
+}
+
+/// Returns why names are not listed if this one is not found, for this reason.
+fn fault_at(name: &str, fault: NamesFault) -> ListFault<'_>
+    ensures { IsFaultAt name.now fault result }
+{
+    match fault {
+        NamesFault::OutOfMemory => ListFault::OutOfMemory,
+        NamesFault::Duplicate(_)
+        | NamesFault::Formless(_)
+        | NamesFault::Unknown
+        | NamesFault::Cycle
+        | NamesFault::TooDeep
+        | NamesFault::BadIdentifier => ListFault::Unnamed(name, fault),
+    }
 }
 
 /// The lines of rows.

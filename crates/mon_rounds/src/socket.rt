@@ -1,7 +1,9 @@
 //! A station receives and sends by one socket, so that responses and claims come back to it.
 
-ghost use Rattle.std.specs.Prelude.{◌≡◌, IfOk};
+ghost use Rattle.std.specs.Prelude.{◌≡◌, IfOk, IsErr, None, OnOk};
+ghost use Rattle.std.specs.Duration.{as_nanos};
 ghost use Rattle.mon_rounds.specs.AtSocket.{IsArrival, goes_to};
+ghost use Rattle.mon_rounds.specs.Reception.{length_in};
 
 use crate::addresses::Addresses;
 use crate::receiver::{Arrival, Receiver, ReceiverFault, Wait};
@@ -28,7 +30,9 @@ impl<'a, R: Clock> SocketReceiver<'a, R> {
     ///
     /// # Errors
     /// `OutOfMemory` if there is no memory for a datagram, the system's fault if the clock fails.
-    pub fn new(rt: &'a R, alloc: Global, socket: &'a Socket) -> io::Result<Self> {
+    pub fn new(rt: &'a R, alloc: Global, socket: &'a Socket) -> io::Result<Self>
+        ensures { IfOk result (λ r. r.failures ≡ 0) }
+    {
         Ok(SocketReceiver {
             alloc,
             socket,
@@ -41,7 +45,9 @@ impl<'a, R: Clock> SocketReceiver<'a, R> {
 
 impl<R: Clock> SocketReceiver<'_, R> {
     /// Receives something in a wait that begins now, or in the rest of the last one.
-    fn receive_in(&mut self, wait: Wait) -> io::Result<Option<(usize, SocketAddr)>> {
+    fn receive_in(&mut self, wait: Wait) -> io::Result<Option<(usize, SocketAddr)>>
+        ensures length { OnOk result (as_nanos self.new.waiting.length ≡ length_in wait (as_nanos self.old.waiting.length)) }
+    {
         if let Wait::Anew(milliseconds) = wait {
             self.waiting.begin(milliseconds)?;
         }
@@ -71,14 +77,17 @@ pub fn arrival_of(
 }
 
 impl<R: Clock> Receiver for SocketReceiver<'_, R> {
-    ghost use Rattle.std.specs.Prelude.{None};
+    ghost use Rattle.mon_udp.specs.Counts.{failed_after};
 
     // What happens at a socket is not known.
     ghost heard = { λ _. None };
 
     ghost failures = { λ r. r.failures };
 
-    fn receive(&mut self, wait: Wait) -> Result<Arrival, ReceiverFault> {
+    fn receive(&mut self, wait: Wait) -> Result<Arrival, ReceiverFault>
+        ensures failures { self.new.failures ≡ failed_after result self.old.failures }
+        ensures length { OnOk result (as_nanos self.new.waiting.length ≡ length_in wait (as_nanos self.old.waiting.length)) }
+    {
         let failures = self.failures;
         let received = match self.receive_in(wait) {
             Ok(Some((len, from))) => arrival_of(self.alloc, self.buffer.as_slice(), len, from),
@@ -122,7 +131,10 @@ impl<'a, S: Sends> Drop for SocketOutbox<'a, S> {
 
 impl<'a, S: Sends> SocketOutbox<'a, S> {
     /// An outbox by this socket, to these addresses.
-    pub fn new(socket: &'a S, addresses: Addresses) -> Self {
+    pub fn new(socket: &'a S, addresses: Addresses) -> Self
+        ensures addresses { result.addresses ≡ addresses }
+        ensures failures { result.failures ≡ 0 }
+    {
         SocketOutbox {
             socket,
             addresses,
@@ -141,7 +153,9 @@ impl<'a, S: Sends> SocketOutbox<'a, S> {
     }
 
     /// Sends a datagram to where it goes.
-    fn put(&self, out: &Outgoing) -> Result<(), OutboxFault> {
+    fn put(&self, out: &Outgoing) -> Result<(), OutboxFault>
+        ensures { goes_to self.now.addresses out.now.to ≡ None → IsErr result }
+    {
         let Some(to) = self.address_of(out.to) else {
             return Err(OutboxFault);
         };
@@ -152,14 +166,19 @@ impl<'a, S: Sends> SocketOutbox<'a, S> {
 }
 
 impl<S: Sends> Outbox for SocketOutbox<'_, S> {
-    ghost use Rattle.std.specs.Prelude.{None};
+    ghost use Rattle.mon_udp.specs.Counts.{failed_after};
 
     // What happens at a socket is not known.
     ghost handed = { λ _. None };
 
     ghost failures = { λ o. o.failures };
 
-    fn send(&mut self, out: &Outgoing) -> Result<(), OutboxFault> {
+    fn send(&mut self, out: &Outgoing) -> Result<(), OutboxFault>
+        ensures failures { self.new.failures ≡ failed_after result self.old.failures }
+        ensures addresses { self.new.addresses ≡ self.old.addresses }
+        // What has no address is not sent, and that counts as a failure.
+        ensures nowhere { goes_to self.old.addresses out.now.to ≡ None → IsErr result }
+    {
         let sent = self.put(out);
         self.failures = failed_after(self.failures, &sent);
         sent

@@ -1,5 +1,7 @@
 //! The connections.
 
+ghost use Rattle.std.specs.Prelude.{◌≡◌, IfOk};
+
 use crate::client::{Client, Turn};
 use crate::response::Moment;
 use crate::seat::{SEATS, SPARED_MS, Seat, Stage, choose_seat, is_late};
@@ -67,11 +69,9 @@ impl Drop for Table {
 
 impl Table {
     /// No connections yet.
-    pub(crate) fn new(
-        alloc: Global,
-        listener: TcpListener,
-        site: Site,
-    ) -> Result<Self, AllocError> {
+    pub(crate) fn new(alloc: Global, listener: TcpListener, site: Site) -> Result<Self, AllocError>
+        ensures { IfOk result (λ t. t.site ≡ site) }
+    {
         let mut clients = Vec::with_capacity(alloc, SEATS)?;
         for _ in 0..SEATS {
             clients.push(None)?;
@@ -89,11 +89,15 @@ impl Table {
     }
 
     /// Takes note that something may be done for the one of this token.
-    pub(crate) fn mark(&mut self, token: Token) {
+    pub(crate) fn mark(&mut self, token: Token)
+        ensures { self.new.site ≡ self.old.site }
+    {
         self.set_ready(token.0, true);
     }
 
-    fn set_ready(&mut self, place: usize, ready: bool) {
+    fn set_ready(&mut self, place: usize, ready: bool)
+        ensures { self.new.site ≡ self.old.site }
+    {
         if place == DOOR {
             self.has_newcomer = ready;
         } else if let Some(seat) = self.seats.get_mut(place) {
@@ -112,7 +116,9 @@ impl Table {
     }
 
     /// Does one thing for one client, or lets a newcomer in. Returns `false` if there was nothing to do.
-    pub(crate) fn turn(&mut self, registry: &Registry, at: Moment) -> bool {
+    pub(crate) fn turn(&mut self, registry: &Registry, at: Moment) -> bool
+        ensures { self.new.site ≡ self.old.site }
+    {
         for _ in 0..=SEATS {
             let place = self.next;
             self.next = if place < SEATS { place + 1 } else { 0 };
@@ -123,7 +129,9 @@ impl Table {
         false
     }
 
-    fn give_turn(&mut self, registry: &Registry, place: usize, at: Moment) -> bool {
+    fn give_turn(&mut self, registry: &Registry, place: usize, at: Moment) -> bool
+        ensures { self.new.site ≡ self.old.site }
+    {
         if place == DOOR {
             return self.admit(registry, at.now);
         }
@@ -141,7 +149,9 @@ impl Table {
     }
 
     /// Does what a client's turn came to.
-    fn settle(&mut self, place: usize, turn: Turn, now: u64) {
+    fn settle(&mut self, place: usize, turn: Turn, now: u64)
+        ensures { self.new.site ≡ self.old.site }
+    {
         match turn {
             Turn::Waits => self.set_ready(place, false),
             Turn::GoesOn => {}
@@ -150,26 +160,34 @@ impl Table {
         }
     }
 
-    fn set_seat(&mut self, place: usize, seat: Seat) {
+    fn set_seat(&mut self, place: usize, seat: Seat)
+        ensures { self.new.site ≡ self.old.site }
+    {
         if let Some(kept) = self.seats.get_mut(place) {
             *kept = seat;
         }
     }
 
-    fn set_client(&mut self, place: usize, client: Option<Client>) {
+    fn set_client(&mut self, place: usize, client: Option<Client>)
+        ensures { self.new.site ≡ self.old.site }
+    {
         if let Some(kept) = self.clients.get_mut(place) {
             *kept = client;
         }
     }
 
     /// Closes the connection of a place.
-    fn clear(&mut self, place: usize) {
+    fn clear(&mut self, place: usize)
+        ensures { self.new.site ≡ self.old.site }
+    {
         self.set_client(place, None);
         self.set_seat(place, EMPTY);
     }
 
     /// Lets a newcomer in, if there is one and a place for it. Returns `true` if one came.
-    fn admit(&mut self, registry: &Registry, now: u64) -> bool {
+    fn admit(&mut self, registry: &Registry, now: u64) -> bool
+        ensures { self.new.site ≡ self.old.site }
+    {
         let Some(place) = choose_seat(self.seats.as_slice(), now) else {
             return false;
         };
@@ -186,7 +204,9 @@ impl Table {
     }
 
     /// Seats a newcomer. If memory is refused for it, it is closed.
-    fn seat(&mut self, registry: &Registry, place: usize, stream: TcpStream, now: u64) {
+    fn seat(&mut self, registry: &Registry, place: usize, stream: TcpStream, now: u64)
+        ensures { self.new.site ≡ self.old.site }
+    {
         self.clear(place);
         if let Ok(client) = Client::new(self.alloc, registry, stream, Token(place)) {
             self.set_client(place, Some(client));
@@ -195,7 +215,9 @@ impl Table {
     }
 
     /// Closes the connections of clients that are late.
-    pub(crate) fn close_late(&mut self, now: u64) {
+    pub(crate) fn close_late(&mut self, now: u64)
+        ensures { self.new.site ≡ self.old.site }
+    {
         for place in 0..SEATS {
             if self.is_late(place, now) {
                 self.clear(place);

@@ -1,6 +1,6 @@
 //! The listener and the connections, and what they and a socket are waited for by.
 
-ghost use Rattle.std.specs.Prelude.{◌≡◌};
+ghost use Rattle.std.specs.Prelude.{◌≡◌, IfOk};
 ghost use Rattle.mon_web.specs.Site.{with_round, with_texts};
 
 use crate::door::Door;
@@ -32,7 +32,9 @@ impl Web {
     ///
     /// # Errors
     /// `OutOfMemory` if there is no memory for it.
-    pub fn new(alloc: Global, door: Door, site: Site) -> io::Result<Self> {
+    pub fn new(alloc: Global, door: Door, site: Site) -> io::Result<Self>
+        ensures { IfOk result (λ w. w.table.site ≡ site) }
+    {
         let Door { listener, poll } = door;
         Ok(Web {
             poll,
@@ -77,7 +79,9 @@ impl Web {
     ///
     /// # Errors
     /// That of the system, if it cannot be waited.
-    pub fn turn(&mut self, at: Moment, left: Duration) -> io::Result<()> {
+    pub fn turn(&mut self, at: Moment, left: Duration) -> io::Result<()>
+        ensures { self.new.table.site ≡ self.old.table.site }
+    {
         self.table.close_late(at.now);
         if self.table.turn(self.poll.registry(), at) {
             return Ok(());
@@ -86,7 +90,9 @@ impl Web {
     }
 
     /// Waits for what comes, for `left` at most.
-    fn wait(&mut self, left: Duration) -> io::Result<()> {
+    fn wait(&mut self, left: Duration) -> io::Result<()>
+        ensures { self.new.table.site ≡ self.old.table.site }
+    {
         let longest = self.table.longest_wait().unwrap_or(left);
         self.poll.poll(&mut self.events, Some(left.min(longest)))?;
         for event in self.events.iter() {

@@ -1,8 +1,10 @@
 //! Receives a station's datagrams, and serves HTTP while it waits for them.
 
-ghost use Rattle.std.specs.Prelude.{◌≡◌, ◌-◌};
+ghost use Rattle.std.specs.Prelude.{◌≡◌, ◌-◌, IfOk, OnOk};
 ghost use Rattle.std.specs.Duration.{as_nanos};
 ghost use Rattle.std.specs.Time.{instant_nanos};
+ghost use Rattle.mon_rounds.specs.Grid.{milliseconds_of};
+ghost use Rattle.mon_rounds.specs.Reception.{length_in};
 
 use crate::shows::Shows;
 use crate::socket::PolledSocket;
@@ -52,7 +54,12 @@ impl<'a, R: Clock + AllocGlobal> WebReceiver<'a, R> {
     ///
     /// # Errors
     /// `OutOfMemory` if there is no memory for a datagram, else the system's fault.
-    pub fn new(rt: &'a R, socket: &'a PolledSocket, web: Web, origin: Instant) -> io::Result<Self> {
+    pub fn new(rt: &'a R, socket: &'a PolledSocket, web: Web, origin: Instant) -> io::Result<Self>
+        ensures site { IfOk result (λ r. r.web.table.site ≡ web.table.site) }
+        ensures origin { IfOk result (λ r. r.origin ≡ origin) }
+        ensures over { IfOk result (λ r. as_nanos r.length ≡ 0) }
+        ensures failures { IfOk result (λ r. r.failures ≡ 0) }
+    {
         let alloc = rt.alloc();
         web.watch(&mut SourceFd(&socket.udp.as_raw_fd()))?;
         Ok(WebReceiver {
@@ -71,7 +78,11 @@ impl<'a, R: Clock + AllocGlobal> WebReceiver<'a, R> {
 
 impl<R: Clock> WebReceiver<'_, R> {
     /// Receives something in a wait that begins now, or in the rest of the last one.
-    fn receive_in(&mut self, wait: Wait) -> io::Result<Option<(usize, SocketAddr)>> {
+    fn receive_in(&mut self, wait: Wait) -> io::Result<Option<(usize, SocketAddr)>>
+        ensures length { OnOk result (as_nanos self.new.length ≡ length_in wait (as_nanos self.old.length)) }
+        ensures site { self.new.web.table.site ≡ self.old.web.table.site }
+        ensures origin { self.new.origin ≡ self.old.origin }
+    {
         self.begin(wait)?;
         for _ in 0..TRIES {
             match self.attempt()? {
@@ -84,7 +95,11 @@ impl<R: Clock> WebReceiver<'_, R> {
     }
 
     /// Begins a wait, or goes on with the last one.
-    fn begin(&mut self, wait: Wait) -> io::Result<()> {
+    fn begin(&mut self, wait: Wait) -> io::Result<()>
+        ensures length { OnOk result (as_nanos self.new.length ≡ length_in wait (as_nanos self.old.length)) }
+        ensures site { self.new.web.table.site ≡ self.old.web.table.site }
+        ensures origin { self.new.origin ≡ self.old.origin }
+    {
         if let Wait::Anew(milliseconds) = wait {
             self.began = Instant::now(self.rt)?;
             self.length = Duration::from_millis(u64::from(milliseconds));
@@ -93,7 +108,12 @@ impl<R: Clock> WebReceiver<'_, R> {
     }
 
     /// Looks for a datagram; if there is none, serves HTTP once in what is left of the wait.
-    fn attempt(&mut self) -> io::Result<Attempt> {
+    fn attempt(&mut self) -> io::Result<Attempt>
+        ensures length { self.new.length ≡ self.old.length }
+        ensures began { self.new.began ≡ self.old.began }
+        ensures site { self.new.web.table.site ≡ self.old.web.table.site }
+        ensures origin { self.new.origin ≡ self.old.origin }
+    {
         if let Some((len, from)) = self.socket.receive(self.buffer.as_mut_slice())? {
             return Ok(Attempt::Received(len, from));
         }
@@ -108,7 +128,9 @@ impl<R: Clock> WebReceiver<'_, R> {
     }
 
     /// Returns the time, as it is said to clients.
-    fn moment(&self, now: Instant) -> Moment {
+    fn moment(&self, now: Instant) -> Moment
+        ensures { result.now ≡ milliseconds_of (instant_nanos now - instant_nanos self.now.origin) }
+    {
         Moment {
             now: milliseconds(now.duration_since(self.origin)),
             date: self.date(),
@@ -125,13 +147,19 @@ impl<R: Clock> WebReceiver<'_, R> {
 
 impl<R: Clock> Receiver for WebReceiver<'_, R> {
     ghost use Rattle.std.specs.Prelude.{None};
+    ghost use Rattle.mon_udp.specs.Counts.{failed_after};
 
     // What happens at a socket is not known.
     ghost heard = { λ _. None };
 
     ghost failures = { λ r. r.failures };
 
-    fn receive(&mut self, wait: Wait) -> Result<Arrival, ReceiverFault> {
+    fn receive(&mut self, wait: Wait) -> Result<Arrival, ReceiverFault>
+        ensures failures { self.new.failures ≡ failed_after result self.old.failures }
+        ensures length { OnOk result (as_nanos self.new.length ≡ length_in wait (as_nanos self.old.length)) }
+        ensures site { self.new.web.table.site ≡ self.old.web.table.site }
+        ensures origin { self.new.origin ≡ self.old.origin }
+    {
         let failures = self.failures;
         let received = match self.receive_in(wait) {
             Ok(Some((len, from))) => arrival_of(self.alloc, self.buffer.as_slice(), len, from),

@@ -161,6 +161,136 @@ BUGS = {
         "    or_root(&rest[authority.len()..])",
         "    or_root(&rest[..authority.len()])",
     ),
+    "no_memory_is_200": (
+        "src/answer.rt",
+        "Answer::Unhealthy | Answer::OutOfMemory => Status::ServiceUnavailable,",
+        "Answer::Unhealthy => Status::ServiceUnavailable,",
+    ),
+    "unhealthy_says_ok": (
+        "src/answer.rt",
+        '            Answer::Healthy => b"ok\\n",\n            Answer::Unhealthy => b"no round ended in time\\n",',
+        '            Answer::Healthy | Answer::Unhealthy => b"ok\\n",',
+    ),
+    "keeps_empty_lines_before_a_request": (
+        "src/connection.rt",
+        "input.extend_from_slice(&octets[skipped..]).unwrap();",
+        "let _ = skipped;\n        input.extend_from_slice(octets).unwrap();",
+    ),
+    "keeps_empty_lines_after_a_request": (
+        "src/connection.rt",
+        "    let skipped = line_ends(&input[len..]);\n    input.drain(..len + skipped);",
+        "    input.drain(..len);",
+    ),
+    "every_response_keeps_the_connection": (
+        "src/connection.rt",
+        "        keep_alive: request.keep_alive,\n        date,",
+        "        keep_alive: true,\n        date,",
+    ),
+    "every_refusal_is_400": (
+        "src/connection.rt",
+        "        status: refusal.status,",
+        "        status: Status::BadRequest,",
+    ),
+    "a_new_connection_closes": (
+        "src/connection.rt",
+        "            sent: 0,\n            is_closing: false,",
+        "            sent: 0,\n            is_closing: true,",
+    ),
+    "has_always_all_its_room": (
+        "src/connection.rt",
+        "        MAX_OCTETS - self.input.len()\n",
+        "        MAX_OCTETS - self.input.len().min(0)\n",
+    ),
+    "a_head_too_long_is_400": (
+        "src/connection.rt",
+        "Some(refuse(Status::HeaderFieldsTooLarge, false, 0))",
+        "Some(refuse(Status::BadRequest, false, 0))",
+    ),
+    "looks_on_where_the_last_head_ended": (
+        "src/connection.rt",
+        "        self.scanned = 0;\n        self.is_blank = false;\n",
+        "",
+    ),
+    "refuses_and_sends_nothing": (
+        "src/connection.rt",
+        "                self.put(refusal.len, refusal.keep_alive, text);\n                Ok(Step::Refused)",
+        "                let _ = text;\n                Ok(Step::Refused)",
+    ),
+    "answers_a_request_again_and_again": (
+        "src/connection.rt",
+        "        self.put(request.len, request.keep_alive, text);",
+        "        self.put(0, request.keep_alive, text);",
+    ),
+    "sends_all_again": (
+        "src/connection.rt",
+        "        &self.output[self.sent..]",
+        "        &self.output[..]",
+    ),
+    "forgets_what_was_sent_before": (
+        "src/connection.rt",
+        "        self.sent += n;",
+        "        self.sent = n;",
+    ),
+    "never_closes": (
+        "src/connection.rt",
+        "        ensures { result ≡ self.now.closing }\n    {\n        self.is_closing\n",
+        "        ensures { result ≡ self.now.closing }\n    {\n        self.is_closing && self.output.is_empty()\n",
+    ),
+    "an_empty_line_has_no_cr": (
+        "src/front.rt",
+        "        is_blank = octet == b'\\n' || (is_blank && octet == b'\\r');",
+        "        is_blank = octet == b'\\n';",
+    ),
+    "every_version_is_this_one": (
+        "src/front.rt",
+        "    is_other_version(end_of_line(head))",
+        "    is_other_version(end_of_line(head)) && head.is_empty()",
+    ),
+    "head_is_not_served": (
+        "src/request.rt",
+        "    if with_body || is_head {",
+        "    if with_body && !is_head {",
+    ),
+    "a_bad_request_keeps_the_connection": (
+        "src/request.rt",
+        "        refuse(Status::BadRequest, false, len)\n    }\n}\n\n/// Returns the status",
+        "        refuse(Status::BadRequest, true, len)\n    }\n}\n\n/// Returns the status",
+    ),
+    "takes_the_front_of_a_head": (
+        "src/request.rt",
+        "if found.len == len {",
+        "if found.len <= len {",
+    ),
+    "no_memory_is_500": (
+        "src/response.rt",
+        'b"503 Service Unavailable"',
+        'b"500 Internal Server Error"',
+    ),
+    "close_for_keep_alive": (
+        "src/response.rt",
+        'if keep_alive { b"keep-alive" } else { b"close" }',
+        'if keep_alive { b"close" } else { b"keep-alive" }',
+    ),
+    "any_cache_keeps_a_response": (
+        "src/response.rt",
+        '    put_field(out, b"Cache-Control", b"no-store")?;\n',
+        "",
+    ),
+    "no_empty_line_after_the_head": (
+        "src/response.rt",
+        '    out.extend_from_slice(allow_field(status))?;\n    out.extend_from_slice(b"\\r\\n")',
+        "    out.extend_from_slice(allow_field(status))",
+    ),
+    "each_path_is_the_root": (
+        "src/route.rt",
+        '    if text.starts_with(b"/") { text } else { b"/" }',
+        '    if text.is_empty() { text } else { b"/" }',
+    ),
+    "health_has_no_route": (
+        "src/route.rt",
+        "        Some(Route::Health)",
+        "        None",
+    ),
 }
 
 PROMISES = {

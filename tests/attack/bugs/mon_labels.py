@@ -86,6 +86,136 @@ BUGS = {
         "            let address = address_of(reached, place);",
         "            let address = address_of(reached, place + 1);",
     ),
+    "too_many_has_the_number_of_twice": (
+        "src/fault.rt",
+        "            LabelsFault::TooMany => 7,",
+        "            LabelsFault::TooMany => 6,",
+    ),
+    "twice_is_named_too_many": (
+        "src/fault.rt",
+        'LabelsFault::Twice(_) => "Twice"',
+        'LabelsFault::Twice(_) => "TooMany"',
+    ),
+    "an_interface_is_there_if_all_are_it": (
+        "src/interface.rt",
+        "interfaces.iter().any(|labels|",
+        "interfaces.iter().all(|labels|",
+    ),
+    "finds_the_index_at_any_engine": (
+        "src/interface.rt",
+        "interfaces.iter().find(|labels| labels.is_of(engine, index))",
+        "{\n        let _ = engine;\n        interfaces.iter().find(|labels| labels.index == index)\n    }",
+    ),
+    "the_key_of_the_alias_in_small_letters": (
+        "src/key.rt",
+        'Key::IfAlias => "ifAlias"',
+        'Key::IfAlias => "ifalias"',
+    ),
+    "the_labels_of_the_first_instance_for_all": (
+        "src/labels.rt",
+        "self.of_instance(alloc, &watched.instance, address)?",
+        "self.of_instance(alloc, &instances.first().unwrap_or(watched).instance, address)?",
+    ),
+    "forgets_the_address_with_an_interface": (
+        "src/labels.rt",
+        "            Some(labels) => joined(\n                alloc,\n                address,",
+        "            Some(labels) => joined(\n                alloc,\n                None,",
+    ),
+    "forgets_the_address_without_an_interface": (
+        "src/labels.rt",
+        "            None => joined(alloc, address, None, None),",
+        "            None => joined(alloc, None, None, None),",
+    ),
+    "the_name_for_the_alias": (
+        "src/labels.rt",
+        "        if_alias: copied(alloc, if_alias)?,",
+        "        if_alias: copied(alloc, if_name)?,",
+    ),
+    "copies_no_text": (
+        "src/labels.rt",
+        "        Some(text) => Ok(Some(String::from_str(alloc, text.as_str())?)),",
+        "        Some(_) => Ok(None),",
+    ),
+    "passes_over_the_first_target": (
+        "src/labels.rt",
+        "    for number in 0..targets.len() {",
+        "    for number in 1..targets.len() {",
+    ),
+    "a_target_is_polled_for_its_first_object": (
+        "src/labels.rt",
+        "        .iter()\n        .any(|object|",
+        "        .iter()\n        .take(1)\n        .any(|object|",
+    ),
+    "numbers_interfaces_from_0": (
+        "src/reading.rt",
+        "read_entry_after(alloc, index + 1, done.as_slice(), value)?",
+        "read_entry_after(alloc, index, done.as_slice(), value)?",
+    ),
+    "the_last_interface_alone": (
+        "src/reading.rt",
+        "        done.push(labels)?;\n    }\n    Ok(done)",
+        "        done.clear();\n        done.push(labels)?;\n    }\n    Ok(done)",
+    ),
+    "no_table_lacks_its_key": (
+        "src/reading.rt",
+        "        None => Err(LabelsFault::BadValue(place, Key::Interface)),",
+        "        None => Err(LabelsFault::Missing(place, Key::Interface)),",
+    ),
+    "does_not_look_for_one_before": (
+        "src/reading.rt",
+        "    unless_twice(number, done, labels)\n",
+        "    let _ = done;\n    unless_twice(number, &[], labels)\n",
+    ),
+    "the_list_must_be_there": (
+        "src/reading.rt",
+        "        None => Ok(&[]),",
+        "        None => Err(LabelsFault::Missing(Place::Top, Key::Interface)),",
+    ),
+    "cuts_a_list_that_is_too_long": (
+        "src/reading.rt",
+        "        return Err(LabelsFault::TooMany);",
+        "        return Ok(&values[..MOST_INTERFACES]);",
+    ),
+    "no_toml_is_an_empty_table": (
+        "src/reading.rt",
+        "            Some(span) => Err(LabelsFault::NotToml(span.start)),",
+        "            Some(_) => Ok(Table::new(alloc)),",
+    ),
+    "reads_and_returns_no_labels": (
+        "src/reading.rt",
+        "    Ok(Labels { interfaces })",
+        "    let _ = interfaces;\n    Ok(Labels::none(alloc))",
+    ),
+    "knows_the_first_key_alone": (
+        "src/table.rt",
+        "        if name == key.name() {\n            return true;\n        }\n    }\n    false",
+        "        return name == key.name();\n    }\n    false",
+    ),
+    "a_missing_key_is_a_bad_value": (
+        "src/table.rt",
+        "ok_or(LabelsFault::Missing(self.place, key))",
+        "ok_or(LabelsFault::BadValue(self.place, key))",
+    ),
+    "a_number_for_a_text_is_none": (
+        "src/table.rt",
+        "                None => Err(self.bad(key)),\n            },\n            None => Ok(None),",
+        "                None => Ok(None),\n            },\n            None => Ok(None),",
+    ),
+    "a_bad_index_is_1": (
+        "src/table.rt",
+        "index_in(self.need(Key::Index)?).ok_or(self.bad(Key::Index))",
+        "Ok(index_in(self.need(Key::Index)?).unwrap_or(1))",
+    ),
+    "an_index_of_2_to_the_31": (
+        "src/table.rt",
+        "index <= 2_147_483_647",
+        "index <= 2_147_483_648",
+    ),
+    "takes_an_engine_id_of_33_octets": (
+        "src/table.rt",
+        "octets.len() <= 32",
+        "octets.len() <= 33",
+    ),
 }
 
 PROMISES = {

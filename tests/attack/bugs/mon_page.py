@@ -181,6 +181,173 @@ BUGS = {
         "        Some(level) => put_point(",
         "        Some(_) if spot.count > 0 => Ok(()),\n        Some(level) => put_point(",
     ),
+    "no_rule_is_clear": (
+        "src/cells.rt",
+        '        return Ok("-");',
+        '        return Ok("clear");',
+    ),
+    "clear_is_raised": (
+        "src/cells.rt",
+        "    matches!(alarm, AlarmState::Raised { .. })",
+        "    !matches!(alarm, AlarmState::Raised { .. })",
+    ),
+    "cuts_texts_after_64_octets": (
+        "src/escape.rt",
+        "    for octet in octets {",
+        "    for octet in &octets[..octets.len().min(64)] {",
+    ),
+    "escapes_twice": (
+        "src/escape.rt",
+        "        put_octet(text, *octet)?;",
+        "        put_octet(text, *octet)?;\n        put_octet(text, *octet)?;",
+    ),
+    "leaves_the_end_open": (
+        "src/escape.rt",
+        "    text.extend_from_slice(octets)?;\n    text.extend_from_slice(after)",
+        "    let _ = after;\n    text.extend_from_slice(octets)",
+    ),
+    "the_engine_before_the_labels": (
+        "src/name.rt",
+        "    put_labels_if(text, labels)?;\n    put_engine(alloc, text, instance)",
+        "    put_engine(alloc, text, instance)?;\n    put_labels_if(text, labels)",
+    ),
+    "engine_ids_in_raw_octets": (
+        "src/name.rt",
+        '    let engine = hex::encode(alloc, instance.engine())?;\n    put_between(text, b"<small>", engine.as_bytes(),',
+        '    let _ = alloc;\n    put_between(text, b"<small>", instance.engine(),',
+    ),
+    "a_label_without_its_end": (
+        "src/name.rt",
+        '    put_escaped(text, label)?;\n    text.extend_from_slice(b"</div>")',
+        "    put_escaped(text, label)",
+    ),
+    "the_table_before_the_station": (
+        "src/page.rt",
+        "    put_station_if(text, extras.station)?;\n    let listing",
+        "    let listing",
+        "    put_table(alloc, text, names, listing)?;\n    put_between",
+        "    put_table(alloc, text, names, listing)?;\n    put_station_if(text, extras.station)?;\n    put_between",
+    ),
+    "every_page_loads_again": (
+        "src/page.rt",
+        "        None => None,\n        Some(figures) => refresh_after",
+        "        None => Some(30),\n        Some(figures) => refresh_after",
+    ),
+    "a_page_without_its_head": (
+        "src/page.rt",
+        "    put_head(&mut text, refresh_of(extras.station))?;\n",
+        "",
+    ),
+    "a_head_without_a_style": (
+        "src/page.rt",
+        "    put_style(text)?;\n",
+        "",
+    ),
+    "leaves_out_the_first_row": (
+        "src/rows.rt",
+        "    for place in 0..listing.entries.len() {",
+        "    for place in 1..listing.entries.len() {",
+    ),
+    "counts_the_labels": (
+        "src/rows.rt",
+        "digits.format(listing.entries.len())",
+        "digits.format(listing.labels.len())",
+    ),
+    "the_age_before_the_alarm": (
+        "src/rows.rt",
+        "    put_class_cell(text, alarm_cell(alloc, entry)?.as_bytes())?;\n    put_age(text, age)",
+        "    put_age(text, age)?;\n    put_class_cell(text, alarm_cell(alloc, entry)?.as_bytes())",
+    ),
+    "no_rate_is_0": (
+        "src/rows.rt",
+        '    let Some(rate) = entry.totals().thousandths() else {\n        return put_cell(text, b"-");',
+        '    let Some(rate) = entry.totals().thousandths() else {\n        return put_cell(text, b"0/s");',
+    ),
+    "a_rate_without_its_unit": (
+        "src/rows.rt",
+        '    octets.extend_from_slice(b"/s")?;\n',
+        "",
+    ),
+    "an_unknown_age_is_0": (
+        "src/rows.rt",
+        '        None => put_cell(text, b"-"),',
+        '        None => put_cell(text, b"0"),',
+    ),
+    "plots_without_rules": (
+        "src/rows.rt",
+        "    put_plot(text, entry.samples(), rules.as_slice())",
+        "    let _ = rules;\n    put_plot(text, entry.samples(), &[])",
+    ),
+    "values_below_0_are_high": (
+        "src/plot.rt",
+        "sample.value().wrapping_add(1 << 63)",
+        "sample.value()",
+    ),
+    "the_sample_itself_before_it": (
+        "src/plot.rt",
+        "    samples.get(place - 1)",
+        "    samples.get(place)",
+    ),
+    "widens_upwards_only": (
+        "src/plot.rt",
+        "            low: scale.low.min(level),",
+        "            low: scale.low,",
+    ),
+    "a_scale_of_the_last_level": (
+        "src/plot.rt",
+        "        scale = widened(scale, level(before_at(samples, place), &samples[place]));",
+        "        scale = widened(Scale { low: u128::MAX, high: 0 }, level(before_at(samples, place), &samples[place]));",
+    ),
+    "plots_from_the_right": (
+        "src/plot.rt",
+        "    (place as u128) * 1000 / (count as u128).max(1)",
+        "    1000 - (place as u128 * 1000 / (count as u128).max(1)).min(1000)",
+    ),
+    "only_dots": (
+        "src/plot.rt",
+        "    if joined {\n        put_line(text, x, y)\n    } else {\n        put_dot(text, x, y)\n    }",
+        "    let _ = joined;\n    put_dot(text, x, y)",
+    ),
+    "a_threshold_in_thousandths_of_a_value": (
+        "src/plot.rt",
+        "i128::from(threshold / 1000)",
+        "i128::from(threshold)",
+    ),
+    "a_scale_of_the_rising_thresholds": (
+        "src/plot.rt",
+        "    widened(widened(scale, Some(rising)), Some(falling))",
+        "    let _ = falling;\n    widened(scale, Some(rising))",
+    ),
+    "a_line_for_the_first_rule_alone": (
+        "src/plot.rt",
+        "        put_rule(text, counted, scale, rule)?;\n    }\n    Ok(())",
+        "        return put_rule(text, counted, scale, rule);\n    }\n    Ok(())",
+    ),
+    "says_the_first_target_alone": (
+        "src/station.rt",
+        "        put_target(text, target)?;\n    }\n    Ok(())",
+        "        return put_target(text, target);\n    }\n    Ok(())",
+    ),
+    "debts_before_targets": (
+        "src/station.rt",
+        "    put_targets(text, figures.targets.as_slice())?;\n    put_debts(text, figures.debts.as_slice())?;",
+        "    put_debts(text, figures.debts.as_slice())?;\n    put_targets(text, figures.targets.as_slice())?;",
+    ),
+    "hides_why_a_response_was_refused": (
+        "src/station.rt",
+        "        Some(reason) => put_reason_text(text, reason.as_bytes()),",
+        "        Some(_) => Ok(()),",
+    ),
+    "the_class_of_a_target_is_up": (
+        "src/station.rt",
+        '    put_between(text, b"<li class=\\"", state_word(target.up), b"\\">target ")?;',
+        '    put_between(text, b"<li class=\\"", state_word(true), b"\\">target ")?;',
+    ),
+    "no_style_for_narrow_windows": (
+        "src/style.rt",
+        "    text.extend_from_slice(narrow())?;\n",
+        "",
+    ),
 }
 
 PROMISES = {

@@ -61,4 +61,79 @@ BUGS = {
         "        Some(more) => more <= Duration::from_millis(SLACK),",
         "        Some(_) => true,",
     ),
+    "refuses_the_port_0": (
+        "src/addr.rt",
+        "            Ok(address) => Some(Addr {\n                octets: address.ip().octets(),\n                port: address.port(),\n            }),\n            Err(_) => None,",
+        "            Ok(address) if address.port() > 0 => Some(Addr {\n                octets: address.ip().octets(),\n                port: address.port(),\n            }),\n            _ => None,",
+    ),
+    "reads_octets_from_the_last": (
+        "src/addr.rt",
+        "            Ok(address) => Some(Addr {\n                octets: address.ip().octets(),",
+        "            Ok(address) => Some(Addr {\n                octets: u32::from_be_bytes(address.ip().octets()).to_le_bytes(),",
+    ),
+    "forgets_the_port_of_the_systems_address": (
+        "src/addr.rt",
+        "            SocketAddr::V4(address) => Some(Addr {\n                octets: address.ip().octets(),\n                port: address.port(),",
+        "            SocketAddr::V4(address) => Some(Addr {\n                octets: address.ip().octets(),\n                port: 0,",
+    ),
+    "knows_no_address_of_the_system": (
+        "src/addr.rt",
+        "            SocketAddr::V4(address) => Some(Addr {\n                octets: address.ip().octets(),\n                port: address.port(),\n            }),\n            SocketAddr::V6(_) => None,",
+        "            SocketAddr::V4(_) | SocketAddr::V6(_) => None,",
+    ),
+    "sends_to_the_own_machine": (
+        "src/addr.rt",
+        "Ipv4Addr::from(self.octets), self.port)",
+        "Ipv4Addr::from([127, 0, 0, 1]), self.port)",
+    ),
+    "counts_what_did_not_fail": (
+        "src/failures.rt",
+        "        Ok(_) => count,\n        Err(_) => count.saturating_add(1),",
+        "        Ok(_) => count.saturating_add(1),\n        Err(_) => count,",
+    ),
+    "a_count_starts_at_0_again": (
+        "src/failures.rt",
+        "count.saturating_add(1)",
+        "count.wrapping_add(1)",
+    ),
+    "counts_a_failure_twice": (
+        "src/failures.rt",
+        "count.saturating_add(1)",
+        "count.saturating_add(1).saturating_add(1)",
+    ),
+    "a_buffer_of_one_frame": (
+        "src/socket.rt",
+        "    vec![in alloc; 0u8; MAX_DATAGRAM]",
+        "    vec![in alloc; 0u8; MAX_DATAGRAM.min(1500)]",
+    ),
+    "says_an_octet_more_than_came": (
+        "src/socket.rt",
+        "                received => return received,",
+        "                Ok((len, from)) => return Ok((len + 1, from)),\n                Err(error) => return Err(error),",
+    ),
+    "waits_a_minute_at_most": (
+        "src/waiting.rt",
+        "Duration::from_millis(u64::from(milliseconds))",
+        "Duration::from_millis(u64::from(milliseconds.min(60_000)))",
+    ),
+    "a_reception_shortens_the_wait": (
+        "src/waiting.rt",
+        "            self.set_timeout(socket, left)?;",
+        "            self.length = left;\n            self.set_timeout(socket, left)?;",
+    ),
+    "a_timeout_becomes_the_wait": (
+        "src/waiting.rt",
+        "        self.timeout = left;",
+        "        self.timeout = left;\n        self.length = left;",
+    ),
+    "waits_for_as_long_as_passed": (
+        "src/waiting.rt",
+        "    length.saturating_sub(now.duration_since(began))",
+        "    now.duration_since(began).saturating_sub(length)",
+    ),
+    "a_shorter_timeout_does": (
+        "src/waiting.rt",
+        "timeout.checked_sub(left)",
+        "left.checked_sub(timeout)",
+    ),
 }

@@ -86,6 +86,141 @@ BUGS = {
         "        self.table.site.show(texts);",
         "        let _ = texts;",
     ),
+    "an_idle_client_stays_for_ever": (
+        "src/seat.rt",
+        "            Stage::Free => None,\n            Stage::Asking | Stage::Idle | Stage::Sending => Some(ASKING_MS),",
+        "            Stage::Free | Stage::Idle => None,\n            Stage::Asking | Stage::Sending => Some(ASKING_MS),",
+    ),
+    "a_closing_client_has_no_place": (
+        "src/seat.rt",
+        "            Stage::Free => true,\n            _ => false,",
+        "            Stage::Free | Stage::Closing => true,\n            _ => false,",
+    ),
+    "a_newcomer_waits_until_a_place_is_free": (
+        "src/seat.rt",
+        "        None => oldest(seats, now),",
+        "        None => {\n            let _ = now;\n            None\n        }",
+    ),
+    "finds_a_place_with_a_client": (
+        "src/seat.rt",
+        "position(|seat| seat.stage.is_free())",
+        "position(|seat| !seat.stage.is_free())",
+    ),
+    "closes_the_last_that_may_be_closed": (
+        "src/seat.rt",
+        "(found.is_none() || seat.since < since)",
+        "(found.is_none() || seat.since <= u64::MAX)",
+    ),
+    "closes_who_has_sent_a_request": (
+        "src/seat.rt",
+        "    if seat.is_ready {\n        return false;\n    }\n",
+        "",
+    ),
+    "spares_idle_clients_too": (
+        "src/seat.rt",
+        "        Stage::Idle => true,\n        Stage::Asking | Stage::Closing => now",
+        "        Stage::Idle | Stage::Asking | Stage::Closing => now",
+    ),
+    "a_new_site_is_healthy": (
+        "src/site.rt",
+        "            texts: None,\n            ended: None,\n            limit,",
+        "            texts: None,\n            ended: Some(0),\n            limit,",
+    ),
+    "a_site_is_healthy_for_ever": (
+        "src/site.rt",
+        "            ended: None,\n            limit,",
+        "            ended: None,\n            limit: limit.max(u64::MAX),",
+    ),
+    "shows_old_texts_when_memory_ends": (
+        "src/site.rt",
+        "        self.texts = texts;",
+        "        if texts.is_some() {\n            self.texts = texts;\n        }",
+    ),
+    "notes_the_first_round_alone": (
+        "src/site.rt",
+        "        self.ended = Some(at);",
+        "        if self.ended.is_none() {\n            self.ended = Some(at);\n        }",
+    ),
+    "a_round_ends_the_texts": (
+        "src/site.rt",
+        "        self.ended = Some(at);",
+        "        self.ended = Some(at);\n        self.texts = None;",
+    ),
+    "healthy_before_the_round": (
+        "src/site.rt",
+        "now.saturating_sub(ended) <= self.limit",
+        "ended.saturating_sub(now) <= self.limit",
+    ),
+    "every_route_is_healthy": (
+        "src/site.rt",
+        "            Route::Report => self.report(),",
+        "            Route::Report => self.health(now),",
+    ),
+    "the_figures_for_the_report": (
+        "src/site.rt",
+        "Answer::Report(texts.report.as_slice())",
+        "Answer::Report(texts.metrics.as_slice())",
+    ),
+    "healthy_means_unhealthy": (
+        "src/site.rt",
+        "            Answer::Healthy\n        } else {\n            Answer::Unhealthy\n",
+        "            Answer::Unhealthy\n        } else {\n            Answer::Healthy\n",
+    ),
+    "answers_as_at_the_start": (
+        "src/response.rt",
+        "site.answer(request.route, at.now)",
+        "site.answer(request.route, 0)",
+    ),
+    "asks_and_does_not_answer": (
+        "src/response.rt",
+        "            answer_or_tell(connection, alloc, at, request, said)?;\n            Ok(true)",
+        "            let _ = (request, said);\n            Ok(true)",
+    ),
+    "answers_without_a_date": (
+        "src/response.rt",
+        "        Err(_) => connection.answer(alloc, at.date, request, Answer::OutOfMemory),",
+        "        Err(_) => connection.answer(alloc, None, request, Answer::OutOfMemory),",
+    ),
+    "a_round_ended_at_the_start": (
+        "src/web.rt",
+        "        self.table.site.note_round(at);",
+        "        let _ = at;\n        self.table.site.note_round(0);",
+    ),
+    "shows_that_there_is_no_memory": (
+        "src/web.rt",
+        "        self.table.site.show(texts);",
+        "        let _ = texts;\n        self.table.site.show(None);",
+    ),
+    "a_turn_ends_the_texts": (
+        "src/web.rt",
+        "        self.table.close_late(at.now);\n",
+        "        self.table.close_late(at.now);\n        self.table.site.show(None);\n",
+    ),
+    "a_wait_is_a_round": (
+        "src/web.rt",
+        "        if self.events.is_empty() {\n",
+        "        if self.events.is_empty() {\n            self.table.site.note_round(0);\n",
+    ),
+    "serves_another_site": (
+        "src/web.rt",
+        "            table: Table::new(alloc, listener, site)?,",
+        "            table: Table::new(alloc, listener, Site::new(site.limit))?,",
+    ),
+    "a_late_client_is_a_round": (
+        "src/table.rt",
+        "            if self.is_late(place, now) {\n",
+        "            if self.is_late(place, now) {\n                self.site.note_round(now);\n",
+    ),
+    "the_texts_go_with_a_client": (
+        "src/table.rt",
+        "        self.set_client(place, None);\n        self.set_seat(place, EMPTY);\n",
+        "        self.set_client(place, None);\n        self.set_seat(place, EMPTY);\n        self.site.show(None);\n",
+    ),
+    "a_newcomer_is_a_round": (
+        "src/table.rt",
+        "                self.seat(registry, place, stream, now);\n                true",
+        "                self.seat(registry, place, stream, now);\n                self.site.note_round(now);\n                true",
+    ),
 }
 
 # Those that break a promise as a whole, each with its function: tests/bodies tries them in the gate.

@@ -1,7 +1,7 @@
 use Rattle.std.proofs.Common.{◌≡◌, ◌+◌, List, map, take, subst, sym}
 use Rattle.std.specs.List.{All}
 use Rattle.mon_listing.specs.Listing.{IsMeant, seen}
-use Rattle.mon_listing.proofs.Listings.{Lent, found_more, is_first}
+use Rattle.mon_listing.proofs.Listings.{Lent, found_more, is_fault}
 use Rattle.mon_listing.proofs.listing.found_of.Goals as goal
 
 pub returns-in-Err : goal.returns-in-Err
@@ -10,7 +10,7 @@ returns-in-Err c =
     record {
       same = tt;
       meant = tt;
-      fault = is_first c.args.known.now c.args.names.now at.rows.items at.name-index _ c.in-Err.fault c.requires c.loop-name-test.true at.invariant.0 at.invariant.1 c.in-Err.ensures.fault;
+      fault = is_fault c.args.known.now c.args.names.now at.rows.items at.name-index _ c.in-Err.fault c.fault_at.result c.requires c.loop-name-test.true at.invariant.0 at.invariant.1 c.in-Err.ensures.fault c.fault_at.ensures;
     }
 
 pub loop-name-preserved : goal.loop-name-preserved
