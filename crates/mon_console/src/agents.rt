@@ -1,6 +1,7 @@
 //! The agent that a command asks, and why it gave no answer.
 
-ghost use Rattle.std.specs.Prelude.{◌↔◌, ◌≤◌, IsTrue, length};
+ghost use Rattle.std.specs.Prelude.{◌≡◌, ◌↔◌, ◌≤◌, IfErr, IfOk, IsTrue, None, Some, length};
+ghost use Rattle.mon_udp.specs.Addr.{addr_of};
 
 use crate::failure::Failure;
 use mon_app::{AppFault, status_name};
@@ -19,7 +20,12 @@ pub struct AgentAt<'a> {
 }
 
 /// The agent's address that a word gives. It is never looked up.
-pub fn agent_at<'a>(alloc: Global, word: &'a str) -> Result<AgentAt<'a>, Failure> {
+pub fn agent_at<'a>(alloc: Global, word: &'a str) -> Result<AgentAt<'a>, Failure>
+    ensures word { IfOk result (λ agent. agent.word.now ≡ word.now) }
+    ensures address { IfOk result (λ agent. addr_of word.now ≡ Some agent.address) }
+    ensures refused { IfErr result (λ _. addr_of word.now ≡ None) }
+    ensures fault { IfErr result (λ failure. failure.fault ≡ Fault.App AppFault.BadText) }
+{
     match Addr::parse(word) {
         Some(address) => Ok(AgentAt { word, address }),
         None => Err(Failure::text(alloc, word, "an address, a.b.c.d:port,")),
@@ -27,7 +33,12 @@ pub fn agent_at<'a>(alloc: Global, word: &'a str) -> Result<AgentAt<'a>, Failure
 }
 
 /// The octets of a community.
-pub fn community<'a>(alloc: Global, word: &'a str) -> Result<&'a [u8], Failure> {
+pub fn community<'a>(alloc: Global, word: &'a str) -> Result<&'a [u8], Failure>
+    ensures octets { IfOk result (λ octets. octets.now ≡ word.now) }
+    ensures fits { IfOk result (λ _. (1 ≤ length word.now) × (length word.now ≤ 512)) }
+    ensures refused { IfErr result (λ _. ¬ ((1 ≤ length word.now) × (length word.now ≤ 512))) }
+    ensures fault { IfErr result (λ failure. failure.fault ≡ Fault.App AppFault.BadText) }
+{
     if is_community(word) {
         return Ok(word.as_bytes());
     }
@@ -42,7 +53,9 @@ fn is_community(word: &str) -> bool
 }
 
 /// Why the agent gave no answer that is printed.
-pub fn answer_failure(alloc: Global, agent: &str, fault: AppFault) -> Failure {
+pub fn answer_failure(alloc: Global, agent: &str, fault: AppFault) -> Failure
+    ensures { result.fault ≡ Fault.App fault }
+{
     match fault {
         AppFault::AgentStatus { status, index } => Failure::said(
             Fault::App(fault),

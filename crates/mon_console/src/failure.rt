@@ -1,6 +1,11 @@
 //! Why a command failed, and where.
 
-ghost use Rattle.std.specs.Prelude.{◌≡◌};
+ghost use Rattle.std.specs.Prelude.{◌≡◌, ◌↔◌, IsTrue};
+ghost use Rattle.std.specs.IoError.{error_kind};
+ghost use Rattle.mon_app.specs.AppFault.{of_socket, of_stream};
+ghost use Rattle.mon_app.specs.declared.fault.AppFault.TheVariants.{OutOfMemory};
+ghost use Rattle.mon_faults.specs.Fault.{innermost_of, station_fault};
+ghost use Rattle.mon_faults.specs.declared.fault.Fault.TheVariants.{App, Device, Names};
 
 use mon_app::{AppFault, SocketReason};
 use mon_faults::{Fault, StationFault};
@@ -59,13 +64,17 @@ impl Failure {
     }
 
     /// A file or a standard stream that could not be used, with the system's reason.
-    pub fn stream(alloc: Global, path: &str, error: io::Error) -> Self {
+    pub fn stream(alloc: Global, path: &str, error: io::Error) -> Self
+        ensures { result.fault ≡ Fault.App (of_stream (error_kind error)) }
+    {
         let more = format!(in alloc; "{path}: {error}");
         Failure::said(Fault::App(AppFault::from(error)), more)
     }
 
     /// A socket that could not be had or used at this address, with the system's reason.
-    pub fn socket<P: Display + Drop>(alloc: Global, address: P, error: io::Error) -> Self {
+    pub fn socket<P: Display + Drop>(alloc: Global, address: P, error: io::Error) -> Self
+        ensures { result.fault ≡ Fault.App (of_socket (error_kind error)) }
+    {
         match error.kind() {
             io::ErrorKind::OutOfMemory => Failure::from(AppFault::OutOfMemory),
             kind => Failure::without_socket(alloc, address, SocketReason::of(kind)),
@@ -88,7 +97,9 @@ impl Failure {
     }
 
     /// Returns `true` if memory was refused.
-    pub fn is_of_memory(&self) -> bool {
+    pub fn is_of_memory(&self) -> bool
+        ensures { IsTrue result ↔ ((innermost_of self.now.fault).number ≡ 1) }
+    {
         self.fault.innermost().number == OUT_OF_MEMORY
     }
 
@@ -116,36 +127,48 @@ impl Failure {
 const OUT_OF_MEMORY: u8 = 1;
 
 impl From<AppFault> for Failure {
+    ghost from_gives = { λ fault failure. failure.fault ≡ App fault };
+
     fn from(fault: AppFault) -> Failure {
         Failure::plain(Fault::App(fault))
     }
 }
 
 impl From<NamesFault> for Failure {
+    ghost from_gives = { λ fault failure. failure.fault ≡ Names fault };
+
     fn from(fault: NamesFault) -> Failure {
         Failure::plain(Fault::Names(fault))
     }
 }
 
 impl From<DeviceFault> for Failure {
+    ghost from_gives = { λ fault failure. failure.fault ≡ Device fault };
+
     fn from(fault: DeviceFault) -> Failure {
         Failure::plain(Fault::Device(fault))
     }
 }
 
 impl From<StationFault> for Failure {
+    ghost from_gives = { λ fault failure. failure.fault ≡ station_fault fault };
+
     fn from(fault: StationFault) -> Failure {
         Failure::plain(Fault::from(fault))
     }
 }
 
 impl From<AllocError> for Failure {
+    ghost from_gives = { λ _ failure. failure.fault ≡ App OutOfMemory };
+
     fn from(_error: AllocError) -> Failure {
         Failure::plain(Fault::App(AppFault::OutOfMemory))
     }
 }
 
 impl<T: Drop> From<AllocFailed<T>> for Failure {
+    ghost from_gives = { λ _ failure. failure.fault ≡ App OutOfMemory };
+
     fn from(_error: AllocFailed<T>) -> Failure {
         Failure::plain(Fault::App(AppFault::OutOfMemory))
     }

@@ -1,6 +1,9 @@
 //! Names by the modules that are given.
 
-ghost use Rattle.std.specs.Prelude.{◌≡◌};
+ghost use Rattle.std.specs.Prelude.{◌≡◌, ◌++◌, IfErr, IfOk, OnOk};
+ghost use Rattle.mon_oid.specs.Oid.{IsOid};
+ghost use Rattle.mon_smi.specs.BuiltIn.{built_in};
+ghost use Rattle.mon_smi.specs.Names.{IsFaultOfNameText, MeansNumbers};
 
 use crate::failure::Failure;
 use crate::files::read_text;
@@ -26,7 +29,9 @@ impl Drop for KnownNames {
 
 impl KnownNames {
     /// The built-in names.
-    pub fn new(alloc: Global) -> Result<Self, NamesFault> {
+    pub fn new(alloc: Global) -> Result<Self, NamesFault>
+        ensures { IfOk result (λ known. known.names ≡ built_in) }
+    {
         Ok(KnownNames {
             names: Names::new(alloc)?,
             ends: Vec::new(alloc),
@@ -34,12 +39,16 @@ impl KnownNames {
     }
 
     /// The names.
-    pub fn names(&self) -> &Names {
+    pub fn names(&self) -> &Names
+        ensures { result.now ≡ self.now.names }
+    {
         &self.names
     }
 
     /// The names, without which module defines which.
-    pub fn into_names(self) -> Names {
+    pub fn into_names(self) -> Names
+        ensures { result ≡ self.names }
+    {
         let KnownNames { names, ends: _ } = self;
         names
     }
@@ -55,7 +64,9 @@ impl KnownNames {
     }
 
     /// Adds the names of a module that was read from this file.
-    pub fn add(&mut self, alloc: Global, path: &str, module: &Module) -> Result<(), Failure> {
+    pub fn add(&mut self, alloc: Global, path: &str, module: &Module) -> Result<(), Failure>
+        ensures { OnOk result (self.new.names ≡ self.old.names ++ module.now.defs) }
+    {
         let name = String::from_str(alloc, module.name.as_str())?;
         match self.names.add(alloc, module) {
             Ok(()) => {
@@ -131,7 +142,10 @@ pub fn no_module(alloc: Global, path: &str, text: &str, fault: TextFault) -> Fai
 }
 
 /// The identifier that a word of the command line means. Where its name is not defined, the fault says what would define it.
-pub fn asked_for(alloc: Global, names: &Names, word: &str) -> Result<Oid, Failure> {
+pub fn asked_for(alloc: Global, names: &Names, word: &str) -> Result<Oid, Failure>
+    ensures found { IfOk result (λ oid. IsOid oid × MeansNumbers names.now word.now oid) }
+    ensures refused { IfErr result (λ failure. (fault : NamesFault) × (failure.fault ≡ Fault.Names fault) × IsFaultOfNameText fault names.now word.now) }
+{
     match names.resolve(alloc, word) {
         Ok(oid) => Ok(oid),
         Err(fault) => Err(name_failure(alloc, names, word, fault)),

@@ -1,5 +1,12 @@
 //! How reports are printed: in which format, and names by which modules.
 
+ghost use Rattle.std.specs.Prelude.{◌≡◌, ◌↔◌, [], IfOk, IsTrue, None, is_some, option_map, string_bytes};
+ghost use Rattle.mon_board.specs.Board.{window_of};
+ghost use Rattle.mon_console.specs.Shown.{shown_by};
+ghost use Rattle.mon_formats.specs.Changes.{change_line, instance_text};
+ghost use Rattle.mon_formats.specs.Formats.{formatted, report_in};
+ghost use Rattle.mon_formats.specs.declared.format.Format.TheVariants.{Text};
+
 use crate::failure::Failure;
 use crate::files::replace_file;
 use crate::naming::KnownNames;
@@ -42,7 +49,11 @@ impl Printing {
         printed: Printed<'_, '_>,
         known: KnownNames,
         files: &[String],
-    ) -> Result<Self, Failure> {
+    ) -> Result<Self, Failure>
+        ensures format { IfOk result (λ printing. printing.format ≡ printed.entry.format) }
+        ensures shown { IfOk result (λ printing. is_some printing.names ≡ printed.entry.named.shown) }
+        ensures labels { IfOk result (λ printing. printing.labels.items ≡ []) }
+    {
         let mut known = known;
         for path in printed.named.modules {
             if !is_among(files, path) {
@@ -57,7 +68,11 @@ impl Printing {
     }
 
     /// How reports are printed with these labels of the instances.
-    pub(crate) fn with_labels(self, labels: Vec<InstanceLabels>) -> Self {
+    pub(crate) fn with_labels(self, labels: Vec<InstanceLabels>) -> Self
+        ensures format { result.format ≡ self.format }
+        ensures names { result.names ≡ self.names }
+        ensures labels { result.labels ≡ labels }
+    {
         let Printing {
             format,
             names,
@@ -71,12 +86,16 @@ impl Printing {
     }
 
     /// Returns `true` if the format is lines of text.
-    pub fn is_text(&self) -> bool {
+    pub fn is_text(&self) -> bool
+        ensures { IsTrue result ↔ (self.now.format ≡ Text) }
+    {
         self.format == Format::Text
     }
 
     /// Returns `true` if the format is lines of text with names in numbers.
-    pub fn is_plain(&self) -> bool {
+    pub fn is_plain(&self) -> bool
+        ensures { IsTrue result ↔ ((self.now.format ≡ Text) × (self.now.names ≡ None)) }
+    {
         self.is_text() && self.names.is_none()
     }
 
@@ -86,7 +105,9 @@ impl Printing {
         alloc: Global,
         entries: &[Entry],
         station: Option<&Figures>,
-    ) -> Result<Vec<u8>, AllocError> {
+    ) -> Result<Vec<u8>, AllocError>
+        ensures { IfOk result (λ text. text.items ≡ formatted self.now.format (shown_by self.now.names) entries.now (option_map (λ f. f.now) station.entry) self.now.labels.items) }
+    {
         self.text_in(alloc, self.format, entries, station)
     }
 
@@ -97,7 +118,9 @@ impl Printing {
         format: Format,
         entries: &[Entry],
         station: Option<&Figures>,
-    ) -> Result<Vec<u8>, AllocError> {
+    ) -> Result<Vec<u8>, AllocError>
+        ensures { IfOk result (λ text. text.items ≡ formatted format (shown_by self.now.names) entries.now (option_map (λ f. f.now) station.entry) self.now.labels.items) }
+    {
         let extras = Extras {
             station,
             labels: self.labels.as_slice(),
@@ -117,7 +140,9 @@ impl Printing {
         alloc: Global,
         watch: &Watch,
         change: &AlarmChange,
-    ) -> Result<String, AllocError> {
+    ) -> Result<String, AllocError>
+        ensures { IfOk result (λ line. string_bytes line ≡ change_line (shown_by self.now.names) watch.now change.now) }
+    {
         match &self.names {
             None => alarm_line(alloc, &InNumbers, watch, change),
             Some(names) => alarm_line(alloc, &names.labels(alloc)?, watch, change),
@@ -125,7 +150,9 @@ impl Printing {
     }
 
     /// Returns an instance's engine id and its name.
-    pub fn instance_text(&self, alloc: Global, instance: &Instance) -> Result<String, AllocError> {
+    pub fn instance_text(&self, alloc: Global, instance: &Instance) -> Result<String, AllocError>
+        ensures { IfOk result (λ text. string_bytes text ≡ instance_text (shown_by self.now.names) instance.now) }
+    {
         match &self.names {
             None => instance_text(alloc, &InNumbers, instance),
             Some(names) => instance_text(alloc, &names.labels(alloc)?, instance),
@@ -138,7 +165,9 @@ impl Printing {
         alloc: Global,
         board: &Board,
         station: Option<&Figures>,
-    ) -> Result<Vec<u8>, AllocError> {
+    ) -> Result<Vec<u8>, AllocError>
+        ensures { IfOk result (λ text. text.items ≡ report_in self.now.format (shown_by self.now.names) board.now.watch (window_of board.now) (option_map (λ f. f.now) station.entry) self.now.labels.items) }
+    {
         let entries = entries_of(alloc, board)?;
         self.text(alloc, entries.as_slice(), station)
     }
