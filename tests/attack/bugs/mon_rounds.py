@@ -418,4 +418,284 @@ BUGS = {
         "    if instance.rounds < limit {",
         "    if instance.rounds <= limit {",
     ),
+    "knows_the_first_peers_address_alone": (
+        "src/addresses.rt",
+        "            peer_addresses: peers.to_vec(alloc)?,",
+        "            peer_addresses: peers[..peers.len().min(1)].to_vec(alloc)?,",
+    ),
+    "counts_targets_from_1": (
+        "src/addresses.rt",
+        "        self.targets.as_slice().get(usize::from(number)).copied()",
+        "        self.targets.as_slice().get(usize::from(number) + 1).copied()",
+    ),
+    "the_slot_for_the_station": (
+        "src/addresses.rt",
+        "        self.peers.as_slice().get(usize::from(slot)).copied()",
+        "        match self.peers.as_slice().get(usize::from(slot)) {\n            Some(_) => Some(u32::from(slot)),\n            None => None,\n        }",
+    ),
+    "an_unknown_peer_is_the_first": (
+        "src/addresses.rt",
+        "        Some(place) => addresses.get(place).copied(),\n        None => None,",
+        "        Some(place) => addresses.get(place).copied(),\n        None => addresses.first().copied(),",
+    ),
+    "a_peer_is_a_target_too": (
+        "src/addresses.rt",
+        "        stands_in(self.targets.as_slice(), from)",
+        "        stands_in(self.targets.as_slice(), from) || stands_in(self.peer_addresses.as_slice(), from)",
+    ),
+    "an_address_without_its_port": (
+        "src/addresses.rt",
+        "addresses.iter().any(|address| *address == from)",
+        "addresses.iter().any(|address| address.octets == from.octets)",
+    ),
+    "forgets_what_was_stale": (
+        "src/changes.rt",
+        "        let said = self.stale_instances.as_slice();\n",
+        "        let said: &[bool] = &[];\n",
+    ),
+    "says_what_did_not_change": (
+        "src/changes.rt",
+        "    if was != is {\n        changes.push",
+        "    if was || is {\n        changes.push",
+    ),
+    "each_trouble_was_said": (
+        "src/changes.rt",
+        "        Some(was) => *was,\n        None => false,",
+        "        Some(was) => *was,\n        None => true,",
+    ),
+    "silent_after_two_rounds": (
+        "src/changes.rt",
+        "        silent.push(target.rounds > 0)?;",
+        "        silent.push(target.rounds > 1)?;",
+    ),
+    "an_instance_without_a_target_answers": (
+        "src/changes.rt",
+        "    let Some(number) = number else {\n        return false;\n    };",
+        "    let Some(number) = number else {\n        return true;\n    };",
+    ),
+    "loses_changes_without_memory": (
+        "src/changes.rt",
+        "        let changes = self.changes_to(alloc, &now)?;\n        *self = now;\n        Ok(changes)",
+        "        let changes = self.changes_to(alloc, &now);\n        *self = now;\n        changes",
+    ),
+    "says_all_alarms_at_the_start": (
+        "src/course.rt",
+        "            alarms: alarm_states(alloc, board)?,",
+        "            alarms: {\n                let _ = board;\n                Vec::new(alloc)\n            },",
+    ),
+    "says_polls_for_samples": (
+        "src/course.rt",
+        "        ensures { result ≡ self.now.taken }\n    {\n        self.taken\n",
+        "        ensures { result ≡ self.now.taken }\n    {\n        self.given_up\n",
+    ),
+    "owes_peers_by_their_places": (
+        "src/course.rt",
+        "        debts.push((*peer, station.owed(*peer)))?;",
+        "        debts.push((debts.len() as u32, station.owed(*peer)))?;",
+    ),
+    "reports_from_a_round_on": (
+        "src/course.rt",
+        "    every != 0 && round % every == 0",
+        "    every != 0 && round >= every",
+    ),
+    "rests_for_what_passed": (
+        "src/course.rt",
+        "    interval\n        .saturating_sub(passed)",
+        "    passed\n        .saturating_sub(interval)",
+    ),
+    "explains_without_a_sample": (
+        "src/explaining.rt",
+        "    let newest = board.items(number as u16).last().copied();\n    latest.reason(alloc, from, watched, newest)",
+        "    latest.reason(alloc, from, watched, None)",
+    ),
+    "milliseconds_for_seconds": (
+        "src/freshness.rt",
+        "        now.saturating_sub(self.answered) / 1000\n",
+        "        now.saturating_sub(self.answered)\n",
+    ),
+    "no_target_is_polled_for_an_instance": (
+        "src/freshness.rt",
+        "new_instances(alloc, polled, board)?,\n            failed_saves: 0,",
+        "new_instances(alloc, &polled[..0], board)?,\n            failed_saves: 0,",
+    ),
+    "targets_grow_no_older": (
+        "src/freshness.rt",
+        "        add_to_targets(&mut self.targets, spell, report);\n",
+        "",
+    ),
+    "each_target_is_up_at_the_start": (
+        "src/freshness.rt",
+        "        up: false,\n        rounds: 0,",
+        "        up: true,\n        rounds: 0,",
+    ),
+    "answered_at_each_end": (
+        "src/freshness.rt",
+        "        answered: if answered {\n            spell.ended\n        } else {\n            target.answered\n        },",
+        "        answered: spell.ended,",
+    ),
+    "the_time_between_is_a_round": (
+        "src/freshness.rt",
+        "        Span::Round => spell.took,\n        Span::Between(_) => before,",
+        "        Span::Round | Span::Between(_) => {\n            let _ = before;\n            spell.took\n        }",
+    ),
+    "refused_by_the_first_notice": (
+        "src/freshness.rt",
+        "        last = refusal_with(address, last, *notice);",
+        "        if last.is_none() {\n            last = refusal_with(address, last, *notice);\n        }",
+    ),
+    "refused_for_what_others_sent": (
+        "src/freshness.rt",
+        "        Notice::BadResponse(from, fault) if from == address => Some(fault),",
+        "        Notice::BadResponse(_, fault) => {\n            let _ = address;\n            Some(fault)\n        }",
+    ),
+    "a_first_sample_is_not_new": (
+        "src/freshness.rt",
+        "        (Some(one), Some(other)) => one == other,\n        _ => false,",
+        "        (Some(one), Some(other)) => one == other,\n        _ => true,",
+    ),
+    "the_oldest_sample_for_the_newest": (
+        "src/freshness.rt",
+        "    match board.items(number).last() {",
+        "    match board.items(number).first() {",
+    ),
+    "a_first_round_an_interval_late": (
+        "src/grid.rt",
+        "        return phase;\n",
+        "        return phase.saturating_add(interval);\n",
+    ),
+    "seconds_for_milliseconds": (
+        "src/grid.rt",
+        "    time.as_millis().min(LONGEST) as u64",
+        "    (time.as_secs() as u128).min(LONGEST) as u64",
+    ),
+    "leaves_out_the_last_instance": (
+        "src/polled.rt",
+        "    for number in 0..count {",
+        "    for number in 0..count.saturating_sub(1) {",
+    ),
+    "polled_for_every_instance": (
+        "src/polled.rt",
+        "usize::from(object.instance) == instance",
+        "usize::from(object.instance) >= instance.min(0)",
+    ),
+    "a_refused_poll_is_not_said": (
+        "src/reporting.rt",
+        "        RoundEvent::StartPoll(target) => Some(Notice::NotPolled(target, fault)),",
+        "        RoundEvent::StartPoll(_) => None,",
+    ),
+    "a_refused_share_is_not_said": (
+        "src/reporting.rt",
+        "        RoundEvent::Share(peer) => Some(Notice::NotShared(peer, fault)),",
+        "        RoundEvent::Share(_) => None,",
+    ),
+    "swaps_what_came_and_what_went": (
+        "src/reporting.rt",
+        "            source_faults: run.source_faults,\n            send_faults: run.send_faults,",
+        "            source_faults: run.send_faults,\n            send_faults: run.source_faults,",
+    ),
+    "no_target_answered": (
+        "src/reporting.rt",
+        "        answered.push(has_answered(*address, events, answers))?;",
+        "        answered.push(has_answered(*address, &events[..0], answers))?;",
+    ),
+    "what_was_refused_was_taken": (
+        "src/reporting.rt",
+        "        if let Answer::Handled(samples) = answer {\n            taken = taken.saturating_add(*samples);\n        }",
+        "        match answer {\n            Answer::Handled(samples) => taken = taken.saturating_add(*samples),\n            _ => taken = taken.saturating_add(1),\n        }",
+    ),
+    "a_round_is_over_at_its_end_alone": (
+        "src/round.rt",
+        "        self.phase = Phase::Over;\n        self.events.push_reserved(RoundEvent::Save);",
+        "        self.phase = Phase::Listening;\n        self.events.push_reserved(RoundEvent::Save);",
+    ),
+    "offers_each_peer_twice": (
+        "src/round.rt",
+        "            Phase::Sharing(slot + 1)\n",
+        "            Phase::Sharing(slot)\n",
+    ),
+    "offers_no_peer": (
+        "src/round.rt",
+        "            Some(peer) => self.offer(slot, peer),\n            None => self.save(),",
+        "            _ => self.save(),",
+    ),
+    "a_rest_never_ends": (
+        "src/round.rt",
+        "        if self.phase == Phase::Resting {\n            self.phase = Phase::Rested;\n        }\n",
+        "",
+    ),
+    "counts_datagrams_downwards": (
+        "src/round.rt",
+        "        MOST_DATAGRAMS - self.datagrams\n",
+        "        self.datagrams\n",
+    ),
+    "runs_no_station": (
+        "src/running.rt",
+        "        station.run(alloc, self, outbox, TURNS, run)?;\n        // Proof: the events are in the order of a round.\n",
+        "        let _ = (alloc, station, outbox, run);\n",
+    ),
+    "a_datagram_is_quiet": (
+        "src/socket.rt",
+        "        Ok(octets) => Ok(Arrival::Datagram(address, octets)),",
+        "        Ok(_) => {\n            let _ = address;\n            Ok(Arrival::Quiet)\n        }",
+    ),
+    "takes_the_end_of_the_buffer": (
+        "src/socket.rt",
+        "buffer.get(..len)",
+        "buffer.get(buffer.len().saturating_sub(len)..)",
+    ),
+    "counts_each_reception": (
+        "src/socket.rt",
+        "        self.failures = failed_after(failures, &received);\n        received",
+        "        self.failures = failures.saturating_add(1);\n        received",
+    ),
+    "counts_no_datagram_that_is_lost": (
+        "src/socket.rt",
+        "        self.failures = failed_after(self.failures, &sent);\n",
+        "",
+    ),
+    "proceeds_without_a_reception": (
+        "src/source.rt",
+        "            Some(wait) => self.hear(wait, oldest),\n            None => Ok(self.round.proceed(oldest)),",
+        "            _ => Ok(self.round.proceed(oldest)),",
+    ),
+    "begins_a_round_each_time": (
+        "src/source.rt",
+        "        self.round.begin(span);\n    }\n\n    /// Returns the next event, by",
+        "        let _ = span;\n        self.round.begin(Span::Round);\n    }\n\n    /// Returns the next event, by",
+    ),
+    "hands_on_no_datagram": (
+        "src/source.rt",
+        "                Ok(Some(self.round.take(from, octets)))",
+        "                let _ = self.round.take(from, octets);\n                Ok(None)",
+    ),
+    "waits_half_as_long_at_the_socket": (
+        "src/socket.rt",
+        "            self.waiting.begin(milliseconds)?;",
+        "            self.waiting.begin(milliseconds / 2)?;",
+    ),
+    "begins_no_wait_at_the_socket": (
+        "src/socket.rt",
+        "            self.waiting.begin(milliseconds)?;",
+        "            let _ = milliseconds;",
+    ),
+    "what_has_no_address_counts_as_sent": (
+        "src/socket.rt",
+        "            return Err(OutboxFault);",
+        "            return Ok(());",
+    ),
+    "an_outbox_begins_with_a_failure": (
+        "src/socket.rt",
+        "            socket,\n            addresses,\n            failures: 0,",
+        "            socket,\n            addresses,\n            failures: 1,",
+    ),
+    "an_outbox_forgets_its_peers": (
+        "src/socket.rt",
+        "            socket,\n            addresses,\n            failures: 0,",
+        "            socket,\n            addresses: {\n                let mut addresses = addresses;\n                addresses.peer_addresses.clear();\n                addresses\n            },\n            failures: 0,",
+    ),
+    "a_receiver_begins_with_a_failure": (
+        "src/socket.rt",
+        "            buffer: datagram_buffer(alloc)?,\n            failures: 0,",
+        "            buffer: datagram_buffer(alloc)?,\n            failures: 1,",
+    ),
 }
