@@ -1,5 +1,9 @@
 //! The commands of an agent: `agent` and `answer`.
 
+ghost use Rattle.std.specs.Prelude.{◌≡◌, ℤ, IfErr, IfOk, IsOk, Some, option_copied};
+ghost use Rattle.mon_agent.specs.State.{policy_of, settings_of};
+ghost use Rattle.mon_mib.specs.Moment.{IsMoment};
+
 use mon_agent::Agent;
 use mon_answers::{Scene, answer_lines};
 use mon_app::{AppFault, SocketPort, Untaken, serve};
@@ -71,7 +75,9 @@ fn listen_at<R: Clock + Net + AllocGlobal>(
 }
 
 /// Returns why an agent does not listen at its address.
-fn port_failure(alloc: Global, listen: Addr, fault: AppFault) -> Failure {
+fn port_failure(alloc: Global, listen: Addr, fault: AppFault) -> Failure
+    ensures { result.fault ≡ Fault.App fault }
+{
     match fault {
         AppFault::SocketFault { reason } => { Failure::without_socket(alloc, listen, reason) }
         _ => Failure::from(fault),
@@ -83,7 +89,9 @@ fn told_of<R: Files + AllocGlobal>(
     rt: &R,
     path: &str,
     boots: Option<i32>,
-) -> Result<AgentSettings, Failure> {
+) -> Result<AgentSettings, Failure>
+    ensures { (number : ℤ) → boots ≡ Some number → IfOk result (λ told. told.settings.boots ≡ number) }
+{
     let text = read_text(rt, path)?;
     let mut told = match read_agent(rt.alloc(), &text) {
         Ok(told) => told,
@@ -118,14 +126,21 @@ pub fn print_answers<R: Files + Input + Print + AllocGlobal>(
 }
 
 /// The agent of the settings over a device that fails the changes of the fuses.
-fn fused_agent(told: AgentSettings, fuses: u64) -> Result<Agent<FuseDevice<SimDevice>>, Failure> {
+fn fused_agent(told: AgentSettings, fuses: u64) -> Result<Agent<FuseDevice<SimDevice>>, Failure>
+    ensures policy { IfOk result (λ agent. policy_of agent ≡ told.policy) }
+    ensures settings { IfOk result (λ agent. settings_of agent ≡ told.settings) }
+{
     let simulated = SimDevice::new(told.interfaces, told.texts)?;
     let device = FuseDevice::new(simulated, fuses);
     Ok(Agent::new(told.policy, told.settings, device))
 }
 
 /// Makes the time of this many hundredths of a second.
-fn moment_of(alloc: Global, hundredths: u64) -> Result<Moment, Failure> {
+fn moment_of(alloc: Global, hundredths: u64) -> Result<Moment, Failure>
+    ensures at { IfOk result (λ at. at ≡ hundredths) }
+    ensures accepted { IsMoment hundredths → IsOk result }
+    ensures fault { IfErr result (λ failure. failure.fault ≡ Fault.App AppFault.BadText) }
+{
     match Moment::new(hundredths) {
         Some(at) => Ok(at),
         None => Err(Failure::text(alloc, "--at", MOMENTS)),
@@ -151,10 +166,9 @@ fn told_answers<D: Device + Drop>(
 }
 
 /// The labels of names, if there are any.
-fn labels_of<'n>(
-    alloc: Global,
-    names: Option<&'n Names>,
-) -> Result<Option<Labels<'n>>, AllocError> {
+fn labels_of<'n>(alloc: Global, names: Option<&'n Names>) -> Result<Option<Labels<'n>>, AllocError>
+    ensures { IfOk result (λ labels. labels ≡ option_copied names.entry) }
+{
     match names {
         Some(names) => Ok(Some(names.labels(alloc)?)),
         None => Ok(None),

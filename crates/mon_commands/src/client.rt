@@ -1,6 +1,8 @@
 //! The client commands: `get`, `next`, `bulk`, `walk` and `set`.
 
-ghost use Rattle.std.specs.Prelude.{◌≡◌, ◌≤◌, pos};
+ghost use Rattle.std.specs.Prelude.{◌≡◌, ◌≤◌, IfOk, Some, length, pos};
+ghost use Rattle.mon_app.specs.Meaning.{MeansValue, word_of};
+ghost use Rattle.mon_udp.specs.Addr.{addr_of};
 
 use crate::output::Output;
 use mon_app::{
@@ -105,7 +107,12 @@ struct Query<'a> {
 fn query_of<'a, R: Files + AllocGlobal>(
     rt: &R,
     request: Request<'_, 'a>,
-) -> Result<Query<'a>, Failure> {
+) -> Result<Query<'a>, Failure>
+    ensures agent { IfOk result (λ query. addr_of request.entry.address.now ≡ Some query.agent.address) }
+    ensures community { IfOk result (λ query. query.community.now ≡ request.entry.community.now) }
+    ensures shown { IfOk result (λ query. query.prints_names ≡ request.entry.named.shown) }
+    ensures each { IfOk result (λ query. length query.asked.items ≡ length request.entry.names.now) }
+{
     let agent = agent_at(rt.alloc(), request.address)?;
     let community = community(rt.alloc(), request.community)?;
     let known = names_of(rt, request.named.modules)?;
@@ -120,7 +127,9 @@ fn query_of<'a, R: Files + AllocGlobal>(
 }
 
 /// The identifiers that words name.
-fn ask_names(alloc: Global, words: &[&str], known: &Names) -> Result<Vec<Oid>, Failure> {
+fn ask_names(alloc: Global, words: &[&str], known: &Names) -> Result<Vec<Oid>, Failure>
+    ensures { IfOk result (λ asked. length asked.items ≡ length words.now) }
+{
     let mut asked = Vec::new(alloc);
     for word in words {
         asked.push(asked_for(alloc, known, word)?)?;
@@ -129,7 +138,9 @@ fn ask_names(alloc: Global, words: &[&str], known: &Names) -> Result<Vec<Oid>, F
 }
 
 /// Reads the value of a variable, by its kind.
-fn read_value(alloc: Global, kind: &str, word: &str) -> Result<Value, Failure> {
+fn read_value(alloc: Global, kind: &str, word: &str) -> Result<Value, Failure>
+    ensures { IfOk result (λ value. (meant : ValueKind) × (kind.now ≡ word_of meant) × MeansValue meant word.now value) }
+{
     let Some(kind) = ValueKind::from_word(kind) else {
         return Err(Failure::text(alloc, kind, "a kind of value"));
     };

@@ -47,12 +47,20 @@ pub fn run_self_test<R: Print + AllocGlobal>(rt: &R) -> Result<(), Failure> {
 }
 
 /// Why there was no rehearsal.
-fn rehearsal_failure(alloc: Global, fault: RehearsalFault) -> Failure {
+fn rehearsal_failure(alloc: Global, fault: RehearsalFault) -> Failure
+    ensures part { (innermost_of result.fault).part ≡ (rehearsal.innermost_of fault).part }
+    ensures number { (innermost_of result.fault).number ≡ (rehearsal.innermost_of fault).number }
+    ensures name { (innermost_of result.fault).name ≡ (rehearsal.innermost_of fault).name }
+{
     Failure::said(rehearsal_fault(fault), format!(in alloc; "{fault}"))
 }
 
 /// Why the trial did not end well.
-fn trial_failure(alloc: Global, fault: TrialFault) -> Failure {
+fn trial_failure(alloc: Global, fault: TrialFault) -> Failure
+    ensures part { (innermost_of result.fault).part ≡ (trial.innermost_of fault).part }
+    ensures number { (innermost_of result.fault).number ≡ (trial.innermost_of fault).number }
+    ensures name { (innermost_of result.fault).name ≡ (trial.innermost_of fault).name }
+{
     Failure::said(trial_fault(fault), format!(in alloc; "{fault}"))
 }
 
