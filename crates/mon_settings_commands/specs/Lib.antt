@@ -1,1 +1,4 @@
+pub mod Kinds
+pub mod Named
 pub mod Percent
+pub mod Replies

@@ -1,5 +1,10 @@
 //! Questions to one agent: its engine, and the cells of its tables of interfaces.
 
+ghost use Rattle.std.specs.Prelude.{◌≡◌, ◌≢◌, IfErr, IfOk, false, pos};
+ghost use Rattle.mon_ber.specs.declared.value.Value.TheVariants.{EndOfMibView};
+ghost use Rattle.mon_oid.specs.Oid.{IsPrefix};
+ghost use Rattle.mon_settings_commands.specs.Replies.{bindings_in, index_in, status_in};
+
 use crate::failing::survey_failure;
 use crate::settings::Asked;
 use mon_app::{AppFault, Asking, Question, Repeats, SocketWire, Wire, send_request};
@@ -238,7 +243,9 @@ impl<W: Wire> Asker<'_, W> {
     }
 
     /// A walk that found no end.
-    fn unending(&self, alloc: Global) -> Failure {
+    fn unending(&self, alloc: Global) -> Failure
+        ensures { result.fault ≡ Fault.App AppFault.Timeout }
+    {
         let agent = self.agent;
         Failure::said(
             Fault::App(AppFault::Timeout),
@@ -266,12 +273,21 @@ impl Place {
 }
 
 /// Returns `true` if the variable is not under the start, or there is none.
-fn is_past(start: &Oid, binding: &Binding) -> bool {
+fn is_past(start: &Oid, binding: &Binding) -> bool
+    ensures under { result ≡ false → IsPrefix start.now binding.now.name }
+    ensures present { result ≡ false → binding.now.value ≢ EndOfMibView }
+    ensures past { IsPrefix start.now binding.now.name → binding.now.value ≢ EndOfMibView → result ≡ false }
+{
     matches!(binding.value, Value::EndOfMibView) || !start.is_prefix_of(&binding.name)
 }
 
 /// The variable bindings of a reply without an error.
-fn bindings_of(alloc: Global, agent: &str, message: Message) -> Result<Vec<Binding>, Failure> {
+fn bindings_of(alloc: Global, agent: &str, message: Message) -> Result<Vec<Binding>, Failure>
+    ensures bindings { IfOk result (λ bindings. bindings.items ≡ bindings_in message.body) }
+    ensures accepted { IfOk result (λ _. status_in message.body ≡ pos 0) }
+    ensures refused { IfErr result (λ _. status_in message.body ≢ pos 0) }
+    ensures fault { IfErr result (λ failure. failure.fault ≡ Fault.App (AppFault.AgentStatus (status_in message.body) (index_in message.body))) }
+{
     let Message { body, .. } = message;
     match body {
         Body::Pdu(pdu) if pdu.error_status == 0 => Ok(pdu.bindings.into_vec()),

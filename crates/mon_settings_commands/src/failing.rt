@@ -1,5 +1,9 @@
 //! Why there are no settings.
 
+ghost use Rattle.std.specs.Prelude.{◌≡◌, codes};
+ghost use Rattle.mon_faults.specs.Fault.{innermost_of};
+ghost use Rattle.mon_survey.specs.Fault.{name_of, number_of};
+
 use mon_app::AppFault;
 use mon_console::{Failure, Fault};
 use mon_station::Innermost;
@@ -7,7 +11,11 @@ use mon_survey::SurveyFault;
 use std::alloc::{AllocError, Global};
 
 /// Why an agent gives no settings, or a file no labels.
-pub(crate) fn survey_failure(alloc: Global, place: &str, fault: SurveyFault) -> Failure {
+pub(crate) fn survey_failure(alloc: Global, place: &str, fault: SurveyFault) -> Failure
+    ensures part { (innermost_of result.fault).part ≡ codes "mon_survey" }
+    ensures number { (innermost_of result.fault).number ≡ number_of fault }
+    ensures name { (innermost_of result.fault).name ≡ name_of fault }
+{
     let innermost = Innermost::new("mon_survey", fault.number(), fault.name());
     Failure::said(
         Fault::Other(innermost),
@@ -16,7 +24,9 @@ pub(crate) fn survey_failure(alloc: Global, place: &str, fault: SurveyFault) -> 
 }
 
 /// Why settings that are there are asked for with other options.
-pub(crate) fn together_failure(alloc: Global) -> Failure {
+pub(crate) fn together_failure(alloc: Global) -> Failure
+    ensures { result.fault ≡ Fault.App AppFault.BadText }
+{
     let more: Result<String, AllocError> = String::from_str(
         alloc,
         "--append goes with neither --split nor --module: names are shown as in the settings",

@@ -1,7 +1,7 @@
 //! The command `settings`: asks an agent for its engine, walks its tables of interfaces, and prints the
 //! settings of a station that polls it.
 
-ghost use Rattle.std.specs.Prelude.{◌≡◌, ◌≤◌, IfOk, option_copied};
+ghost use Rattle.std.specs.Prelude.{◌≡◌, ◌≤◌, [], IfOk, None, OnOk, option_copied, string_bytes};
 ghost use Rattle.mon_settings_commands.specs.Percent.{GivesPercentage};
 
 use crate::asking::{Survey, ask_agent};
@@ -69,7 +69,10 @@ fn asked_of<'a>(alloc: Global, words: &SettingsArgs<'_, 'a>) -> Result<Asked<'a>
 
 /// Requires that neither several files nor modules are asked for together with settings that are
 /// there.
-fn require_alone(alloc: Global, words: &SettingsArgs<'_, '_>) -> Result<(), Failure> {
+fn require_alone(alloc: Global, words: &SettingsArgs<'_, '_>) -> Result<(), Failure>
+    ensures split { OnOk result (words.now.split ≡ None) }
+    ensures modules { OnOk result (words.now.modules.now ≡ []) }
+{
     if words.split.is_some() || !words.modules.is_empty() {
         return Err(together_failure(alloc));
     }
@@ -147,7 +150,12 @@ fn print_longer<R: Files<File = File> + Print + AllocGlobal>(
 
 impl<'m, 'a> Ground<'m, 'a> {
     /// Which counters are polled.
-    pub(crate) fn choice(&self, group: Option<u32>) -> Choice<'a> {
+    pub(crate) fn choice(&self, group: Option<u32>) -> Choice<'a>
+        ensures kinds { result.kinds ≡ self.now.asked.kinds }
+        ensures up { result.up ≡ self.now.words.now.up }
+        ensures part { result.part.now ≡ self.now.words.now.part.now }
+        ensures group { result.group ≡ group }
+    {
         Choice {
             kinds: self.asked.kinds,
             up: self.words.up,
@@ -157,7 +165,10 @@ impl<'m, 'a> Ground<'m, 'a> {
     }
 
     /// The agent that answered.
-    pub(crate) fn agent(&self) -> Surveyed<'m> {
+    pub(crate) fn agent(&self) -> Surveyed<'m>
+        ensures engine { result.engine.now ≡ self.now.survey.now.engine.items }
+        ensures answers { result.answers.now ≡ self.now.survey.now.answers }
+    {
         Surveyed {
             engine: self.survey.engine.as_slice(),
             answers: &self.survey.answers,
@@ -224,7 +235,12 @@ fn lend<'p>(
     community: &'p str,
     modules: &'p [&'p str],
     texts: &'p Texts,
-) -> Lent<'p> {
+) -> Lent<'p>
+    ensures address { result.address.now ≡ address.now }
+    ensures community { result.community.now ≡ community.now }
+    ensures modules { result.modules.now ≡ modules.now }
+    ensures texts { result.texts.now ≡ texts.now }
+{
     Lent {
         address,
         community,
@@ -237,6 +253,16 @@ fn lend<'p>(
 fn options_of<'p>(words: &SettingsArgs<'_, '_>, percent: u8, lent: Lent<'p>) -> Options<'p>
     ensures most { result.percent ≤ 100 }
     ensures same { percent ≤ 100 → result.percent ≡ percent }
+    ensures station { result.station ≡ words.now.station }
+    ensures window { result.window ≡ words.now.window }
+    ensures wait_ms { result.wait_ms ≡ words.now.wait_ms }
+    ensures tries { words.now.tries ≤ 8 → result.tries ≡ words.now.tries }
+    ensures listen { result.listen.now ≡ string_bytes lent.entry.texts.now.listen }
+    ensures file { result.file.now ≡ string_bytes lent.entry.texts.now.file }
+    ensures peers { result.peers.now ≡ lent.entry.texts.now.peers.items }
+    ensures modules { result.modules.now ≡ lent.entry.modules.now }
+    ensures address { result.address.now ≡ lent.entry.address.now }
+    ensures community { result.community.now ≡ lent.entry.community.now }
 {
     Options {
         station: words.station,

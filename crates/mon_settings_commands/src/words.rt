@@ -1,7 +1,11 @@
 //! What the options of `settings` say.
 
-ghost use Rattle.std.specs.Prelude.{◌≡◌, ℕ, IfErr, IfNone, IfOk, IfSome, option_copied};
+ghost use Rattle.std.specs.Prelude.{◌≡◌, ◌≢◌, ◌+◌, ◌++◌, ◌<◌, ◌^◌, ℕ, IfErr, IfNone, IfOk, IfSome, None, OnOk, false, length, option_copied, string_bytes, true};
+ghost use Rattle.mon_settings_commands.specs.Kinds.{kind_word, with_kind};
+ghost use Rattle.mon_settings_commands.specs.Named.{NamesPeer, file_name};
 ghost use Rattle.mon_settings_commands.specs.Percent.{GivesNone, GivesPercentage, IsPercentage, MeansPercentage};
+ghost use Rattle.mon_survey.specs.declared.counter.Kind.{Kind};
+ghost use Rattle.mon_udp.specs.Addr.{addr_of};
 
 use mon_app::AppFault;
 use mon_console::{Failure, Fault};
@@ -16,7 +20,9 @@ pub(crate) fn put_address(
     place: &mut String,
     text: &str,
     up: u32,
-) -> Result<(), Failure> {
+) -> Result<(), Failure>
+    ensures { addr_of text.now ≡ None → OnOk result (string_bytes place.new ≡ string_bytes place.old ++ text.now) }
+{
     let Some(mut address) = Addr::parse(text) else {
         return Ok(place.push_str(text)?);
     };
@@ -30,7 +36,10 @@ pub(crate) fn put_address(
 }
 
 /// Appends the name of a file, with its number from the second on.
-pub(crate) fn put_file(place: &mut String, file: &str, up: u32) -> Result<(), AllocError> {
+#[tactic(auto, unfolding(crate::specs::Named::file_name))]
+pub(crate) fn put_file(place: &mut String, file: &str, up: u32) -> Result<(), AllocError>
+    ensures { up + 1 < 2 ^ 32 → OnOk result (string_bytes place.new ≡ string_bytes place.old ++ file_name file.now up) }
+{
     if up == 0 {
         return place.push_str(file);
     }
@@ -55,7 +64,11 @@ pub(crate) fn kinds_of(alloc: Global, only: Option<&str>) -> Result<Kinds, Failu
 }
 
 /// Adds the kind of counters that a word names. Returns `false` if it names none.
-fn add_kind(kinds: &mut Kinds, word: &str) -> bool {
+fn add_kind(kinds: &mut Kinds, word: &str) -> bool
+    ensures known { (kind : Kind) → word.now ≡ kind_word kind → result ≡ true }
+    ensures kinds { (kind : Kind) → word.now ≡ kind_word kind → kinds.new ≡ with_kind kind kinds.old }
+    ensures unknown { ((kind : Kind) → word.now ≢ kind_word kind) → result ≡ false }
+{
     match word {
         "octets" => kinds.octets = true,
         "packets" => kinds.packets = true,
@@ -122,7 +135,9 @@ pub(crate) fn put_peers(
     peers: &mut Vec<Peer>,
     words: &[&str],
     up: u32,
-) -> Result<(), Failure> {
+) -> Result<(), Failure>
+    ensures { OnOk result (length peers.new.items ≡ length peers.old.items + length words.now) }
+{
     for word in words {
         put_peer(alloc, peers, word, up)?;
     }
@@ -130,7 +145,9 @@ pub(crate) fn put_peers(
 }
 
 /// Appends the peer that a text names, with its port counted up.
-fn put_peer(alloc: Global, peers: &mut Vec<Peer>, word: &str, up: u32) -> Result<(), Failure> {
+fn put_peer(alloc: Global, peers: &mut Vec<Peer>, word: &str, up: u32) -> Result<(), Failure>
+    ensures { OnOk result (length peers.new.items ≡ length peers.old.items + 1) }
+{
     let (station, text) = peer_at(alloc, word)?;
     let mut address = String::new(alloc);
     put_address(alloc, &mut address, text, up)?;
@@ -138,7 +155,9 @@ fn put_peer(alloc: Global, peers: &mut Vec<Peer>, word: &str, up: u32) -> Result
 }
 
 /// Returns the number and the address of the peer that a text names, as `2=10.0.0.2:16101`.
-fn peer_at<'a>(alloc: Global, word: &'a str) -> Result<(u32, &'a str), Failure> {
+fn peer_at<'a>(alloc: Global, word: &'a str) -> Result<(u32, &'a str), Failure>
+    ensures { IfOk result (λ peer. NamesPeer word.now peer.0 peer.1.now) }
+{
     let Some((number, address)) = word.split_once('=') else {
         return Err(peer_failure(alloc, word));
     };
@@ -148,7 +167,9 @@ fn peer_at<'a>(alloc: Global, word: &'a str) -> Result<(u32, &'a str), Failure> 
     }
 }
 
-fn peer_failure(alloc: Global, word: &str) -> Failure {
+fn peer_failure(alloc: Global, word: &str) -> Failure
+    ensures { result.fault ≡ Fault.App AppFault.BadText }
+{
     Failure::text(
         alloc,
         word,

@@ -1,7 +1,9 @@
 //! What a running station says of itself.
 
 ghost use Rattle.std.specs.Prelude.{◌≡◌, ◌+◌, IfOk, map};
+ghost use Rattle.mon_rounds.specs.Course.{debts_to};
 ghost use Rattle.mon_rounds.specs.Freshness.{seconds_since};
+ghost use Rattle.mon_station.specs.State.{state_of};
 
 use crate::live::Live;
 use mon_formats::{Figures, TargetFigures};
@@ -13,7 +15,18 @@ use std::alloc::{AllocError, Global};
 pub(crate) fn make_figures<S: Receiver + Drop, O: Outbox + Drop>(
     alloc: Global,
     live: &Live<S, O>,
-) -> Result<Figures, AllocError> {
+) -> Result<Figures, AllocError>
+    ensures incarnation { IfOk result (λ figures. figures.incarnation ≡ (state_of live.now.station.life).incarnation) }
+    ensures taken { IfOk result (λ figures. figures.taken ≡ live.now.course.taken) }
+    ensures given_up { IfOk result (λ figures. figures.given_up ≡ live.now.course.given_up) }
+    ensures debts { IfOk result (λ figures. figures.debts.items ≡ debts_to (state_of live.now.station.life) live.now.transport.peers.items) }
+    ensures failed_saves { IfOk result (λ figures. figures.failed_saves ≡ live.now.freshness.failed_saves) }
+    ensures strangers { IfOk result (λ figures. figures.strangers ≡ live.now.freshness.strangers) }
+    ensures round_ms { IfOk result (λ figures. figures.round_ms ≡ live.now.freshness.round_ms) }
+    ensures ages { IfOk result (λ figures. figures.ages.items ≡ map (λ (i : InstanceAge). i.rounds) live.now.freshness.instances.items) }
+    ensures stale_after { IfOk result (λ figures. figures.stale_after ≡ live.now.reports.stale_after) }
+    ensures interval { IfOk result (λ figures. figures.interval ≡ live.now.reports.interval) }
+{
     let fresh = &live.freshness;
     let engines = live.transport.engines.as_slice();
     Ok(Figures {

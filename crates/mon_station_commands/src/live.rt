@@ -1,6 +1,6 @@
 //! A running station: what it works with, and a round of it.
 
-ghost use Rattle.std.specs.Prelude.{◌≡◌, ◌≤◌};
+ghost use Rattle.std.specs.Prelude.{◌≡◌, ◌≤◌, IfOk, length};
 ghost use Rattle.mon_disk.specs.Fault.{number_of};
 
 use crate::opening::{or_socket_failure, unopened};
@@ -148,7 +148,11 @@ pub(crate) fn make_transport<S: Receiver + Drop, O: Outbox + Drop>(
     settings: &StationSettings,
     receiver: S,
     outbox: O,
-) -> Result<Transport<S, O>, AllocError> {
+) -> Result<Transport<S, O>, AllocError>
+    ensures number { IfOk result (λ transport. transport.number ≡ settings.now.core.station) }
+    ensures peers { IfOk result (λ transport. transport.peers.items ≡ settings.now.core.peers) }
+    ensures engines { IfOk result (λ transport. length transport.engines.items ≡ length settings.now.core.targets) }
+{
     let addresses = addresses_of(alloc, settings)?;
     let rounds = Rounds::new(
         alloc,
@@ -171,7 +175,9 @@ pub(crate) fn make_transport<S: Receiver + Drop, O: Outbox + Drop>(
 }
 
 /// Returns the engine ids of targets.
-fn engines_of(alloc: Global, targets: &[Target]) -> Result<Vec<Vec<u8>>, AllocError> {
+fn engines_of(alloc: Global, targets: &[Target]) -> Result<Vec<Vec<u8>>, AllocError>
+    ensures { IfOk result (λ engines. length engines.items ≡ length targets.now) }
+{
     let mut engines = Vec::with_capacity(alloc, targets.len())?;
     for target in targets {
         engines.push(Vec::from_slice(alloc, target.engine.as_slice())?)?;

@@ -1,6 +1,6 @@
 //! The file and the socket of a station.
 
-ghost use Rattle.std.specs.Prelude.{◌≡◌, ◌↔◌, ◌<◌, ◌≤◌, IsTrue};
+ghost use Rattle.std.specs.Prelude.{◌≡◌, ◌↔◌, ◌<◌, ◌≤◌, IsTrue, Ok};
 ghost use Rattle.mon_faults.specs.Fault.{station_fault};
 
 use mon_board::Board;
@@ -99,7 +99,9 @@ pub(crate) fn saved_in<R: Files<File = File> + AllocGlobal>(
 }
 
 /// What a call of the station's file gave.
-fn in_file<T: Drop>(alloc: Global, path: &str, given: io::Result<T>) -> Result<T, Failure> {
+fn in_file<T: Drop>(alloc: Global, path: &str, given: io::Result<T>) -> Result<T, Failure>
+    ensures { (value : T) → given ≡ Ok value → result ≡ Ok value }
+{
     match given {
         Ok(value) => Ok(value),
         Err(error) => Err(Failure::stream(alloc, path, error)),
@@ -111,7 +113,9 @@ pub(crate) fn or_socket_failure<T: Drop>(
     alloc: Global,
     listen: Addr,
     given: io::Result<T>,
-) -> Result<T, Failure> {
+) -> Result<T, Failure>
+    ensures { (value : T) → given ≡ Ok value → result ≡ Ok value }
+{
     match given {
         Ok(value) => Ok(value),
         Err(error) => Err(Failure::socket(alloc, listen, error)),

@@ -1,5 +1,8 @@
 //! When a station's rounds begin.
 
+ghost use Rattle.std.specs.Prelude.{◌≡◌, ◌*◌, ◌%◌, ◌≤◌, ℕ, [], None, Some, length};
+ghost use Rattle.mon_rounds.specs.Grid.{share_of};
+
 use crate::live::{Live, Transport, run_span};
 use mon_cli::Timing;
 use mon_console::Failure;
@@ -57,7 +60,12 @@ pub(crate) fn start_pace<R: Clock + Eprint + AllocGlobal, S: Shows + Drop, O: Ou
 fn phase<S: Receiver + Drop, O: Outbox + Drop>(
     transport: &Transport<S, O>,
     timing: Timing,
-) -> Option<u64> {
+) -> Option<u64>
+    ensures at_once { timing.interval ≡ 0 → result ≡ None }
+    ensures given { (phase : ℕ) → 1 ≤ timing.interval → timing.phase ≡ Some phase → result ≡ Some (phase % timing.interval * 1000) }
+    ensures single { timing.phase ≡ None → transport.now.peers.items ≡ [] → result ≡ None }
+    ensures shared { 1 ≤ timing.interval → timing.phase ≡ None → 1 ≤ length transport.now.peers.items → length transport.now.peers.items ≤ 15 → result ≡ Some (share_of transport.now.number transport.now.peers.items (timing.interval * 1000)) }
+{
     let peers = transport.peers.as_slice();
     if timing.interval == 0 {
         return None;

@@ -1,7 +1,10 @@
 //! The command `station`.
 
-ghost use Rattle.std.specs.Prelude.{◌≡◌};
+ghost use Rattle.std.specs.Prelude.{◌≡◌, IfErr, IfOk, IfSome, IsOk, None, Ok, OnOk, Some, option_copied, option_map, string_bytes};
+ghost use Rattle.mon_disk.specs.declared.fault.KeeperFault.{KeeperFault};
+ghost use Rattle.mon_faults.specs.declared.fault.Fault.TheVariants.{Keeper};
 ghost use Rattle.mon_station_commands.specs.Limits.{longest_gap};
+ghost use Rattle.mon_udp.specs.Addr.{addr_of};
 
 use crate::limits::print_limits;
 use crate::live::{Live, Place, Reports, open_transport, run_span, start_station};
@@ -172,7 +175,11 @@ fn longest_gap(interval: u32) -> u64
 }
 
 /// Returns the address that `--http` gives, if it is given.
-fn door_of(alloc: Global, text: Option<&str>) -> Result<Option<Addr>, Failure> {
+fn door_of(alloc: Global, text: Option<&str>) -> Result<Option<Addr>, Failure>
+    ensures none { text.entry ≡ None → result ≡ Ok None }
+    ensures given { IfOk result (λ door. IfSome (option_copied text.entry) (λ text. door ≡ addr_of text)) }
+    ensures refused { IfErr result (λ _. IfSome (option_copied text.entry) (λ text. addr_of text ≡ None)) }
+{
     match text {
         Some(text) => match Addr::parse(text) {
             Some(address) => Ok(Some(address)),
@@ -209,7 +216,12 @@ fn run_rounds<
 fn ended<S: Receiver + Drop, O: Outbox + Drop>(
     alloc: Global,
     live: &mut Live<S, O>,
-) -> Result<(), Failure> {
+) -> Result<(), Failure>
+    ensures saved { OnOk result (live.old.unsaved ≡ None) }
+    ensures printed { OnOk result (live.old.unprinted ≡ None) }
+    ensures fault { (fault : KeeperFault) → live.old.unsaved ≡ Some fault → IfErr result (λ failure. failure.fault ≡ Keeper fault) }
+    ensures done { live.old.unsaved ≡ None → live.old.unprinted ≡ None → IsOk result }
+{
     if let Some(fault) = live.unsaved {
         return Err(unsaved(alloc, &live.file, fault, live.station.disk()));
     }
@@ -220,7 +232,9 @@ fn ended<S: Receiver + Drop, O: Outbox + Drop>(
 }
 
 /// Returns the file for each round's report, if there is one.
-fn out_of(alloc: Global, path: Option<&str>) -> Result<Option<String>, Failure> {
+fn out_of(alloc: Global, path: Option<&str>) -> Result<Option<String>, Failure>
+    ensures { IfOk result (λ out. option_map string_bytes out ≡ option_copied path.entry) }
+{
     match path {
         Some(path) => Ok(Some(String::from_str(alloc, path)?)),
         None => Ok(None),

@@ -1,5 +1,7 @@
 //! What a running station says on standard error.
 
+ghost use Rattle.std.specs.Prelude.{◌≡◌, ◌+◌, Some, slice_get};
+
 use crate::live::Live;
 use mon_alarms::AlarmChange;
 use mon_disk::KeeperFault;
@@ -96,7 +98,9 @@ fn tell_astray(rt: &impl Eprint, round: u32, notices: &[Notice]) {
 }
 
 /// The address of a target.
-fn shown_target(addresses: &Addresses, target: u16) -> Addr {
+fn shown_target(addresses: &Addresses, target: u16) -> Addr
+    ensures { (at : Addr) → slice_get addresses.now.targets.items target ≡ Some at → result ≡ at }
+{
     addresses.target(target).unwrap_or(Addr {
         octets: [0; 4],
         port: 0,
@@ -135,7 +139,10 @@ pub(crate) fn tell_change<R: Eprint + AllocGlobal, S: Receiver + Drop, O: Outbox
 }
 
 /// Returns a target's number, from 1, and its address.
-fn place_of(target: &TargetAge) -> (u32, Addr) {
+fn place_of(target: &TargetAge) -> (u32, Addr)
+    ensures number { result.0 ≡ target.now.number + 1 }
+    ensures address { result.1 ≡ target.now.address }
+{
     (u32::from(target.number) + 1, target.address)
 }
 
