@@ -71,6 +71,76 @@ BUGS = {
         "    for line in text.lines() {",
         '    for line in "".lines() {',
     ),
+    "answers_each_line_twice": (
+        "src/answering.rt",
+        "        put_line(&mut printed, alloc, agent, line, scene)?;",
+        "        put_line(&mut printed, alloc, agent, line, scene)?;\n        put_line(&mut printed, alloc, agent, line, scene)?;",
+    ),
+    "skips_a_line_of_one_octet": (
+        "src/answering.rt",
+        "[] | [b'#', ..]",
+        "[] | [_] | [b'#', ..]",
+    ),
+    "names_no_cause_of_bad_hex": (
+        "src/answering.rt",
+        '"refused BadHex\\n"',
+        '"refused\\n"',
+    ),
+    "arrives_once_less": (
+        "src/answering.rt",
+        "    for _ in 1..scene.times {",
+        "    for _ in 2..scene.times {",
+    ),
+    "answers_an_arrival_twice": (
+        "src/answering.rt",
+        "    match agent.answer(alloc, datagram, at) {",
+        "    let _ = agent.answer(alloc, datagram, at);\n    match agent.answer(alloc, datagram, at) {",
+    ),
+    "prints_no_digits": (
+        "src/showing.rt",
+        "            None => put_digits(printed, alloc, octets.as_slice()),",
+        "            None => Ok(()),",
+    ),
+    "swaps_the_number_and_name_of_silence": (
+        "src/showing.rt",
+        '"silent {number} {name}\\n"',
+        '"silent {name} {number}\\n"',
+    ),
+    "ends_no_line_of_digits": (
+        "src/showing.rt",
+        '"{digits}\\n"',
+        '"{digits}"',
+    ),
+    "prints_nothing_without_a_pdu": (
+        "src/showing.rt",
+        "        None => put_digits(printed, alloc, octets),",
+        "        None => Ok(()),",
+    ),
+    "reads_no_message_over_484_octets": (
+        "src/showing.rt",
+        "    match read_message(alloc, octets) {",
+        "    if octets.len() > 484 {\n        return Ok(None);\n    }\n    match read_message(alloc, octets) {",
+    ),
+    "no_body_has_a_pdu": (
+        "src/showing.rt",
+        "        Body::Pdu(pdu) => Some(pdu),",
+        "        Body::Pdu(_) => None,",
+    ),
+    "prints_the_status_last": (
+        "src/showing.rt",
+        "    put_status(printed, pdu.error_status, pdu.error_index)?;\n    let lines = bindings_text(alloc, pdu.bindings.as_slice(), labels)?;\n    printed.push_str(lines.as_str())",
+        "    let lines = bindings_text(alloc, pdu.bindings.as_slice(), labels)?;\n    printed.push_str(lines.as_str())?;\n    put_status(printed, pdu.error_status, pdu.error_index)",
+    ),
+    "each_status_is_without_an_index": (
+        "src/showing.rt",
+        '    write!(printed, "reply {name} ({status}) {index}\\n")',
+        '    let _ = index;\n    write!(printed, "reply {name} ({status}) 0\\n")',
+    ),
+    "an_unknown_status_is_no_error": (
+        "src/showing.rt",
+        'unwrap_or("another error-status")',
+        'unwrap_or("noError")',
+    ),
 }
 
 # Those that break a promise as a whole, each with its function: tests/bodies tries them in the gate.
