@@ -71,4 +71,74 @@ BUGS = {
         "        Place::At(last) => table_of(tree, last),",
         "        Place::At(_) => Some(tree),",
     ),
+    "counts_carriage_returns": (
+        "src/line_column.rt",
+        "filter(|octet| **octet == b'\\n')",
+        "filter(|octet| **octet == b'\\r')",
+    ),
+    "counts_ascii_only": (
+        "src/line_column.rt",
+        "filter(|octet| **octet < 0x80 || **octet >= 0xC0)",
+        "filter(|octet| **octet < 0x80)",
+    ),
+    "the_last_line_begins_with_its_line_feed": (
+        "src/line_column.rt",
+        "line = &octets[index + 1..];",
+        "line = &octets[index..];",
+    ),
+    "ignores_the_offset": (
+        "src/line_column.rt",
+        "    line_column_after(front(text.as_bytes(), offset))",
+        "    let _ = offset;\n    line_column_after(text.as_bytes())",
+    ),
+    "takes_the_rest_for_the_front": (
+        "src/line_column.rt",
+        "        &octets[..count]\n",
+        "        &octets[count..]\n",
+    ),
+    "takes_the_first_entry": (
+        "src/unknown.rt",
+        "    value.get(number.checked_sub(1)?)",
+        "    value.get(number.checked_sub(number)?)",
+    ),
+    "takes_the_list_for_its_entry": (
+        "src/unknown.rt",
+        "entry(find(table, key)?, number),",
+        "find(table, key).filter(|_| number > 0),",
+    ),
+    "looks_for_the_inner_table_first": (
+        "src/unknown.rt",
+        "table_of(table_of(tree, first)?, last),",
+        "table_of(table_of(tree, last)?, first),",
+    ),
+    "an_entry_has_no_keys": (
+        "src/unknown.rt",
+        "        Step::Value(key) | Step::Entry(key, _) => table_keys(key),",
+        "        Step::Value(key) => table_keys(key),\n        Step::Entry(_, _) => &[],",
+    ),
+    "each_settings_are_a_stations": (
+        "src/unknown.rt",
+        "        Place::Whole => top_keys(kind),",
+        "        Place::Whole => top_keys(SettingsKind::Station),",
+    ),
+    "looks_for_top_keys_in_each_table": (
+        "src/unknown.rt",
+        "first_unknown(table, known_keys(kind, place))",
+        "first_unknown(table, known_keys(kind, Place::Whole))",
+    ),
+    "finds_no_unknown_key": (
+        "src/unknown.rt",
+        "        Ok(tree) => unknown_in(alloc, &tree, kind, place),",
+        "        Ok(_) => Ok(None),",
+    ),
+    "tells_a_file_as_what_it_holds": (
+        "src/fault.rt",
+        'Innermost::new("mon_disk", fault.number(), fault.name())',
+        'Innermost::new("mon_saved", fault.number(), fault.name())',
+    ),
+    "keeps_the_image_within_the_station": (
+        "src/fault.rt",
+        "            StationFault::Image(fault) => Fault::Image(fault),\n",
+        "",
+    ),
 }
