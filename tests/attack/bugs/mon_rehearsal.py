@@ -166,7 +166,7 @@ BUGS = {
         "    let innermost = fault.innermost();",
         '    let innermost = mon_station::Innermost::new("mon_world", fault.number(), fault.name());',
     ),
-    "says_ok_whatever_came": (
+    "takes_any_text_for_the_trials": (
         "src/trial.rt",
         "    if text.as_slice() != wanted {",
         "    if text.is_empty() {",

@@ -193,13 +193,6 @@ BUGS = {
         "    if is_newest(items, sample) {",
         "    if items.len() == 7 || is_newest(items, sample) {",
     ),
-    "applies_the_size_before_the_epoch": (
-        "src/plan.rt",
-        "if at >= epoch && items[at - epoch].boots() == boots {",
-        "if items.len() < size && at >= epoch && items[at - epoch].boots() == boots {",
-        "if fills_epoch(items, epoch, first, boots) {",
-        "if items.len() < size && fills_epoch(items, epoch, first, boots) {",
-    ),
     "drops_the_oldest_for_an_older": (
         "src/window.rt",
         "return Plan::TooOld;",
