@@ -1,21 +1,19 @@
--- Alarms that change their states.
-use Rattle.std.specs.Prelude.{ℕ, ◌+◌, Bool, true, false, ◌&&◌, ◌==◌, cond, List, [], ◌∷◌, ◌++◌}
+-- Alarms that are raised or cleared.
+use Rattle.std.specs.Prelude.{ℕ, ◌+◌, Bool, true, false, eqb, cond, List, [], ◌∷◌, ◌++◌}
 use Rattle.mon_alarms.specs.declared.alarm.AlarmState.{AlarmState}
 use Rattle.mon_alarms.specs.declared.alarm.AlarmState.TheVariants.{Clear, Raised}
 use Rattle.mon_alarms.specs.declared.change.AlarmChange.{AlarmChange}
 
--- whether two states are one
-abbrev pub is_same : AlarmState → AlarmState → Bool
-is_same Clear Clear = true
-is_same Clear (Raised boots time) = false
-is_same (Raised boots time) Clear = false
-is_same (Raised boots time) (Raised other_boots other_time) = (boots == other_boots) && (time == other_time)
+-- whether an alarm is raised
+abbrev pub is_raised : AlarmState → Bool
+is_raised Clear = false
+is_raised (Raised boots time) = true
 
--- an alarm that has another state than before, by its rule's number
+-- the state that an alarm has now, by its rule's number, where it was raised or cleared; a raised one that has a later stamp did not change
 abbrev pub change_at : ℕ → AlarmState → AlarmState → List AlarmChange
-change_at rule old new = cond (is_same old new) [] (record { rule = rule; state = new } ∷ [])
+change_at rule old new = cond (eqb (is_raised old) (is_raised new)) [] (record { rule = rule; state = new } ∷ [])
 
--- the alarms that have another state than before, of which the first rule has this number
+-- the alarms that were raised or cleared, of which the first rule has this number
 abbrev pub changes_from : ℕ → List AlarmState → List AlarmState → List AlarmChange
 changes_from rule [] after = []
 changes_from rule (old ∷ before) [] = []

@@ -1,7 +1,7 @@
-//! Alarms that change their states.
+//! Alarms that are raised or cleared.
 
 ghost use Rattle.std.specs.Prelude.{◌≡◌, ◌++◌, IfOk, OnOk};
-ghost use Rattle.mon_alarms.specs.Changes.{change_at, changes_from, is_same};
+ghost use Rattle.mon_alarms.specs.Changes.{change_at, changes_from};
 
 use crate::alarm::AlarmState;
 use std::alloc::{AllocError, Global};
@@ -15,7 +15,11 @@ pub struct AlarmChange {
     pub state: AlarmState,
 }
 
-/// Returns what changed from the states before to those after, by the numbers of the rules.
+/// Returns the alarms that were raised or cleared from the states before to those after, by the
+/// numbers of their rules.
+///
+/// An alarm that stays raised has not changed, though its stamp is a later one once the sample that
+/// raised it has left the window.
 pub fn find_changes(
     alloc: Global,
     before: &[AlarmState],
@@ -32,7 +36,7 @@ pub fn find_changes(
     Ok(changes)
 }
 
-/// Adds the change of a rule, where its state is another one.
+/// Adds the change of a rule, where its alarm was raised or cleared.
 fn put_change(
     changes: &mut Vec<AlarmChange>,
     rule: usize,
@@ -41,26 +45,9 @@ fn put_change(
 ) -> Result<(), AllocError>
     ensures { OnOk result (changes.new.items ≡ changes.old.items ++ change_at rule old new) }
 {
-    if is_same(old, new) {
+    if old.is_raised() == new.is_raised() {
         return Ok(());
     }
     changes.push(AlarmChange { rule, state: new })?;
     Ok(())
-}
-
-/// Returns `true` if two states are equal.
-fn is_same(a: AlarmState, b: AlarmState) -> bool
-    ensures { result ≡ is_same a b }
-{
-    match (a, b) {
-        (AlarmState::Clear, AlarmState::Clear) => true,
-        (
-            AlarmState::Raised { boots, time },
-            AlarmState::Raised {
-                boots: other_boots,
-                time: other_time,
-            },
-        ) => boots == other_boots && time == other_time,
-        _ => false,
-    }
 }

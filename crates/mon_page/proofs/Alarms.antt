@@ -6,7 +6,8 @@ use Rattle.std.proofs.lemmas.Bool.{true≢false}
 use Rattle.std.proofs.lemmas.Bool.Decides.{nat_tests}
 use Rattle.mon_alarms.specs.Rule.{Rule}
 use Rattle.mon_alarms.specs.Observed.{state_by}
-use Rattle.mon_page.specs.Cells.{alarm_cell, is_raised}
+use Rattle.mon_alarms.specs.Changes.{is_raised}
+use Rattle.mon_page.specs.Cells.{alarm_cell}
 
 pub some-rules : (n : ℕ) (b : Bool) → b ≡ (n == 0) → b ≡ false → 0 < n
 some-rules n b e f = grind (arith, nat_tests)

@@ -1,14 +1,13 @@
 -- What every format says of an instance.
-use Rattle.std.specs.Prelude.{ℕ, ℤ, List, [], ◌∷◌, ◌++◌, Bool, true, false, Option, Some, None, codes, decimal, if◌then◌else◌}
+use Rattle.std.specs.Prelude.{ℕ, ℤ, List, [], ◌∷◌, ◌++◌, Option, Some, None, codes, decimal, if◌then◌else◌}
 use Rattle.std.specs.Fmt.{signed_decimal}
 use Rattle.std.specs.List.{list_any}
 use Rattle.mon_sample.specs.Kind.{number_of}
 use Rattle.mon_sample.specs.Key.{kind_of, sample_value}
 use Rattle.mon_rates.specs.Totals.{totals, thousandths}
 use Rattle.mon_alarms.specs.Rule.{Rule}
+use Rattle.mon_alarms.specs.Changes.{is_raised}
 use Rattle.mon_alarms.specs.Observed.{state_by}
-use Rattle.mon_alarms.specs.declared.alarm.AlarmState.{AlarmState}
-use Rattle.mon_alarms.specs.declared.alarm.AlarmState.TheVariants.{Clear, Raised}
 use Rattle.mon_report.specs.Report.{newest, rate_text}
 
 -- the newest of samples, the oldest of which is first
@@ -34,11 +33,6 @@ value_cell (Some s) = signed_decimal (value_of s)
 abbrev pub rate_cell : Option ℕ → List ℕ
 rate_cell None = codes "-"
 rate_cell (Some q) = rate_text (Some q) ++ codes "/s"
-
--- whether the alarm is raised
-abbrev pub is_raised : AlarmState → Bool
-is_raised Clear = false
-is_raised (Raised boots time) = true
 
 -- whether an alarm is raised, of those that there are; a dash if there are none
 abbrev pub alarm_cell : List ℕ → List Rule → List ℕ

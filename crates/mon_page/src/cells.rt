@@ -2,10 +2,11 @@
 
 ghost use Rattle.std.specs.Prelude.{◌≡◌, IfOk};
 ghost use Rattle.std.specs.List.{list_any};
+ghost use Rattle.mon_alarms.specs.Changes.{is_raised};
 ghost use Rattle.mon_alarms.specs.Observed.{state_by};
-ghost use Rattle.mon_page.specs.Cells.{alarm_cell, is_raised};
+ghost use Rattle.mon_page.specs.Cells.{alarm_cell};
 
-use mon_alarms::{AlarmState, Rule, state};
+use mon_alarms::{Rule, state};
 use mon_report::Entry;
 use mon_sample::Sample;
 use std::alloc::{AllocError, Global};
@@ -31,12 +32,5 @@ pub fn alarm_cell(alloc: Global, entry: &Entry) -> Result<&'static str, AllocErr
 fn is_any_raised(samples: &[Sample], rules: &[Rule]) -> bool
     ensures { result ≡ list_any (λ rule. is_raised (state_by rule samples.now)) rules.now }
 {
-    rules.iter().any(|rule| is_raised(state(rule, samples)))
-}
-
-/// Returns `true` if an alarm is raised.
-fn is_raised(alarm: AlarmState) -> bool
-    ensures { result ≡ is_raised alarm }
-{
-    matches!(alarm, AlarmState::Raised { .. })
+    rules.iter().any(|rule| state(rule, samples).is_raised())
 }

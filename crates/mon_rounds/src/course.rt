@@ -65,7 +65,7 @@ impl Course {
         self.given_up = self.given_up.saturating_add(report.given_up);
     }
 
-    /// Returns the alarms of the board that have another state than at the last call.
+    /// Returns the alarms of the board that were raised or cleared since the last call.
     ///
     /// # Errors
     /// `AllocError`: then the next call returns these changes too.

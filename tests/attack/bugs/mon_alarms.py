@@ -6,10 +6,20 @@ BUGS = {
         "    changes.push(AlarmChange { rule, state: new })?;",
         "    changes.push(AlarmChange { rule, state: old })?;",
     ),
-    "misses_an_alarm_raised_anew": (
+    "tells_a_later_stamp": (
         "src/change.rt",
-        "boots == other_boots && time == other_time",
-        "boots == other_boots && time <= other_time",
+        "if old.is_raised() == new.is_raised() {",
+        "if old == new {",
+    ),
+    "tells_no_alarm_that_is_cleared": (
+        "src/change.rt",
+        "if old.is_raised() == new.is_raised() {",
+        "if old.is_raised() || !new.is_raised() {",
+    ),
+    "calls_a_clear_one_raised": (
+        "src/alarm.rt",
+        "matches!(self, AlarmState::Raised { .. })",
+        "true",
     ),
     "numbers_the_fault_3": (
         "src/fault.rt",

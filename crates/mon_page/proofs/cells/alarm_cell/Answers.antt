@@ -1,7 +1,7 @@
 use Rattle.std.proofs.Common.{◌<◌, ◌∙◌, sym, ap, length, arith}
 use Rattle.std.specs.List.{list_any}
 use Rattle.mon_alarms.specs.Observed.{state_by}
-use Rattle.mon_page.specs.Cells.{is_raised}
+use Rattle.mon_alarms.specs.Changes.{is_raised}
 use Rattle.mon_page.proofs.Alarms.{raised, clear, some-rules}
 use Rattle.mon_page.proofs.cells.alarm_cell.Goals as goal
 
