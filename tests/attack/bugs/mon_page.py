@@ -106,10 +106,10 @@ BUGS = {
         ".any(|rule|",
         ".all(|rule|",
     ),
-    "no_alarm_is_raised": (
+    "raised_where_all_are": (
         "src/cells.rt",
-        "    matches!(alarm, AlarmState::Raised { .. })",
-        "    matches!(alarm, AlarmState::Raised { boots: 0, .. })",
+        "rules.iter().any(|rule|",
+        "rules.iter().all(|rule|",
     ),
     "oldest_value": (
         "src/rows.rt",
@@ -188,8 +188,8 @@ BUGS = {
     ),
     "clear_is_raised": (
         "src/cells.rt",
-        "    matches!(alarm, AlarmState::Raised { .. })",
-        "    !matches!(alarm, AlarmState::Raised { .. })",
+        "state(rule, samples).is_raised()",
+        "!state(rule, samples).is_raised()",
     ),
     "cuts_texts_after_64_octets": (
         "src/escape.rt",

@@ -3,23 +3,23 @@
 BUGS = {
     "boots_are_the_time": (
         "src/sample.rt",
-        "        self.boots",
-        "        self.time",
+        "        self.digits().boots",
+        "        self.digits().time",
     ),
     "kind_by_the_discontinuity": (
         "src/sample.rt",
-        "        self.kind\n",
-        "        if self.discontinuity == 7 { Kind::Gauge32 } else { self.kind }\n",
+        "        Kind::from_tag(self.digits().tag).unwrap()\n",
+        "        if self.digits().discontinuity == 7 { Kind::Gauge32 } else { Kind::from_tag(self.digits().tag).unwrap() }\n",
     ),
     "discontinuity_is_the_time": (
         "src/sample.rt",
-        "        self.discontinuity",
-        "        self.time",
+        "        self.digits().discontinuity",
+        "        self.digits().time",
     ),
     "means_a_counter": (
         "src/sample.rt",
-        "self.kind.number(self.value)",
-        "Kind::Counter64.number(self.value)",
+        "self.kind().number(self.value())",
+        "Kind::Counter64.number(self.value())",
     ),
     "names_a_bad_stamp_a_bad_value": (
         "src/fault.rt",
@@ -48,13 +48,13 @@ BUGS = {
     ),
     "time_is_the_boots": (
         "src/sample.rt",
-        "        self.time",
-        "        self.boots",
+        "        self.digits().time",
+        "        self.digits().boots",
     ),
     "value_is_the_discontinuity": (
         "src/sample.rt",
-        "        self.value",
-        "        u64::from(self.discontinuity)",
+        "        self.digits().value",
+        "        u64::from(self.digits().discontinuity)",
     ),
     "wide_integer": (
         "src/kind.rt",
@@ -68,15 +68,13 @@ BUGS = {
     ),
     "one_tag": (
         "src/sample.rt",
-        "let tag = self.kind.tag();",
-        "let tag = Kind::Counter32.tag();",
+        "discontinuity, kind.tag(), value)",
+        "discontinuity, Kind::Counter32.tag(), value)",
     ),
     "time_before_boots": (
         "src/sample.rt",
-        "let own = stamp(self.boots, self.time);",
-        "let own = stamp(self.time, self.boots);",
-        "own.cmp(&stamp(other.boots, other.time))",
-        "own.cmp(&stamp(other.time, other.boots))",
+        "    (u64::from(parts.boots) << 32) + u64::from(parts.time)",
+        "    (u64::from(parts.time) << 32) + u64::from(parts.boots)",
     ),
     "unsigned_integers": (
         "src/kind.rt",
@@ -85,15 +83,28 @@ BUGS = {
     ),
     "forgets_the_mark": (
         "src/sample.rt",
-        "            discontinuity,",
-        "            discontinuity: 0,",
+        "laid_out(boots, time, discontinuity, kind.tag(), value)",
+        "laid_out(boots, time, 0, kind.tag(), value)",
     ),
     "later_is_older": (
         "src/sample.rt",
-        "let own = stamp(self.boots, self.time);",
-        "let own = stamp(self.boots, other.time);",
-        "own.cmp(&stamp(other.boots, other.time))",
-        "own.cmp(&stamp(other.boots, self.time))",
+        "let order = stamp(&own).cmp(&stamp(&others));",
+        "let order = stamp(&others).cmp(&stamp(&own));",
+    ),
+    "equal_where_stamps_are": (
+        "src/sample.rt",
+        "        self.compare(other).is_eq()\n",
+        "        self.boots() == other.boots() && self.time() == other.time()\n",
+    ),
+    "a_record_of_the_tag_alone": (
+        "src/sample.rt",
+        "        Ok(Sample { octets: *octets })\n",
+        "        let _ = kind;\n        Ok(Sample { octets: [0; 21] })\n",
+    ),
+    "writes_the_value_least_first": (
+        "src/sample.rt",
+        "record[13..].copy_from_slice(&value.to_be_bytes());",
+        "record[13..].copy_from_slice(&value.to_le_bytes());",
     ),
     "wide_counter": (
         "src/kind.rt",
