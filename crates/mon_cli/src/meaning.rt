@@ -1,7 +1,7 @@
 //! What the arguments ask for.
 
 ghost use Rattle.std.specs.Prelude.{◌↔◌, IsTrue};
-ghost use Rattle.mon_cli.specs.Asked.{LacksRounds};
+ghost use Rattle.mon_cli.specs.Asked.{LacksInterval, LacksRounds};
 
 use mon_formats::Format;
 
@@ -220,6 +220,16 @@ impl Asked<'_, '_> {
     {
         match self {
             Asked::Station(words) => !words.checks && words.timing.rounds == 0,
+            _ => false,
+        }
+    }
+
+    /// Returns `true` if a station is told a phase, and no interval that it would be in.
+    pub fn lacks_interval(&self) -> bool
+        ensures { IsTrue result ↔ LacksInterval self.now }
+    {
+        match self {
+            Asked::Station(words) => words.timing.phase.is_some() && words.timing.interval == 0,
             _ => false,
         }
     }

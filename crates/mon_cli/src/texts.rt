@@ -95,7 +95,7 @@ A decimal number is digits alone, leading zeros allowed, for an integer also wit
 with 8 BadText before anything is sent. A VALUE that begins with - stands after --.
 
 Examples: snmpmon set 127.0.0.1:16100 private mib-2.1.5.0 string r2
-          snmpmon set 127.0.0.1:16100 private mib-2.2.2.1.7.1 integer -- -1";
+          snmpmon set 127.0.0.1:16100 private mib-2.2.2.1.7.1 integer 2";
 
 const SETTINGS_MORE: &str =
     "Asks the agent at ADDRESS for its engine and walks its tables of interfaces (GetBulkRequests), and prints the settings of a station

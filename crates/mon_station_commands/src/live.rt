@@ -45,6 +45,8 @@ pub(crate) struct Live<S: Receiver + Drop, O: Outbox + Drop> {
     pub(crate) unsaved: Option<KeeperFault>,
     /// Why a report that could not be printed between two rounds could not.
     pub(crate) unprinted: Option<Failure>,
+    /// Why the last round's report could not be written to the file for it, if it could not.
+    pub(crate) unwritten: Option<Failure>,
 }
 
 // By hand: where one is let go, a proof has one call and not a drop of each field.
@@ -63,6 +65,7 @@ impl<S: Receiver + Drop, O: Outbox + Drop> Drop for Live<S, O> {
             ended: _,
             unsaved: _,
             unprinted: _,
+            unwritten: _,
         } = self;
     }
 }
@@ -210,6 +213,7 @@ pub(crate) fn start_station<R: Eprint + AllocGlobal, S: Receiver + Drop, O: Outb
         ended: 0,
         unsaved: None,
         unprinted: None,
+        unwritten: None,
     })
 }
 

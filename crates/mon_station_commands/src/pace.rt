@@ -25,6 +25,9 @@ pub(crate) struct Pace {
 /// How often a station goes on receiving between two rounds, at most.
 const MOST_RESTS: u32 = u32::MAX;
 
+/// After how many milliseconds of receiving between two rounds what came is told and shown.
+const TELL_AFTER: u32 = 1000;
+
 /// Returns when the rounds begin, the first one now. With a phase it waits for that by the wall clock;
 /// so does a station with peers for its share of the interval, so that they poll one after another.
 /// Until then it answers its peers.
@@ -118,7 +121,7 @@ fn pause<R: Clock + Eprint + AllocGlobal, S: Shows + Drop, O: Outbox + Drop>(
         if left == 0 {
             return Ok(());
         }
-        run_span(rt, live, number, Span::Between(left))?;
+        run_span(rt, live, number, Span::Between(left.min(TELL_AFTER)))?;
     }
     Ok(())
 }

@@ -60,18 +60,20 @@ fn print_lines<R: Print + AllocGlobal>(rt: &R, board: &Board) -> Result<(), Fail
 }
 
 /// Writes the report to the file that the arguments name, if they name one. What goes wrong is
-/// reported, and the station goes on.
+/// reported and kept until a report is written, and the station goes on.
 pub(crate) fn write_out<
     R: Files<File = File> + Eprint + AllocGlobal,
     S: Receiver + Drop,
     O: Outbox + Drop,
->(rt: &R, live: &Live<S, O>) {
-    let Some(path) = &live.reports.out else {
-        return;
+>(rt: &R, live: &mut Live<S, O>) {
+    let written = match &live.reports.out {
+        Some(path) => write_report_file(rt, live, path),
+        None => Ok(()),
     };
-    if let Err(failure) = write_report_file(rt, live, path) {
+    if let Err(failure) = &written {
         failure.tell(rt);
     }
+    live.unwritten = written.err();
 }
 
 fn write_report_file<R: Files<File = File> + AllocGlobal, S: Receiver + Drop, O: Outbox + Drop>(

@@ -190,7 +190,7 @@ fn door_of(alloc: Global, text: Option<&str>) -> Result<Option<Addr>, Failure>
 }
 
 /// Runs a station through its rounds, and prints its report. If a report between two rounds could not
-/// be printed, or the last save failed, that is the failure.
+/// be printed, the last round's could not be written or its save failed, that is the failure.
 fn run_rounds<
     R: Clock + Files<File = File> + Print + Eprint + AllocGlobal,
     S: Shows + Drop,
@@ -219,13 +219,14 @@ fn ended<S: Receiver + Drop, O: Outbox + Drop>(
 ) -> Result<(), Failure>
     ensures saved { OnOk result (live.old.unsaved ≡ None) }
     ensures printed { OnOk result (live.old.unprinted ≡ None) }
+    ensures written { OnOk result (live.old.unwritten ≡ None) }
     ensures fault { (fault : KeeperFault) → live.old.unsaved ≡ Some fault → IfErr result (λ failure. failure.fault ≡ Keeper fault) }
-    ensures done { live.old.unsaved ≡ None → live.old.unprinted ≡ None → IsOk result }
+    ensures done { live.old.unsaved ≡ None → live.old.unprinted ≡ None → live.old.unwritten ≡ None → IsOk result }
 {
     if let Some(fault) = live.unsaved {
         return Err(unsaved(alloc, &live.file, fault, live.station.disk()));
     }
-    match live.unprinted.take() {
+    match live.unprinted.take().or(live.unwritten.take()) {
         Some(failure) => Err(failure),
         None => Ok(()),
     }

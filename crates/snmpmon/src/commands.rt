@@ -44,16 +44,25 @@ fn start_command<R: Clock + Files<File = File> + Net + Input + Print + Eprint + 
 ) -> u8
     requires { IsWithin asked }
 {
-    if asked.lacks_rounds() {
-        let _ = rt.eprintln(
-            "snmpmon: station wants --rounds N or --check; see snmpmon station --help",
-        );
+    if let Some(line) = lack_of(&asked) {
+        let _ = rt.eprintln(line);
         return 2;
     }
     match run(rt, asked) {
         Ok(()) => 0,
         Err(failure) => report_failure(rt, &failure),
     }
+}
+
+/// Returns a line that says what a station's arguments lack, if they lack something.
+fn lack_of(asked: &Asked<'_, '_>) -> Option<&'static str> {
+    if asked.lacks_rounds() {
+        return Some("snmpmon: station wants --rounds N or --check; see snmpmon station --help");
+    }
+    if asked.lacks_interval() {
+        return Some("snmpmon: station wants --interval N with --phase; see snmpmon station --help");
+    }
+    None
 }
 
 /// Prints why the arguments were refused, or the help that they asked for, and returns the exit

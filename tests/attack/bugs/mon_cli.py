@@ -75,6 +75,8 @@ BODIES = {
     "stale_at_once": ("src/matches.rt", "const USUAL_ROUNDS: u32 = 3;", "const USUAL_ROUNDS: u32 = 0;"),
     "stale_by_the_rounds": ("src/matches.rt", 'number_or(matches, "stale-after", USUAL_ROUNDS)', 'number_or(matches, "rounds", USUAL_ROUNDS)'),
     "never_lacks_rounds": ("src/meaning.rt", "!words.checks && words.timing.rounds == 0", "false"),
+    "never_lacks_interval": ("src/meaning.rt", "words.timing.phase.is_some() && words.timing.interval == 0", "false"),
+    "each_phase_lacks_an_interval": ("src/meaning.rt", "words.timing.phase.is_some() && words.timing.interval == 0", "words.timing.phase.is_some()"),
     "a_check_lacks_rounds": ("src/meaning.rt", "!words.checks && words.timing.rounds == 0", "words.timing.rounds == 0"),
     "answers_twice": ("src/matches.rt", 'number_or(matches, "times", 1)', 'number_or(matches, "times", 2)'),
     "fuses_at_the_time": ("src/matches.rt", 'fuses: wide_number(matches, "fuses")', 'fuses: wide_number(matches, "at")'),
