@@ -1,6 +1,7 @@
 """The install script, the tarball and the Debian package: what they hold, and equal builds."""
 import hashlib
 import os
+import re
 import tempfile
 from pathlib import Path
 
@@ -63,6 +64,17 @@ def try_install(program):
         same(
             "folders that not all may read",
             [str(path) for path in to.rglob("*") if path.stat().st_mode & 0o444 != 0o444],
+            [],
+        )
+        pages = to / "share/doc/snmpmon"
+        same(
+            "links of installed documents that lead nowhere",
+            [
+                f"{page.name}: {link}"
+                for page in pages.glob("*.md")
+                for link in re.findall(r"\]\((?!https?:|#)([^)#]+)", page.read_text())
+                if not (pages / link).exists()
+            ],
             [],
         )
         build = dict(

@@ -1,8 +1,9 @@
 //! Why a command failed, and where.
 
-ghost use Rattle.std.specs.Prelude.{◌≡◌, ◌↔◌, IsTrue};
+ghost use Rattle.std.specs.Prelude.{◌≡◌, ◌↔◌, IsTrue, false};
 ghost use Rattle.std.specs.IoError.{error_kind};
 ghost use Rattle.mon_app.specs.AppFault.{of_socket, of_stream};
+ghost use Rattle.mon_console.specs.Failure.{is_cut_by};
 ghost use Rattle.mon_app.specs.declared.fault.AppFault.TheVariants.{OutOfMemory};
 ghost use Rattle.mon_faults.specs.Fault.{innermost_of, station_fault};
 ghost use Rattle.mon_faults.specs.declared.fault.Fault.TheVariants.{App, Device, Names};
@@ -21,30 +22,43 @@ use std::io;
 pub struct Failure {
     pub fault: Fault,
     more: Option<String>,
+    /// Whether the reader of what was printed went away.
+    is_cut: bool,
 }
 
 // By hand: where one is let go, a proof has one call and not a drop of each field.
 impl Drop for Failure {
     fn drop(self) {
-        let Failure { fault: _, more: _ } = self;
+        let Failure {
+            fault: _,
+            more: _,
+            is_cut: _,
+        } = self;
     }
 }
 
 impl Failure {
     /// A fault that says all itself.
     pub fn plain(fault: Fault) -> Self
-        ensures { result.fault ≡ fault }
+        ensures fault { result.fault ≡ fault }
+        ensures whole { result.is_cut ≡ false }
     {
-        Failure { fault, more: None }
+        Failure {
+            fault,
+            more: None,
+            is_cut: false,
+        }
     }
 
     /// A fault, and a line that says more of it.
     pub fn said(fault: Fault, more: Result<String, AllocError>) -> Self
-        ensures { result.fault ≡ fault }
+        ensures fault { result.fault ≡ fault }
+        ensures whole { result.is_cut ≡ false }
     {
         Failure {
             fault,
             more: more.ok(),
+            is_cut: false,
         }
     }
 
@@ -65,10 +79,16 @@ impl Failure {
 
     /// A file or a standard stream that could not be used, with the system's reason.
     pub fn stream(alloc: Global, path: &str, error: io::Error) -> Self
-        ensures { result.fault ≡ Fault.App (of_stream (error_kind error)) }
+        ensures fault { result.fault ≡ Fault.App (of_stream (error_kind error)) }
+        ensures cut { result.is_cut ≡ is_cut_by (error_kind error) }
     {
-        let more = format!(in alloc; "{path}: {error}");
-        Failure::said(Fault::App(AppFault::from(error)), more)
+        let more = format!(in alloc; "{path}: {error}").ok();
+        let is_cut = matches!(error.kind(), io::ErrorKind::BrokenPipe);
+        Failure {
+            fault: Fault::App(AppFault::from(error)),
+            more,
+            is_cut,
+        }
     }
 
     /// A socket that could not be had or used at this address, with the system's reason.
@@ -101,6 +121,13 @@ impl Failure {
         ensures { IsTrue result ↔ ((innermost_of self.now.fault).number ≡ 1) }
     {
         self.fault.innermost().number == OUT_OF_MEMORY
+    }
+
+    /// Returns `true` if the reader of what was printed went away, as `head -1` does after a line.
+    pub fn is_cut(&self) -> bool
+        ensures { result ≡ self.now.is_cut }
+    {
+        self.is_cut
     }
 
     /// Prints the fault's line, and a second one that says what was wrong and where. Out of memory says all in one line.

@@ -42,6 +42,10 @@ are_plain o =
     is_plain o.listen.now && is_plain o.file.now && is_plain o.address.now && is_plain o.community.now && list_all is_plain_peer o.peers.now
     && list_all (λ m. is_plain m.now) o.modules.now
 
+-- an interface's alias, where it has one
+abbrev pub alias_text : List ℕ → List ℕ
+alias_text alias = if length alias == 0 then [] else codes ", " ++ cleaned alias
+
 -- an interface's ifType, where the agent has it
 abbrev pub type_text : ℕ → List ℕ
 type_text kind = if kind == 0 then [] else codes ", ifType " ++ decimal kind
@@ -50,7 +54,7 @@ type_text kind = if kind == 0 then [] else codes ", ifType " ++ decimal kind
 unfoldable pub comment_text : List Cell → Planned → List ℕ
 comment_text cells p =
     concat (codes " # " ∷ label_of p.counter p.wide ∷ codes "." ∷ decimal p.index ∷ codes ": " ∷ [])
-    ++ cleaned (name_in cells p.index) ++ codes ", " ++ cleaned (octets_of (value_at cells (IfX 18) p.index))
+    ++ cleaned (name_in cells p.index) ++ alias_text (octets_of (value_at cells (IfX 18) p.index))
     ++ type_text (type_in cells p.index)
     ++ concat (codes ", " ∷ decimal (number_in (value_at cells (IfX 15) p.index)) ∷ codes " Mbit/s\n" ∷ [])
 

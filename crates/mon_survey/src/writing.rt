@@ -5,7 +5,7 @@ ghost use Rattle.std.specs.List.{flat_map};
 ghost use Rattle.mon_survey.specs.Answers.{name_in, octets_of, type_in, value_at};
 ghost use Rattle.mon_survey.specs.Column.{cell_name};
 ghost use Rattle.mon_survey.specs.Counter.{column_of};
-ghost use Rattle.mon_survey.specs.Text.{alarm_text, cleaned, comment_text, head_text, mark_text, module_text, modules_text, object_text, peer_text, rule_text, shown, target_text, type_text};
+ghost use Rattle.mon_survey.specs.Text.{alarm_text, alias_text, cleaned, comment_text, head_text, mark_text, module_text, modules_text, object_text, peer_text, rule_text, shown, target_text, type_text};
 
 use crate::answers::Answers;
 use crate::column::Column;
@@ -116,13 +116,23 @@ fn put_type(text: &mut String, answers: &Answers, index: u32) -> Result<(), Allo
     write!(text, ", ifType {kind}")
 }
 
+/// Adds an interface's alias as a comment shows it, where it has one.
+fn put_alias(text: &mut String, alias: &[u8]) -> Result<(), AllocError>
+    ensures { OnOk result (string_bytes text.new ≡ string_bytes text.old ++ alias_text alias.now) }
+{
+    if alias.is_empty() {
+        return Ok(());
+    }
+    text.push_str(", ")?;
+    put_cleaned(text, alias)
+}
+
 /// Adds an interface's name and its alias, as a comment shows them.
 fn put_names(text: &mut String, answers: &Answers, index: u32) -> Result<(), AllocError>
-    ensures { OnOk result (string_bytes text.new ≡ string_bytes text.old ++ cleaned (name_in answers.now index) ++ codes ", " ++ cleaned (octets_of (value_at answers.now (Column.IfX 18) index))) }
+    ensures { OnOk result (string_bytes text.new ≡ string_bytes text.old ++ cleaned (name_in answers.now index) ++ alias_text (octets_of (value_at answers.now (Column.IfX 18) index))) }
 {
     put_cleaned(text, answers.name(index))?;
-    text.push_str(", ")?;
-    put_cleaned(text, answers.alias(index))
+    put_alias(text, answers.alias(index))
 }
 
 /// Adds the end of a counter's line: its comment, with its descriptor, and its interface's name,

@@ -88,9 +88,11 @@ fn unreadable(rt: &impl Eprint) -> u8 {
 }
 
 /// Prints why a command failed, and returns the exit status. If printing fails too, only the status
-/// says so.
+/// says so, as where the reader of standard output went away.
 fn report_failure(rt: &impl Eprint, failure: &Failure) -> u8 {
-    failure.tell(rt);
+    if !failure.is_cut() {
+        failure.tell(rt);
+    }
     1
 }
 

@@ -26,6 +26,21 @@ BUGS = {
         "Fault::App(AppFault::from(error))",
         "Fault::App(AppFault::FileFault)",
     ),
+    "no_reader_goes_away": (
+        "src/failure.rt",
+        "let is_cut = matches!(error.kind(), io::ErrorKind::BrokenPipe);",
+        "let is_cut = false;",
+    ),
+    "a_full_disk_is_a_reader_that_went_away": (
+        "src/failure.rt",
+        "let is_cut = matches!(error.kind(), io::ErrorKind::BrokenPipe);",
+        "let is_cut = matches!(error.kind(), io::ErrorKind::BrokenPipe | io::ErrorKind::StorageFull);",
+    ),
+    "says_nothing_of_any_fault": (
+        "src/failure.rt",
+        "            more: more.ok(),\n            is_cut: false,",
+        "            more: more.ok(),\n            is_cut: true,",
+    ),
     "gives_no_reason_of_a_socket": (
         "src/failure.rt",
         "SocketReason::of(kind))",

@@ -1,6 +1,16 @@
 """Bugs of mon_survey for planted_bugs: by a name the file, what stands there once, and the bug in its place."""
 
 BUGS = {
+    "an_empty_alias_is_shown": (
+        "src/writing.rt",
+        "    if alias.is_empty() {\n        return Ok(());\n    }\n    text.push_str",
+        "    text.push_str",
+    ),
+    "no_alias_is_shown": (
+        "src/writing.rt",
+        "    if alias.is_empty() {",
+        "    if !alias.is_empty() {",
+    ),
     "takes_a_name_again": (
         "src/answers.rt",
         "        Some(last) => last.key < key,",
