@@ -253,7 +253,7 @@ abbrev pub LacksRounds : Asked → Type 0
 LacksRounds (asked.Station w) = (w.checks ≡ false) × (w.timing.rounds ≡ 0)
 LacksRounds _ = ⊥
 
--- a station that is told a phase, and no interval that it would be in
+-- a station that is given a phase, and no interval that it would be in
 abbrev pub LacksInterval : Asked → Type 0
 LacksInterval (asked.Station w) = IsSome w.timing.phase × (w.timing.interval ≡ 0)
 LacksInterval _ = ⊥

@@ -224,7 +224,7 @@ impl Asked<'_, '_> {
         }
     }
 
-    /// Returns `true` if a station is told a phase, and no interval that it would be in.
+    /// Returns `true` if a station is given a phase, and no interval that it would be in.
     pub fn lacks_interval(&self) -> bool
         ensures { IsTrue result ↔ LacksInterval self.now }
     {

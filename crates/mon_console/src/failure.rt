@@ -22,7 +22,7 @@ use std::io;
 pub struct Failure {
     pub fault: Fault,
     more: Option<String>,
-    /// Whether the reader of what was printed went away.
+    /// `true` if the reader of what was printed went away.
     is_cut: bool,
 }
 

@@ -25,7 +25,7 @@ pub(crate) struct Pace {
 /// How often a station goes on receiving between two rounds, at most.
 const MOST_RESTS: u32 = u32::MAX;
 
-/// After how many milliseconds of receiving between two rounds what came is told and shown.
+/// After how many milliseconds of receiving between two rounds what came is reported and shown.
 const TELL_AFTER: u32 = 1000;
 
 /// Returns when the rounds begin, the first one now. With a phase it waits for that by the wall clock;
