@@ -1,7 +1,7 @@
 //! The command `settings`: asks an agent for its engine, walks its tables of interfaces, and prints the
 //! settings of a station that polls it.
 
-ghost use Rattle.std.specs.Prelude.{◌≡◌, ◌≤◌, [], IfOk, None, OnOk, option_copied, string_bytes};
+ghost use Rattle.std.specs.Prelude.{◌≡◌, ◌≤◌, [], IfOk, IsOk, None, OnOk, option_copied, string_bytes};
 ghost use Rattle.mon_settings_commands.specs.Percent.{GivesPercentage};
 
 use crate::asking::{Survey, ask_agent};
@@ -72,6 +72,7 @@ fn asked_of<'a>(alloc: Global, words: &SettingsArgs<'_, 'a>) -> Result<Asked<'a>
 fn require_alone(alloc: Global, words: &SettingsArgs<'_, '_>) -> Result<(), Failure>
     ensures split { OnOk result (words.now.split ≡ None) }
     ensures modules { OnOk result (words.now.modules.now ≡ []) }
+    ensures accepted { words.now.split ≡ None → words.now.modules.now ≡ [] → IsOk result }
 {
     if words.split.is_some() || !words.modules.is_empty() {
         return Err(together_failure(alloc));

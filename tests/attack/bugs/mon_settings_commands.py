@@ -1,6 +1,11 @@
 """Bugs of mon_settings_commands for planted_bugs: by a name the file, what stands there once, and the bug in its place."""
 
 BUGS = {
+    "never_appends": (
+        "src/settings.rt",
+        "    if words.split.is_some() || !words.modules.is_empty() {",
+        "    if words.append.is_some() {",
+    ),
     "raises_no_alarm": (
         "src/words.rt",
         "        Some(percent) => Ok(percent),",
