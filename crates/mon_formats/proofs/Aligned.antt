@@ -4,10 +4,11 @@ use Rattle.std.specs.Prelude.{All, max, if◌then◌else◌}
 use Rattle.std.specs.List.{list_any}
 use Rattle.std.proofs.lemmas.Fmt.{length-decimal-le}
 use Rattle.std.proofs.lemmas.List.Elements.{All-cons, All-nil}
+use Rattle.mon_alarms.specs.Changes.{is_raised}
 use Rattle.mon_alarms.specs.Rule.{Rule}
 use Rattle.mon_alarms.specs.Observed.{state_by}
 use Rattle.mon_report.specs.Report.{Entry}
-use Rattle.mon_page.specs.Cells.{alarm_cell, is_raised, newest_of, rate_cell, rate_of, value_cell}
+use Rattle.mon_page.specs.Cells.{alarm_cell, newest_of, rate_cell, rate_of, value_cell}
 use Rattle.mon_formats.specs.declared.columns.Widths.{Widths}
 use Rattle.mon_formats.specs.Columns.{cells_text, row_cells, spaces, title_cells, to_left, to_right, widest, widths_of}
 
