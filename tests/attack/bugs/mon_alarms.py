@@ -71,6 +71,56 @@ BUGS = {
         "Some(1000 * sample.number())",
         "Some(sample.number())",
     ),
+    "compares_the_first_alarm_alone": (
+        "src/change.rt",
+        "for rule in 0..before.len().min(after.len()) {",
+        "for rule in 0..before.len().min(after.len()).min(1) {",
+    ),
+    "reports_no_change": (
+        "src/change.rt",
+        "    changes.push(AlarmChange { rule, state: new })?;\n",
+        "    let _ = (changes, rule);\n",
+    ),
+    "reports_the_first_rule_always": (
+        "src/change.rt",
+        "        put_change(&mut changes, rule, old, new)?;",
+        "        put_change(&mut changes, 0, old, new)?;",
+    ),
+    "compares_with_the_state_after": (
+        "src/change.rt",
+        "        let old = before[rule];",
+        "        let _ = before[rule];\n        let old = after[rule];",
+    ),
+    "looks_at_the_newest_alone": (
+        "src/alarm.rt",
+        "        state = next;",
+        "        return next;",
+    ),
+    "what_is_not_observed_clears": (
+        "src/alarm.rt",
+        "        return Some(state);\n    };\n    if level",
+        "        return Some(AlarmState::Clear);\n    };\n    if level",
+    ),
+    "rates_a_second_in_units": (
+        "src/alarm.rt",
+        "Some(thousandths as i128)",
+        "Some((thousandths / 1000) as i128)",
+    ),
+    "rates_backwards": (
+        "src/alarm.rt",
+        "Totals::between(before, sample)",
+        "Totals::between(sample, before)",
+    ),
+    "a_rule_of_any_thresholds": (
+        "src/rule.rt",
+        "        if falling >= rising {",
+        "        if falling >= rising && instance > 255 {",
+    ),
+    "a_rule_of_another_instance": (
+        "src/rule.rt",
+        "        Ok(Rule {\n            instance,",
+        "        Ok(Rule {\n            instance: instance / 2,",
+    ),
     "cleared_only_below": (
         "src/alarm.rt",
         "if level <= i128::from(rule.falling()) {",

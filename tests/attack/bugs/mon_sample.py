@@ -106,6 +106,56 @@ BUGS = {
         "record[13..].copy_from_slice(&value.to_be_bytes());",
         "record[13..].copy_from_slice(&value.to_le_bytes());",
     ),
+    "orders_by_the_value_before_the_kind": (
+        "src/sample.rt",
+        "            .then(own.tag.cmp(&others.tag))\n            .then(own.value.cmp(&others.value))",
+        "            .then(own.value.cmp(&others.value))\n            .then(own.tag.cmp(&others.tag))",
+    ),
+    "orders_without_the_value": (
+        "src/sample.rt",
+        "            .then(own.value.cmp(&others.value))\n",
+        "",
+    ),
+    "takes_a_value_of_no_kind": (
+        "src/sample.rt",
+        "        if !kind.holds(parts.value) {",
+        "        if kind.holds(parts.value) && parts.tag == 0 {",
+    ),
+    "a_bad_value_is_a_bad_stamp": (
+        "src/sample.rt",
+        "            return Err(SampleFault::BadValue);",
+        "            return Err(SampleFault::BadStamp);",
+    ),
+    "boots_of_31_bits": (
+        "src/sample.rt",
+        "    (u64::from(parts.boots) << 32) + u64::from(parts.time)",
+        "    (u64::from(parts.boots) << 31) + u64::from(parts.time)",
+    ),
+    "an_integer_holds_no_negative": (
+        "src/kind.rt",
+        "value < 1 << 31 || value >= u64::MAX - ((1 << 31) - 1)",
+        "value < 1 << 31",
+    ),
+    "a_counter64_holds_no_0": (
+        "src/kind.rt",
+        "            Kind::Counter64 => true,",
+        "            Kind::Counter64 => value > 0,",
+    ),
+    "reads_the_mark_as_the_time": (
+        "src/sample.rt",
+        "time: u32::from_be_bytes([t0, t1, t2, t3]),",
+        "time: u32::from_be_bytes([m0, m1, m2, m3]),",
+    ),
+    "writes_the_mark_before_the_time": (
+        "src/sample.rt",
+        "    record[4..8].copy_from_slice(&time.to_be_bytes());\n    record[8..12].copy_from_slice(&discontinuity.to_be_bytes());",
+        "    record[8..12].copy_from_slice(&time.to_be_bytes());\n    record[4..8].copy_from_slice(&discontinuity.to_be_bytes());",
+    ),
+    "shows_an_empty_record": (
+        "src/sample.rt",
+        "        self.octets\n",
+        "        [0; 21]\n",
+    ),
     "wide_counter": (
         "src/kind.rt",
         "Kind::Counter32 | Kind::Gauge32 | Kind::TimeTicks => value < 1 << 32,",
