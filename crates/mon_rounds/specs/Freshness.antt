@@ -1,6 +1,8 @@
 -- How long ago targets answered, peers sent something and instances had a new sample.
-use Rattle.std.specs.Prelude.{ℕ, ◌+◌, ◌-◌, ◌/◌, ◌^◌, ◌==◌, min, nat_eq, nat_lt, Bool, true, false, not, ◌||◌, if◌then◌else◌, List, [], ◌∷◌, Option, Some, None, filter, get_or, length, slice_get}
+use Rattle.std.specs.Prelude.{ℕ, ◌+◌, ◌-◌, ◌/◌, ◌^◌, ◌==◌, min, nat_lt, Bool, true, false, not, ◌||◌, if◌then◌else◌, List, [], ◌∷◌, Option, Some, None, filter, get_or, length, option_map, slice_get}
 use Rattle.std.specs.List.{fold}
+use Rattle.std.specs.Str.{bytes_eq}
+use Rattle.mon_sample.specs.Record.{octets_of}
 use Rattle.mon_board.specs.Board.{Board, window_of}
 use Rattle.mon_window.specs.Top.{rising}
 use Rattle.mon_udp.specs.Addr.{same_addr}
@@ -112,16 +114,16 @@ peer_after span report p = record { slot = p.slot; station = p.station; rounds =
 abbrev pub last_of : List ℕ → Option ℕ
 last_of items = slice_get items (length items - 1)
 
--- the newest sample of the instance of this number, where there is one
-abbrev pub newest_on : Board → ℕ → Option ℕ
-newest_on b number = if nat_lt number (length b.watch.instances) then last_of (rising (window_of b number)) else None
+-- the octets of the newest sample of the instance of this number, where there is one
+abbrev pub newest_on : Board → ℕ → Option (List ℕ)
+newest_on b number = if nat_lt number (length b.watch.instances) then option_map octets_of (last_of (rising (window_of b number))) else None
 
--- whether two samples, or none, are one
-abbrev pub is_same : Option ℕ → Option ℕ → Bool
+-- whether two samples, or none, have equal octets
+abbrev pub is_same : Option (List ℕ) → Option (List ℕ) → Bool
 is_same None None = true
 is_same None (Some t) = false
 is_same (Some s) None = false
-is_same (Some s) (Some t) = nat_eq s t
+is_same (Some s) (Some t) = bytes_eq s t
 
 -- at the station's start: the newest sample of the instance of this number is known, and no round went by without one
 abbrev pub new_instance : Board → ℕ → Option ℕ → InstanceAge
@@ -132,7 +134,7 @@ abbrev pub new_instances : List (Option ℕ) → Board → List InstanceAge
 new_instances polled b = numbered (λ number watched. new_instance b number (get_or polled number None)) 0 b.watch.instances
 
 -- an instance that has this newest sample after a round, or the time after it
-abbrev pub instance_with : Span → Option ℕ → InstanceAge → InstanceAge
+abbrev pub instance_with : Span → Option (List ℕ) → InstanceAge → InstanceAge
 instance_with span newest i = record { number = i.number; target = i.target; newest = newest; rounds = age_after span (not (is_same i.newest newest)) i.rounds }
 
 -- an instance after a round, or the time after it, that left this board

@@ -8,7 +8,6 @@ use crate::addresses::Addresses;
 use crate::reporting::{Notice, RoundReport};
 use crate::round::Span;
 use mon_board::Board;
-use mon_sample::Sample;
 use mon_station::StationFault;
 use mon_udp::Addr;
 use std::alloc::{AllocError, Global};
@@ -64,8 +63,8 @@ pub struct InstanceAge {
     pub number: u16,
     /// The number of the target that is polled for it, from 0.
     pub target: Option<u16>,
-    /// Its newest sample, if it has one.
-    pub newest: Option<Sample>,
+    /// The octets of its newest sample: equal samples, and only they, have equal octets.
+    pub newest: Option<[u8; 21]>,
     /// How many whole rounds went by since its newest sample changed, or since the station's start;
     /// at most 2^32 - 1.
     pub rounds: u32,
@@ -285,14 +284,17 @@ fn new_instance(board: &Board, number: u16, target: Option<u16>) -> InstanceAge
     }
 }
 
-/// The newest sample of the instance of this number.
-fn newest_on(board: &Board, number: u16) -> Option<Sample>
+/// The octets of the newest sample of the instance of this number.
+fn newest_on(board: &Board, number: u16) -> Option<[u8; 21]>
     ensures { result ≡ newest_on board.now number }
 {
     if usize::from(number) >= board.watch().instances().len() {
         return None;
     }
-    board.items(number).last().copied()
+    match board.items(number).last() {
+        Some(sample) => Some(sample.to_record()),
+        None => None,
+    }
 }
 
 /// Adds what was reported of a round, or the time after it, to each target.
@@ -493,7 +495,7 @@ fn instance_after(instance: InstanceAge, span: Span, board: &Board) -> InstanceA
 }
 
 /// Returns `true` if two samples, or none, are equal.
-fn is_same(one: Option<Sample>, other: Option<Sample>) -> bool
+fn is_same(one: Option<[u8; 21]>, other: Option<[u8; 21]>) -> bool
     ensures { result ≡ is_same one other }
 {
     match (one, other) {

@@ -555,8 +555,8 @@ BUGS = {
     ),
     "the_oldest_sample_for_the_newest": (
         "src/freshness.rt",
-        "    board.items(number).last().copied()\n",
-        "    board.items(number).first().copied()\n",
+        "    match board.items(number).last() {",
+        "    match board.items(number).first() {",
     ),
     "a_first_round_an_interval_late": (
         "src/grid.rt",
