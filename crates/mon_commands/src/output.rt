@@ -1,6 +1,6 @@
 //! Standard output, line by line.
 
-ghost use Rattle.std.specs.Prelude.{◌≡◌, Err, IfSome, None};
+ghost use Rattle.std.specs.Prelude.{◌≡◌, None};
 
 use mon_app::{AppFault, LineSink};
 use mon_console::{Failure, print};
@@ -21,10 +21,7 @@ impl<'a, R> Output<'a, R> {
 
     /// Returns how a walk ended that printed its lines here: with the output's own failure, if it
     /// refused a line.
-    pub(crate) fn end(self, walked: Result<(), Failure>) -> Result<(), Failure>
-        ensures own { IfSome self.failure (λ failure. result ≡ Err failure) }
-        ensures walked { self.failure ≡ None → result ≡ walked }
-    {
+    pub(crate) fn end(self, walked: Result<(), Failure>) -> Result<(), Failure> {
         match self.failure {
             Some(failure) => Err(failure),
             None => walked,

@@ -1,16 +1,6 @@
 """Bugs of mon_commands for planted_bugs: by a name the file, what stands there once, and the bug in its place."""
 
 BUGS = {
-    "a_walk_hides_why_a_line_was_not_printed": (
-        "src/output.rt",
-        "            Some(failure) => Err(failure),\n            None => walked,",
-        "            Some(_) | None => walked,",
-    ),
-    "a_walk_ends_well": (
-        "src/output.rt",
-        "            None => walked,",
-        "            None => Ok(()),",
-    ),
     "tells_a_rehearsal_as_a_want_of_memory": (
         "src/rehearsal.rt",
         "        RehearsalFault::World(WorldFault::Refused(fault)) => Fault::Station(fault),\n        other => Fault::Other(other.innermost()),",
