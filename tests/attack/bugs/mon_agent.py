@@ -226,6 +226,66 @@ BUGS = {
         "            return Ok(false);",
         "            { self.bindings.truncate(self.bindings.len() / 2 * 2); return Ok(false); }",
     ),
+    "answers_before_it_counts": (
+        "src/agent.rt",
+        "        self.mib.count(Counter::InPackets);\n        match self.prepare(alloc, datagram, moment) {",
+        "        let ready = self.prepare(alloc, datagram, moment);\n        self.mib.count(Counter::InPackets);\n        match ready {",
+    ),
+    "takes_a_want_of_memory_for_a_bad_message": (
+        "src/agent.rt",
+        "                None => Err(AgentFault::OutOfMemory),",
+        "                None => Ok(Ready::Answer(Reply::Silent(Silence::BadMessage))),",
+    ),
+    "tests_the_request_before_the_community": (
+        "src/agent.rt",
+        "    if is_unknown(access) {\n        return Some(Silence::BadCommunity);\n    }\n    if !is_request(body) {\n        return Some(Silence::NotARequest);\n    }\n",
+        "    if !is_request(body) {\n        return Some(Silence::NotARequest);\n    }\n    if is_unknown(access) {\n        return Some(Silence::BadCommunity);\n    }\n",
+    ),
+    "reads_as_of_the_start": (
+        "src/agent.rt",
+        "        let mut search = Search::new(alloc, &self.mib, &self.policy, access, moment);",
+        "        let start = Moment::new(0).unwrap_or(moment);\n        let mut search = Search::new(alloc, &self.mib, &self.policy, access, start);",
+    ),
+    "drops_a_set_that_is_ready": (
+        "src/agent.rt",
+        "            Ready::Assign(set) => Reply::Send(self.assign(set)),",
+        "            Ready::Assign(set) => {\n                drop(set);\n                Reply::Silent(Silence::TooBigTwice)\n            }",
+    ),
+    "is_silent_to_every_denial": (
+        "src/agent.rt",
+        "    matches!(access, Err(Denied::NoCommunity))",
+        "    access.is_err()",
+    ),
+    "counts_up_to_255_bindings": (
+        "src/assigning.rt",
+        "    i32::try_from(body.bindings().len()).ok()",
+        "    match u8::try_from(body.bindings().len()) {\n        Ok(count) => Some(i32::from(count)),\n        Err(_) => None,\n    }",
+    ),
+    "tells_of_no_failed_commit": (
+        "src/assigning.rt",
+        "        let response = make_return(response, error_status, index_of(place));",
+        "        let _ = (error_status, place);\n        let response = make_return(response, NO_ERROR, 0);",
+    ),
+    "answers_a_want_of_memory_by_a_status": (
+        "src/assigning.rt",
+        "        SetFault::OutOfMemory => Err(AllocError),",
+        "        SetFault::OutOfMemory => {\n            let response = make_return(response, 13, 0);\n            write(alloc, &response, size)\n        }",
+    ),
+    "answers_the_repeated_names_first": (
+        "src/bulk.rt",
+        "once)? {\n        return Ok(());\n    }\n    if rounds == 0 {\n        return Ok(());\n    }\n    if !extend(alloc, search, reply, repeated)? {",
+        "repeated)? {\n        return Ok(());\n    }\n    if rounds == 0 {\n        return Ok(());\n    }\n    if !extend(alloc, search, reply, once)? {",
+    ),
+    "answers_the_first_name_of_a_get": (
+        "src/reading.rt",
+        "        binding.value = got_value(got);\n",
+        "        binding.value = got_value(got);\n        break;\n",
+    ),
+    "takes_half_the_room_for_a_response": (
+        "src/ready.rt",
+        "    let room = Vec::with_capacity(alloc, size)?;",
+        "    let room = Vec::with_capacity(alloc, size / 2)?;",
+    ),
 }
 
 # Those that break a promise as a whole, each with its function: tests/bodies tries them in the gate.

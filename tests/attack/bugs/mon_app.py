@@ -636,4 +636,64 @@ BUGS = {
         "question.names.len() == bindings.len()",
         "question.names.len() >= bindings.len()",
     ),
+    "hears_on_after_the_wait": (
+        "src/asking.rt",
+        "            Heard::Quiet => return Ok(None),",
+        "            Heard::Quiet => {}",
+    ),
+    "takes_a_want_of_memory_for_no_reply": (
+        "src/asking.rt",
+        "    match fault {\n        PduFault::OutOfMemory => Err(AllocError),\n        _ => Ok(None),\n    }",
+        "    let _ = fault;\n    Ok(None)",
+    ),
+    "sends_twice_for_each_wait": (
+        "src/asking.rt",
+        "        wire.send(octets.as_slice())?;",
+        "        wire.send(octets.as_slice())?;\n        wire.send(octets.as_slice())?;",
+    ),
+    "leaves_out_the_first_sample": (
+        "src/line.rt",
+        "        bindings: others,",
+        "        bindings: &others[others.len().min(1)..],",
+    ),
+    "looks_at_the_status_before_the_kind": (
+        "src/line.rt",
+        "            if pdu.kind != PduKind::Response {\n                return Err(Refusal::NotAResponse);\n            }\n            if pdu.error_status != 0 {\n                return Err(Refusal::AgentError);\n            }\n",
+        "            if pdu.error_status != 0 {\n                return Err(Refusal::AgentError);\n            }\n            if pdu.kind != PduKind::Response {\n                return Err(Refusal::NotAResponse);\n            }\n",
+    ),
+    "swaps_the_counts_at_the_end": (
+        "src/text.rt",
+        "    let (instances, samples) = (rows.len(), samples_in(rows));",
+        "    let (instances, samples) = (samples_in(rows), rows.len());",
+    ),
+    "counts_one_sample_of_each_window": (
+        "src/text.rt",
+        "        count += row.window.items().len();",
+        "        count += row.window.items().len().min(1);",
+    ),
+    "takes_the_samples_of_a_refused_line": (
+        "src/replaying.rt",
+        "    if !table.has_room(alloc, &response)? {\n        return Err(Refusal::TooManyInstances);\n    }\n    table.take(alloc, &response)?;\n",
+        "    let has_room = table.has_room(alloc, &response)?;\n    table.take(alloc, &response)?;\n    if !has_room {\n        return Err(Refusal::TooManyInstances);\n    }\n",
+    ),
+    "leaves_off_at_a_refused_line": (
+        "src/replaying.rt",
+        "                refused += 1;\n",
+        "                refused += 1;\n                break;\n",
+    ),
+    "hears_any_port_of_the_agent": (
+        "src/socket.rt",
+        "        Some(from) if from == agent && len <= room => Heard::Datagram(len),",
+        "        Some(from) if from.octets == agent.octets && len <= room => Heard::Datagram(len),",
+    ),
+    "calls_a_want_of_memory_a_failed_socket": (
+        "src/socket.rt",
+        "        io::ErrorKind::OutOfMemory => AppFault::OutOfMemory,\n        kind =>",
+        "        kind =>",
+    ),
+    "ends_well_whatever_fails": (
+        "src/walking.rt",
+        "        match walk_on(alloc, wire, &turn, names, lines)? {\n            Some(name) => last = name,\n            None => return Ok(()),\n        }",
+        "        match walk_on(alloc, wire, &turn, names, lines) {\n            Ok(Some(name)) => last = name,\n            _ => return Ok(()),\n        }",
+    ),
 }

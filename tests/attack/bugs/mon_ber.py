@@ -311,6 +311,66 @@ BUGS = {
         "if rest.len() < count {",
         "if rest.len() < count || rest[0] == 0 {",
     ),
+    "takes_what_is_there_of_a_cut_element": (
+        "src/element.rt",
+        "    if rest.len() < len {\n        return Err(BerFault::Truncated);\n    }\n    Ok(rest.split_at(len))",
+        "    Ok(rest.split_at(len.min(rest.len())))",
+    ),
+    "tests_the_length_before_the_tag": (
+        "src/element.rt",
+        "    if *first != tag {\n        return Err(BerFault::BadTag);\n    }\n    contents_at(rest)",
+        "    let found = contents_at(rest)?;\n    if *first != tag {\n        return Err(BerFault::BadTag);\n    }\n    Ok(found)",
+    ),
+    "takes_an_unknown_tag_for_opaque": (
+        "src/element.rt",
+        "        None => Err(BerFault::BadTag),",
+        "        None => Ok((Tag::Opaque, rest)),",
+    ),
+    "reads_null_of_one_octet": (
+        "src/reading.rt",
+        "    if !contents.is_empty() {",
+        "    if contents.len() > 1 {",
+    ),
+    "refuses_octets_after_a_value": (
+        "src/reading.rt",
+        "    Ok((value, octets.len() - rest.len()))",
+        "    if !rest.is_empty() {\n        return Err(BerFault::BadLength);\n    }\n    Ok((value, octets.len()))",
+    ),
+    "takes_a_bad_integer_for_0": (
+        "src/reading.rt",
+        "    Ok((integer_of(contents)?, rest))",
+        "    Ok((integer_of(contents).unwrap_or(0), rest))",
+    ),
+    "wraps_at_32_bits": (
+        "src/number.rt",
+        "    u32::try_from(number_of(contents)?).map_err(|_| BerFault::OutOfRange)",
+        "    Ok(number_of(contents)? as u32)",
+    ),
+    "wraps_a_great_part": (
+        "src/name.rt",
+        "        let Ok(part) = u32::try_from(number) else {\n            return Err(BerFault::BadOid);\n        };",
+        "        let part = number as u32;",
+    ),
+    "clones_one_exception_as_another": (
+        "src/value.rt",
+        "            Value::NoSuchInstance => Value::NoSuchInstance,",
+        "            Value::NoSuchInstance => Value::NoSuchObject,",
+    ),
+    "writes_the_header_alone": (
+        "src/writing.rt",
+        "    put_header(out, Tag::of(value).octet(), len);\n    put_contents(out, value);",
+        "    put_header(out, Tag::of(value).octet(), len);",
+    ),
+    "writes_a_value_twice": (
+        "src/writing.rt",
+        "    put_value(&mut out, value);",
+        "    put_value(&mut out, value);\n    put_value(&mut out, value);",
+    ),
+    "refuses_the_longest_value": (
+        "src/writing.rt",
+        "    if len >= LIMIT {\n        return Err(BerFault::BadLength);",
+        "    if len >= LIMIT - 1 {\n        return Err(BerFault::BadLength);",
+    ),
 }
 
 # Those that break a promise as a whole, each with its function: tests/bodies tries them in the gate.

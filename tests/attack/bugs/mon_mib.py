@@ -451,6 +451,71 @@ BUGS = {
         "        if !self.policy.sees(self.access, name) {",
         "        if self.policy.sees(self.access, name) {",
     ),
+    "lists_the_first_assigned_first": (
+        "src/commit.rt",
+        "        Commit::UndoFailed { failed, standing }\n",
+        "        standing.reverse();\n        Commit::UndoFailed { failed, standing }\n",
+    ),
+    "begins_again_where_nothing_follows": (
+        "src/mib.rt",
+        "            Start::Nowhere => None,",
+        "            Start::Nowhere => self.instance_above(object, None),",
+    ),
+    "gives_a_scalar_of_instance_1": (
+        "src/mib.rt",
+        "                if instance != 0 {",
+        "                if instance > 1 {",
+    ),
+    "counts_interfaces_by_their_greatest_index": (
+        "src/mib.rt",
+        "        count += 1;\n",
+        "        count = index;\n",
+    ),
+    "goes_on_after_a_failed_assignment": (
+        "src/commit.rt",
+        "        if let Err(failed) = assign_one(device, step, &mut undos) {\n            return undo_all(device, failed, undos, standing);\n        }\n    }\n",
+        "        let _ = assign_one(device, step, &mut undos);\n    }\n    drop(standing);\n",
+    ),
+    "leaves_off_after_one_object": (
+        "src/search.rt",
+        "            if let Some(binding) = found {\n                return Ok(Some(binding));\n            }\n",
+        "            return Ok(found);\n",
+    ),
+    "tests_the_instance_before_the_value": (
+        "src/setting.rt",
+        "        let text = read_text(value, SYS_TEXT_MAX)?;\n        if rest != [0].as_slice() {\n            return Err(BindingFault::Refused(SetStatus::NoCreation));\n        }\n",
+        "        if rest != [0].as_slice() {\n            return Err(BindingFault::Refused(SetStatus::NoCreation));\n        }\n        let text = read_text(value, SYS_TEXT_MAX)?;\n",
+    ),
+    "takes_a_longer_instance": (
+        "src/setting.rt",
+        "        let [index] = rest else {",
+        "        let [index, ..] = rest else {",
+    ),
+    "takes_no_room_to_list_what_stands": (
+        "src/set_plan.rt",
+        "        let standing = Vec::with_capacity(alloc, steps.len())?;",
+        "        let standing = Vec::with_capacity(alloc, 0)?;",
+    ),
+    "hands_back_the_new_status": (
+        "src/interface.rt",
+        "        self.status = status;\n        was\n",
+        "        self.status = status;\n        let _ = was;\n        status\n",
+    ),
+    "calls_a_text_a_wrong_status": (
+        "src/writable.rt",
+        "    let Value::Integer(number) = value else {\n        return Err(SetStatus::WrongType);",
+        "    let Value::Integer(number) = value else {\n        return Err(SetStatus::WrongValue);",
+    ),
+    "makes_the_change_of_a_blown_fuse": (
+        "src/fuse_device.rt",
+        "        if is_blown(self.fuses, number) {\n            self.blown = self.blown.saturating_add(1);\n            return Err(DeviceFault::Failed);\n        }\n        self.device.apply(change)",
+        "        let made = self.device.apply(change);\n        if is_blown(self.fuses, number) {\n            self.blown = self.blown.saturating_add(1);\n            return Err(DeviceFault::Failed);\n        }\n        made",
+    ),
+    "takes_any_gap_of_an_object": (
+        "src/search.rt",
+        "            if gap.covers(object, start) {",
+        "            let _ = start;\n            if gap.object == object {",
+    ),
 }
 
 # Those that break a promise as a whole, each with its function: tests/bodies tries them in the gate.

@@ -76,6 +76,66 @@ BUGS = {
         "other.parts().starts_with(self.parts())",
         "self.parts().starts_with(other.parts())",
     ),
+    "lets_40_under_0": (
+        "src/oid.rt",
+        "parts[0] < 2 && parts[1] > 39",
+        "parts[0] == 1 && parts[1] > 39",
+    ),
+    "gives_up_at_16_parts": (
+        "src/oid.rt",
+        "        Ok(Oid::from_valid(SmallVec::from_slice(alloc, parts)?))",
+        "        if parts.len() == 16 {\n            return Err(OidFault::OutOfMemory);\n        }\n        Ok(Oid::from_valid(SmallVec::from_slice(alloc, parts)?))",
+    ),
+    "takes_a_want_of_memory_for_a_bad_text": (
+        "src/oid.rt",
+        "        let numbers = dotted_numbers(alloc, text)?;",
+        "        let Ok(numbers) = dotted_numbers(alloc, text) else {\n            return Err(OidFault::BadText);\n        };",
+    ),
+    "is_no_prefix_of_itself": (
+        "src/oid.rt",
+        "other.parts().starts_with(self.parts())",
+        "other.parts().len() > self.parts().len() && other.parts().starts_with(self.parts())",
+    ),
+    "compares_lengths_first": (
+        "src/oid.rt",
+        "        self.parts().cmp(&other.parts())",
+        "        self.parts()\n            .len()\n            .cmp(&other.parts().len())\n            .then(self.parts().cmp(&other.parts()))",
+    ),
+    "writes_ten_numbers_at_most": (
+        "src/oid.rt",
+        "            if i > 0 {",
+        "            if i == 10 {\n                return Ok(text);\n            }\n            if i > 0 {",
+    ),
+    "clones_none_of_16_parts": (
+        "src/oid.rt",
+        "        Ok(Oid::from_valid(SmallVec::from_slice(alloc, self.parts())?))",
+        "        if self.parts().len() == 16 {\n            return Err(AllocError);\n        }\n        Ok(Oid::from_valid(SmallVec::from_slice(alloc, self.parts())?))",
+    ),
+    "passes_over_an_empty_number": (
+        "src/oid.rt",
+        "        let Some(number) = number(piece) else {\n",
+        "        let Some(number) = number(piece) else {\n            if piece.is_empty() {\n                continue;\n            }\n",
+    ),
+    "refuses_4294967295": (
+        "src/oid.rt",
+        "        Some(number)\n    } else {",
+        "        if number == u32::MAX {\n            return None;\n        }\n        Some(number)\n    } else {",
+    ),
+    "equal_by_its_beginning": (
+        "src/oid.rt",
+        "self.parts() == other.parts()",
+        "self.parts().starts_with(other.parts())",
+    ),
+    "orders_nothing": (
+        "src/oid.rt",
+        "        Some(self.cmp(other))",
+        "        let _ = other;\n        None",
+    ),
+    "calls_a_want_of_memory_a_bad_text": (
+        "src/fault.rt",
+        "    fn from(_e: AllocError) -> OidFault {\n        OidFault::OutOfMemory",
+        "    fn from(_e: AllocError) -> OidFault {\n        OidFault::BadText",
+    ),
 }
 
 # Those that break a promise as a whole, each with its function: tests/bodies tries them in the gate.

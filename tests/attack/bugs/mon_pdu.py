@@ -325,6 +325,66 @@ BUGS = {
         "    let (second, rest) = integer_at(rest)?;",
         "    let (request_id, rest) = integer_at(rest)?;",
     ),
+    "frames_no_message_with_octets_after_it": (
+        "src/frame.rt",
+        "    let (contents, _) = element_at(SEQUENCE, octets)?;\n    frame_of(contents)",
+        "    let (contents, rest) = element_at(SEQUENCE, octets)?;\n    if !rest.is_empty() {\n        return Err(BerFault::BadLength);\n    }\n    frame_of(contents)",
+    ),
+    "a_named_value_is_null": (
+        "src/frame.rt",
+        "    Some((value, after))",
+        "    let _ = value;\n    Some((Value::Null, after))",
+    ),
+    "reads_a_binding_with_octets_after_its_value": (
+        "src/reading.rt",
+        "    require_end(rest)?;\n    Ok((Binding { name, value }, after))",
+        "    let _ = rest;\n    Ok((Binding { name, value }, after))",
+    ),
+    "leaves_off_at_a_bad_binding": (
+        "src/reading.rt",
+        "        let (binding, after) = binding_at(alloc, rest)?;",
+        "        let Ok((binding, after)) = binding_at(alloc, rest) else {\n            break;\n        };",
+    ),
+    "passes_over_octets_after_the_list": (
+        "src/reading.rt",
+        "    require_end(rest)?;\n    match kind {",
+        "    let _ = rest;\n    match kind {",
+    ),
+    "reads_a_bulk_as_a_get": (
+        "src/reading.rt",
+        "        return behind_tag(alloc, None, rest);",
+        "        return behind_tag(alloc, Some(PduKind::Get), rest);",
+    ),
+    "refuses_octets_after_a_message": (
+        "src/reading.rt",
+        "    let (contents, _) = element_at(SEQUENCE, octets)?;\n    message_of(alloc, contents)",
+        "    let (contents, rest) = element_at(SEQUENCE, octets)?;\n    require_end(rest)?;\n    message_of(alloc, contents)",
+    ),
+    "takes_a_want_of_memory_for_a_cut_message": (
+        "src/reading.rt",
+        "    message_at(alloc, octets)\n",
+        "    match message_at(alloc, octets) {\n        Err(PduFault::OutOfMemory) => Err(PduFault::Truncated),\n        read => read,\n    }\n",
+    ),
+    "measures_the_last_binding_alone": (
+        "src/writing.rt",
+        "        len = (len + element_size(binding_len(binding))).min(LIMIT);",
+        "        len = element_size(binding_len(binding));",
+    ),
+    "writes_no_message_without_bindings": (
+        "src/writing.rt",
+        "    put_whole(out, message, lengths_by(message, list));",
+        "    if list > 0 {\n        put_whole(out, message, lengths_by(message, list));\n    }",
+    ),
+    "writes_its_own_bindings": (
+        "src/writing.rt",
+        "    put_message(&mut out, message, lengths, &Listed::Written(list));",
+        "    put_message(\n        &mut out,\n        message,\n        lengths,\n        &Listed::Bindings(message.body.bindings()),\n    );",
+    ),
+    "sizes_with_its_own_bindings": (
+        "src/writing.rt",
+        "    element_size(lengths_around(message, list).message)",
+        "    let _ = list;\n    element_size(lengths_of(message).message)",
+    ),
 }
 
 # Those that break a promise as a whole, each with its function: tests/bodies tries them in the gate.

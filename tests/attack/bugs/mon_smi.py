@@ -378,6 +378,66 @@ BUGS = {
         "            Some(parent) => name = parent.as_str(),",
         "            Some(_) => return Ok(chain),",
     ),
+    "spans_one_octet_of_a_character": (
+        "src/lexer.rt",
+        "    let end = start + char_len(rest);",
+        "    let end = start + 1;",
+    ),
+    "ends_at_what_is_no_token": (
+        "src/lexer.rt",
+        "            return Err(fault_at(start, rest));",
+        "            return Ok(tokens);",
+    ),
+    "leaves_what_follows_an_end": (
+        "src/modules.rt",
+        "    while !ends_module(last(ls, left)) {",
+        '    while !begins_word("END", last(ls, left)) {',
+    ),
+    "wants_imports": (
+        "src/modules.rt",
+        "        return imported_at(ls);\n    }\n    Ok(ls)",
+        "        return imported_at(ls);\n    }\n    Err(ReadFault::BrokenOff(ls))",
+    ),
+    "takes_a_want_of_memory_for_a_cut_text": (
+        "src/modules.rt",
+        "        ReadFault::OutOfMemory => TextFault::OutOfMemory,",
+        "        ReadFault::OutOfMemory => TextFault::Unclosed,",
+    ),
+    "calls_too_many_numbers_no_identifier": (
+        "src/names.rt",
+        "        Err(OidFault::TooLong) => Err(NamesFault::TooDeep),",
+        "        Err(OidFault::TooLong) => Err(NamesFault::BadIdentifier),",
+    ),
+    "passes_over_what_is_no_number": (
+        "src/names.rt",
+        "        Err(OidFault::BadText) => Err(NamesFault::Formless(form_fault(text))),",
+        "        Err(OidFault::BadText) => identifier_of(alloc, places, defs, word, &[]),",
+    ),
+    "takes_a_want_of_memory_for_no_identifier": (
+        "src/chain.rt",
+        "        Err(OidFault::OutOfMemory) => Err(NamesFault::OutOfMemory),",
+        "        Err(OidFault::OutOfMemory) => Err(NamesFault::BadIdentifier),",
+    ),
+    "leaves_out_a_name_where_memory_ran_out": (
+        "src/labels.rt",
+        "    match identify(alloc, places, defs, name)? {\n        Some(oid) => put_label(alloc, by_identifier, &oid, name),\n        None => Ok(()),\n    }",
+        "    match identify(alloc, places, defs, name) {\n        Ok(Some(oid)) => put_label(alloc, by_identifier, &oid, name),\n        _ => Ok(()),\n    }",
+    ),
+    "keeps_the_first_name_of_an_identifier": (
+        "src/labels.rt",
+        "    if is_known(by_identifier.get(oid.parts()).copied(), name) {",
+        "    if by_identifier.get(oid.parts()).is_some() {",
+    ),
+    "takes_a_word_with_a_number_for_the_parent": (
+        "src/values.rt",
+        "            if begins(TokenKind::LeftParen, rest) {\n                return (None, ls);\n            }\n            (Some(word), rest)",
+        "            (Some(word), rest)",
+    ),
+    "ends_a_string_at_a_doubled_quote": (
+        "src/scan.rt",
+        "        if *next != b'\"' {",
+        "        if *next != b'\"' || !rest.is_empty() {",
+    ),
 }
 
 # Those that break a promise as a whole, each with its function: tests/bodies tries them in the gate.

@@ -152,6 +152,66 @@ BUGS = {
         "            None => false,",
         "            None => true,",
     ),
+    "shows_no_name_of_a_view": (
+        "src/access.rt",
+        "        self.view\n",
+        "        &self.view[..0]\n",
+    ),
+    "takes_an_entry_of_any_model": (
+        "src/access_entry.rt",
+        "        is_named(&self.group_name, group) && self.security_model == model",
+        "        let _ = model;\n        is_named(&self.group_name, group)",
+    ),
+    "takes_a_subtree_of_any_view": (
+        "src/family.rt",
+        "        is_named(&self.view_name, view) && self.subtree == *subtree",
+        "        let _ = view;\n        self.subtree == *subtree",
+    ),
+    "knows_a_name_by_its_beginning": (
+        "src/names.rt",
+        "    name.as_slice() == octets",
+        "    octets.starts_with(name.as_slice())",
+    ),
+    "grants_the_view_for_reading": (
+        "src/policy.rt",
+        "        self.tables.entry_of(group)?.view_for(need)",
+        "        let _ = need;\n        self.tables.entry_of(group)?.view_for(Need::Read)",
+    ),
+    "judges_each_need_as_reading": (
+        "src/policy.rt",
+        "        match self.access(community, need) {",
+        "        let _ = need;\n        match self.access(community, Need::Read) {",
+    ),
+    "calls_a_hidden_name_no_view": (
+        "src/policy.rt",
+        "            Decision::NotInView\n",
+        "            Decision::Denied(Denied::NoSuchView)\n",
+    ),
+    "takes_the_first_family_that_applies": (
+        "src/policy.rt",
+        "        best = stronger(best, family, view, name);",
+        "        best = stronger(best, family, view, name);\n        if best.is_some() {\n            return best;\n        }",
+    ),
+    "gives_the_community_for_its_security_name": (
+        "src/tables.rt",
+        "            Some(entry) => Ok(entry.security_name.as_slice()),",
+        "            Some(entry) => Ok(entry.name.as_slice()),",
+    ),
+    "gives_the_security_name_for_its_group": (
+        "src/tables.rt",
+        "            Some(entry) => Ok(entry.group_name.as_slice()),",
+        "            Some(entry) => Ok(entry.security_name.as_slice()),",
+    ),
+    "takes_the_last_access_entry": (
+        "src/tables.rt",
+        "        self.accesses.iter().find(|a| a.is_of(group, model))",
+        "        self.accesses.iter().rev().find(|a| a.is_of(group, model))",
+    ),
+    "compares_neighbouring_communities_alone": (
+        "src/tables.rt",
+        "            if has_community(&communities[..i], own.name.as_slice()) {",
+        "            if has_community(&communities[i.saturating_sub(1)..i], own.name.as_slice()) {",
+    ),
 }
 
 # Those that break a promise as a whole, each with its function: tests/bodies tries them in the gate.
