@@ -211,6 +211,66 @@ BUGS = {
         "        if is_above(&after, sample) && !marks.has(slot, sample) {",
         "        if is_above(&after, sample) && (!marks.has(slot, sample) || slot == 0) {",
     ),
+    "takes_no_pair_after_one_too_old": (
+        "src/board.rt",
+        "            let _ = self.take(*instance, *sample);",
+        "            if let Ok(Inserted::TooOld) = self.take(*instance, *sample) {\n                return;\n            }",
+    ),
+    "calls_a_sample_too_old_an_unknown_instance": (
+        "src/board.rt",
+        "        marks.keep(window);\n",
+        "        marks.keep(window);\n        if let Inserted::TooOld = inserted {\n            return Err(UnknownInstance);\n        }\n",
+    ),
+    "finds_by_the_engine_alone": (
+        "src/board.rt",
+        "    match instances.binary_search_by(|watched| watched.instance.compare(engine, name)) {",
+        "    let _ = name;\n    match instances.binary_search_by(|watched| watched.instance.engine.as_slice().cmp(&engine)) {",
+    ),
+    "joins_and_leaves_the_marks_of_what_went": (
+        "src/board.rt",
+        "        keep_each(&mut self.marks, &self.windows);\n",
+        "",
+    ),
+    "marks_for_the_first_slot": (
+        "src/board.rt",
+        "            self.marks[place].set(slot, sample);",
+        "            let _ = slot;\n            self.marks[place].set(0, sample);",
+    ),
+    "unmarks_nothing": (
+        "src/board.rt",
+        "        clear_each(&mut self.marks, slot);",
+        "        let _ = slot;",
+    ),
+    "owes_nothing_above_another": (
+        "src/board.rt",
+        "        first_unmarked(self.windows[place].items()",
+        "        if after.is_some() {\n            return None;\n        }\n        first_unmarked(self.windows[place].items()",
+    ),
+    "forgets_all_marks_as_a_sample_comes": (
+        "src/marks.rt",
+        "        keep_in(&mut self.items, window);",
+        "        let _ = window;\n        self.items.clear();",
+    ),
+    "copies_a_watch_without_its_rules": (
+        "src/watch.rt",
+        "        let rules = copy_rules(alloc, self.rules.as_slice())?;",
+        "        let rules = Vec::new(alloc);",
+    ),
+    "copies_no_discontinuity": (
+        "src/instance.rt",
+        "            Some(name) => Some(name.try_clone(alloc)?),",
+        "            Some(_) => None,",
+    ),
+    "says_that_a_pair_without_memory_was_added": (
+        "src/pairs.rt",
+        "        self.items.push((instance, sample))?;",
+        "        let _ = self.items.push((instance, sample));",
+    ),
+    "calls_bad_rules_bad_instances": (
+        "src/watch.rt",
+        "            return Err(WatchFault::BadRules);",
+        "            return Err(WatchFault::BadInstances);",
+    ),
 }
 
 # Those that break a promise as a whole, each with its function: tests/bodies tries them in the gate.

@@ -529,6 +529,66 @@ BUGS = {
         "        if !self.spoiled {\n            return Ok(());\n        }\n",
         "",
     ),
+    "a_file_that_was_cut_is_damaged": (
+        "src/opening.rt",
+        "    if size > 2 * SLOT_SIZE {",
+        "    if size > 2 * SLOT_SIZE || size > 0 && size < 2 * SLOT_SIZE {",
+    ),
+    "finds_no_save_where_none_can_be_read": (
+        "src/opening.rt",
+        "    let body = read_body(alloc, disk, slot, head.size)?;",
+        "    let Ok(body) = read_body(alloc, disk, slot, head.size) else {\n        return Ok((None, None));\n    };",
+    ),
+    "a_slot_that_cannot_be_read_is_closed": (
+        "src/reading.rt",
+        "    disk.read_at(slot.offset(), &mut octets)?;\n",
+        "    if disk.read_at(slot.offset(), &mut octets).is_err() {\n        return Ok(None);\n    }\n",
+    ),
+    "lays_out_nothing_without_memory": (
+        "src/layout.rt",
+        "    let zeros = zeros(alloc, SLOT_SIZE as usize)?;",
+        "    let Ok(zeros) = zeros(alloc, SLOT_SIZE as usize) else {\n        return Ok(());\n    };",
+    ),
+    "lays_out_unsynced": (
+        "src/layout.rt",
+        "    disk.write_at(SLOT_SIZE, &zeros[1..])?;\n    disk.sync()",
+        "    disk.write_at(SLOT_SIZE, &zeros[1..])",
+    ),
+    "fills_an_open_slot": (
+        "src/saving.rt",
+        "    close(disk, slot, calls)?;\n",
+        "",
+    ),
+    "says_saved_where_memory_is_refused": (
+        "src/keeper.rt",
+        "        let mut octets = behind_room(alloc, body)?;",
+        "        let Ok(mut octets) = behind_room(alloc, body) else {\n            return Ok(());\n        };",
+    ),
+    "goes_on_where_mending_failed": (
+        "src/keeper.rt",
+        "        shut(&mut self.device, spare_slot(self.newest))?;",
+        "        let _ = shut(&mut self.device, spare_slot(self.newest));",
+    ),
+    "a_save_that_failed_leaves_it_sound": (
+        "src/keeper.rt",
+        "        put_spare(&mut self.device, self.newest, octets, calls)?;",
+        "        if let Err(error) = put_spare(&mut self.device, self.newest, octets, calls) {\n            self.spoiled = false;\n            return Err(error);\n        }",
+    ),
+    "too_large_before_reopen": (
+        "src/keeper.rt",
+        "        if self.spoiled {\n            return Err(KeeperFault::Reopen);\n        }\n",
+        "        if size > BODY_SIZE {\n            return Err(KeeperFault::TooLarge);\n        }\n        if self.spoiled {\n            return Err(KeeperFault::Reopen);\n        }\n",
+    ),
+    "takes_a_refused_write_for_done": (
+        "src/memory.rt",
+        "        match self.write(at, octets) {\n            Ok(()) => Ok(()),\n            Err(_) => {\n                self.failures = self.failures.saturating_add(1);\n                Err(DiskError)\n            }\n        }",
+        "        match self.write(at, octets) {\n            Ok(()) | Err(_) => Ok(()),\n        }",
+    ),
+    "a_new_fuse_is_blown": (
+        "src/fuse.rt",
+        "                left: None,",
+        "                left: Some(0),",
+    ),
 }
 
 # Those that break a promise as a whole, each with its function: tests/bodies tries them in the gate.

@@ -216,6 +216,66 @@ BUGS = {
         "        board.take_all(instance, samples);",
         "        board.take_all(instance, match self.known(claim.station) { Some(known) if known > claim.incarnation => &[], _ => samples });",
     ),
+    "another_version_is_no_claim": (
+        "src/reading.rt",
+        "    if reader.octet()? != wanted {\n        return Err(fault);",
+        "    if reader.octet()? != wanted {\n        let _ = fault;\n        return Err(ExchangeFault::NotAClaim);",
+    ),
+    "reads_16_numbers_of_a_name": (
+        "src/reading.rt",
+        "    while numbers.len() < usize::from(count) {",
+        "    while numbers.len() < usize::from(count).min(16) {",
+    ),
+    "a_confirmation_has_no_samples": (
+        "src/reading.rt",
+        "    let samples = claimed_at(alloc, &mut reader)?;",
+        "    let samples = match kind {\n        ClaimKind::Offer => claimed_at(alloc, &mut reader)?,\n        ClaimKind::Confirm => SampleList::new(Vec::new(alloc)),\n    };",
+    ),
+    "reads_5_octets_of_an_engine": (
+        "src/reading.rt",
+        "    Ok(reader.take(usize::from(len))?)",
+        "    let _ = len;\n    Ok(reader.take(5)?)",
+    ),
+    "marks_the_newest_alone": (
+        "src/marking.rt",
+        "    for sample in samples {\n        board.mark(slot, instance, sample);\n    }",
+        "    if let Some(sample) = samples.last() {\n        board.mark(slot, instance, sample);\n    }",
+    ),
+    "keeps_the_first_incarnation_that_it_heard": (
+        "src/peers.rt",
+        "        peer.known = Some(latest(peer.known, incarnation));",
+        "        if peer.known.is_none() {\n            peer.known = Some(latest(peer.known, incarnation));\n        }",
+    ),
+    "marks_before_it_takes": (
+        "src/peers.rt",
+        "        board.take_all(instance, samples);\n        let noted = self.hear(slot, claim.incarnation);\n        mark_noted(board, noted, slot, instance, samples);",
+        "        let noted = self.hear(slot, claim.incarnation);\n        mark_noted(board, noted, slot, instance, samples);\n        board.take_all(instance, samples);",
+    ),
+    "knows_no_peer_that_was_not_heard": (
+        "src/peers.rt",
+        "    peers.iter().position(|peer| peer.number == station)",
+        "    peers.iter().position(|peer| peer.number == station && peer.known.is_some())",
+    ),
+    "owes_nothing_where_memory_is_refused": (
+        "src/sharing.rt",
+        "    let mut portions = owed_portions(alloc, board, slot)?;",
+        "    let mut portions = match owed_portions(alloc, board, slot) {\n        Ok(portions) => portions,\n        Err(_) => Vec::new(alloc),\n    };",
+    ),
+    "owes_40_samples_of_an_instance": (
+        "src/sharing.rt",
+        "        owed.push(sample)?;\n",
+        "        owed.push(sample)?;\n        if owed.len() == MOST_SAMPLES {\n            break;\n        }\n",
+    ),
+    "offers_the_first_portion_alone": (
+        "src/sharing.rt",
+        "        rest = more;",
+        "        let _ = more;\n        rest = &[];",
+    ),
+    "refused_memory_is_no_claim": (
+        "src/fault.rt",
+        "            LayoutFault::OutOfMemory => ExchangeFault::OutOfMemory,",
+        "            LayoutFault::OutOfMemory => ExchangeFault::NotAClaim,",
+    ),
 }
 
 # Those that break a promise as a whole, each with its function: tests/bodies tries them in the gate.

@@ -121,6 +121,66 @@ BUGS = {
         "        if self.rest.len() < len {",
         "        if self.rest.len() <= len {",
     ),
+    "one_octet_left_is_nothing": (
+        "src/reading.rt",
+        "        self.rest.is_empty()",
+        "        self.rest.len() <= 1",
+    ),
+    "reads_0_past_the_end": (
+        "src/reading.rt",
+        "        let [octet, rest @ ..] = self.rest else {\n            return Err(LayoutFault::Truncated);",
+        "        let [octet, rest @ ..] = self.rest else {\n            return Ok(0);",
+    ),
+    "gives_what_there_is_of_a_field": (
+        "src/reading.rt",
+        "        if self.rest.len() < len {\n            return Err(LayoutFault::Truncated);\n        }\n",
+        "        let len = len.min(self.rest.len());\n",
+    ),
+    "a_number_cut_short_is_0": (
+        "src/reading.rt",
+        "        number.copy_from_slice(self.take(4)?);",
+        "        if let Ok(field) = self.take(4) {\n            number.copy_from_slice(field);\n        }",
+    ),
+    "reads_as_many_samples_as_there_are": (
+        "src/reading.rt",
+        "            let record = self.take(RECORD)?;",
+        "            let Ok(record) = self.take(RECORD) else {\n                break;\n            };",
+    ),
+    "calls_a_bad_sample_a_want_of_memory": (
+        "src/reading.rt",
+        "Err(_) => Err(LayoutFault::BadSample)",
+        "Err(_) => Err(LayoutFault::OutOfMemory)",
+    ),
+    "rises_by_boots_or_by_time": (
+        "src/reading.rt",
+        "last.compare(sample).is_lt()",
+        "last.boots() < sample.boots() || last.time() < sample.time()",
+    ),
+    "begins_anew_with_each_field": (
+        "src/writing.rt",
+        "    out.extend_from_slice(octets).unwrap();",
+        "    out.clear();\n    out.extend_from_slice(octets).unwrap();",
+    ),
+    "writes_numbers_over_what_was_there": (
+        "src/writing.rt",
+        "    write_numbers(&mut out[start..], numbers);",
+        "    write_numbers(&mut out[..NUMBER * numbers.len()], numbers);",
+    ),
+    "writes_a_name_before_its_count": (
+        "src/writing.rt",
+        "    put_octet(out, parts.len() as u8);\n    put_numbers(out, parts);",
+        "    put_numbers(out, parts);\n    put_octet(out, parts.len() as u8);",
+    ),
+    "shows_40_samples_at_most": (
+        "src/list.rt",
+        "        self.items.as_slice()",
+        "        &self.items.as_slice()[..self.items.len().min(40)]",
+    ),
+    "refused_memory_is_octets_cut_short": (
+        "src/fault.rt",
+        "    fn from(_e: AllocError) -> LayoutFault {\n        LayoutFault::OutOfMemory",
+        "    fn from(_e: AllocError) -> LayoutFault {\n        LayoutFault::Truncated",
+    ),
 }
 
 # Those that break a promise as a whole, each with its function: tests/bodies tries them in the gate.

@@ -331,6 +331,66 @@ BUGS = {
         "    discontinuity.parts() == binding.name.parts() && name_objects(objects, bindings)",
         "    discontinuity.parts().len() == binding.name.parts().len() && name_objects(objects, bindings)",
     ),
+    "begins_at_request_id_2": (
+        "src/poller.rt",
+        "            started: 0,",
+        "            started: 1,",
+    ),
+    "an_unknown_target_is_out_of_memory": (
+        "src/poller.rt",
+        "            return Err(PollFault::UnknownTarget);",
+        "            return Err(PollFault::OutOfMemory);",
+    ),
+    "gives_up_where_memory_is_refused": (
+        "src/poller.rt",
+        "        let octets = self.targets.poll(alloc, number, id)?;",
+        "        let Ok(octets) = self.targets.poll(alloc, number, id) else {\n            self.polls.remove(key);\n            return Ok(TimedOut::GivenUp {\n                target: poll.target,\n            });\n        };",
+    ),
+    "tells_the_youngest_for_the_oldest": (
+        "src/finding.rt",
+        "                Some(id) if id <= poll.id => least,",
+        "                Some(id) if id >= poll.id => least,",
+    ),
+    "refuses_what_is_not_read_in_place": (
+        "src/poller.rt",
+        "        self.close_answered(alloc, from, &message)\n",
+        "        let _ = message;\n        Err(ResponseFault::BadMessage)\n",
+    ),
+    "an_agents_error_leaves_the_poll_open": (
+        "src/poller.rt",
+        "        if ends_poll(&answered) {",
+        "        if answered.is_ok() {",
+    ),
+    "another_source_is_a_stray": (
+        "src/awaiting.rt",
+        "        return Err(ResponseFault::WrongSource);",
+        "        return Err(ResponseFault::Stray);",
+    ),
+    "refused_memory_is_a_bad_message": (
+        "src/awaiting.rt",
+        "    Ok(read_message(alloc, octets)?)",
+        "    match read_message(alloc, octets) {\n        Ok(message) => Ok(message),\n        Err(_) => Err(ResponseFault::BadMessage),\n    }",
+    ),
+    "passes_over_an_error_status": (
+        "src/offers.rt",
+        "    require_no_error(pdu)?;",
+        "    let _ = require_no_error(pdu);",
+    ),
+    "offers_less_where_memory_is_refused": (
+        "src/offers.rt",
+        "            pairs.push(object.instance, sample)?;",
+        "            let _ = pairs.push(object.instance, sample);",
+    ),
+    "a_discontinuity_of_another_kind_is_0": (
+        "src/offers.rt",
+        "            [_, second, ..] => discontinuity_in(&second.value),",
+        "            [_, second, ..] => discontinuity_in(&second.value).or(Some(0)),",
+    ),
+    "a_negative_number_without_its_sign": (
+        "src/stamp.rt",
+        "        Value::Integer(number) => match u32::try_from(*number) {\n            Ok(number) => Some(number),\n            Err(_) => None,\n        },",
+        "        Value::Integer(number) => Some(number.unsigned_abs()),",
+    ),
 }
 
 # Those that break a promise as a whole, each with its function: tests/bodies tries them in the gate.

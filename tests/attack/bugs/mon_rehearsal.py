@@ -191,4 +191,66 @@ BUGS = {
         "            other => TrialFault::Refused(other),",
         "            _ => TrialFault::Unexpected,",
     ),
+    "prints_the_stations_before_the_steps": (
+        "src/rehearsing.rt",
+        "    put_stations(alloc, &mut text, &world, count)?;\n",
+        "",
+        "    make_steps(alloc, &mut world, steps.as_slice(), &mut text)?;\n",
+        "    put_stations(alloc, &mut text, &world, count)?;\n    make_steps(alloc, &mut world, steps.as_slice(), &mut text)?;\n",
+    ),
+    "makes_no_step_after_a_refused_one": (
+        "src/rehearsing.rt",
+        "        put_step(alloc, text, number, result)?;",
+        "        let refused = result.is_err();\n        put_step(alloc, text, number, result)?;\n        if refused {\n            return Ok(());\n        }",
+    ),
+    "passes_over_empty_lines": (
+        "src/script.rt",
+        "            None => return Err(ScriptFault::BadScript(line)),",
+        "            None if first.is_empty() => {}\n            None => return Err(ScriptFault::BadScript(line)),",
+    ),
+    "loses_a_last_line_without_its_end": (
+        "src/script.rt",
+        "        None => (text, &[]),",
+        "        None => (&[], &[]),",
+    ),
+    "takes_1_for_what_is_no_number": (
+        "src/script.rt",
+        "    let Some(number) = number(fields) else {\n        return None;\n    };",
+        "    let number = number(fields).unwrap_or(1);",
+    ),
+    "loses_at_any_other_word": (
+        "src/script.rt",
+        '    if is(end, "lose") {\n        return Some(ScriptStep::Stop(station, calls, false));\n    }\n    None',
+        "    Some(ScriptStep::Stop(station, calls, false))",
+    ),
+    "an_agent_speaks_to_its_own_number": (
+        "src/script.rt",
+        "Ok(Some(ScriptStep::AgentSays(station, target, octets)))",
+        "Ok(Some(ScriptStep::AgentSays(target, station, octets)))",
+    ),
+    "knows_no_restart": (
+        "src/script.rt",
+        ' || is(verb, "restart") {',
+        " {",
+    ),
+    "stops_after_no_call_for_256": (
+        "src/script.rt",
+        "(*calls).min(255) as u8",
+        "*calls as u8",
+    ),
+    "refused_memory_is_no_octet": (
+        "src/field.rt",
+        "        Err(FromHexError::OutOfMemory) => Err(AllocError),",
+        "        Err(FromHexError::OutOfMemory) => Ok(None),",
+    ),
+    "says_printed_where_a_report_failed": (
+        "src/printed.rt",
+        "        Err(_) => Err(AllocError),",
+        "        Err(_) => Ok(()),",
+    ),
+    "owes_the_number_of_the_peer": (
+        "src/printed.rt",
+        '"owes {peer} {owed}"',
+        '"owes {owed} {peer}"',
+    ),
 }

@@ -443,6 +443,66 @@ BUGS = {
         "            Event::Save => self.save(alloc),",
         "            Event::Save => { if self.life.incarnation > 0 { return Err(StationFault::Keeper(KeeperFault::Damaged)); } self.save(alloc) },",
     ),
+    "a_refused_claim_is_handled": (
+        "src/station.rt",
+        "            Event::FromPeer(octets) => self.life.from_peer(alloc, octets),",
+        "            Event::FromPeer(octets) => match self.life.from_peer(alloc, octets) {\n                Err(StationFault::Exchange(_)) => Ok(told_none(alloc)),\n                other => other,\n            },",
+    ),
+    "saves_the_first_image_again": (
+        "src/station.rt",
+        "        self.life.image(&mut self.image)?;",
+        "        if self.image.is_empty() {\n            self.life.image(&mut self.image)?;\n        }",
+    ),
+    "a_poll_that_did_not_start_is_handled": (
+        "src/life.rt",
+        "                Ok(told_one(alloc, room, out))\n            }\n            Err(fault) => Err(StationFault::from(fault)),",
+        "                Ok(told_one(alloc, room, out))\n            }\n            Err(_) => Ok(told_none(alloc)),",
+    ),
+    "a_timeout_changes_its_poll_before_it_has_room": (
+        "src/life.rt",
+        "        let room = self.room_to_send_again(alloc, id)?;\n        let timed_out = self.poller.time_out(alloc, id)?;",
+        "        let timed_out = self.poller.time_out(alloc, id)?;\n        let room = room_for_one(alloc)?;",
+    ),
+    "a_refused_response_is_handled": (
+        "src/life.rt",
+        "                Ok(tell_taken(alloc, offered.pairs))\n            }\n            Err(fault) => Err(StationFault::from(fault)),",
+        "                Ok(tell_taken(alloc, offered.pairs))\n            }\n            Err(_) => Ok(told_none(alloc)),",
+    ),
+    "each_fault_of_a_claim_is_no_claim": (
+        "src/life.rt",
+        "            Ok(claim) => self.take_claim(alloc, &claim),\n            Err(fault) => Err(StationFault::from(fault)),",
+        "            Ok(claim) => self.take_claim(alloc, &claim),\n            Err(_) => Err(StationFault::Exchange(mon_exchange::ExchangeFault::NotAClaim)),",
+    ),
+    "confirms_without_the_samples": (
+        "src/life.rt",
+        "            samples: offer.samples.as_slice(),",
+        "            samples: &[],",
+    ),
+    "offers_nothing_where_memory_is_refused": (
+        "src/sharing.rt",
+        "        let (sends, serial) = self.offers(alloc, peer, portions.as_slice())?;",
+        "        let (sends, serial) = match self.offers(alloc, peer, portions.as_slice()) {\n            Ok(made) => made,\n            Err(_) => (Vec::new(alloc), self.serial),\n        };",
+    ),
+    "offers_the_last_portion_first": (
+        "src/sharing.rt",
+        "            sends.push(offer)?;",
+        "            sends.insert(0, offer)?;",
+    ),
+    "begins_anew_from_a_bad_image": (
+        "src/opening.rt",
+        "        Some(octets) => restore_image(alloc, &watch, octets.as_slice()),",
+        "        Some(octets) => match restore_image(alloc, &watch, octets.as_slice()) {\n            Err(StationFault::Image(_)) => Ok((Board::new(alloc, watch)?, 1)),\n            other => other,\n        },",
+    ),
+    "a_damaged_file_has_empty_windows": (
+        "src/saved.rt",
+        "        Err((fault, _)) => Err(in_memory(fault)),",
+        "        Err((StationFault::Keeper(KeeperFault::Damaged), _)) => Ok(Board::new(alloc, watch.try_clone(alloc)?)?),\n        Err((fault, _)) => Err(in_memory(fault)),",
+    ),
+    "hands_the_first_datagram_alone": (
+        "src/running.rt",
+        "    for out in sends {",
+        "    for out in &sends[..sends.len().min(1)] {",
+    ),
 }
 
 # Those that break a promise as a whole, each with its function: tests/bodies tries them in the gate.

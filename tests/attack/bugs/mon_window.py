@@ -213,6 +213,66 @@ BUGS = {
         "Ok(_) => return Plan::Known,",
         "Ok(at) => at,",
     ),
+    "takes_half_the_memory": (
+        "src/row.rt",
+        "Vec::with_capacity(alloc, room)?",
+        "Vec::with_capacity(alloc, room / 2)?",
+    ),
+    "keeps_its_start_after_the_move": (
+        "src/row.rt",
+        "            self.start = 0;\n",
+        "",
+    ),
+    "leaves_the_first_where_it_was": (
+        "src/row.rt",
+        "            self.start += 1;\n",
+        "",
+    ),
+    "leaves_the_last_ones_behind": (
+        "src/row.rt",
+        "    all.truncate(left);\n",
+        "    let _ = left;\n",
+    ),
+    "shows_all_but_the_newest": (
+        "src/window.rt",
+        "    {\n        self.items.as_slice()\n    }",
+        "    {\n        let all = self.items.as_slice();\n        if all.len() > 1 {\n            &all[..all.len() - 1]\n        } else {\n            all\n        }\n    }",
+    ),
+    "takes_a_late_sample_for_too_old": (
+        "src/window.rt",
+        "        let plan = self.plan(&sample);\n",
+        "        if let Some(newest) = self.items.as_slice().last() {\n            if sample.compare(newest).is_lt() {\n                return Inserted::TooOld;\n            }\n        }\n        let plan = self.plan(&sample);\n",
+    ),
+    "takes_nothing_where_it_is_full": (
+        "src/window.rt",
+        "        if out == at {",
+        "        if out == at || self.items.as_slice().len() >= self.size {",
+    ),
+    "takes_one_out_and_puts_none_in": (
+        "src/window.rt",
+        "                self.items.insert(at - 1, sample);\n",
+        "                let _ = sample;\n",
+    ),
+    "stops_joining_at_a_known_sample": (
+        "src/window.rt",
+        "            let _ = self.insert(*sample);",
+        "            if let Inserted::Known = self.insert(*sample) {\n                return;\n            }",
+    ),
+    "keeps_any_number_of_one_boots_number": (
+        "src/plan.rt",
+        "    if let Some(first) = full_epoch(items, size, epoch, sample, at) {\n        return Some(first);\n    }\n",
+        "",
+    ),
+    "is_newer_by_its_boots_alone": (
+        "src/window.rt",
+        "    items[items.len() - 1].compare(sample).is_lt()",
+        "    items[items.len() - 1].boots() <= sample.boots()",
+    ),
+    "one_of_the_newest_stamp_is_the_newest": (
+        "src/window.rt",
+        "    items[items.len() - 1].compare(sample).is_eq()",
+        "    items[items.len() - 1].boots() == sample.boots() && items[items.len() - 1].time() == sample.time()",
+    ),
 }
 
 # Those that break a promise as a whole, each with its function: tests/bodies tries them in the gate.

@@ -201,6 +201,66 @@ BUGS = {
         "            WorldFault::Refused(fault) => fault.innermost(),",
         '            WorldFault::Refused(_) => Innermost::new("mon_world", self.number(), self.name()),',
     ),
+    "hands_an_event_before_it_has_room": (
+        "src/world.rt",
+        "        self.sent.reserve(ROOM)?;\n        let place = self.place_of(number)?;\n        let told = ask(self.alloc, &mut self.stations, place, event)?;",
+        "        let place = self.place_of(number)?;\n        let told = ask(self.alloc, &mut self.stations, place, event)?;\n        self.sent.reserve(ROOM)?;",
+    ),
+    "a_refused_delivery_is_one": (
+        "src/world.rt",
+        "        let event = Event::FromPeer(self.sent[datagram].octets.as_slice());\n        let told = ask(self.alloc, &mut self.stations, place, event)?;",
+        "        let event = Event::FromPeer(self.sent[datagram].octets.as_slice());\n        let Ok(told) = ask(self.alloc, &mut self.stations, place, event) else {\n            return Ok(none_after(self.sent.as_slice()));\n        };",
+    ),
+    "saves_before_it_restarts": (
+        "src/world.rt",
+        "        let disk = self.stations[place].disk().try_clone()?;",
+        "        let _ = self.handle(number, Event::Save);\n        let disk = self.stations[place].disk().try_clone()?;",
+    ),
+    "a_bad_stop_before_no_such_station": (
+        "src/world.rt",
+        "        let place = self.place_of(number)?;\n        if calls > CALLS {\n            return Err(WorldFault::BadStop);\n        }\n",
+        "        if calls > CALLS {\n            return Err(WorldFault::BadStop);\n        }\n        let place = self.place_of(number)?;\n",
+    ),
+    "a_station_that_was_not_opened_is_one": (
+        "src/world.rt",
+        "            Err((fault, _)) => Err(WorldFault::from(fault)),",
+        "            Err(_) => Ok(none),",
+    ),
+    "hears_each_agent_as_a_stranger": (
+        "src/world.rt",
+        "            Step::AgentSays(s, target, octets) => self.hear(s, target, octets),",
+        "            Step::AgentSays(s, _, octets) => self.hear(s, 0, octets),",
+    ),
+    "ends_a_run_at_a_refused_step": (
+        "src/world.rt",
+        "            results.push_reserved(result);",
+        "            let refused = result.is_err();\n            results.push_reserved(result);\n            if refused {\n                break;\n            }",
+    ),
+    "a_station_that_refused_is_none": (
+        "src/world.rt",
+        "    let told = stations[place].step(alloc, event)?;",
+        "    let Ok(told) = stations[place].step(alloc, event) else {\n        return Err(WorldFault::NoSuchStation);\n    };",
+    ),
+    "keeps_what_goes_to_targets": (
+        "src/sending.rt",
+        "        if let To::Peer(to) = send.to {",
+        "        let to = match send.to {\n            To::Peer(to) => to,\n            To::Target(to) => u32::from(to),\n        };\n        if to > 0 {",
+    ),
+    "knows_the_stations_before_it_alone": (
+        "src/opening.rt",
+        "    for peer in 1..count + 1 {",
+        "    let _ = count;\n    for peer in 1..number {",
+    ),
+    "stops_a_save_of_incarnation_1": (
+        "src/stop.rt",
+        "write_image(alloc, station.board(), station.incarnation())?",
+        "write_image(alloc, station.board(), 1)?",
+    ),
+    "makes_16_stations_of_more": (
+        "src/world.rt",
+        "        if count == 0 || count > MOST {",
+        "        let count = count.min(MOST);\n        if count == 0 {",
+    ),
 }
 
 # Those that break a promise as a whole, each with its function: tests/bodies tries them in the gate.
