@@ -96,6 +96,18 @@ BODIES = {
     "the_words_of_another_command": ("src/parser.rt", "with_lines(alloc, lists, command, lines_of(choice))", "with_lines(alloc, lists, command, lines_of(Choice::Mib))"),
     "one_command_alone": ("src/parser.rt", "command.subcommand(one(alloc, lists, choice)?)", "command.subcommand(one(alloc, lists, Choice::Mib)?)"),
     "version_twice": ("src/parser.rt", "with_lines(alloc, lists, command, FIRST.as_slice())?", "with_lines(alloc, lists, command, &[])?"),
+    "an_empty_text_is_none": ("src/matches.rt", "    matches.get_str(id)\n", "    match matches.get_str(id) {\n        Some(text) if !text.is_empty() => Some(text),\n        _ => None,\n    }\n"),
+    "a_number_left_out_is_0": ("src/matches.rt", "    matches.get_one::<u32>(id)\n", "    Some(matches.get_one::<u32>(id).unwrap_or(0))\n"),
+    "a_time_of_32_bits": ("src/matches.rt", "    matches.get_one::<u64>(id).unwrap_or(0)", "    u64::from(matches.get_one::<u32>(id).unwrap_or(0))"),
+    "a_report_is_always_text": ("src/matches.rt", "        format: format(matches),", "        format: Format::Text,"),
+    "the_numbers_of_a_bulk_swapped": ("src/matches.rt", 'non_repeaters: small_number(matches, "non-repeaters")', 'non_repeaters: small_number(matches, "max-repetitions")', 'max_repetitions: small_number(matches, "max-repetitions")', 'max_repetitions: small_number(matches, "non-repeaters")'),
+    "a_walk_by_bulk_unasked": ("src/matches.rt", 'number_or(matches, "bulk", 0)', 'number_or(matches, "bulk", 1)'),
+    "answers_with_the_boots_of_the_settings": ("src/matches.rt", 'boots: small_number(matches, "boots"),\n        scene', "boots: None,\n        scene"),
+    "settings_without_peers": ("src/matches.rt", 'peers: all(matches, "peer")', "peers: &[]"),
+    "options_are_left_out": ("src/parser.rt", "        command = command.arg(argument(alloc, lists, line))?;", "        if line.needed {\n            command = command.arg(argument(alloc, lists, line))?;\n        }"),
+    "no_selftest": ("src/parser.rt", "        command = with_command(alloc, lists, command, *choice)?;", "        if *choice != Choice::SelfTest {\n            command = with_command(alloc, lists, command, *choice)?;\n        }"),
+    "reads_by_no_table": ("src/parser.rt", "    command(alloc)?.try_get_matches_from(words)", '    Command::new(alloc, "snmpmon").try_get_matches_from(words)'),
+    "a_phase_of_0_wants_no_interval": ("src/meaning.rt", "words.timing.phase.is_some() && words.timing.interval == 0", "words.timing.phase.unwrap_or(0) > 0 && words.timing.interval == 0"),
 }
 
 BUGS = LINES | BODIES | RANGES

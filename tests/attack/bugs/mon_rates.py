@@ -106,6 +106,66 @@ BUGS = {
         "totals.plus(change.whole).minus(change.halves)",
         "totals.plus(change.whole).minus(change.whole)",
     ),
+    "counts_from_0": (
+        "src/totals.rt",
+        "distance(a.kind(), a.value(), b.value());",
+        "distance(a.kind(), 0, b.value());",
+    ),
+    "keeps_the_last_part_alone": (
+        "src/totals.rt",
+        "            totals = totals.plus(part);",
+        "            totals = part;",
+    ),
+    "spans_the_longer": (
+        "src/totals.rt",
+        "            span: self.span + other.span,",
+        "            span: self.span.max(other.span),",
+    ),
+    "keeps_the_pairs": (
+        "src/totals.rt",
+        "            pairs: self.pairs - other.pairs,",
+        "            pairs: self.pairs,",
+    ),
+    "forgets_the_part_behind": (
+        "src/totals.rt",
+        "    let halves = first.plus(second);",
+        "    let _ = second;\n    let halves = first;",
+    ),
+    "joins_backwards": (
+        "src/totals.rt",
+        "        (Some(a), Some(b)) => Totals::between(a, b),",
+        "        (Some(a), Some(b)) => Totals::between(b, a),",
+    ),
+    "gives_each_boots_the_whole_window": (
+        "src/track.rt",
+        "Window::new(alloc, size, epoch)?;",
+        "Window::new(alloc, size, size)?;",
+    ),
+    "the_epoch_for_the_size": (
+        "src/track.rt",
+        "        self.window.size()",
+        "        self.window.epoch()",
+    ),
+    "leaves_out_the_newest": (
+        "src/track.rt",
+        "        ensures sizes { AreSizes self.now.size self.now.epoch }\n    {\n        self.window.items()",
+        "        ensures sizes { AreSizes self.now.size self.now.epoch }\n    {\n        let all = self.window.items();\n        &all[..all.len().saturating_sub(1)]",
+    ),
+    "tells_no_totals": (
+        "src/track.rt",
+        "        let _ = self.items();\n        self.totals\n",
+        "        let _ = self.items();\n        Totals::of(&[])\n",
+    ),
+    "joins_the_newest_alone": (
+        "src/track.rt",
+        "        for sample in other.items() {",
+        "        if let Some(sample) = other.items().last() {",
+    ),
+    "keeps_the_part_of_what_was_dropped": (
+        "src/track.rt",
+        "        } => without_one(items, totals, out, dropped),",
+        "        } => {\n            let _ = (items, out, dropped);\n            totals\n        }",
+    ),
 }
 
 # Those that break a promise as a whole, each with its function: tests/bodies tries them in the gate.

@@ -82,6 +82,19 @@ BUGS = {
         'put(writer, ok, b"\\n")',
         'put(writer, ok, b" station 1\\n")',
     ),
+    "leaves_out_zero_octets": ("src/line.rt", "        ok = put_octet(writer, ok, *octet);", "        if *octet > 0 {\n            ok = put_octet(writer, ok, *octet);\n        }"),
+    "leaves_out_zeros_of_a_name": ("src/line.rt", "        ok = put_part(writer, ok, *part);", "        if *part > 0 {\n            ok = put_part(writer, ok, *part);\n        }"),
+    "a_dot_in_a_stamp": ("src/line.rt", 'put(writer, ok, b":")', 'put(writer, ok, b".")'),
+    "raised_at_a_swapped_stamp": ("src/line.rt", '    let ok = put(writer, ok, b"raised@");\n    put_stamp(writer, ok, boots, time)', '    let ok = put(writer, ok, b"raised@");\n    put_stamp(writer, ok, time, boots)'),
+    "tells_no_rate": ("src/line.rt", "put_rate(writer, ok, totals.thousandths())", "put_rate(writer, ok, None)"),
+    "an_empty_window_is_nothing": ("src/line.rt", 'return put(writer, ok, b" n=0");', "return ok;"),
+    "gives_rules_of_earlier_instances": ("src/report.rt", "            if rule.instance() == self.instance {", "            if rule.instance() <= self.instance {"),
+    "each_entry_is_the_first": ("src/report.rt", "found.push(entry_of(board, i as u16, watched))?;", "let _ = i;\n        found.push(entry_of(board, 0, watched))?;"),
+    "forgets_that_the_writer_failed": ("src/report.rt", "    write_entry(writer, ok, &entry_of(board, i, watched))", "    let _ = ok;\n    write_entry(writer, true, &entry_of(board, i, watched))"),
+    "writes_the_end_alone": ("src/report.rt", "    let ok = write_lines(board, writer);", "    let ok = true;"),
+    "signs_left_out": ("src/writing.rt", "ok: bool, number: i128) -> bool\n    ensures { AppendsIf (W.contents writer.old) ok (W.contents writer.new) result (signed_decimal number) }\n{\n    let mut buffer = Buffer::new();", "ok: bool, number: i128) -> bool\n    ensures { AppendsIf (W.contents writer.old) ok (W.contents writer.new) result (signed_decimal number) }\n{\n    let number = number.unsigned_abs();\n    let mut buffer = Buffer::new();"),
+    "cuts_wide_numbers": ("src/writing.rt", "ok: bool, number: u128) -> bool\n    ensures { AppendsIf (W.contents writer.old) ok (W.contents writer.new) result (decimal number) }\n{\n    let mut buffer = Buffer::new();", "ok: bool, number: u128) -> bool\n    ensures { AppendsIf (W.contents writer.old) ok (W.contents writer.new) result (decimal number) }\n{\n    let number = number as u64;\n    let mut buffer = Buffer::new();"),
+    "gives_up_at_an_interrupt": ("src/writing.rt", "                if fault.kind() != ErrorKind::Interrupted {\n                    return sent;\n                }", "                let _ = fault.kind() != ErrorKind::Interrupted;\n                return sent;"),
 }
 
 # Those that break a promise as a whole, each with its function: tests/bodies tries them in the gate.

@@ -186,6 +186,66 @@ BUGS = {
         "octet_within(0, sizes.window, ImageFault::BadImage, reader)?;",
         "octet_within(0, 64, ImageFault::BadImage, reader)?;",
     ),
+    "takes_less_than_the_least": (
+        "src/reading.rt",
+        "    if octet < least || octet > most {",
+        "    let _ = least;\n    if octet > most {",
+    ),
+    "any_engine_will_do": (
+        "src/reading.rt",
+        "    expected_at(engine, reader)?;",
+        "    reader.take(engine.len())?;",
+    ),
+    "an_epoch_of_one_more": (
+        "src/reading.rt",
+        "    for i in epoch..samples.len() {",
+        "    for i in epoch + 1..samples.len() {",
+    ),
+    "the_epoch_for_the_window": (
+        "src/reading.rt",
+        "        window: sizes.window,",
+        "        window: sizes.epoch,",
+    ),
+    "forgets_the_one_window": (
+        "src/reading.rt",
+        "    Ok((incarnation, window))",
+        "    let _ = window;\n    Ok((incarnation, 0))",
+    ),
+    "an_incarnation_of_at_least_2": (
+        "src/reading.rt",
+        "    Ok(Image {\n        incarnation,",
+        "    Ok(Image {\n        incarnation: incarnation.max(2),",
+    ),
+    "calls_every_image_bad": (
+        "src/reading.rt",
+        "    image_at(alloc, watch, octets)\n}",
+        "    match image_at(alloc, watch, octets) {\n        Ok(_) => Err(ImageFault::BadImage),\n        Err(fault) => Err(fault),\n    }\n}",
+    ),
+    "reads_an_empty_board": (
+        "src/filling.rt",
+        "    fill(&mut board, image.entries.as_slice());\n",
+        "    let _ = &mut board;\n",
+    ),
+    "saves_as_incarnation_1": (
+        "src/writing.rt",
+        "    write_within(&mut out, board, incarnation);\n    Ok(out)",
+        "    let _ = incarnation;\n    write_within(&mut out, board, 1);\n    Ok(out)",
+    ),
+    "counts_the_window_for_the_samples": (
+        "src/writing.rt",
+        "    put_octet(out, samples.len() as u8);",
+        "    put_octet(out, watched.window as u8);\n    let _ = samples.len();",
+    ),
+    "calls_memory_a_bad_image": (
+        "src/fault.rt",
+        "    fn from(_e: AllocError) -> ImageFault {\n        ImageFault::OutOfMemory",
+        "    fn from(_e: AllocError) -> ImageFault {\n        ImageFault::BadImage",
+    ),
+    "shows_no_entries": (
+        "src/image.rt",
+        "        self.items.as_slice()",
+        "        &self.items.as_slice()[..0]",
+    ),
 }
 
 # Those that break a promise as a whole, each with its function: tests/bodies tries them in the gate.

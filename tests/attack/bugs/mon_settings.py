@@ -446,4 +446,64 @@ BUGS = {
         "        match compare(rule, new) {\n            Ordering::Less => {}\n            Ordering::Equal => return None,",
         "        match compare(rule, new) {\n            Ordering::Less | Ordering::Equal => {}",
     ),
+    "takes_a_missing_truth_for_false": (
+        "src/leaf.rt",
+        "            Some(value) => value.as_bool().ok_or(SettingsFault::bad(key)),\n            None => Err(SettingsFault::missing(key)),",
+        "            Some(value) => value.as_bool().ok_or(SettingsFault::bad(key)),\n            None => Ok(false),",
+    ),
+    "takes_a_bad_view_for_none": (
+        "src/leaf.rt",
+        "                None => Err(SettingsFault::bad(key)),\n            },\n            None => Ok(None),",
+        "                None => Ok(None),\n            },\n            None => Ok(None),",
+    ),
+    "blames_the_text_for_memory": (
+        "src/leaf.rt",
+        "        Err(FromHexError::OutOfMemory) => Err(SettingsFault::OutOfMemory),",
+        "        Err(FromHexError::OutOfMemory) => Err(SettingsFault::bad(key)),",
+    ),
+    "takes_an_unknown_mark_for_none": (
+        "src/leaf.rt",
+        "            Some(_) => Ok(Some(given!(self.object(names, key)))),",
+        "            Some(_) => match self.object(names, key) {\n                Ok(name) => Ok(Some(name)),\n                Err(_) => Ok(None),\n            },",
+    ),
+    "takes_fewer_than_the_least": (
+        "src/list.rt",
+        "    if least <= values.len() && values.len() <= most {",
+        "    let _ = least;\n    if values.len() <= most {",
+    ),
+    "needs_alarms_and_peers": (
+        "src/list.rt",
+        "            Some(_) => self.rows(around, key, 0, most),\n            None => Ok(Vec::new(self.alloc)),",
+        "            Some(_) => self.rows(around, key, 0, most),\n            None => Err(SettingsFault::missing(key)),",
+    ),
+    "finds_no_modules_in_what_is_not_toml": (
+        "src/modules.rt",
+        "        Err(fault) => Err(fault),",
+        "        Err(_) => Ok(Vec::new(alloc)),",
+    ),
+    "takes_peers_anywhere": (
+        "src/peers.rt",
+        "    if !are_apart(targets, peers.as_slice()) {\n        return Err(SettingsFault::bad(Key::Peer));\n    }\n",
+        "    let _ = targets;\n",
+    ),
+    "takes_a_rule_twice_as_one": (
+        "src/placing.rt",
+        "        return Err(SettingsFault::BadValue(Place::Whole));\n    };\n    rules.insert(place, new)?;",
+        "        return Ok(rules);\n    };\n    rules.insert(place, new)?;",
+    ),
+    "watches_all_at_the_first_engine": (
+        "src/placing.rt",
+        "with_objects(alloc, &target.engine, target.objects.as_slice(), done)?;",
+        "with_objects(alloc, &targets[0].engine, target.objects.as_slice(), done)?;",
+    ),
+    "polls_no_mark": (
+        "src/station.rt",
+        "        Some(name) => Some(name.try_clone(alloc)?),\n        None => None,",
+        "        Some(_) => None,\n        None => None,",
+    ),
+    "reads_the_thresholds_swapped": (
+        "src/station_tables.rt",
+        "            name,\n            rising,\n            falling,\n        })",
+        "            name,\n            rising: falling,\n            falling: rising,\n        })",
+    ),
 }

@@ -236,6 +236,71 @@ BUGS = {
         "        Err(fault) => Err(SurveyFault::Refused(fault)),",
         "        Err(_) => Err(SurveyFault::Misread),",
     ),
+    "labels_an_interface_too_many": (
+        "src/labelled.rt",
+        "    if count > MOST_INTERFACES {",
+        "    if count > MOST_INTERFACES + 1 {",
+    ),
+    "knows_no_engine_that_just_began": (
+        "src/engine.rt",
+        "        Value::Integer(number) => *number >= 0,",
+        "        Value::Integer(number) => *number > 0,",
+    ),
+    "passes_over_what_does_not_rise": (
+        "src/answers.rt",
+        "            return Err(SurveyFault::NotRising);",
+        "            return Ok(());",
+    ),
+    "finds_each_interface_up": (
+        "src/answers.rt",
+        "Some(Value::Integer(1)))",
+        "Some(Value::Integer(_)))",
+    ),
+    "names_by_ifdescr": (
+        "src/answers.rt",
+        "        match self.value(Column::IfX(1), index) {",
+        "        match self.value(Column::If(2), index) {",
+    ),
+    "walks_each_column": (
+        "src/choice.rt",
+        "            .all(|counter| !self.spares(*counter, column))",
+        "            .any(|counter| !self.spares(*counter, column))",
+    ),
+    "raises_alarms_on_packets": (
+        "src/planning.rt",
+        "        Kind::Octets => thresholds_at(answers, percent, index),\n        Kind::Packets | Kind::Errors",
+        "        Kind::Octets | Kind::Packets => thresholds_at(answers, percent, index),\n        Kind::Errors",
+    ),
+    "refuses_for_memory": (
+        "src/appending.rt",
+        "        Err(SettingsFault::OutOfMemory) => Err(SurveyFault::OutOfMemory),\n",
+        "",
+    ),
+    "appends_what_was_not_read_back": (
+        "src/appending.rt",
+        "    given!(read_appended(alloc, existing, &wanted, text.as_str()));\n",
+        "",
+    ),
+    "compares_no_old_peers": (
+        "src/kept.rt",
+        "    if !are_same_numbers(old.core.peers(), new.core.peers()) {\n        return false;\n    }\n",
+        "",
+    ),
+    "compares_no_old_aliases": (
+        "src/labelled.rt",
+        '\n        && are_alike(text_at(one, "ifAlias"), text_at(other, "ifAlias"))',
+        "",
+    ),
+    "writes_a_module_with_a_quote": (
+        "src/options.rt",
+        "\n            && are_plain_paths(self.modules)",
+        "",
+    ),
+    "forgets_the_old_labels": (
+        "src/tables.rt",
+        "    if old.is_empty() { FIRST } else { old }",
+        "    let _ = old;\n    FIRST",
+    ),
 }
 
 # what the gate tries: the function that each is in
