@@ -451,11 +451,6 @@ BUGS = {
         "        if !self.policy.sees(self.access, name) {",
         "        if self.policy.sees(self.access, name) {",
     ),
-    "lists_the_first_assigned_first": (
-        "src/commit.rt",
-        "        Commit::UndoFailed { failed, standing }\n",
-        "        standing.reverse();\n        Commit::UndoFailed { failed, standing }\n",
-    ),
     "begins_again_where_nothing_follows": (
         "src/mib.rt",
         "            Start::Nowhere => None,",
