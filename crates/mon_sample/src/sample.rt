@@ -1,70 +1,44 @@
-ghost use Rattle.std.specs.Prelude.{ℕ, ◌≡◌, ◌<◌, ◌+◌, ◌*◌, ◌^◌, ◌↔◌, IfOk, IsTrue, nat_eq};
+ghost use Rattle.std.specs.Prelude.{ℕ, ◌≡◌, ◌<◌, ◌+◌, ◌*◌, ◌^◌, ◌↔◌, IfOk, IsTrue};
 ghost use Rattle.std.specs.Ordering.{nat_cmp};
 ghost use Rattle.std.specs.Cmp.Lexicographic.{slice_cmp};
 ghost use Rattle.mon_sample.specs.Kind.{holds, kind_tag, number_of};
 ghost use Rattle.mon_sample.specs.Key.{key, boots_of, time_of, discontinuity_of, tag_of, kind_of, sample_value, IsSample, HasTag, HasStamp, HasValue};
 ghost use Rattle.mon_sample.specs.Record.{octets_of, spelled, layout, boots_at, time_at, discontinuity_at, tag_at, value_at};
-ghost use Rattle.std.proofs.Common.{rules};
-ghost use Rattle.std.specs.Cmp.Rules.{comparing};
 
 use crate::fault::SampleFault;
 use crate::kind::Kind;
 use std::cmp::Ordering;
-use std::fmt;
 use std::marker::Model;
 
 /// One more than the greatest boots and time.
 const STAMP_LIMIT: u32 = 1 << 31;
 
-/// A value that an agent gave for an object, and when. It is its record, so that a record is written by a copy. Contracts see the
-/// number that the record's octets spell, so the newer of two samples is the greater number.
-#[derive(Clone, Copy)]
+/// A value that an agent gave for an object, and when. Contracts see the number that its record's octets spell,
+/// so the newer of two samples is the greater number.
+#[derive(Clone, Copy, Debug, PartialEq, Eq)]
 pub struct Sample {
-    octets: [u8; 21],
+    boots: u32,
+    time: u32,
+    discontinuity: u32,
+    kind: Kind,
+    value: u64,
 }
 
 impl Model for Sample {
     ghost use Rattle.std.specs.Prelude.{ℕ};
-    ghost use Rattle.mon_sample.specs.Record.{octets_of, spelled, IsRecord};
+    ghost use Rattle.mon_sample.specs.Kind.{kind_tag};
+    ghost use Rattle.mon_sample.specs.Key.{key, boots_of, time_of, discontinuity_of, kind_of, sample_value, AreFields};
+    ghost use Rattle.mon_sample.specs.Digits.{fields_back};
 
     ghost Value = { ℕ };
 
-    ghost view = { λ s. spelled s.octets };
+    ghost view = { λ s. key s.boots s.time s.discontinuity (kind_tag s.kind) s.value };
 
-    ghost invariant = { λ s. IsRecord s.octets };
+    ghost invariant = { λ s. AreFields s.boots s.time s.discontinuity s.kind s.value };
 
-    ghost inverse = { λ k. record { octets = octets_of k } };
+    ghost inverse = { λ k. record { boots = boots_of k; time = time_of k; discontinuity = discontinuity_of k; kind = kind_of k; value = sample_value k } };
 
-    ghost inverse_ok = { λ a h. λ i. record { octets = h.whole i } };
-}
-
-/// Equal samples are one number.
-impl PartialEq for Sample {
-    ghost use Rattle.std.specs.Prelude.{nat_eq};
-
-    ghost eq = { nat_eq };
-
-    ghost laws = { Prim.search (comparing, rules) };
-
-    fn eq(&self, other: &Sample) -> bool {
-        self.compare(other).is_eq()
-    }
-}
-
-impl Eq for Sample {
-    ghost laws = { Prim.search (comparing, rules) };
-}
-
-impl fmt::Debug for Sample {
-    fn fmt<W: fmt::Write>(&self, f: &mut fmt::Formatter<W>) -> fmt::Result {
-        f.debug_struct("Sample")
-            .field("boots", &self.boots())
-            .field("time", &self.time())
-            .field("discontinuity", &self.discontinuity())
-            .field("kind", &self.kind())
-            .field("value", &self.value())
-            .finish()
-    }
+    ghost inverse_ok = { λ a h. λ i. let e = fields_back a.boots a.time a.discontinuity a.kind a.value h in record { boots = e.boots_back i; time = e.time_back i; discontinuity = e.discontinuity_back i; kind = e.kind_is i; value = e.value_back i } };
 }
 
 impl Sample {
@@ -78,7 +52,11 @@ impl Sample {
         ensures { result ≡ key boots time discontinuity (kind_tag kind) value }
     {
         Sample {
-            octets: laid_out(boots, time, discontinuity, kind.tag(), value),
+            boots,
+            time,
+            discontinuity,
+            kind,
+            value,
         }
     }
 
@@ -87,7 +65,7 @@ impl Sample {
         ensures boots { result ≡ boots_of self.now }
         ensures small { boots_of self.now < 2 ^ 31 }
     {
-        self.digits().boots
+        self.boots
     }
 
     /// Seconds since the agent's last start (snmpEngineTime, RFC 3411 section 5), 0 to 2147483647.
@@ -95,21 +73,21 @@ impl Sample {
         ensures time { result ≡ time_of self.now }
         ensures small { time_of self.now < 2 ^ 31 }
     {
-        self.digits().time
+        self.time
     }
 
     /// The value of the object's discontinuity indicator (RFC 2578 section 7.1.6), 0 where it has none.
     pub fn discontinuity(&self) -> u32
         ensures { result ≡ discontinuity_of self.now }
     {
-        self.digits().discontinuity
+        self.discontinuity
     }
 
     /// The type of the value.
     pub fn kind(&self) -> Kind
         ensures { result ≡ kind_of self.now }
     {
-        Kind::from_tag(self.digits().tag).unwrap()
+        self.kind
     }
 
     /// The value modulo 2^64, in the range of its kind.
@@ -117,14 +95,14 @@ impl Sample {
         ensures value { result ≡ sample_value self.now }
         ensures in_range { IsTrue (holds (kind_of self.now) (sample_value self.now)) }
     {
-        self.digits().value
+        self.value
     }
 
     /// The number that the value means: of an INTEGER it is signed.
     pub fn number(&self) -> i128
         ensures { result ≡ number_of (kind_of self.now) (sample_value self.now) }
     {
-        self.kind().number(self.value())
+        self.kind.number(self.value)
     }
 
     /// The order of the two samples' records, octet by octet: the newer is the greater.
@@ -132,16 +110,18 @@ impl Sample {
         ensures number { result ≡ nat_cmp self.now other.now }
         ensures octets { result ≡ slice_cmp nat_cmp (octets_of self.now) (octets_of other.now) }
     {
-        let own = self.digits();
-        let others = other.digits();
-        let order = stamp(&own).cmp(&stamp(&others));
+        // Proof: the ranges of both samples' fields.
+        let _ = &self.boots;
+        let _ = &other.boots;
+        let own = stamp(self.boots, self.time);
+        let order = own.cmp(&stamp(other.boots, other.time));
         if order.is_ne() {
             return order;
         }
         order
-            .then(own.discontinuity.cmp(&others.discontinuity))
-            .then(own.tag.cmp(&others.tag))
-            .then(own.value.cmp(&others.value))
+            .then(self.discontinuity.cmp(&other.discontinuity))
+            .then(self.kind.tag().cmp(&other.kind.tag()))
+            .then(self.value.cmp(&other.value))
     }
 
     /// Returns the sample's record: boots 4 octets, time 4, discontinuity 4, tag 1, value 8, each
@@ -151,21 +131,10 @@ impl Sample {
         ensures octets { result ≡ octets_of self.now }
         ensures sample { IsSample self.now }
     {
-        self.octets
-    }
-
-    /// The fields of the record.
-    #[inline(always)]
-    fn digits(&self) -> Parts
-        ensures parts { key result.boots result.time result.discontinuity result.tag result.value ≡ self.now }
-        ensures boots { result.boots ≡ boots_of self.now }
-        ensures time { result.time ≡ time_of self.now }
-        ensures discontinuity { result.discontinuity ≡ discontinuity_of self.now }
-        ensures tag { result.tag ≡ tag_of self.now }
-        ensures value { result.value ≡ sample_value self.now }
-        ensures sample { IsSample self.now }
-    {
-        digits_of(&self.octets)
+        // Proof: the ranges of the fields.
+        let _ = &self.boots;
+        let tag = self.kind.tag();
+        laid_out(self.boots, self.time, self.discontinuity, tag, self.value)
     }
 
     /// The sample of a record, or the first fault of its tag, stamp and value.
@@ -190,15 +159,21 @@ impl Sample {
         if !kind.holds(parts.value) {
             return Err(SampleFault::BadValue);
         }
-        Ok(Sample { octets: *octets })
+        Ok(Sample {
+            boots: parts.boots,
+            time: parts.time,
+            discontinuity: parts.discontinuity,
+            kind,
+            value: parts.value,
+        })
     }
 }
 
 /// Boots and time as one number, in the same order.
-fn stamp(parts: &Parts) -> u64
-    ensures { result ≡ parts.now.boots * 2 ^ 32 + parts.now.time }
+fn stamp(boots: u32, time: u32) -> u64
+    ensures { result ≡ boots * 2 ^ 32 + time }
 {
-    (u64::from(parts.boots) << 32) + u64::from(parts.time)
+    (u64::from(boots) << 32) + u64::from(time)
 }
 
 /// The numbers in a record, whatever they are.
@@ -212,7 +187,6 @@ struct Parts {
 }
 
 /// The parts are the digits of the number that the octets spell.
-#[inline(always)]
 fn digits_of(octets: &[u8; 21]) -> Parts
     ensures boots { result.boots ≡ boots_of (spelled octets.now) }
     ensures time { result.time ≡ time_of (spelled octets.now) }
@@ -240,7 +214,6 @@ fn laid_out(boots: u32, time: u32, discontinuity: u32, tag: u8, value: u64) -> [
 }
 
 #[tactic(auto, unfolding(crate::specs::Record::boots_at, crate::specs::Record::time_at, crate::specs::Record::discontinuity_at, crate::specs::Record::tag_at, crate::specs::Record::value_at))]
-#[inline(always)]
 fn parts_of(octets: &[u8; 21]) -> Parts
     ensures boots { result.boots ≡ boots_at octets.now }
     ensures time { result.time ≡ time_at octets.now }

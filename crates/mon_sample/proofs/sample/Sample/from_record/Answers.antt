@@ -1,5 +1,5 @@
 use Rattle.std.proofs.Common.{◌≡◌, ℕ, List, rules, sym, ap, ◌∙◌, subst, Ok}
-use Rattle.mon_sample.specs.Key.{IsSample, HasTag, HasStamp, HasValue}
+use Rattle.mon_sample.specs.Key.{key, IsSample, HasTag, HasStamp, HasValue}
 use Rattle.mon_sample.specs.Record.{octets_of, spelled}
 use Rattle.mon_sample.proofs.Octets.{spelled-octets_of}
 use Rattle.mon_sample.proofs.Order.{sample_below}
@@ -28,4 +28,7 @@ returns-then-not-holds-clause-only c = λ s is e.
     absurd (none (is_spelled c.args.octets.now s is e).value)
 
 pub returns-clause-only : goal.returns-clause-only
-returns-clause-only c = λ s is e. ap Ok (spells c.args.octets.now s is e)
+returns-clause-only c = λ s is e.
+    let p = c.digits_of-parts.result in
+    ap (λ tag. Ok (key p.boots p.time p.discontinuity tag p.value)) c.in-Some.ensures.tag
+    ∙ ap Ok (c.digits_of-parts.ensures.whole ∙ spells c.args.octets.now s is e)
