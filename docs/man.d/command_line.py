@@ -67,7 +67,7 @@ def arguments():
     """All arguments by the names of their constants."""
     text = source("lines.rt")
     found = {
-        m[1]: Argument(m[2], m[3], m[4], m[5], m[6], m[8] == "true", m[9], unescaped(m[10]))
+        m[1]: Argument(m[2], m[3], m[4], m[5], m[6], m[8] == "true", m[9], " ".join(unescaped(m[10]).split()))
         for m in LINE.finditer(text)
     }
     if len(found) != text.count(": Line = Line {"):

@@ -83,7 +83,9 @@ const REPORT: Line = Line {
     takes: Takes::Nothing,
     needed: false,
     shown: "",
-    help: "Prints a line for each instance, with deltas, seconds and rates, in place of its samples, as --format text does",
+    help: "Prints a line for each instance, with deltas,
+seconds and rates, in place of its samples, as
+--format text does",
 };
 
 const FORMAT: Line = Line {
@@ -101,7 +103,8 @@ const COLUMNS: Line = Line {
     takes: Takes::Nothing,
     needed: false,
     shown: "",
-    help: "Prints the report as a table for people, as --format columns does",
+    help: "Prints the report as a table for people, as
+--format columns does",
 };
 
 const MODULE: Line = Line {
@@ -110,7 +113,9 @@ const MODULE: Line = Line {
     takes: Takes::Each(Value::Text),
     needed: false,
     shown: "FILE",
-    help: "A file with an SMIv2 module, whose names are known then; given as often as wanted, a module after those whose names it uses",
+    help: "A file with an SMIv2 module, whose names are known
+then; given as often as wanted, a module after
+those whose names it uses",
 };
 
 const LONG_MODULE: Line = Line {
@@ -119,7 +124,9 @@ const LONG_MODULE: Line = Line {
     takes: Takes::Each(Value::Text),
     needed: false,
     shown: "FILE",
-    help: "A file with an SMIv2 module, whose names are known then; given as often as wanted, a module after those whose names it uses",
+    help: "A file with an SMIv2 module, whose names are known
+then; given as often as wanted, a module after
+those whose names it uses",
 };
 
 const NAMES: Line = Line {
@@ -128,7 +135,8 @@ const NAMES: Line = Line {
     takes: Takes::Nothing,
     needed: false,
     shown: "",
-    help: "Prints names as ifInOctets.1 where the modules give them, in place of numbers",
+    help: "Prints names as ifInOctets.1 where the modules
+give them, in place of numbers",
 };
 
 const ADDRESS: Line = Line {
@@ -155,7 +163,8 @@ const NAME: Line = Line {
     takes: Takes::One(Value::Text),
     needed: true,
     shown: "NAME",
-    help: "A name, in numbers as 1.3.6.1.2.1.1.5.0, or after a built-in name or one of a module as mib-2.1.5.0",
+    help: "A name, in numbers as 1.3.6.1.2.1.1.5.0, or after
+a built-in name or one of a module as mib-2.1.5.0",
 };
 
 const ALL_NAMES: Line = Line {
@@ -164,7 +173,8 @@ const ALL_NAMES: Line = Line {
     takes: Takes::Many(Value::Text),
     needed: true,
     shown: "NAME",
-    help: "A name, in numbers as 1.3.6.1.2.1.1.5.0, or after a built-in name or one of a module as mib-2.1.5.0",
+    help: "A name, in numbers as 1.3.6.1.2.1.1.5.0, or after
+a built-in name or one of a module as mib-2.1.5.0",
 };
 
 const NON_REPEATERS: Line = Line {
@@ -172,7 +182,7 @@ const NON_REPEATERS: Line = Line {
     form: Form::Short('n'),
     takes: Takes::One(Value::Number(0, 2_147_483_647)),
     needed: true,
-    shown: "non-repeaters",
+    shown: "N",
     help: "How many of the names are asked for once",
 };
 
@@ -181,7 +191,7 @@ const MAX_REPETITIONS: Line = Line {
     form: Form::Short('m'),
     takes: Takes::One(Value::Number(0, 2_147_483_647)),
     needed: true,
-    shown: "max-repetitions",
+    shown: "M",
     help: "How many rounds of the others are asked for",
 };
 
@@ -190,8 +200,9 @@ const AT_ONCE: Line = Line {
     form: Form::Long,
     takes: Takes::One(Value::Number(1, 1000)),
     needed: false,
-    shown: "bulk",
-    help: "Asks by GetBulk, for so many variables at once, 1 to 1000; by GetNext for one if not given",
+    shown: "N",
+    help: "Asks by GetBulk for N variables at once, 1 to
+1000; by GetNext for one if not given",
 };
 
 const KIND: Line = Line {
@@ -226,8 +237,9 @@ const BOOTS: Line = Line {
     form: Form::Long,
     takes: Takes::One(Value::Number(1, 2_147_483_647)),
     needed: false,
-    shown: "boots",
-    help: "snmpEngineBoots, 1 to 2147483647, in place of the settings'",
+    shown: "BOOTS",
+    help: "snmpEngineBoots, 1 to 2147483647, in place of the
+settings'",
 };
 
 const COUNT: Line = Line {
@@ -235,7 +247,7 @@ const COUNT: Line = Line {
     form: Form::Long,
     takes: Takes::One(Value::Number(1, 4_294_967_295)),
     needed: true,
-    shown: "count",
+    shown: "DATAGRAMS",
     help: "How many datagrams are served, 1 to 4294967295",
 };
 
@@ -244,8 +256,9 @@ const AT: Line = Line {
     form: Form::Long,
     takes: Takes::One(Value::Natural(0, 214_748_364_799)),
     needed: false,
-    shown: "at",
-    help: "Where the clock stands, in hundredths of a second after the start, 0 to 214748364799; 0 if not given",
+    shown: "HUNDREDTHS",
+    help: "Where the clock stands, in hundredths of a second
+after the start, 0 to 214748364799; 0 if not given",
 };
 
 const FUSES: Line = Line {
@@ -253,8 +266,9 @@ const FUSES: Line = Line {
     form: Form::Long,
     takes: Takes::One(Value::Natural(0, 18_446_744_073_709_551_615)),
     needed: false,
-    shown: "fuses",
-    help: "The device fails its change number k, from 0, where bit k of this number is 1; 0 if not given",
+    shown: "BITS",
+    help: "The device fails its change number k, from 0,
+where bit k of BITS is 1; 0 if not given",
 };
 
 const TIMES: Line = Line {
@@ -262,8 +276,10 @@ const TIMES: Line = Line {
     form: Form::Long,
     takes: Takes::One(Value::Number(1, 4_294_967_295)),
     needed: false,
-    shown: "times",
-    help: "How many times each datagram comes, 1 to 4294967295; its last reply is printed; 1 if not given",
+    shown: "TIMES",
+    help: "How many times each datagram comes, 1 to
+4294967295; its last reply is printed; 1 if not
+given",
 };
 
 const FILE: Line = Line {
@@ -289,8 +305,9 @@ const ROUNDS: Line = Line {
     form: Form::Long,
     takes: Takes::One(Value::Number(1, 1_000_000)),
     needed: false,
-    shown: "rounds",
-    help: "How many rounds are run, 1 to 1000000; must be given unless --check is",
+    shown: "ROUNDS",
+    help: "How many rounds are run, 1 to 1000000; must be
+given unless --check is",
 };
 
 const CHECK: Line = Line {
@@ -299,7 +316,9 @@ const CHECK: Line = Line {
     takes: Takes::Nothing,
     needed: false,
     shown: "",
-    help: "Prints how long a round of these settings may take and what else limits the station, and starts nothing",
+    help: "Prints how long a round of these settings may take
+and what else limits the station, and starts
+nothing",
 };
 
 const INTERVAL: Line = Line {
@@ -307,8 +326,9 @@ const INTERVAL: Line = Line {
     form: Form::Long,
     takes: Takes::One(Value::Number(1, 86_400)),
     needed: false,
-    shown: "interval",
-    help: "A round begins every so many seconds, 1 to 86400; at once after the last one if not given",
+    shown: "SECONDS",
+    help: "A round begins every SECONDS, 1 to 86400; at once
+after the last one if not given",
 };
 
 const PHASE: Line = Line {
@@ -316,8 +336,10 @@ const PHASE: Line = Line {
     form: Form::Long,
     takes: Takes::One(Value::Number(0, 86_399)),
     needed: false,
-    shown: "phase",
-    help: "Rounds begin so many seconds after whole intervals of the wall clock, 0 to 86399; if not given, by the station's number among its peers",
+    shown: "SECONDS",
+    help: "Rounds begin SECONDS after whole intervals of the
+wall clock, 0 to 86399; by the station's number
+among its peers if not given",
 };
 
 const REPORT_EVERY: Line = Line {
@@ -325,8 +347,9 @@ const REPORT_EVERY: Line = Line {
     form: Form::Long,
     takes: Takes::One(Value::Number(1, 1_000_000)),
     needed: false,
-    shown: "report-every",
-    help: "The report is printed after every so many rounds too, 1 to 1000000",
+    shown: "ROUNDS",
+    help: "Prints the report after every ROUNDS rounds too, 1
+to 1000000",
 };
 
 const STALE_AFTER: Line = Line {
@@ -334,8 +357,10 @@ const STALE_AFTER: Line = Line {
     form: Form::Long,
     takes: Takes::One(Value::Number(1, 1_000_000)),
     needed: false,
-    shown: "stale-after",
-    help: "With --format prometheus an instance without a new sample in so many rounds has no value, rate and alarm, 1 to 1000000; 3 if not given",
+    shown: "ROUNDS",
+    help: "With --format prometheus an instance without a new
+sample in ROUNDS rounds has no value, rate and
+alarm, 1 to 1000000; 3 if not given",
 };
 
 const OUT: Line = Line {
@@ -344,7 +369,8 @@ const OUT: Line = Line {
     takes: Takes::One(Value::Text),
     needed: false,
     shown: "FILE",
-    help: "Each round's report is written to FILE too, which is replaced whole",
+    help: "Each round's report is written to FILE too, which
+is replaced whole",
 };
 
 const HTTP: Line = Line {
@@ -353,7 +379,9 @@ const HTTP: Line = Line {
     takes: Takes::One(Value::Text),
     needed: false,
     shown: "ADDRESS",
-    help: "Serves /metrics, /report.json, / and /healthz over HTTP at ADDRESS, a.b.c.d:port, without authentication",
+    help: "Serves /metrics, /report.json, / and /healthz over
+HTTP at ADDRESS, a.b.c.d:port, without
+authentication",
 };
 
 const LABELS: Line = Line {
@@ -362,7 +390,9 @@ const LABELS: Line = Line {
     takes: Takes::One(Value::Text),
     needed: false,
     shown: "FILE",
-    help: "A TOML file of ifName and ifAlias by engine id and ifIndex, for the labels of --format prometheus and the page of --format html",
+    help: "A TOML file of ifName and ifAlias by engine id and
+ifIndex, for the labels of --format prometheus and
+the page of --format html",
 };
 
 const STATIONS: Line = Line {
@@ -379,8 +409,9 @@ const OWN_NUMBER: Line = Line {
     form: Form::Long,
     takes: Takes::One(Value::Number(1, 4_294_967_295)),
     needed: false,
-    shown: "station",
-    help: "The station's number, 1 to 4294967295; 1 if not given",
+    shown: "NUMBER",
+    help: "The station's number, 1 to 4294967295; 1 if not
+given",
 };
 
 const LISTEN: Line = Line {
@@ -389,7 +420,8 @@ const LISTEN: Line = Line {
     takes: Takes::One(Value::Text),
     needed: false,
     shown: "ADDRESS",
-    help: "Where the station listens, a.b.c.d:port; 0.0.0.0:16101 if not given",
+    help: "Where the station listens, a.b.c.d:port;
+0.0.0.0:16101 if not given",
 };
 
 const SAVED_FILE: Line = Line {
@@ -406,8 +438,9 @@ const WINDOW: Line = Line {
     form: Form::Long,
     takes: Takes::One(Value::Number(1, 64)),
     needed: false,
-    shown: "window",
-    help: "How many samples a window keeps, 1 to 64; 32 if not given",
+    shown: "SAMPLES",
+    help: "How many samples a window keeps, 1 to 64; 32 if
+not given",
 };
 
 const WAIT_MS: Line = Line {
@@ -415,8 +448,9 @@ const WAIT_MS: Line = Line {
     form: Form::Long,
     takes: Takes::One(Value::Number(1, 60_000)),
     needed: false,
-    shown: "wait-ms",
-    help: "How many milliseconds nothing has to come before a round goes on, 1 to 60000; 1000 if not given",
+    shown: "MILLISECONDS",
+    help: "How many milliseconds nothing has to come before a
+round goes on, 1 to 60000; 1000 if not given",
 };
 
 const TRIES: Line = Line {
@@ -424,8 +458,9 @@ const TRIES: Line = Line {
     form: Form::Long,
     takes: Takes::One(Value::Number(1, 8)),
     needed: false,
-    shown: "tries",
-    help: "How often a poll is sent in all, 1 to 8; 3 if not given",
+    shown: "TRIES",
+    help: "How often a poll is sent in all, 1 to 8; 3 if not
+given",
 };
 
 const PEER: Line = Line {
@@ -434,7 +469,9 @@ const PEER: Line = Line {
     takes: Takes::Each(Value::Text),
     needed: false,
     shown: "N=ADDRESS",
-    help: "Another station that shares with this one: its number, and where it listens; given as often as wanted",
+    help: "Another station that shares with this one: its
+number, and where it listens; given as often as
+wanted",
 };
 
 const ONLY: Line = Line {
@@ -443,7 +480,9 @@ const ONLY: Line = Line {
     takes: Takes::One(Value::Text),
     needed: false,
     shown: "KINDS",
-    help: "The kinds of counters, with commas between them: octets, packets, errors, discards; octets,errors if not given",
+    help: "The kinds of counters, with commas between them:
+octets, packets, errors, discards; octets,errors
+if not given",
 };
 
 const UP: Line = Line {
@@ -461,7 +500,8 @@ const MATCH: Line = Line {
     takes: Takes::One(Value::Text),
     needed: false,
     shown: "TEXT",
-    help: "Takes interfaces alone whose name or alias contains TEXT",
+    help: "Takes interfaces alone whose name or alias
+contains TEXT",
 };
 
 const THRESHOLDS: Line = Line {
@@ -470,7 +510,9 @@ const THRESHOLDS: Line = Line {
     takes: Takes::One(Value::Text),
     needed: false,
     shown: "PERCENT",
-    help: "Writes an alarm on each counter of octets, raised at this percentage of the interface's speed: 1 to 100, as 80 or 80%",
+    help: "Writes an alarm on each counter of octets, raised
+at this percentage of the interface's speed: 1 to
+100, as 80 or 80%",
 };
 
 const SPLIT: Line = Line {
@@ -479,7 +521,9 @@ const SPLIT: Line = Line {
     takes: Takes::One(Value::Text),
     needed: false,
     shown: "FOLDER",
-    help: "Writes a file of settings into FOLDER for each 256 counters, with ports and files counted up, and prints their names",
+    help: "Writes a file of settings into FOLDER for each 256
+counters, with ports and files counted up, and
+prints their names",
 };
 
 const APPEND: Line = Line {
@@ -488,7 +532,8 @@ const APPEND: Line = Line {
     takes: Takes::One(Value::Text),
     needed: false,
     shown: "FILE",
-    help: "Prints the settings in FILE with the agent's targets at their end; names are shown as there",
+    help: "Prints the settings in FILE with the agent's
+targets at their end; names are shown as there",
 };
 
 const WRITTEN_LABELS: Line = Line {
@@ -497,7 +542,9 @@ const WRITTEN_LABELS: Line = Line {
     takes: Takes::One(Value::Text),
     needed: false,
     shown: "FILE",
-    help: "Writes the interfaces' names and aliases to FILE, for Prometheus' labels; with --append they go to the end of FILE",
+    help: "Writes the interfaces' names and aliases to FILE,
+for Prometheus' labels; with --append they go to
+the end of FILE",
 };
 
 /// The arguments before any command.

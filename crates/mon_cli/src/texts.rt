@@ -4,7 +4,7 @@ use crate::choice::Choice;
 
 /// What the program is for.
 pub(crate) const ABOUT: &str =
-    "Proved SNMPv2c monitoring: reads what agents answered, and prints what was measured";
+    "Proved SNMPv2c monitoring: polls agents, and prints what was measured";
 
 /// What follows the list of the commands.
 pub(crate) const MORE: &str = "With no command it does `replay 8`.
@@ -251,13 +251,16 @@ modules.
 
   poll S T         station S polls target T; both count from 1
   agent S T HEX    these octets come to station S from target T
-  timeout S ID     the poll of station S with this request-id was not answered in time
+  timeout S ID     the poll of station S with this request-id was not answered
+                   in time
   share S P        station S offers station P what it owes it
-  deliver D        datagram D, counted from 1, comes to its addressee; as often as it is asked
+  deliver D        datagram D, counted from 1, comes to its addressee; as often
+                   as it is asked
   save S           station S saves
   restart S        station S is started again from what it saved
-  stop S N keep    station S saves, is stopped after N calls of its disk, 0 to 6, and started again; with lose in place of keep,
-                   what was written and not synced is lost
+  stop S N keep    station S saves, is stopped after N calls of its disk, 0 to
+                   6, and started again; with lose in place of keep, what was
+                   written and not synced is lost
   forge S HEX      these octets come to station S as from a peer
 
 A line that is no step ends it with mon_app 7 BadScript before the first step;
@@ -272,19 +275,16 @@ pub(crate) fn about<'a>(choice: Choice) -> &'a str {
         Choice::Get => "Asks an agent for variables by their names (GetRequest)",
         Choice::Next => "Asks an agent for the variables after names (GetNextRequest)",
         Choice::Bulk => "Asks an agent for many variables after names (GetBulkRequest)",
-        Choice::Walk =>
-            "Asks an agent for all variables under a name (GetNextRequests, GetBulkRequests)",
+        Choice::Walk => "Asks an agent for all variables under a name",
         Choice::Set => "Has an agent assign a value to a variable (SetRequest)",
         Choice::Settings => "Prints the settings of a station that polls an agent's interfaces",
         Choice::Agent => "Serves an agent over a simulated device",
         Choice::Answer => "Prints what an agent answers to recorded datagrams, without a socket",
         Choice::Mib => "Prints the names that a module defines",
-        Choice::Station =>
-            "Polls agents, keeps windows of samples, shares them with peers and saves them",
+        Choice::Station => "Polls agents, and keeps, shares and saves what they answer",
         Choice::Report => "Prints the report of what a station has saved",
         Choice::SelfTest => "Tries a station in memory on an agent in memory",
-        Choice::Rehearse =>
-            "Makes the steps of a script with stations in memory, and prints what they answer",
+        Choice::Rehearse => "Makes the steps of a script with stations in memory",
     }
 }
 
