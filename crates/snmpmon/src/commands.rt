@@ -17,9 +17,11 @@ use std::net::Net;
 use std::rt::{Clock, Env, Files};
 use std::{env, io};
 
-/// Runs the command that the arguments name, and returns the exit status.
+/// Runs the command that the arguments name, and returns the exit status. `at_terminal` says
+/// whether standard input is a terminal.
 pub fn start<R: Env + Clock + Files<File = File> + Net + Input + Print + Eprint + AllocGlobal>(
     rt: &R,
+    at_terminal: bool,
 ) -> u8 {
     let words: Result<Vec<String>, _> = match env::args(rt) {
         Ok(args) => args.collect(rt.alloc()),
@@ -32,7 +34,7 @@ pub fn start<R: Env + Clock + Files<File = File> + Net + Input + Print + Eprint 
         return report_failure(rt, &Failure::from(AllocError));
     };
     match read(rt.alloc(), words.as_slice()) {
-        Ok(matches) => start_command(rt, read_command(&matches)),
+        Ok(matches) => start_command(rt, read_command(&matches), at_terminal),
         Err(error) => report_usage(rt, &error),
     }
 }
@@ -41,6 +43,7 @@ pub fn start<R: Env + Clock + Files<File = File> + Net + Input + Print + Eprint 
 fn start_command<R: Clock + Files<File = File> + Net + Input + Print + Eprint + AllocGlobal>(
     rt: &R,
     asked: Asked<'_, '_>,
+    at_terminal: bool,
 ) -> u8
     requires { IsWithin asked }
 {
@@ -48,19 +51,36 @@ fn start_command<R: Clock + Files<File = File> + Net + Input + Print + Eprint + 
         let _ = rt.eprintln(line);
         return 2;
     }
+    if at_terminal && reads_input(&asked) {
+        let _ = rt.eprintln(
+            "snmpmon: reads lines from this terminal until Ctrl-D; see snmpmon --help",
+        );
+    }
     match run(rt, asked) {
         Ok(()) => 0,
         Err(failure) => report_failure(rt, &failure),
     }
 }
 
+/// Returns `true` for a command that reads lines from standard input.
+fn reads_input(asked: &Asked<'_, '_>) -> bool {
+    matches!(
+        asked,
+        Asked::Replay(_) | Asked::Answer(_) | Asked::Rehearse(_)
+    )
+}
+
 /// Returns a line that says what a station's arguments lack, if they lack something.
 fn lack_of(asked: &Asked<'_, '_>) -> Option<&'static str> {
     if asked.lacks_rounds() {
-        return Some("snmpmon: station wants --rounds N or --check; see snmpmon station --help");
+        return Some(
+            "snmpmon: station wants --rounds ROUNDS or --check; see snmpmon station --help",
+        );
     }
     if asked.lacks_interval() {
-        return Some("snmpmon: station wants --interval N with --phase; see snmpmon station --help");
+        return Some(
+            "snmpmon: station wants --interval SECONDS with --phase; see snmpmon station --help",
+        );
     }
     None
 }

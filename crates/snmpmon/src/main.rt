@@ -6,8 +6,10 @@
 
 mod commands;
 
+use std::io::IsTerminal;
 use std::process::ExitCode;
 
 fn main(rt: HostRuntime) -> ExitCode {
-    ExitCode::from(commands::start(&rt))
+    let at_terminal = rt.stdin().is_terminal();
+    ExitCode::from(commands::start(&rt, at_terminal))
 }
