@@ -58,7 +58,7 @@ WORDS = {
     "NoMoreGenerations": "the newest save has the greatest generation",
     "Truncated": "the octets end too early",
     "BadVersion": "an image of another version than 1 or 2",
-    "OtherWatch": "an image of another watch's instances",
+    "OtherWatch": "the file holds other instances than these settings name",
     "BadImage": "the octets are no image",
     "NoMoreIncarnations": "the greatest incarnation was found",
 }

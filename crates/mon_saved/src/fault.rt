@@ -21,7 +21,7 @@ pub enum ImageFault {
     #[error("an image of another version than 1 or 2")]
     BadVersion = 3,
     /// The instances are not those of the watch.
-    #[error("an image of another watch's instances")]
+    #[error("the file holds other instances than these settings name")]
     OtherWatch = 4,
     /// The octets are no image: the first two octets, the incarnation, a size, a count or a sample is wrong, or octets
     /// are left over.
