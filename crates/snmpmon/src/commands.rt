@@ -17,8 +17,8 @@ use std::net::Net;
 use std::rt::{Clock, Env, Files};
 use std::{env, io};
 
-/// Runs the command that the arguments name, and returns the exit status. `at_terminal` says
-/// whether standard input is a terminal.
+/// Runs the command that the arguments name, and returns the exit status. `at_terminal` is `true`
+/// if standard input is a terminal.
 pub fn start<R: Env + Clock + Files<File = File> + Net + Input + Print + Eprint + AllocGlobal>(
     rt: &R,
     at_terminal: bool,
