@@ -85,6 +85,8 @@ impl Life {
         ensures written { OnOk result (drop 16 image.new.items ≡ saved_octets (state_of self.now)) }
         ensures spells { OnOk result (SpellsImage (drop 16 image.new.items) (instances_of self.now.board.watch.instances) (image_of self.now.board self.now.incarnation)) }
         ensures few { length (saved_octets (state_of self.now)) ≤ 484617 }
+        ensures spared { 16 + length (saved_octets (state_of self.now)) ≤ vec_capacity image.old → IsOk result }
+        ensures capacity { vec_capacity image.old ≤ vec_capacity image.new }
     {
         let size = image_size(&self.board);
         image.clear();
