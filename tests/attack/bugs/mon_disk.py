@@ -589,6 +589,91 @@ BUGS = {
         "                left: None,",
         "                left: Some(0),",
     ),
+    "swallows_a_failed_sync": (
+        "src/file_disk.rt",
+        "let done = self.file.sync_data();\n        count_failure(&mut self.failures, &mut self.last_error, done)",
+        "let done = self.file.sync_data();\n        match count_failure(&mut self.failures, &mut self.last_error, done) {\n            Ok(()) | Err(_) => Ok(()),\n        }",
+    ),
+    "swallows_a_failed_write": (
+        "src/file_disk.rt",
+        "let done = self.file.write_all_at(octets, at);\n        count_failure(&mut self.failures, &mut self.last_error, done)",
+        "let done = self.file.write_all_at(octets, at);\n        match count_failure(&mut self.failures, &mut self.last_error, done) {\n            Ok(()) | Err(_) => Ok(()),\n        }",
+    ),
+    "swallows_a_failed_read": (
+        "src/file_disk.rt",
+        "let done = self.file.read_exact_at(buffer, at);\n        count_failure(&mut self.failures, &mut self.last_error, done)",
+        "let done = self.file.read_exact_at(buffer, at);\n        if count_failure(&mut self.failures, &mut self.last_error, done).is_err() {\n            buffer.fill(0);\n        }\n        Ok(())",
+    ),
+    "counts_a_size_that_it_found": (
+        "src/file_disk.rt",
+        "            Ok(metadata) => Ok(metadata.len()),",
+        "            Ok(metadata) => {\n                self.failures = if self.last_error.is_some() { self.failures.saturating_add(1) } else { 0 };\n                Ok(metadata.len())\n            }",
+    ),
+    "passes_the_sync_that_it_is_to_fail": (
+        "src/flaky.rt",
+        "        if !self.flake.passes() {\n            return Err(DiskError);\n        }\n        self.disk.sync()",
+        "        let _passes = self.flake.passes();\n        self.disk.sync()",
+    ),
+    "makes_the_write_that_it_fails": (
+        "src/flaky.rt",
+        "        if !self.flake.passes() {\n            return Err(DiskError);\n        }\n        self.disk.write_at(at, octets)",
+        "        if !self.flake.passes() {\n            return match self.disk.write_at(at, octets) {\n                Ok(()) | Err(_) => Err(DiskError),\n            };\n        }\n        self.disk.write_at(at, octets)",
+    ),
+    "counts_no_read_on": (
+        "src/flaky.rt",
+        "        if !self.flake.passes() {\n            return Err(DiskError);\n        }\n        self.disk.read_at(at, buffer)",
+        "        if self.flake.left == 1 && !self.flake.passes() {\n            return Err(DiskError);\n        }\n        self.disk.read_at(at, buffer)",
+    ),
+    "fails_the_call_after_a_failed_size": (
+        "src/flaky.rt",
+        "        if !self.flake.passes() {\n            return Err(DiskError);\n        }\n        self.disk.size()",
+        "        if !self.flake.passes() {\n            self.flake.left = 1;\n            return Err(DiskError);\n        }\n        self.disk.size()",
+    ),
+    "begins_with_a_failure": (
+        "src/flaky.rt",
+        "                blown: 0,",
+        "                blown: call.min(1),",
+    ),
+    "begins_with_a_blown_call": (
+        "src/fuse.rt",
+        "                left: None,\n                blown: 0,",
+        "                left: None,\n                blown: 1,",
+    ),
+    "forgets_the_blown_calls": (
+        "src/fuse.rt",
+        "        self.fuse.left = Some(calls);",
+        "        self.fuse.left = Some(calls);\n        self.fuse.blown = 0;",
+    ),
+    "clones_the_count_of_failures": (
+        "src/memory.rt",
+        "            octets: self.octets.to_vec(self.alloc)?,\n            since: 0,\n            replaced_since: 0,\n            failures: 0,",
+        "            octets: self.octets.to_vec(self.alloc)?,\n            since: 0,\n            replaced_since: 0,\n            failures: self.failures,",
+    ),
+    "begins_with_a_failure_in_memory": (
+        "src/memory.rt",
+        "            octets,\n            since: 0,\n            replaced_since: 0,\n            failures: 0,",
+        "            octets,\n            since: 0,\n            replaced_since: 0,\n            failures: 1,",
+    ),
+    "keeps_the_count_over_a_crash": (
+        "src/memory.rt",
+        "            return Ok(MemoryDisk::with_octets(self.alloc, octets));",
+        "            let mut disk = MemoryDisk::with_octets(self.alloc, octets);\n            disk.failures = self.failures;\n            return Ok(disk);",
+    ),
+    "reads_no_last_octet": (
+        "src/memory.rt",
+        "self.octets.len() - at < buffer.len() {",
+        "self.octets.len() - at <= buffer.len() {",
+    ),
+    "reads_zeros_past_the_end": (
+        "src/memory.rt",
+        "            self.failures = self.failures.saturating_add(1);\n            return Err(DiskError);\n        }\n        buffer",
+        "            buffer.fill(0);\n            return Ok(());\n        }\n        buffer",
+    ),
+    "finds_no_size_of_an_empty_file": (
+        "src/memory.rt",
+        "        Ok(self.octets.len() as u64)",
+        "        if self.octets.is_empty() {\n            self.failures = self.failures.saturating_add(1);\n            return Err(DiskError);\n        }\n        Ok(self.octets.len() as u64)",
+    ),
 }
 
 # Those that break a promise as a whole, each with its function: tests/bodies tries them in the gate.
