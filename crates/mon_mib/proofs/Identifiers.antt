@@ -16,7 +16,7 @@ use Rattle.mon_mib.specs.Objects.{prefix_of, scalar_row, column_row}
 
 -- the tests of a list: how many numbers, the first two, and that each is of 32 bits
 abbrev few : List ℕ → Bool
-few ns = nat_lt 1 (length ns) && nat_lt (length ns) 100
+few ns = nat_lt 1 (length ns) && nat_lt (length ns) 16
 
 abbrev rooted : List ℕ → Bool
 rooted ns = nat_lt (get_or ns 0 0) 3 && nat_lt (get_or ns 1 0) 40
@@ -27,18 +27,19 @@ small ns = list_all (λ n. nat_lt n (2 ^ 32)) ns
 abbrev passes : List ℕ → Bool
 passes ns = few ns && (rooted ns && small ns)
 
--- an identifier with capacity for an instance
+-- an identifier that an instance may follow, for which no heap memory is needed
 pub record HasRoom (ns : List ℕ) : Type 0 where
   pub is : IsOid ns
   pub room : length ns < 128
+  pub inline : length ns < 16
 
 sound : (ns : List ℕ) → passes ns ≡ true → HasRoom ns
 sound ns ok =
     let counts : few ns ≡ true = first_so (few ns) (rooted ns && small ns) ok in
     let rest : (rooted ns && small ns) ≡ true = second_so (few ns) (rooted ns && small ns) ok in
     let begins : rooted ns ≡ true = first_so (rooted ns) (small ns) rest in
-    let more : 1 < length ns = ltb-true 1 (length ns) (first_so (nat_lt 1 (length ns)) (nat_lt (length ns) 100) counts) in
-    let fewer : length ns < 100 = ltb-true (length ns) 100 (second_so (nat_lt 1 (length ns)) (nat_lt (length ns) 100) counts) in
+    let more : 1 < length ns = ltb-true 1 (length ns) (first_so (nat_lt 1 (length ns)) (nat_lt (length ns) 16) counts) in
+    let fewer : length ns < 16 = ltb-true (length ns) 16 (second_so (nat_lt 1 (length ns)) (nat_lt (length ns) 16) counts) in
     let first : get_or ns 0 0 < 3 = ltb-true (get_or ns 0 0) 3 (first_so (nat_lt (get_or ns 0 0) 3) (nat_lt (get_or ns 1 0) 40) begins) in
     let second : get_or ns 1 0 < 40 = ltb-true (get_or ns 1 0) 40 (second_so (nat_lt (get_or ns 0 0) 3) (nat_lt (get_or ns 1 0) 40) begins) in
     record {
@@ -49,6 +50,7 @@ sound ns ok =
         small = λ k d lt. ltb-true (get_or ns k d) (2 ^ 32) (AllPass-from_list_all (λ n. nat_lt n (2 ^ 32)) ns (second_so (rooted ns) (small ns) rest) k d lt);
       };
       room = omega arith;
+      inline = fewer;
     }
 
 scalar : (s : Scalar) → passes (scalar_row s).prefix ≡ true

@@ -1,14 +1,14 @@
 -- Undoing from the last assignment on, where some undoings fail.
-use Rattle.std.proofs.Common.{suc, ◌≡◌, ◌≢◌, ℕ, ◌<◌, false, List, [], ◌∷◌, ◌++◌, length, get_or, refl, sym, ◌∙◌, ap, subst, arith, inl, inr}
+use Rattle.std.proofs.Common.{suc, ◌≡◌, ◌≢◌, ℕ, ◌<◌, false, List, [], ◌∷◌, ◌++◌, length, get_or, refl, sym, ◌∙◌, ap, subst, append_assoc, arith, inl, inr}
 use Rattle.std.specs.Prelude.{All, Contains, map}
-use Rattle.std.proofs.lemmas.List.{get_or_append_left, length_push, length-append}
+use Rattle.std.proofs.lemmas.List.{append-nil, get_or_append_left, length_push, length-append}
 use Rattle.std.proofs.lemmas.List.Elements.{All-push, Contains-append_left, Contains-push}
 use Rattle.std.proofs.lemmas.List.Quantifiers.{all_pairs_push}
 use Rattle.mon_mib.specs.declared.change.Change.{Change}
 use Rattle.mon_mib.specs.declared.step.Step.{Step}
 use Rattle.mon_mib.specs.Assignment.{AreApart}
 use Rattle.mon_mib.specs.Change.{changed, undoing, same_target, one_failure}
-use Rattle.mon_mib.specs.Commit.{changes, undoings, failures_after, IsRefusedOnce, IsLeft}
+use Rattle.mon_mib.specs.Commit.{changes, undoings, failures_after, IsRefusedOnce, IsLeft, AreSomeBackwards}
 use Rattle.mon_mib.specs.Held.{Held}
 use Rattle.mon_mib.specs.Undone.{IsUndoneOrStands, IsBack, IsListedStanding}
 use Rattle.mon_mib.proofs.Swapping.{undone, same_place, turned, IsClear, through, undoing_through, changes_push}
@@ -111,7 +111,10 @@ module _ {D : Type 0} (held : D → Held) (refuses : D → Change → Type 0) (f
   -- these are left to undo, and those remain assigned
   pub record IsAtUndo (undos : List Step) (standing : List ℕ) (device : D) : Type 0 where
     pub rest : List Step
+    pub gone : List Step
     pub left : List Step
+    pub whole : done ≡ rest ++ gone
+    pub order : AreSomeBackwards gone left
     pub among : (s : Step) → Contains rest s → Contains done s
     pub apart : AreApart rest
     pub clear : All (λ s. IsClear s.change left) rest
@@ -125,7 +128,10 @@ module _ {D : Type 0} (held : D → Held) (refuses : D → Change → Type 0) (f
   pub begins : (undos : List Step) (device : D) → AreApart done → undos ≡ undoings done before → held device ≡ changes done before → IsAtUndo undos [] device
   begins undos device apart undos_are holds = record {
     rest = done;
+    gone = [];
     left = [];
+    whole = sym (append-nil done);
+    order = refl;
     among = λ s at. at;
     apart = apart;
     clear = λ k d lt i e less. absurd (omega arith);
@@ -154,13 +160,19 @@ module _ {D : Type 0} (held : D → Held) (refuses : D → Change → Type 0) (f
     step_made : Contains done last.step
     step_made = at.among last.step (subst (λ l. Contains l last.step) (sym last.order) (Contains-push last.front last.step))
 
+    still_whole : done ≡ last.front ++ last.step ∷ at.gone
+    still_whole = at.whole ∙ (ap (λ l. l ++ at.gone) last.order ∙ append_assoc last.front (last.step ∷ []) at.gone)
+
     still_among : (s : Step) → Contains last.front s → Contains done s
     still_among s there = at.among s (subst (λ l. Contains l s) (sym last.order) (Contains-append_left last.front (last.step ∷ []) s there))
 
     pub went_back : (new : D) (after : List ℕ) → IsBack held refuses failed u old new standing after → IsAtUndo us after new
     went_back new after back = record {
       rest = last.front;
+      gone = last.step ∷ at.gone;
       left = at.left;
+      whole = still_whole;
+      order = inl at.order;
       among = still_among;
       apart = front_apart last.front (last.step ∷ []) rest_apart;
       clear = front_all (λ s. IsClear s.change at.left) last.front last.step rest_clear;
@@ -183,7 +195,10 @@ module _ {D : Type 0} (held : D → Held) (refuses : D → Change → Type 0) (f
     pub stayed : (new : D) (after : List ℕ) → IsListedStanding held refuses failed u old new standing after → IsAtUndo us after new
     stayed new after stands = record {
       rest = last.front;
+      gone = last.step ∷ at.gone;
       left = at.left ++ last.step ∷ [];
+      whole = still_whole;
+      order = inr (at.left, refl, at.order);
       among = still_among;
       apart = front_apart last.front (last.step ∷ []) rest_apart;
       clear = λ k d lt. All-push (λ s. same_target (get_or last.front k d).change s.change ≡ false) at.left last.step
@@ -232,6 +247,7 @@ module _ {D : Type 0} (held : D → Held) (refuses : D → Change → Type 0) (f
     some = λ e. some (at.numbers ∙ ap index_of e);
     made = at.made;
     once = at.once;
+    order = subst (λ l. AreSomeBackwards l at.left) (sym (at.whole ∙ ap (λ l. l ++ at.gone) (none_left at.rest at.undos_are))) at.order;
     numbers = at.numbers;
     refused = at.refused;
     holds = at.holds ∙ ap (λ l. changes at.left (changes l before)) (none_left at.rest at.undos_are);

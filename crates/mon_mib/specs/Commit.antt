@@ -1,5 +1,5 @@
 -- The second phase of a Set (RFC 3416 section 4.2.5).
-use Rattle.std.specs.Prelude.{◌≡◌, ◌≢◌, ℕ, List, [], ◌∷◌, ◌++◌, map, Contains, All}
+use Rattle.std.specs.Prelude.{◌≡◌, ◌≢◌, ◌⊎◌, ℕ, List, [], ◌∷◌, ◌++◌, map, Contains, All}
 use Rattle.mon_mib.specs.declared.change.Change.{Change}
 use Rattle.mon_mib.specs.declared.commit.Commit.{Commit}
 use Rattle.mon_mib.specs.declared.commit.Commit.TheVariants.{Done, CommitFailed, UndoFailed}
@@ -23,6 +23,11 @@ abbrev pub failures_after : List ℕ → ℕ → ℕ
 failures_after [] count = count
 failures_after (n ∷ ns) count = failures_after ns (one_failure count)
 
+-- some of these assignments, the last of them first
+abbrev pub AreSomeBackwards : List Step → List Step → Type 0
+AreSomeBackwards [] some = some ≡ []
+AreSomeBackwards (s ∷ ss) some = AreSomeBackwards ss some ⊎ ((later : List Step) × (some ≡ later ++ s ∷ []) × AreSomeBackwards ss later)
+
 -- what devices of one kind hold, and which changes they refuse
 module _ {D : Type 0} (held : D → Held) (refuses : D → Change → Type 0) where
   -- a device that held this refused the change
@@ -44,13 +49,14 @@ module _ {D : Type 0} (held : D → Held) (refuses : D → Change → Type 0) wh
     pub is : failed.index ≡ number
     pub refused : Refused (changes done before) failed.change
 
-  -- Of the assignments that were made, some remain, those of the bindings of these numbers: of each
-  -- the undoing was refused. All else is as before.
+  -- Of the assignments that were made, some remain, those of the bindings of these numbers, the last
+  -- first: of each the undoing was refused. All else is as before.
   pub record IsLeft (done : List Step) (before after : Held) (standing : List ℕ) : Type 0 where
     pub left : List Step
     pub some : left ≢ []
     pub made : All (Contains done) left
     pub once : AreApart left
+    pub order : AreSomeBackwards done left
     pub numbers : standing ≡ map (λ s. s.index) left
     pub refused : All (λ s. IsRefusedOnce (undoing s.change before)) left
     pub holds : after ≡ changes left before

@@ -1,4 +1,4 @@
-ghost use Rattle.std.specs.Prelude.{◌≡◌, ◌++◌, ◌∷◌, [], IfOk};
+ghost use Rattle.std.specs.Prelude.{◌≡◌, ◌++◌, ◌∷◌, [], IfOk, IsOk};
 ghost use Rattle.mon_mib.specs.Objects.{prefix_of, max_access_of, syntax_of, objects};
 ghost use Rattle.mon_mib.specs.Tried.{writable_of};
 
@@ -125,9 +125,10 @@ impl Object {
         }
     }
 
-    /// The name of the object's variable of an instance. It takes no heap memory.
+    /// The name of the object's variable of an instance. It is always given, since it takes no heap memory.
     pub fn name(self, alloc: Global, instance: u32) -> Result<Oid, AllocError>
-        ensures { IfOk result (λ name. name ≡ prefix_of self ++ instance ∷ []) }
+        ensures gives { IfOk result (λ name. name ≡ prefix_of self ++ instance ∷ []) }
+        ensures always { IsOk result }
     {
         laws::pushed();
         let mut parts = SmallVec::from_slice(alloc, self.prefix())?;

@@ -1,4 +1,4 @@
-ghost use Rattle.std.specs.Prelude.{◌≡◌, ◌<◌, ◌↔◌, IsTrue, IsOk, IfOk, OnOk, OnErr, IfSome, IfNone, Contains, find};
+ghost use Rattle.std.specs.Prelude.{◌≡◌, ◌<◌, ◌↔◌, IsTrue, IsOk, IfOk, IfErr, OnOk, OnErr, IfSome, IfNone, Contains, find};
 ghost use Rattle.std.specs.Option.{option_copied};
 ghost use Rattle.mon_mib.specs.Change.{one_failure};
 ghost use Rattle.mon_mib.specs.Held.{AreIndexes};
@@ -49,6 +49,7 @@ impl SimDevice {
     pub fn new(interfaces: Vec<Interface>, texts: SysTexts) -> Result<Self, DeviceFault>
         ensures made { IfOk result (λ device. device ≡ record { interfaces = interfaces.items; texts = texts; failures = 0 }) }
         ensures exact { IsOk result ↔ AreIndexes (indexes_of interfaces.items) }
+        ensures fault { IfErr result (λ fault. fault ≡ DeviceFault.BadIndex) }
     {
         if are_indexes(&interfaces) {
             Ok(SimDevice {
@@ -133,11 +134,12 @@ impl Device for SimDevice {
 }
 
 impl SimDevice {
-    /// The place of the interface of an index. Where the device lacks it, that is a failure.
+    /// The place of the interface of an index, or `BadIndex` where the device lacks it. That is counted as a failure.
     fn place(&mut self, index: u32) -> Result<usize, DeviceFault>
         ensures found { IfOk result (IsPlaceOfIndex self.old.interfaces index) }
         ensures same { OnOk result (self.new ≡ self.old) }
         ensures lacking { OnErr result (¬ (Contains (indexes_of self.old.interfaces) index)) }
+        ensures fault { IfErr result (λ fault. fault ≡ DeviceFault.BadIndex) }
         ensures counted { OnErr result (self.new ≡ record self.old { failures = one_failure self.old.failures }) }
     {
         let Some(place) = place_of(&self.interfaces, index) else {

@@ -506,6 +506,51 @@ BUGS = {
         "        if is_blown(self.fuses, number) {\n            self.blown = self.blown.saturating_add(1);\n            return Err(DeviceFault::Failed);\n        }\n        self.device.apply(change)",
         "        let made = self.device.apply(change);\n        if is_blown(self.fuses, number) {\n            self.blown = self.blown.saturating_add(1);\n            return Err(DeviceFault::Failed);\n        }\n        made",
     ),
+    "fails_to_make_a_device_of_bad_indexes": (
+        "src/sim_device.rt",
+        "            Err(DeviceFault::BadIndex)\n",
+        "            Err(DeviceFault::Failed)\n",
+    ),
+    "fails_to_make_a_device_of_many": (
+        "src/sim_device.rt",
+        "            Err(DeviceFault::BadIndex)\n",
+        "            Err(if interfaces.len() > 256 {\n                DeviceFault::Failed\n            } else {\n                DeviceFault::BadIndex\n            })\n",
+    ),
+    "fails_at_an_index_that_is_lacking": (
+        "src/sim_device.rt",
+        "            return Err(DeviceFault::BadIndex);",
+        "            return Err(DeviceFault::Failed);",
+    ),
+    "fails_at_a_second_index_that_is_lacking": (
+        "src/sim_device.rt",
+        "            return Err(DeviceFault::BadIndex);",
+        "            if self.failures > 1 {\n                return Err(DeviceFault::Failed);\n            }\n            return Err(DeviceFault::BadIndex);",
+    ),
+    "gives_no_name_of_a_scalar": (
+        "src/object.rt",
+        "        laws::pushed();",
+        "        laws::pushed();\n        if instance == 0 {\n            return Err(AllocError);\n        }",
+    ),
+    "gives_no_long_name": (
+        "src/object.rt",
+        "        laws::pushed();",
+        "        laws::pushed();\n        if self.prefix().len() > 10 {\n            return Err(AllocError);\n        }",
+    ),
+    "lists_what_stands_by_its_number": (
+        "src/commit.rt",
+        "        Commit::UndoFailed { failed, standing }",
+        "        standing.reverse();\n        Commit::UndoFailed { failed, standing }",
+    ),
+    "lists_the_first_that_stands_last": (
+        "src/commit.rt",
+        "        Commit::UndoFailed { failed, standing }",
+        "        let last = standing.len() - 1;\n        standing.swap(0, last);\n        Commit::UndoFailed { failed, standing }",
+    ),
+    "undoes_the_first_first": (
+        "src/commit.rt",
+        "    while let Some(undo) = undos.pop() {",
+        "    undos.reverse();\n    while let Some(undo) = undos.pop() {",
+    ),
     "takes_any_gap_of_an_object": (
         "src/search.rt",
         "            if gap.covers(object, start) {",

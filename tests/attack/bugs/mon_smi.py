@@ -433,6 +433,16 @@ BUGS = {
         "            if begins(TokenKind::LeftParen, rest) {\n                return (None, ls);\n            }\n            (Some(word), rest)",
         "            (Some(word), rest)",
     ),
+    "slices_what_is_there_of_a_span": (
+        "src/token.rt",
+        "        let octets = text.as_bytes().get(self.start..self.end)?;",
+        "        let octets = text.as_bytes().get(self.start..self.end.min(text.len()))?;",
+    ),
+    "slices_nothing_of_a_span_that_falls": (
+        "src/token.rt",
+        "        let octets = text.as_bytes().get(self.start..self.end)?;",
+        '        if self.end < self.start {\n            return Some("");\n        }\n        let octets = text.as_bytes().get(self.start..self.end)?;',
+    ),
     "ends_a_string_at_a_doubled_quote": (
         "src/scan.rt",
         "        if *next != b'\"' {",

@@ -35,4 +35,4 @@ returns-clause-next g c =
     same_value c.in_ok-value.field-0 c.unwrap-value.result (variable_value known c.args.object i) c.unwrap-value.ensures
     (subst (λ s. Contains (instances (known_in g.D.Device.held s).held c.args.object) i → c.in_ok-value.field-0 ≡ Some (variable_value (known_in g.D.Device.held s) c.args.object i))
     (c.self.view_is ∙ c.least_in_view.ensures.stays) c.in_ok-value.ensures.there least.0) in
-    rw (c.in_ok-own.ensures, value) (next_some known sees c.args.name.now c.args.object i least)
+    rw (c.in_ok-own.ensures.gives, value) (next_some known sees c.args.name.now c.args.object i least)
