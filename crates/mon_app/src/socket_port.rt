@@ -1,7 +1,8 @@
 //! A port over UDP and IPv4.
 
-ghost use Rattle.std.specs.Prelude.{◌≡◌, ◌≤◌, ◌/◌, IfErr, IfOk, length};
-ghost use Rattle.std.specs.Duration.{as_nanos};
+ghost use Rattle.std.specs.Prelude.{◌≡◌, ◌≤◌, IfErr, IfOk, Some, length};
+ghost use Rattle.mon_udp.specs.Addr.{addr_in};
+ghost use Rattle.mon_app.specs.AtSocket.{hundredths_between};
 
 use crate::fault::{AppFault, SocketFault};
 use crate::port::{Port, Received};
@@ -11,7 +12,7 @@ use mon_mib::Moment;
 use mon_udp::{Addr, Socket, failed_after};
 use std::net::{Net, SocketAddr};
 use std::rt::Clock;
-use std::time::{Duration, Instant};
+use std::time::Instant;
 
 /// No failure that the system named: the agent's life is over, or a datagram is not of IPv4.
 const OTHER: SocketFault = SocketFault {
@@ -29,12 +30,24 @@ pub struct SocketPort<'a, R: Clock> {
     failures: u64,
 }
 
+/// A datagram that was received, with what the system said of it.
+#[derive(Clone, Copy)]
+struct Arrival {
+    received: Received,
+    /// Where it came from.
+    from: SocketAddr,
+    /// When it came, by the clock.
+    at: Instant,
+}
+
 impl<'a, R: Clock + Net> SocketPort<'a, R> {
     /// Listens at this address; port 0 takes a free one.
     ///
     /// # Errors
     /// `SocketFault` if the address is not available, `OutOfMemory`.
-    pub fn open(rt: &'a R, listen: Addr) -> Result<Self, AppFault> {
+    pub fn open(rt: &'a R, listen: Addr) -> Result<Self, AppFault>
+        ensures failures { IfOk result (λ port. port.failures ≡ 0) }
+    {
         let socket = Socket::open(rt, listen).map_err(socket_fault)?;
         let began = Instant::now(rt).map_err(socket_fault)?;
         Ok(SocketPort {
@@ -56,31 +69,34 @@ impl<'a, R: Clock + Net> SocketPort<'a, R> {
 }
 
 impl<R: Clock> SocketPort<'_, R> {
-    /// Returns the time in the life of the agent, which is at most 2^31 seconds long.
-    fn moment(&self) -> Result<Moment, SocketFault> {
-        let now = Instant::now(self.rt).map_err(socket_failure)?;
-        moment_after(now.duration_since(self.began))
-    }
-
     /// Waits for a datagram, and keeps where it came from.
-    fn receive_next(&mut self, room: &mut [u8]) -> Result<Received, SocketFault>
+    fn receive_next(&mut self, room: &mut [u8]) -> Result<Arrival, SocketFault>
         ensures failures { self.new.failures ≡ self.old.failures }
+        ensures life { self.new.began ≡ self.old.began }
+        ensures sender { IfOk result (λ arrival. addr_in arrival.from ≡ Some self.new.from) }
+        ensures moment { IfOk result (λ arrival. arrival.received.moment ≡ hundredths_between self.old.began arrival.at) }
         ensures room { length room.new ≡ length room.old }
-        ensures within { IfOk result (λ received. received.len ≤ length room.new) }
+        ensures within { IfOk result (λ arrival. arrival.received.len ≤ length room.new) }
     {
         let (len, from) = self.socket.receive(room).map_err(socket_failure)?;
         self.from = Addr::of(from).ok_or(OTHER)?;
-        let moment = self.moment()?;
-        Ok(Received { len, moment })
+        let at = Instant::now(self.rt).map_err(socket_failure)?;
+        let moment = moment_at(self.began, at)?;
+        Ok(Arrival {
+            received: Received { len, moment },
+            from,
+            at,
+        })
     }
 }
 
-/// Returns the time of a life of which this has passed, in whole hundredths of a second. At 2^31
-/// seconds the life is over.
-fn moment_after(passed: Duration) -> Result<Moment, SocketFault>
-    ensures moment { IfOk result (λ moment. moment ≡ as_nanos passed / 10_000_000) }
-    ensures over { IfErr result (λ _. 214_748_364_800 ≤ as_nanos passed / 10_000_000) }
+/// Returns the time now of a life that began then, in whole hundredths of a second. At 2^31 seconds
+/// the life is over.
+fn moment_at(began: Instant, now: Instant) -> Result<Moment, SocketFault>
+    ensures moment { IfOk result (λ moment. moment ≡ hundredths_between began now) }
+    ensures over { IfErr result (λ _. 214_748_364_800 ≤ hundredths_between began now) }
 {
+    let passed = now.duration_since(began);
     match u64::try_from(passed.as_millis() / 10) {
         Ok(hundredths) => Moment::new(hundredths).ok_or(OTHER),
         Err(_) => Err(OTHER),
@@ -96,7 +112,7 @@ impl<R: Clock> Port for SocketPort<'_, R> {
     ghost failures = { λ p. p.failures };
 
     fn receive(&mut self, room: &mut [u8]) -> Result<Received, SocketFault> {
-        let received = self.receive_next(room);
+        let received = self.receive_next(room).map(|arrival| arrival.received);
         self.failures = failed_after(self.failures, &received);
         received
     }

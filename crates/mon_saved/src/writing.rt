@@ -1,7 +1,7 @@
 //! Writing images, in version 2. Their size is known before, so they are written once, within
 //! capacity that was allocated once.
 
-ghost use Rattle.std.specs.Prelude.{◌≡◌, ◌≤◌, ◌<◌, ◌+◌, ◌++◌, ℕ, IfOk, length, get_or, vec_len, vec_capacity};
+ghost use Rattle.std.specs.Prelude.{◌≡◌, ◌≤◌, ◌<◌, ◌+◌, ◌++◌, ℕ, [], IfOk, length, get_or, vec_len, vec_capacity};
 ghost use Rattle.std.specs.List.{AllByRecursion};
 ghost use Rattle.mon_sample.specs.Key.{IsSample};
 ghost use Rattle.mon_window.specs.Top.{rising};
@@ -97,13 +97,22 @@ pub fn write_within(out: &mut Vec<u8>, board: &Board, incarnation: u32)
     put_entries(out, board);
 }
 
+/// Allocates a buffer of just the size of the board's image.
+fn image_buffer(alloc: Global, board: &Board) -> Result<Vec<u8>, AllocError>
+    ensures empty { IfOk result (λ buffer. buffer.items ≡ []) }
+    ensures len { IfOk result (λ buffer. vec_len buffer ≡ 0) }
+    ensures capacity { IfOk result (λ buffer. (incarnation : ℕ) → vec_capacity buffer ≡ length (written_image board.now incarnation)) }
+{
+    Vec::with_capacity(alloc, image_size(board))
+}
+
 /// The image of the board and the incarnation, which is not 0, in a vector of just its size: the one allocation.
 pub fn write_image(alloc: Global, board: &Board, incarnation: u32) -> Result<Vec<u8>, AllocError>
     requires { 1 ≤ incarnation }
     ensures written { IfOk result (λ octets. octets.items ≡ written_image board.now incarnation) }
     ensures spells { IfOk result (λ octets. SpellsImage octets.items (instances_of board.now.watch.instances) (image_of board.now incarnation)) }
 {
-    let mut out = Vec::with_capacity(alloc, image_size(board))?;
+    let mut out = image_buffer(alloc, board)?;
     write_within(&mut out, board, incarnation);
     Ok(out)
 }

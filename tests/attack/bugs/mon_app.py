@@ -696,4 +696,39 @@ BUGS = {
         "        match walk_on(alloc, wire, &turn, names, lines)? {\n            Some(name) => last = name,\n            None => return Ok(()),\n        }",
         "        match walk_on(alloc, wire, &turn, names, lines) {\n            Ok(Some(name)) => last = name,\n            _ => return Ok(()),\n        }",
     ),
+    "begins_with_a_failure": (
+        "src/socket_port.rt",
+        "            failures: 0,\n",
+        "            failures: 1,\n",
+    ),
+    "replies_to_another_port": (
+        "src/socket_port.rt",
+        "        self.from = Addr::of(from).ok_or(OTHER)?;\n",
+        "        let sender = Addr::of(from).ok_or(OTHER)?;\n        self.from = Addr { octets: sender.octets, port: 161 };\n",
+    ),
+    "replies_to_the_first_sender": (
+        "src/socket_port.rt",
+        "        self.from = Addr::of(from).ok_or(OTHER)?;\n",
+        "        let sender = Addr::of(from).ok_or(OTHER)?;\n        if self.from.port == 0 {\n            self.from = sender;\n        }\n",
+    ),
+    "stands_still": (
+        "src/socket_port.rt",
+        "        let moment = moment_at(self.began, at)?;\n",
+        "        let moment = moment_at(at, at)?;\n",
+    ),
+    "begins_its_life_again": (
+        "src/socket_port.rt",
+        "        let moment = moment_at(self.began, at)?;\n",
+        "        let moment = moment_at(self.began, at)?;\n        self.began = at;\n",
+    ),
+    "counts_thousandths": (
+        "src/socket_port.rt",
+        "u64::try_from(passed.as_millis() / 10)",
+        "u64::try_from(passed.as_millis())",
+    ),
+    "measures_from_now_to_the_beginning": (
+        "src/socket_port.rt",
+        "    let passed = now.duration_since(began);\n",
+        "    let passed = began.duration_since(now);\n",
+    ),
 }

@@ -113,8 +113,8 @@ BUGS = {
     ),
     "takes_half_of_the_room": (
         "src/writing.rt",
-        "Vec::with_capacity(alloc, image_size(board))?;",
-        "Vec::with_capacity(alloc, image_size(board) / 2)?;",
+        "    Vec::with_capacity(alloc, image_size(board))\n",
+        "    Vec::with_capacity(alloc, image_size(board) / 2)\n",
     ),
     "calls_what_is_cut_short_a_bad_image": (
         "src/fault.rt",
@@ -245,6 +245,16 @@ BUGS = {
         "src/image.rt",
         "        self.items.as_slice()",
         "        &self.items.as_slice()[..0]",
+    ),
+    "takes_twice_the_memory": (
+        "src/writing.rt",
+        "    Vec::with_capacity(alloc, image_size(board))\n",
+        "    Vec::with_capacity(alloc, 2 * image_size(board))\n",
+    ),
+    "takes_memory_for_the_largest_image": (
+        "src/writing.rt",
+        "    Vec::with_capacity(alloc, image_size(board))\n",
+        "    Vec::with_capacity(alloc, image_size(board).max(484_617))\n",
     ),
 }
 
