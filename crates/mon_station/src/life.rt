@@ -1,6 +1,6 @@
 //! One life of a station: what it does about an event that is no save and no share.
 
-ghost use Rattle.std.specs.Prelude.{◌≡◌, ◌≤◌, ◌<◌, ◌^◌, ◌∷◌, [], ℕ, All, IfOk, IfErr, IsOk, None, OnErr, OnOk, drop, length, map, vec_capacity};
+ghost use Rattle.std.specs.Prelude.{◌≡◌, ◌≤◌, ◌<◌, ◌^◌, ◌∷◌, [], ◌+◌, ℕ, All, IfOk, IfErr, IsOk, None, OnErr, OnOk, drop, length, map, vec_capacity};
 ghost use Rattle.mon_board.specs.Windows.{paired};
 ghost use Rattle.mon_exchange.specs.Claim.{IsClaim};
 ghost use Rattle.mon_board.specs.Instance.{instances_of};
