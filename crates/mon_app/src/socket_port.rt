@@ -90,7 +90,7 @@ impl<R: Clock> SocketPort<'_, R> {
     }
 }
 
-/// Returns the time now of a life that began then, in whole hundredths of a second. At 2^31 seconds
+/// Returns the time now of a life that started then, in whole hundredths of a second. At 2^31 seconds
 /// the life is over.
 fn moment_at(began: Instant, now: Instant) -> Result<Moment, SocketFault>
     ensures moment { IfOk result (λ moment. moment ≡ hundredths_between began now) }
