@@ -1,6 +1,6 @@
 -- What a comparison of what was read says of the text.
-use Rattle.std.proofs.Common.{◌≡◌, ◌∙◌, ℕ, List, inl, inr, sym, subst}
-use Rattle.std.specs.Prelude.{Option, Some, None}
+use Rattle.std.proofs.Common.{◌≡◌, ◌∙◌, ℕ, ◌+◌, ◌≤◌, false, List, length, inl, inr, sym, subst}
+use Rattle.std.specs.Prelude.{Option, Some, None, Result, Ok, Err, IfOk}
 use Rattle.toml.specs.Data.{Items}
 use Rattle.mon_settings.specs.StationAccepted.{IsStation, Station}
 use Rattle.mon_settings.specs.Text.{Says}
@@ -10,7 +10,7 @@ use Rattle.mon_survey.specs.declared.counter.Planned.{Planned}
 use Rattle.mon_survey.specs.declared.fault.SurveyFault.{SurveyFault}
 use Rattle.mon_survey.specs.declared.options.Options.{Options}
 use Rattle.mon_survey.specs.Appended.{IsAppended, IsMisread}
-use Rattle.mon_survey.specs.Labels.{Continue, ContinueIn, IsNoLabels, ReadsOn, interfaces_in, labels_text}
+use Rattle.mon_survey.specs.Labels.{Continue, ContinueIn, IsLabels, IsNoLabels, ReadsOn, count_items, has_engine, interfaces_in, labels_text}
 use Rattle.mon_survey.specs.Meant.{IsMeant, IsNotReadBack, IsUnlike}
 
 -- settings that are not found to be what was meant are not read back
@@ -32,6 +32,13 @@ not_labels old engine cells indexes before text was is e (inl memory) = subst (I
 not_labels old engine cells indexes before text was is e (inr (misread, other)) =
     subst (IsNoLabels old engine cells indexes) (sym misread)
     (before, was, λ both. other (subst (λ (t : List ℕ). ReadsOn engine cells indexes before t) (sym is) both.1))
+
+-- a text with the tables of interfaces, which may follow, is that of labels
+pub are_labels : {T E : Type 0} (octets : T → List ℕ) (old engine : List ℕ) (cells : List Cell) (indexes : List ℕ) (before : Items) (r : Result T E)
+    → interfaces_in old ≡ Some before → has_engine engine before ≡ false → count_items before + length indexes ≤ 4096
+    → IfOk r (λ t. octets t ≡ labels_text old engine cells indexes) → IfOk r (λ t. ReadsOn engine cells indexes before (octets t)) → IfOk r (λ t. IsLabels old engine cells indexes (octets t))
+are_labels octets old engine cells indexes before (Ok t) was other few is read = record { is = is; before = before; old_read = was; other = other; few = few; read = read }
+are_labels octets old engine cells indexes before (Err e) was other few is read = tt
 
 -- a text is read on exactly if the tables in it are there and go on
 pub read_on : (engine : List ℕ) (cells : List Cell) (indexes : List ℕ) (before : Items) (text : List ℕ) (found : Option Items) → interfaces_in text ≡ found

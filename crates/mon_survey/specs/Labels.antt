@@ -1,5 +1,5 @@
 -- A file of the texts of interfaces, in TOML, which Prometheus' series get as labels.
-use Rattle.std.specs.Prelude.{◌≡◌, ◌<◌, ℕ, ◌+◌, ◌==◌, nat_le, pos, Bool, false, IsTrue, ◌||◌, List, [], ◌∷◌, ◌++◌, length, codes, decimal, Option, Some, None, option_and_then, if◌then◌else◌}
+use Rattle.std.specs.Prelude.{◌≡◌, ◌<◌, ◌≤◌, ℕ, ◌+◌, ◌==◌, nat_le, pos, Bool, false, IsTrue, ◌||◌, List, [], ◌∷◌, ◌++◌, length, codes, decimal, Option, Some, None, option_and_then, if◌then◌else◌}
 use Rattle.std.specs.List.{concat, flat_map}
 use Rattle.std.specs.Str.{IsUtf8, bytes_eq}
 use Rattle.std.specs.Str.Lossy.{utf8_lossy}
@@ -120,15 +120,7 @@ ContinueIn engine cells indexes olds (Some ds) = Continue engine cells indexes o
 abbrev pub ReadsOn : List ℕ → List Cell → List ℕ → Items → List ℕ → Type 0
 ReadsOn engine cells indexes before text = (after : Items) × (interfaces_in text ≡ Some after) × Continue engine cells indexes before after
 
--- The text of labels of an engine, by its id in hex: the old text octet by octet, and then the tables of the interfaces, which is read
--- as the old tables and these.
-pub record IsLabels (old engine : List ℕ) (cells : List Cell) (indexes text : List ℕ) : Type 0 where
-  pub is : text ≡ labels_text old engine cells indexes
-  pub before : Items
-  pub old_read : interfaces_in old ≡ Some before
-  pub read : ReadsOn engine cells indexes before text
-
--- ---- why there is none
+-- ---- what may go on
 
 -- whether a text is this engine id
 abbrev pub is_of : List ℕ → Option (List ℕ) → Bool
@@ -144,6 +136,18 @@ has_engine engine (item d ds) = is_of engine (text_at (codes "engine") d) || has
 abbrev pub count_items : Items → ℕ
 count_items no_items = 0
 count_items (item d ds) = 1 + count_items ds
+
+-- The text of labels of an engine, by its id in hex: the old text octet by octet, and then the tables of the interfaces, which is read
+-- as the old tables and these. None of the old tables is of the engine, and there are at most 4,096 in all.
+pub record IsLabels (old engine : List ℕ) (cells : List Cell) (indexes text : List ℕ) : Type 0 where
+  pub is : text ≡ labels_text old engine cells indexes
+  pub before : Items
+  pub old_read : interfaces_in old ≡ Some before
+  pub other : has_engine engine before ≡ false
+  pub few : count_items before + length indexes ≤ 4096
+  pub read : ReadsOn engine cells indexes before text
+
+-- ---- why there is none
 
 -- why there is no such text: memory, an old text that is no file of labels, one that has this engine, more than 4,096 interfaces in
 -- all, or a text that is read otherwise

@@ -1,12 +1,12 @@
 //! What a file of the texts of interfaces is read as.
 
-ghost use Rattle.std.specs.Prelude.{◌≡◌, ◌⊎◌, ◌↔◌, IfErr, IfOk, IsTrue, None, Some, codes, option_and_then, option_copied, option_map, string_bytes};
+ghost use Rattle.std.specs.Prelude.{◌≡◌, ◌≤◌, ◌+◌, ◌⊎◌, ◌↔◌, IfErr, IfOk, IsTrue, None, OnOk, Some, codes, false, length, option_and_then, option_copied, option_map, string_bytes};
 ghost use Rattle.hex.specs.Hex.{encode_lower};
 ghost use Rattle.toml.specs.Data.{as_integer, get, get_member};
 ghost use Rattle.toml.specs.Parse.{parse_document};
 ghost use Rattle.toml.specs.View.{items_view, table_view, view};
 ghost use Rattle.mon_survey.specs.Meant.{IsUnlike};
-ghost use Rattle.mon_survey.specs.Labels.{AreInterfaces, Continue, ContinueIn, IsInterface, IsLabels, IsNoLabels, IsSameInterface, ReadsOn, has_engine, indexes_of, interfaces_in, is_of, items_at, text_at, text_of};
+ghost use Rattle.mon_survey.specs.Labels.{AreInterfaces, Continue, ContinueIn, IsInterface, IsLabels, IsNoLabels, IsSameInterface, ReadsOn, count_items, has_engine, indexes_of, interfaces_in, is_of, items_at, labels_text, text_at, text_of};
 
 use crate::answers::Answers;
 use crate::choice::Choice;
@@ -199,7 +199,8 @@ fn is_of(engine: &str, found: Option<&str>) -> bool
     }
 }
 
-/// Requires that the interfaces may follow the old tables.
+/// Requires that the interfaces may follow the old tables: that none of these is of the engine, and
+/// that there are at most 4,096 in all.
 fn require_room(
     source: &Source<'_>,
     old: &str,
@@ -207,7 +208,9 @@ fn require_room(
     indexes: &[u32],
 ) -> Result<(), SurveyFault>
     requires { interfaces_in old.now ≡ Some (items_view before.now) }
-    ensures { IfErr result (IsNoLabels old.now source.now.engine.now source.now.answers.now indexes.now) }
+    ensures other { OnOk result (has_engine source.now.engine.now (items_view before.now) ≡ false) }
+    ensures few { OnOk result (count_items (items_view before.now) + length indexes.now ≤ 4096) }
+    ensures fault { IfErr result (IsNoLabels old.now source.now.engine.now source.now.answers.now indexes.now) }
 {
     if has_engine(source.engine, before) {
         return Err(SurveyFault::SameEngine);
@@ -277,7 +280,8 @@ fn labels_after(
     indexes: &[u32],
 ) -> Result<String, SurveyFault>
     requires { interfaces_in old.now ≡ Some (items_view before.now) }
-    ensures reads { IfOk result (λ text. IsLabels old.now source.now.engine.now source.now.answers.now indexes.now (string_bytes text)) }
+    ensures is { IfOk result (λ text. string_bytes text ≡ labels_text old.now source.now.engine.now source.now.answers.now indexes.now) }
+    ensures reads { IfOk result (λ text. ReadsOn source.now.engine.now source.now.answers.now indexes.now (items_view before.now) (string_bytes text)) }
     ensures fault { IfErr result (IsNoLabels old.now source.now.engine.now source.now.answers.now indexes.now) }
 {
     let octets = source.octets(old, indexes)?;

@@ -236,6 +236,26 @@ BUGS = {
         "        Err(fault) => Err(SurveyFault::Refused(fault)),",
         "        Err(_) => Err(SurveyFault::Misread),",
     ),
+    "labels_an_engine_again": (
+        "src/labelled.rt",
+        "    if has_engine(source.engine, before) {",
+        "    if has_engine(source.engine, before) && indexes.len() > 1 {",
+    ),
+    "labels_whatever_is_there": (
+        "src/labelled.rt",
+        "    given!(require_room(source, old, before, indexes));",
+        "    let _ = require_room(source, old, before, indexes);",
+    ),
+    "labels_the_first_table_s_engine_alone": (
+        "src/labelled.rt",
+        "    if has_engine(source.engine, before) {",
+        "    let first = before.len().min(1);\n    if has_engine(source.engine, &before[..first]) {",
+    ),
+    "counts_no_old_interfaces": (
+        "src/labelled.rt",
+        "    let count = before.len() + indexes.len();",
+        "    let count = indexes.len();",
+    ),
     "labels_an_interface_too_many": (
         "src/labelled.rt",
         "    if count > MOST_INTERFACES {",
