@@ -1,5 +1,11 @@
 -- A station's trial of itself.
-use Rattle.std.specs.Prelude.{ℕ, List, ◌++◌, codes}
+use Rattle.std.specs.Global.{Vec}
+use Rattle.std.specs.Prelude.{ℕ, ◌≡◌, ◌≢◌, List, ◌++◌, Result, Ok, Err, codes}
+use Rattle.mon_agent.specs.declared.fault.AgentFault.{AgentFault}
+use Rattle.mon_agent.specs.declared.reply.Reply.{Reply}
+use Rattle.mon_agent.specs.declared.reply.Reply.TheVariants.{Send, Silent}
+use Rattle.mon_settings.specs.declared.fault.SettingsFault.{SettingsFault}
+use Rattle.mon_settings.specs.declared.fault.SettingsFault.TheVariants as settings
 use Rattle.mon_station.specs.declared.fault.StationFault.{StationFault}
 use Rattle.mon_station.specs.declared.fault.StationFault.TheVariants as station
 use Rattle.mon_station.specs.Fault as stations
@@ -27,6 +33,24 @@ innermost_of f = record { part = codes "mon_rounds"; number = number_of f; name 
 abbrev pub station_refusal : StationFault → TrialFault
 station_refusal station.OutOfMemory = OutOfMemory
 station_refusal f = Refused f
+
+-- a fault of settings as the trial's: lack of memory is the trial's own, and nothing else may be
+-- refused there
+abbrev pub settings_refusal : SettingsFault → TrialFault
+settings_refusal settings.OutOfMemory = OutOfMemory
+settings_refusal f = Unexpected
+
+-- why a text was refused: it is not the one that is expected, or it is and memory ran out
+abbrev pub IsJudged : (text wanted : List ℕ) → TrialFault → Type 0
+IsJudged text wanted Unexpected = text ≢ wanted
+IsJudged text wanted OutOfMemory = text ≡ wanted
+IsJudged text wanted (Refused f) = ⊥
+
+-- what is taken of an agent's answer: the octets that it sends, where silence is not expected
+abbrev pub IsTakenReply : Result Reply AgentFault → Result (Vec ℕ) TrialFault → Type 0
+IsTakenReply (Ok (Send octets)) taken = taken ≡ Ok octets
+IsTakenReply (Ok (Silent why)) taken = taken ≡ Err Unexpected
+IsTakenReply (Err fault) taken = taken ≡ Err OutOfMemory
 
 -- what a station has to report at the end of a trial: three samples of a counter of 1000 octets a second, over 20 seconds
 abbrev pub trial_report : List ℕ

@@ -1,12 +1,12 @@
 //! A station's trial of itself: it polls an agent in memory three times, saves and finds again what it took.
 
-ghost use Rattle.std.specs.Prelude.{◌≡◌, ◌++◌, IfErr, IfOk, OnOk};
+ghost use Rattle.std.specs.Prelude.{◌≡◌, ◌≢◌, ◌++◌, ◌∷◌, [], IfErr, IfOk, OnOk, length};
 ghost use Rattle.mon_board.specs.Board.{window_of};
 ghost use Rattle.mon_disk.specs.Disk.{Leaves};
 ghost use Rattle.mon_disk.specs.Kept.{device_of};
 ghost use Rattle.mon_disk.specs.Memory.{memory_leaves};
 ghost use Rattle.mon_report.specs.Report.{report};
-ghost use Rattle.mon_rehearsal.specs.Trial.{innermost_of, name_of, number_of, station_refusal, trial_report, trial_text};
+ghost use Rattle.mon_rehearsal.specs.Trial.{IsJudged, IsTakenReply, innermost_of, name_of, number_of, settings_refusal, station_refusal, trial_report, trial_text};
 ghost use Rattle.mon_rehearsal.specs.declared.trial.TrialFault.TheVariants as trial;
 ghost use Rattle.mon_station.specs.Saved.{FindsState};
 ghost use Rattle.mon_station.specs.State.{state_of};
@@ -18,7 +18,7 @@ use mon_mib::{Device, Moment, SimDevice};
 use mon_report::write_report;
 use mon_settings::{SettingsFault, StationSettings, read_agent, read_station};
 use mon_smi::Names;
-use mon_station::{Event, Innermost, Station, StationFault, saved_board};
+use mon_station::{Event, Innermost, Outgoing, Station, StationFault, saved_board};
 use mon_udp::Addr;
 use std::alloc::{AllocError, Global};
 use thiserror::Error;
@@ -125,6 +125,8 @@ impl From<AllocError> for TrialFault {
 
 /// No settings may be refused here.
 impl From<SettingsFault> for TrialFault {
+    ghost from_gives = { λ part fault. fault ≡ settings_refusal part };
+
     fn from(fault: SettingsFault) -> TrialFault {
         match fault {
             SettingsFault::OutOfMemory => TrialFault::OutOfMemory,
@@ -234,6 +236,7 @@ pub fn run_trial(alloc: Global) -> Result<Trial, TrialFault>
 fn judge(text: Vec<u8>, wanted: &[u8], last: &[u8]) -> Result<Vec<u8>, TrialFault>
     ensures all { IfOk result (λ all. all.items ≡ wanted.now ++ last.now) }
     ensures wanted { OnOk result (text.items ≡ wanted.now) }
+    ensures fault { IfErr result (IsJudged text.items wanted.now) }
 {
     if text.as_slice() != wanted {
         return Err(TrialFault::Unexpected);
@@ -326,7 +329,9 @@ fn write_board(alloc: Global, board: &Board) -> Result<Vec<u8>, StationFault>
 
 /// The second text, where the first is the same.
 fn same(saved: Vec<u8>, text: Vec<u8>) -> Result<Vec<u8>, TrialFault>
-    ensures { IfOk result (λ one. one.items ≡ text.items) }
+    ensures text { IfOk result (λ one. one.items ≡ text.items) }
+    ensures same { OnOk result (saved.items ≡ text.items) }
+    ensures fault { IfErr result (λ fault. (fault ≡ trial.Unexpected) × (saved.items ≢ text.items)) }
 {
     if saved.as_slice() == text.as_slice() {
         Ok(text)
@@ -348,15 +353,30 @@ fn poll_once<D: Disk + Drop, E: Device + Drop>(
     at: Moment,
 ) -> Result<(), TrialFault> {
     let told = station.step(alloc, Event::StartPoll(0))?;
-    let [request] = told.sends.as_slice() else {
-        return Err(TrialFault::Unexpected);
-    };
-    match agent.answer(alloc, request.octets.as_slice(), at) {
-        Ok(Reply::Send(octets)) => {
-            let response = Event::FromAgent(agent_address(), octets.as_slice());
-            station.step(alloc, response)?;
-            Ok(())
-        }
+    let request = only_send(told.sends.as_slice())?;
+    let octets = sent_octets(agent.answer(alloc, request.octets.as_slice(), at))?;
+    let response = Event::FromAgent(agent_address(), octets.as_slice());
+    station.step(alloc, response)?;
+    Ok(())
+}
+
+/// Returns the one datagram that a station sends.
+fn only_send(sends: &[Outgoing]) -> Result<&Outgoing, TrialFault>
+    ensures one { IfOk result (λ request. sends.now ≡ request.now ∷ []) }
+    ensures fault { IfErr result (λ fault. (fault ≡ trial.Unexpected) × (length sends.now ≢ 1)) }
+{
+    match sends {
+        [request] => Ok(request),
+        _ => Err(TrialFault::Unexpected),
+    }
+}
+
+/// Returns the octets that an agent sends, which is not to be silent here.
+fn sent_octets(answer: Result<Reply, AgentFault>) -> Result<Vec<u8>, TrialFault>
+    ensures { IsTakenReply answer result }
+{
+    match answer {
+        Ok(Reply::Send(octets)) => Ok(octets),
         Ok(Reply::Silent(_)) => Err(TrialFault::Unexpected),
         Err(AgentFault::OutOfMemory) => Err(TrialFault::OutOfMemory),
     }
