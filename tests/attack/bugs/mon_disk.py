@@ -683,4 +683,5 @@ PROMISES = {
     "forgets_the_last_save": "keeper::Keeper::reopen",
     "mends_unsynced": "file::shut",
     "no_first_sync": "opening::sync_first",
+    "swallows_a_failed_sync": "file_disk::FileDiskDisk::sync",
 }

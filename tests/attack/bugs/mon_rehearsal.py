@@ -253,4 +253,24 @@ BUGS = {
         '"owes {peer} {owed}"',
         '"owes {owed} {peer}"',
     ),
+    "finds_whatever_is_there_again": (
+        "src/trial.rt",
+        "    if saved.as_slice() == text.as_slice() {\n",
+        "    if !saved.is_empty() {\n",
+    ),
+    "says_that_memory_ran_out_of_another_text": (
+        "src/trial.rt",
+        "        return Err(TrialFault::Unexpected);\n    }\n    let mut text = text;",
+        "        return Err(TrialFault::OutOfMemory);\n    }\n    let mut text = text;",
+    ),
+    "refuses_settings_for_memory": (
+        "src/trial.rt",
+        "            _ => TrialFault::Unexpected,\n",
+        "            _ => TrialFault::OutOfMemory,\n",
+    ),
+    "takes_the_first_of_many_sends": (
+        "src/trial.rt",
+        "        [request] => Ok(request),\n",
+        "        [request, ..] => Ok(request),\n",
+    ),
 }
