@@ -1,7 +1,8 @@
 -- Which key of a table is unknown.
-use Rattle.std.specs.Prelude.{ℕ, zero, suc, List, Option, Some, None, option_and_then}
+use Rattle.std.specs.Prelude.{Bool, false, ℕ, zero, suc, List, Option, Some, None, option_and_then}
 use Rattle.toml.specs.Data.{Data, Members, get_member, as_table, at}
 use Rattle.mon_settings.specs.declared.grammar.SettingsKind.{SettingsKind}
+use Rattle.mon_settings.specs.declared.grammar.SettingsKind.TheVariants as kind
 use Rattle.mon_settings.specs.declared.place.Place.{Place}
 use Rattle.mon_settings.specs.declared.place.Place.TheVariants as place
 use Rattle.mon_settings.specs.declared.place.Step.{Step}
@@ -9,7 +10,7 @@ use Rattle.mon_settings.specs.declared.place.Step.TheVariants as step
 use Rattle.mon_settings.specs.declared.key.Key.{Key}
 use Rattle.mon_settings.specs.Grammar.{table_keys, top_keys}
 use Rattle.mon_settings.specs.Key.{key_name}
-use Rattle.mon_settings.specs.Keys.{first_unknown}
+use Rattle.mon_settings.specs.Keys.{first_unknown, is_one_of}
 
 -- the entry of this number in a list, whose first one is 1
 abbrev pub entry : ℕ → Data → Option Data
@@ -47,3 +48,15 @@ known_keys whose (place.Inside first table last) = step_keys last
 -- the first key of the table at a place that its grammar does not know, and none if there is no such table
 abbrev pub unknown_at : SettingsKind → Place → Members → Option (List ℕ)
 unknown_at whose p t = option_and_then (first_unknown (known_keys whose p)) (table_at p t)
+
+-- an agent's settings for a station's, and the other way round
+abbrev pub other_kind : SettingsKind → SettingsKind
+other_kind kind.Agent = kind.Station
+other_kind kind.Station = kind.Agent
+
+-- whether the name, at this place, is a key of settings of the other kind: of those at the top alone
+abbrev pub is_of_other : SettingsKind → Place → List ℕ → Bool
+is_of_other whose place.Whole name = is_one_of (top_keys (other_kind whose)) name
+is_of_other whose (place.At last) name = false
+is_of_other whose (place.In table last) name = false
+is_of_other whose (place.Inside first table last) name = false

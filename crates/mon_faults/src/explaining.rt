@@ -1,7 +1,7 @@
 //! A fault of a settings text, explained for who wrote it.
 
 use crate::line_column::{LineColumn, line_column_at};
-use crate::unknown::{known_keys, unknown_key};
+use crate::unknown::{is_of_other, known_keys, unknown_key};
 use mon_settings::{Key, Place, SettingsFault, SettingsKind};
 use std::alloc::{AllocError, Global};
 
@@ -25,8 +25,20 @@ fn unknown(
 ) -> Result<String, AllocError> {
     let keys = list_keys(alloc, known_keys(kind, place))?;
     match unknown_key(alloc, text, kind, place)? {
-        Some(name) => format!(in alloc; "{place}: {name:?} is no key here; the keys are {keys}"),
+        Some(name) => {
+            let whose = whose_key(kind, is_of_other(kind, place, &name));
+            format!(in alloc; "{place}: {name:?} is no key here{whose}; the keys are {keys}")
+        }
         None => format!(in alloc; "{place}: a key is unknown; the keys are {keys}"),
+    }
+}
+
+/// Whose key it is, where it is one of settings of the other kind.
+fn whose_key(kind: SettingsKind, is_of_other: bool) -> &'static str {
+    match (is_of_other, kind) {
+        (false, _) => "",
+        (true, SettingsKind::Agent) => ", but a station's",
+        (true, SettingsKind::Station) => ", but an agent's",
     }
 }
 

@@ -1,11 +1,13 @@
 //! Which key of a table is unknown.
 
 ghost use Rattle.std.specs.Prelude.{◌≡◌, IfOk, option_and_then, option_map, string_bytes};
-ghost use Rattle.mon_faults.specs.Unknown.{entry, known_keys, step_keys, table_at, table_of, unknown_at, value_at};
+ghost use Rattle.mon_faults.specs.Unknown.{entry, is_of_other, known_keys, step_keys, table_at, table_of, unknown_at, value_at};
 ghost use Rattle.toml.specs.Parse.{parse_document};
 ghost use Rattle.toml.specs.View.{view, table_view};
 
-use mon_settings::{Key, Place, SettingsKind, Step, find, first_unknown, table_keys, top_keys};
+use mon_settings::{
+    Key, Place, SettingsKind, Step, find, first_unknown, is_one_of, table_keys, top_keys,
+};
 use std::alloc::{AllocError, Global};
 use toml::{Table, Value};
 
@@ -64,6 +66,18 @@ pub(crate) fn known_keys(kind: SettingsKind, place: Place) -> &'static [Key]
         Place::Whole => top_keys(kind),
         Place::At(last) | Place::In(_, last) | Place::Inside(_, _, last) => step_keys(last),
     }
+}
+
+/// Returns `true` if a name at this place is a key of the settings of the other kind: so are the
+/// keys of an agent's file where a station's is read.
+pub(crate) fn is_of_other(kind: SettingsKind, place: Place, name: &str) -> bool
+    ensures { result ≡ is_of_other kind place name.now }
+{
+    let other = match kind {
+        SettingsKind::Agent => SettingsKind::Station,
+        SettingsKind::Station => SettingsKind::Agent,
+    };
+    matches!(place, Place::Whole) && is_one_of(name, top_keys(other))
 }
 
 fn unknown_in(

@@ -19,7 +19,7 @@ pub fn find(table: &Table, key: Key) -> Option<&Value>
 }
 
 /// Returns `true` if a name is that of one of the keys.
-pub(crate) fn is_one_of(name: &str, keys: &[Key]) -> bool
+pub fn is_one_of(name: &str, keys: &[Key]) -> bool
     ensures { result ≡ is_one_of keys.now name.now }
 {
     for key in keys {

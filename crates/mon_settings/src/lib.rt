@@ -26,7 +26,7 @@ pub use agent::{AgentSettings, read_agent};
 pub use fault::SettingsFault;
 pub use grammar::{SettingsKind, table_keys, top_keys};
 pub use key::Key;
-pub use keys::{find, first_unknown};
+pub use keys::{find, first_unknown, is_one_of};
 pub use modules::module_files;
 pub use mon_core::Core;
 pub use mon_udp::Addr;

@@ -45,13 +45,13 @@ pub struct Clash {
 #[derive(Clone, Copy, Debug, PartialEq, Eq, Error)]
 pub enum FormFault {
     /// It begins with a dot.
-    #[error("expected numbers without a dot in front, as 1.3.6.1")]
+    #[error("numbers without a dot in front are wanted, as 1.3.6.1")]
     LeadingDot,
     /// It has a colon, as between the name of a module and one of its names.
-    #[error("expected a name without its module, as ifInOctets.1")]
+    #[error("a name without its module is wanted, as ifInOctets.1")]
     Colon,
     /// Any other text.
-    #[error("expected numbers with dots between them, as 1.3.6.1, or a name, as ifInOctets.1")]
+    #[error("numbers with dots between them are wanted, as 1.3.6.1, or a name, as ifInOctets.1")]
     Other,
 }
 
