@@ -25,7 +25,8 @@ class Agent:
         words = [program, "agent", settings(self.folder.name, more), "--boots", "3", "--count", str(count)]
         self.process = subprocess.Popen(
             words, stderr=subprocess.PIPE, stdin=subprocess.DEVNULL, stdout=subprocess.DEVNULL, pass_fds=pass_fds,
-            env={**os.environ, **(environment or {})},
+            # (no buffer, in which a second line would stay that came with the first)
+            bufsize=0, env={**os.environ, **(environment or {})},
         )
         self.said = self.process.stderr.readline().decode()
         self.address = None
