@@ -36,6 +36,26 @@ BUGS = {
         "    value.get(number.checked_sub(1)?)",
         "    value.get(number.checked_sub(2)?)",
     ),
+    "calls_no_key_the_others": (
+        "src/unknown.rt",
+        "    matches!(place, Place::Whole) && is_one_of(name, top_keys(other))",
+        "    false",
+    ),
+    "takes_its_own_keys_for_the_others": (
+        "src/unknown.rt",
+        "    matches!(place, Place::Whole) && is_one_of(name, top_keys(other))",
+        "    matches!(place, Place::Whole) && is_one_of(name, top_keys(kind))",
+    ),
+    "takes_a_tables_key_for_the_others": (
+        "src/unknown.rt",
+        "    matches!(place, Place::Whole) && is_one_of(name, top_keys(other))",
+        "    is_one_of(name, top_keys(other))",
+    ),
+    "takes_each_key_at_the_top_for_the_others": (
+        "src/unknown.rt",
+        "    matches!(place, Place::Whole) && is_one_of(name, top_keys(other))",
+        "    matches!(place, Place::Whole)",
+    ),
     "counts_lines_from_0": (
         "src/line_column.rt",
         "        line: line_feeds(octets) + 1,",
