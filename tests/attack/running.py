@@ -2,6 +2,7 @@
 import os
 import subprocess
 import tempfile
+import time
 from pathlib import Path
 
 TOP = Path(__file__).resolve().parent.parent.parent
@@ -35,6 +36,16 @@ class Agent:
             self.address = host, int(port)
             self.said = ""
         os.set_blocking(self.process.stderr.fileno(), False)
+
+    def waits(self):
+        """Whether it waits for a datagram, once it does or has ended."""
+        for _ in range(5000):
+            if self.process.poll() is not None:
+                return False
+            if Path(f"/proc/{self.process.pid}/stat").read_text().rpartition(")")[2].split()[0] == "S":
+                return True
+            time.sleep(0.001)
+        return True
 
     def hear(self):
         """How many lines it has said on standard error, beside where it listens."""
