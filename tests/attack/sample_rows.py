@@ -1,6 +1,7 @@
 """Rows of tests/rows.d/codec of identifiers, samples, windows, tracks, alarms, watches and boards: what is asked, and what is answered by the
 published rules alone (RFC 2578 sections 3.5, 7.1.6 and 7.1.10; what a window keeps; what raises an alarm), apart from the proved code.
 """
+import random
 import re
 
 import formats
@@ -169,6 +170,27 @@ def alarms(chance):
         falling = chance.randint(-3000, 60000)
         cases.append((falling + chance.randint(1, 30000), falling, kept({some(chance) for _ in range(chance.randint(0, 12))}, 8, 8)))
     yield from ((f"alarm {rising} {falling} {hexed(records)}", alarm_row(rising, falling, records)) for rising, falling, records in cases)
+
+
+def changes_row(rising, falling, count, records):
+    """Each change of an alarm between what it is over the first samples and what it is with one more each time."""
+    samples = [sample(it) for it in records]
+    states = [formats.raised(rising, falling, samples[:end]) for end in range(count, len(samples) + 1)]
+    told = [is_now for was, is_now in zip(states, states[1:]) if bool(was) != bool(is_now)]
+    return " ".join(["then", *("raised@{}:{}".format(*it) if it else "clear" for it in told)])
+
+
+def changes():
+    chance = random.Random(5)
+    cases = [(1000, 500, 1, WRAPPED), (6, 5, 0, [])]
+    for _ in range(60):
+        rising, tag = chance.randint(3, 8), chance.choice([0x02, 0x41, 0x42])
+        numbers = [chance.randint(0, 10) for _ in range(chance.randint(1, 14))]
+        # Of a counter they are rates, of which some seconds have none.
+        counted = [sum(numbers[: at + 1]) for at in range(len(numbers))] if tag == 0x41 else numbers
+        records = [record(3, 100 + at, value, 0, tag) for at, value in enumerate(counted)]
+        cases.append((1000 * rising, 1000 * (rising - chance.randint(1, 3)), chance.randint(0, len(records)), records))
+    yield from ((f"changes {rising} {falling} {count} {hexed(records)}", changes_row(rising, falling, count, records)) for rising, falling, count, records in cases)
 
 
 # ---- watches and boards
@@ -398,5 +420,5 @@ def texts():
 
 def rows(chance):
     assert all(len(it) == RECORD for it in WORKED)
-    for part in (names(), samples(), windows(chance), alarms(chance), watches(), boards(chance), reports(), marks(), modules(), texts()):
+    for part in (names(), samples(), windows(chance), alarms(chance), changes(), watches(), boards(chance), reports(), marks(), modules(), texts()):
         yield from part

@@ -23,6 +23,7 @@
 //!     track SIZE EPOCH HEX,..        the same of a track, with its totals after each sample
 //!     join SIZE EPOCH HEX,.. HEX,..  what two tracks keep when they are joined
 //!     alarm RISING FALLING HEX,..    the state of an alarm over these samples; or the fault
+//!     changes RISING FALLING COUNT HEX,..   what became of it since the first COUNT of them were seen
 //!     watch WATCH RULES              whether instances and rules make a watch; or the fault
 //!     take WATCH N/HEX,..            what becomes of each sample on a board
 //!     narrow WATCH RULES HEX,..      the report of a board; each writer that is too narrow for it
@@ -55,6 +56,7 @@ pub fn answer(alloc: Global, text: &mut String, word: &str, rest: &str) -> Optio
         "track" => samples::track(alloc, text, rest),
         "join" => samples::joined(alloc, text, rest),
         "alarm" => samples::alarm(alloc, text, rest),
+        "changes" => samples::changes(alloc, text, rest),
         "watch" => boards::watched(alloc, text, rest),
         "take" => boards::taken(alloc, text, rest),
         "narrow" => boards::reported(alloc, text, rest),

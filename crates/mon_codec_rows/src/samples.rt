@@ -1,6 +1,6 @@
 //! Samples by their records, and what a window of them keeps, counts and raises.
 
-use mon_alarms::{AlarmState, Rule, state};
+use mon_alarms::{AlarmState, Rule, SeenAlarm, put_changes, state};
 use mon_rates::{Totals, Track};
 use mon_row_texts::{octets, parsed, put, put_digits, put_fault, three, two};
 use mon_sample::Sample;
@@ -195,6 +195,25 @@ pub(crate) fn alarm(alloc: Global, text: &mut String, line: &str) -> Option<()> 
         Ok(rule) => put_state(text, state(&rule, samples.as_slice())),
         Err(why) => put_fault(text, why.number(), why.name()),
     }
+}
+
+/// Appends each change of the alarm of a line `RISING FALLING COUNT RECORD,..` over its samples since
+/// the first COUNT of them were seen.
+pub(crate) fn changes(alloc: Global, text: &mut String, line: &str) -> Option<()> {
+    let (rising, falling, rest) = three(line, ' ')?;
+    let (count, records) = two(rest, ' ')?;
+    let rule = Rule::new(0, parsed(rising)?, parsed(falling)?).ok()?;
+    let samples = samples_of(alloc, records)?;
+    let samples = samples.as_slice();
+    let seen = SeenAlarm::over(&rule, samples.get(..parsed(count)?)?);
+    let mut changes = Vec::new(alloc);
+    put_changes(&mut changes, 0, &rule, &seen, samples).ok()?;
+    put(text, "then")?;
+    for change in changes.as_slice() {
+        put(text, " ")?;
+        put_state(text, change.state)?;
+    }
+    Some(())
 }
 
 fn put_state(text: &mut String, alarm: AlarmState) -> Option<()> {

@@ -2,3 +2,4 @@ pub mod Written
 pub mod Loops
 pub mod Entries
 pub mod Ends
+mod Changing

@@ -2,16 +2,15 @@
 
 ghost use Rattle.std.specs.Prelude.{◌≡◌, ◌↔◌, IfOk, IsTrue, OnErr, OnOk};
 ghost use Rattle.std.specs.Duration.{as_nanos};
-ghost use Rattle.mon_alarms.specs.Changes.{changes_from};
-ghost use Rattle.mon_report.specs.Alarms.{states_of};
+ghost use Rattle.mon_report.specs.Alarms.{alarms_of, changes_from};
 ghost use Rattle.mon_rounds.specs.Course.{IsDue, counted_on, debts_to, milliseconds_left};
 ghost use Rattle.mon_station.specs.State.{state_of};
 
 use crate::reporting::RoundReport;
-use mon_alarms::{AlarmChange, AlarmState, find_changes};
+use mon_alarms::{AlarmChange, SeenAlarm};
 use mon_board::Board;
 use mon_disk::Disk;
-use mon_report::alarm_states;
+use mon_report::{alarm_changes, seen_alarms};
 use mon_station::Station;
 use std::alloc::{AllocError, Global};
 use std::time::Duration;
@@ -24,7 +23,7 @@ const LONGEST_REST: u128 = 60_000;
 pub struct Course {
     taken: u64,
     given_up: u64,
-    alarms: Vec<AlarmState>,
+    alarms: Vec<SeenAlarm>,
 }
 
 impl Course {
@@ -32,12 +31,12 @@ impl Course {
     pub fn new(alloc: Global, board: &Board) -> Result<Self, AllocError>
         ensures taken { IfOk result (λ c. c.taken ≡ 0) }
         ensures given_up { IfOk result (λ c. c.given_up ≡ 0) }
-        ensures alarms { IfOk result (λ c. c.alarms.items ≡ states_of board.now) }
+        ensures alarms { IfOk result (λ c. c.alarms.items ≡ alarms_of board.now) }
     {
         Ok(Course {
             taken: 0,
             given_up: 0,
-            alarms: alarm_states(alloc, board)?,
+            alarms: seen_alarms(alloc, board)?,
         })
     }
 
@@ -65,7 +64,8 @@ impl Course {
         self.given_up = self.given_up.saturating_add(report.given_up);
     }
 
-    /// Returns the alarms of the board that were raised or cleared since the last call.
+    /// Returns what became of the board's alarms since the last call: each time that a later sample raised
+    /// or cleared one.
     ///
     /// # Errors
     /// `AllocError`: then the next call returns these changes too.
@@ -74,15 +74,14 @@ impl Course {
         alloc: Global,
         board: &Board,
     ) -> Result<Vec<AlarmChange>, AllocError>
-        ensures changes { IfOk result (λ v. v.items ≡ changes_from 0 self.old.alarms.items (states_of board.now)) }
-        ensures told { OnOk result (self.new.alarms.items ≡ states_of board.now) }
+        ensures changes { IfOk result (λ v. v.items ≡ changes_from board.now 0 board.now.watch.rules self.old.alarms.items) }
+        ensures told { OnOk result (self.new.alarms.items ≡ alarms_of board.now) }
         ensures kept { OnErr result (self.new.alarms ≡ self.old.alarms) }
         ensures taken { self.new.taken ≡ self.old.taken }
         ensures given_up { self.new.given_up ≡ self.old.given_up }
     {
-        let states = alarm_states(alloc, board)?;
-        let changes = find_changes(alloc, self.alarms.as_slice(), states.as_slice())?;
-        self.alarms = states;
+        let changes = alarm_changes(alloc, board, self.alarms.as_slice())?;
+        self.alarms = seen_alarms(alloc, board)?;
         Ok(changes)
     }
 }

@@ -29,9 +29,11 @@ pub(crate) fn show_span<S: Shows + Drop, O: Outbox + Drop>(
     show(alloc, live);
 }
 
-/// Shows what is known.
+/// Shows what is known. The texts so far are let go first, so that those of two rounds are never held at
+/// once.
 pub(crate) fn show<S: Shows + Drop, O: Outbox + Drop>(alloc: Global, live: &mut Live<S, O>) {
     if live.transport.rounds.receiver().is_shown() {
+        live.transport.rounds.receiver_mut().show(None);
         let texts = make_texts(alloc, live).ok();
         live.transport.rounds.receiver_mut().show(texts);
     }

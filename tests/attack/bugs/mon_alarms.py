@@ -71,10 +71,10 @@ BUGS = {
         "Some(1000 * sample.number())",
         "Some(sample.number())",
     ),
-    "compares_the_first_alarm_alone": (
+    "looks_at_the_first_sample_alone": (
         "src/change.rt",
-        "for rule in 0..before.len().min(after.len()) {",
-        "for rule in 0..before.len().min(after.len()).min(1) {",
+        "for place in 0..samples.len() {",
+        "for place in 0..samples.len().min(1) {",
     ),
     "reports_no_change": (
         "src/change.rt",
@@ -83,13 +83,53 @@ BUGS = {
     ),
     "reports_the_first_rule_always": (
         "src/change.rt",
-        "        put_change(&mut changes, rule, old, new)?;",
-        "        put_change(&mut changes, 0, old, new)?;",
+        "        put_change(changes, number, was, is)?;",
+        "        put_change(changes, 0, was, is)?;",
     ),
-    "compares_with_the_state_after": (
+    "tells_the_last_change_alone": (
         "src/change.rt",
-        "        let old = before[rule];",
-        "        let _ = before[rule];\n        let old = after[rule];",
+        "        put_change(changes, number, was, is)?;\n        was = is;\n",
+        "        let _ = is;\n",
+    ),
+    "tells_no_state_of_the_window": (
+        "src/change.rt",
+        "    put_change(changes, number, was, state(rule, samples))",
+        "    put_change(changes, number, was, was)",
+    ),
+    "tells_each_change_again": (
+        "src/change.rt",
+        "            SeenAlarm::Sampled { newest, .. } => newest.compare(sample).is_lt(),",
+        "            SeenAlarm::Sampled { .. } => {\n                let _ = sample;\n                true\n            }",
+    ),
+    "looks_at_the_newest_again": (
+        "src/change.rt",
+        "newest.compare(sample).is_lt()",
+        "newest.compare(sample).is_le()",
+    ),
+    "begins_clear": (
+        "src/change.rt",
+        "            SeenAlarm::Sampled { state, .. } => *state,",
+        "            SeenAlarm::Sampled { .. } => AlarmState::Clear,",
+    ),
+    "sees_the_oldest_as_the_newest": (
+        "src/change.rt",
+        "match samples.last().copied() {",
+        "match samples.first().copied() {",
+    ),
+    "clears_between_the_thresholds": (
+        "src/change.rt",
+        "        return if level <= i128::from(rule.falling()) {",
+        "        return if level < i128::from(rule.rising()) {",
+    ),
+    "raises_between_the_thresholds": (
+        "src/change.rt",
+        "    if i128::from(rule.rising()) <= level {\n        return AlarmState::Raised {\n            boots: sample.boots(),\n            time: sample.time(),\n        };\n    }\n    state",
+        "    if i128::from(rule.falling()) < level {\n        return AlarmState::Raised {\n            boots: sample.boots(),\n            time: sample.time(),\n        };\n    }\n    state",
+    ),
+    "stamps_each_change_with_the_newest": (
+        "src/change.rt",
+        "observe(before, sample), sample, state)",
+        "observe(before, sample), before.unwrap_or(sample), state)",
     ),
     "looks_at_the_newest_alone": (
         "src/alarm.rt",
@@ -143,4 +183,6 @@ PROMISES = {
     "cleared_only_below": "alarm::raised_before",
     "raised_only_above": "alarm::raised_before",
     "stamps_the_latest": "alarm::raised_before",
+    "tells_each_change_again": "change::SeenAlarm::is_before",
+    "tells_the_last_change_alone": "change::put_changes",
 }

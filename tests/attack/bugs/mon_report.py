@@ -3,8 +3,23 @@
 BUGS = {
     "all_alarms_are_clear": (
         "src/alarms.rt",
-        "        states.push(state(rule, board.items(rule.instance())))?;",
-        "        states.push(state(rule, &[]))?;",
+        "        alarms.push(SeenAlarm::over(rule, board.items(rule.instance())))?;",
+        "        alarms.push(SeenAlarm::over(rule, &[]))?;",
+    ),
+    "tells_no_change": (
+        "src/alarms.rt",
+        "        put_changes(&mut changes, number, rule, &seen[number], samples)?;\n",
+        "        let _ = (&seen[number], samples);\n",
+    ),
+    "changes_of_the_first_rule_alone": (
+        "src/alarms.rt",
+        "for number in 0..rules.len().min(seen.len()) {",
+        "for number in 0..rules.len().min(seen.len()).min(1) {",
+    ),
+    "changes_since_the_first_was_seen": (
+        "src/alarms.rt",
+        "&seen[number], samples",
+        "&seen[0], samples",
     ),
     "digits_swapped": ("src/line.rt", "DIGITS[usize::from(octet / 16)]", "DIGITS[usize::from(octet % 16)]"),
     "upper_case": ("src/line.rt", 'b"0123456789abcdef"', 'b"0123456789ABCDEF"'),

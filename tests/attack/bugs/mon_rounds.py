@@ -310,7 +310,7 @@ BUGS = {
     ),
     "tells_each_alarm_again": (
         "src/course.rt",
-        "        self.alarms = states;\n",
+        "        self.alarms = seen_alarms(alloc, board)?;\n",
         "",
     ),
     "tells_no_alarm": (
@@ -480,7 +480,7 @@ BUGS = {
     ),
     "says_all_alarms_at_the_start": (
         "src/course.rt",
-        "            alarms: alarm_states(alloc, board)?,",
+        "            alarms: seen_alarms(alloc, board)?,",
         "            alarms: {\n                let _ = board;\n                Vec::new(alloc)\n            },",
     ),
     "says_polls_for_samples": (

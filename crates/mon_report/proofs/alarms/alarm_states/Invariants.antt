@@ -1,9 +1,0 @@
-use Rattle.std.proofs.Common.{◌≡◌, map, take}
-use Rattle.mon_alarms.specs.Observed.{state_by}
-use Rattle.mon_board.specs.Board.{window_of}
-use Rattle.mon_window.specs.Top.{rising}
-use Rattle.mon_report.proofs.alarms.alarm_states.Given as goal
-
--- the states so far
-abbrev pub invariant-loop-rule : goal.invariant-loop-rule
-invariant-loop-rule l = l.states.items ≡ map (λ r. state_by r (rising (window_of l.board r.instance))) (take l.rule-index l.rules)
