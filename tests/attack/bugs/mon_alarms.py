@@ -34,7 +34,7 @@ BUGS = {
     "stamps_the_mark_as_time": (
         "src/alarm.rt",
         "            time: sample.time(),",
-        "            time: sample.mark(),",
+        "            time: sample.discontinuity(),",
     ),
     "compares_with_the_newest": (
         "src/alarm.rt",
