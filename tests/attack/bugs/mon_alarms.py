@@ -176,6 +176,106 @@ BUGS = {
         "if i128::from(rule.rising()) <= level {",
         "if i128::from(rule.rising()) <= level && matches!(state, AlarmState::Clear) {",
     ),
+    "compares_then_and_now_alone": (
+        "src/change.rt",
+        "    let mut was = seen.state();\n",
+        "    let mut was = seen.state();\n    if was.is_raised() == state(rule, samples).is_raised() {\n        return Ok(());\n    }\n",
+    ),
+    "looks_only_if_the_newest_is_new": (
+        "src/change.rt",
+        "    let mut was = seen.state();\n",
+        "    let mut was = seen.state();\n    match samples.last() {\n        Some(newest) => {\n            if !seen.is_before(newest) {\n                return Ok(());\n            }\n        }\n        None => return Ok(()),\n    }\n",
+    ),
+    "ends_at_the_first_change": (
+        "src/change.rt",
+        "        was = is;\n",
+        "        if was.is_raised() != is.is_raised() {\n            return Ok(());\n        }\n        was = is;\n",
+    ),
+    "forgets_the_changes_of_earlier_rules": (
+        "src/change.rt",
+        "    let mut was = seen.state();\n",
+        "    changes.clear();\n    let mut was = seen.state();\n",
+    ),
+    "prints_the_last_change_twice": (
+        "src/change.rt",
+        "    put_change(changes, number, was, state(rule, samples))",
+        "    put_change(changes, number, seen.state(), state(rule, samples))",
+    ),
+    "begins_in_the_state_now": (
+        "src/change.rt",
+        "    let mut was = seen.state();\n",
+        "    let mut was = state(rule, samples);\n",
+    ),
+    "leaves_out_the_oldest_sample": (
+        "src/change.rt",
+        "for place in 0..samples.len() {",
+        "for place in 1..samples.len() {",
+    ),
+    "walks_from_the_newest_backwards": (
+        "src/change.rt",
+        "samples[..place].last(), &samples[place], was);",
+        "samples[..samples.len() - 1 - place].last(), &samples[samples.len() - 1 - place], was);",
+    ),
+    "never_has_a_rate": (
+        "src/change.rt",
+        "observe(before, sample), sample, state)",
+        "{\n        let _ = before;\n        observe(None, sample)\n    }, sample, state)",
+    ),
+    "a_sample_without_a_rate_clears": (
+        "src/change.rt",
+        "    let Some(level) = level else {\n        return state;\n    };\n    if state.is_raised() {",
+        "    let Some(level) = level else {\n        return AlarmState::Clear;\n    };\n    if state.is_raised() {",
+    ),
+    "a_raised_one_takes_the_later_stamp": (
+        "src/change.rt",
+        "            AlarmState::Clear\n        } else {\n            state\n        };",
+        "            AlarmState::Clear\n        } else if i128::from(rule.rising()) <= level {\n            AlarmState::Raised {\n                boots: sample.boots(),\n                time: sample.time(),\n            }\n        } else {\n            state\n        };",
+    ),
+    "a_clear_one_was_never_seen": (
+        "src/change.rt",
+        "            Some(newest) => SeenAlarm::Sampled {\n                state: state(rule, samples),\n                newest,\n            },",
+        "            Some(newest) => {\n                if !state(rule, samples).is_raised() {\n                    return SeenAlarm::Unsampled;\n                }\n                SeenAlarm::Sampled {\n                    state: state(rule, samples),\n                    newest,\n                }\n            }",
+    ),
+    "sees_the_newest_sample_alone": (
+        "src/change.rt",
+        "                state: state(rule, samples),\n                newest,",
+        "                state: state(rule, &samples[samples.len() - 1..]),\n                newest,",
+    ),
+    "compares_times_without_boots": (
+        "src/change.rt",
+        "newest.compare(sample).is_lt()",
+        "newest.time() < sample.time()",
+    ),
+    "compares_stamps_alone": (
+        "src/change.rt",
+        "newest.compare(sample).is_lt()",
+        "newest.boots() < sample.boots() || (newest.boots() == sample.boots() && newest.time() < sample.time())",
+    ),
+    "no_sample_is_later_than_none": (
+        "src/change.rt",
+        "            SeenAlarm::Unsampled => true,",
+        "            SeenAlarm::Unsampled => false,",
+    ),
+    "an_unsampled_one_was_raised": (
+        "src/change.rt",
+        "            SeenAlarm::Unsampled => AlarmState::Clear,",
+        "            SeenAlarm::Unsampled => AlarmState::Raised { boots: 0, time: 0 },",
+    ),
+    "raises_only_above_on_the_way": (
+        "src/change.rt",
+        "    if i128::from(rule.rising()) <= level {",
+        "    if i128::from(rule.rising()) < level {",
+    ),
+    "clears_only_below_on_the_way": (
+        "src/change.rt",
+        "        return if level <= i128::from(rule.falling()) {",
+        "        return if level < i128::from(rule.falling()) {",
+    ),
+    "a_change_of_rule_256_is_of_rule_0": (
+        "src/change.rt",
+        "    changes.push(AlarmChange { rule, state: new })?;",
+        "    changes.push(AlarmChange { rule: rule % 256, state: new })?;",
+    ),
 }
 
 # Those that break a promise as a whole, each with its function: tests/bodies tries them in the gate.

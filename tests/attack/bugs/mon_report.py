@@ -110,6 +110,36 @@ BUGS = {
     "signs_left_out": ("src/writing.rt", "ok: bool, number: i128) -> bool\n    ensures { AppendsIf (W.contents writer.old) ok (W.contents writer.new) result (signed_decimal number) }\n{\n    let mut buffer = Buffer::new();", "ok: bool, number: i128) -> bool\n    ensures { AppendsIf (W.contents writer.old) ok (W.contents writer.new) result (signed_decimal number) }\n{\n    let number = number.unsigned_abs();\n    let mut buffer = Buffer::new();"),
     "cuts_wide_numbers": ("src/writing.rt", "ok: bool, number: u128) -> bool\n    ensures { AppendsIf (W.contents writer.old) ok (W.contents writer.new) result (decimal number) }\n{\n    let mut buffer = Buffer::new();", "ok: bool, number: u128) -> bool\n    ensures { AppendsIf (W.contents writer.old) ok (W.contents writer.new) result (decimal number) }\n{\n    let number = number as u64;\n    let mut buffer = Buffer::new();"),
     "gives_up_at_an_interrupt": ("src/writing.rt", "                if fault.kind() != ErrorKind::Interrupted {\n                    return sent;\n                }", "                let _ = fault.kind() != ErrorKind::Interrupted;\n                return sent;"),
+    "changes_of_the_last_rule_first": (
+        "src/alarms.rt",
+        "        let rule = &rules[number];\n",
+        "        let number = rules.len().min(seen.len()) - 1 - number;\n        let rule = &rules[number];\n",
+    ),
+    "names_the_instance_for_the_rule": (
+        "src/alarms.rt",
+        "put_changes(&mut changes, number, rule, &seen[number], samples)?;",
+        "put_changes(&mut changes, usize::from(rule.instance()), rule, &seen[number], samples)?;",
+    ),
+    "samples_of_the_rules_number": (
+        "src/alarms.rt",
+        "        let samples = board.items(rule.instance());\n",
+        "        let samples = board.items(number as u16);\n",
+    ),
+    "leaves_out_alarms_without_samples": (
+        "src/alarms.rt",
+        "        alarms.push(SeenAlarm::over(rule, board.items(rule.instance())))?;",
+        "        if board.items(rule.instance()).is_empty() {\n            continue;\n        }\n        alarms.push(SeenAlarm::over(rule, board.items(rule.instance())))?;",
+    ),
+    "ends_at_the_first_rule_that_changed": (
+        "src/alarms.rt",
+        "        put_changes(&mut changes, number, rule, &seen[number], samples)?;\n",
+        "        put_changes(&mut changes, number, rule, &seen[number], samples)?;\n        if !changes.is_empty() {\n            return Ok(changes);\n        }\n",
+    ),
+    "looks_at_the_newest_sample_alone": (
+        "src/alarms.rt",
+        "&seen[number], samples)?;",
+        "&seen[number], &samples[samples.len().saturating_sub(1)..])?;",
+    ),
 }
 
 # Those that break a promise as a whole, each with its function: tests/bodies tries them in the gate.

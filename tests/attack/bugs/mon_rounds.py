@@ -698,4 +698,29 @@ BUGS = {
         "            buffer: datagram_buffer(alloc)?,\n            failures: 0,",
         "            buffer: datagram_buffer(alloc)?,\n            failures: 1,",
     ),
+    "looks_before_it_compares": (
+        "src/course.rt",
+        "        let changes = alarm_changes(alloc, board, self.alarms.as_slice())?;\n        self.alarms = seen_alarms(alloc, board)?;\n",
+        "        self.alarms = seen_alarms(alloc, board)?;\n        let changes = alarm_changes(alloc, board, self.alarms.as_slice())?;\n",
+    ),
+    "looks_again_only_after_a_change": (
+        "src/course.rt",
+        "        self.alarms = seen_alarms(alloc, board)?;\n",
+        "        if changes.is_empty() {\n            return Ok(changes);\n        }\n        self.alarms = seen_alarms(alloc, board)?;\n",
+    ),
+    "loses_alarm_changes_without_memory": (
+        "src/course.rt",
+        "        let changes = alarm_changes(alloc, board, self.alarms.as_slice())?;\n        self.alarms = seen_alarms(alloc, board)?;\n        Ok(changes)\n",
+        "        let now = seen_alarms(alloc, board)?;\n        let changes = alarm_changes(alloc, board, self.alarms.as_slice());\n        self.alarms = now;\n        changes\n",
+    ),
+    "keeps_the_alarms_without_memory_for_the_changes": (
+        "src/course.rt",
+        "        self.alarms = seen_alarms(alloc, board)?;\n",
+        "        match seen_alarms(alloc, board) {\n            Ok(now) => self.alarms = now,\n            Err(_) => self.alarms = Vec::new(alloc),\n        }\n",
+    ),
+    "a_look_at_the_alarms_counts_anew": (
+        "src/course.rt",
+        "        self.alarms = seen_alarms(alloc, board)?;\n        Ok(changes)\n",
+        "        self.alarms = seen_alarms(alloc, board)?;\n        if !changes.is_empty() {\n            self.taken = 0;\n            self.given_up = 0;\n        }\n        Ok(changes)\n",
+    ),
 }
