@@ -114,8 +114,8 @@ const MODULE: Line = Line {
     needed: false,
     shown: "FILE",
     help: "A file with an SMIv2 module, whose names are known
-then; given as often as wanted, a module after
-those whose names it uses",
+then; may be repeated, first the modules whose
+names others use",
 };
 
 const LONG_MODULE: Line = Line {
@@ -125,8 +125,8 @@ const LONG_MODULE: Line = Line {
     needed: false,
     shown: "FILE",
     help: "A file with an SMIv2 module, whose names are known
-then; given as often as wanted, a module after
-those whose names it uses",
+then; may be repeated, first the modules whose
+names others use",
 };
 
 const NAMES: Line = Line {
@@ -358,9 +358,10 @@ const STALE_AFTER: Line = Line {
     takes: Takes::One(Value::Number(1, 1_000_000)),
     needed: false,
     shown: "ROUNDS",
-    help: "With --format prometheus an instance without a new
-sample in ROUNDS rounds has no value, rate and
-alarm, 1 to 1000000; 3 if not given",
+    help: "After ROUNDS rounds without news a peer or an
+instance is reported, and Prometheus' text has no
+value, rate and alarm of the instance, 1 to
+1000000; 3 if not given",
 };
 
 const OUT: Line = Line {
@@ -391,8 +392,8 @@ const LABELS: Line = Line {
     needed: false,
     shown: "FILE",
     help: "A TOML file of ifName and ifAlias by engine id and
-ifIndex, for the labels of --format prometheus and
-the page of --format html",
+ifIndex, for the labels of Prometheus' text and for
+the page for a browser",
 };
 
 const STATIONS: Line = Line {
@@ -449,8 +450,8 @@ const WAIT_MS: Line = Line {
     takes: Takes::One(Value::Number(1, 60_000)),
     needed: false,
     shown: "MILLISECONDS",
-    help: "How many milliseconds nothing has to come before a
-round goes on, 1 to 60000; 1000 if not given",
+    help: "A round goes on after so many milliseconds without
+a datagram, 1 to 60000; 1000 if not given",
 };
 
 const TRIES: Line = Line {
@@ -491,7 +492,7 @@ const UP: Line = Line {
     takes: Takes::Nothing,
     needed: false,
     shown: "",
-    help: "Takes interfaces that are up alone",
+    help: "Takes only interfaces that are up",
 };
 
 const MATCH: Line = Line {
@@ -500,7 +501,7 @@ const MATCH: Line = Line {
     takes: Takes::One(Value::Text),
     needed: false,
     shown: "TEXT",
-    help: "Takes interfaces alone whose name or alias
+    help: "Takes only interfaces whose name or alias
 contains TEXT",
 };
 

@@ -101,7 +101,7 @@ pub struct SettingsArgs<'m, 'a> {
     pub file: Option<&'a str>,
     /// How many samples a window keeps.
     pub window: u32,
-    /// How long nothing has to come before a round goes on, in milliseconds.
+    /// After how long without a datagram a round goes on, in milliseconds.
     pub wait_ms: u32,
     /// How often a poll is sent in all.
     pub tries: u32,
@@ -109,7 +109,7 @@ pub struct SettingsArgs<'m, 'a> {
     pub peers: &'m [&'a str],
     /// The kinds of counters, if the arguments say so.
     pub only: Option<&'a str>,
-    /// `true` if interfaces that are up are taken alone.
+    /// `true` if only interfaces that are up are taken.
     pub up: bool,
     /// What names or aliases contain; empty for any.
     pub part: &'a str,

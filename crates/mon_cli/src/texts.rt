@@ -10,7 +10,7 @@ pub(crate) const ABOUT: &str =
 pub(crate) const MORE: &str = "With no command it does `replay 8`.
 
 A fault ends a command with status 1 and the line `snmpmon: CRATE NUMBER NAME`
-on standard error; mostly a second line says what was wrong and where. Words
+on standard error; mostly a second line says what was wrong and where. Arguments
 that cannot be read end it with status 2 and a line that says why.";
 
 const REPLAY_MORE: &str =
@@ -108,9 +108,9 @@ KIND says how VALUE is read:
   counter32, gauge32, timeticks  a decimal number, 0 to 4294967295
   counter64                      a decimal number, 0 to 18446744073709551615
 
-A decimal number is digits alone, leading zeros allowed, for an integer also
+A decimal number is digits only, leading zeros allowed, for an integer also
 with - before them. Any other text ends the command with 8 BadText before
-anything is sent. A VALUE that begins with - stands after --.
+anything is sent. A VALUE that begins with - must follow --.
 
 Examples: snmpmon set 127.0.0.1:16100 private mib-2.1.5.0 string r2
           snmpmon set 127.0.0.1:16100 private mib-2.2.2.1.7.1 integer 2";
@@ -174,8 +174,9 @@ With --names a reply is printed in other lines, by the names that modules give
 (-m): `reply`, its error-status and index, and then its variable bindings as
 `get` prints them.
 
-The agent's clock stands. With --fuses its device fails some of the changes that
-Sets ask of it, so that one sees what the agent answers then and what it undoes.
+The agent's clock does not run. With --fuses its device fails some of the
+changes that Sets ask of it, so that one sees what the agent answers then and
+what it undoes.
 
 Examples: snmpmon answer examples/agent.toml < examples/requests.hex
           snmpmon answer -m examples/served.mib --names examples/agent.toml < examples/requests.hex";
@@ -207,9 +208,9 @@ written and a last save that failed end the command with status 1 once all
 rounds are done. --check prints how long a round may take and the limits of
 these settings, and starts nothing.
 
-Standard error tells where it listens and by which incarnation, for each round
+Standard error says where it listens and by which incarnation, for each round
 which targets gave up or were refused and why, and each alarm that changed. What
-is refused ends no round; docs/OPERATING.md tells what each line means.
+is refused ends no round; docs/OPERATING.md says what each line means.
 
 A damaged file ends it with mon_disk 5 Damaged, one of other instances with
 mon_saved 4 OtherWatch, and neither is touched. A file that is shorter than a
@@ -221,8 +222,8 @@ Examples: snmpmon station examples/station.toml --rounds 6 --interval 10
           snmpmon station examples/station.toml --check";
 
 const REPORT_FILE_MORE: &str =
-    "Reads SETTINGS as `station` does, and prints for each instance a line of what
-stands in the station's file, as `replay --report` does, with the alarms at its
+    "Reads SETTINGS as `station` does, and prints for each instance a line of what is
+saved in the station's file, as `replay --report` does, with the alarms at its
 end. The station is not started: its incarnation stays.
 
 --format json prints an object, --format prometheus the text that Prometheus
