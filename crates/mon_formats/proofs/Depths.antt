@@ -32,7 +32,7 @@ of_items : {A : Type 0} (f : A → Data) (n : ℕ) → ((x : A) → depth (f x) 
 of_items f n each [] = none n
 of_items f n each (x ∷ xs) = both _ _ n (each x) (of_items f n each xs)
 
-of_exact : (m n : ℕ) → depth (exact m) ≤ n
+pub of_exact : (m n : ℕ) → depth (exact m) ≤ n
 of_exact m n = either_way (nat_le m (2 ^ 53)) (number (unsigned m)) (string (decimal m)) n (none n) (none n)
 
 of_exact_signed : (z : ℤ) (n : ℕ) → depth (exact_signed z) ≤ n
@@ -58,7 +58,7 @@ of_alarm items rule =
 of_totals : (items : List ℕ) → depth (totals_data items) ≤ 1
 of_totals items = deeper _ 0 (both _ _ 0 (of_exact (totals items).delta 0) (both _ _ 0 (of_exact (totals items).span 0) (none 0)))
 
-of_entry : (shown : List ℕ → List ℕ) (e : Entry) → depth (entry_data shown e) ≤ 4
+pub of_entry : (shown : List ℕ → List ℕ) (e : Entry) → depth (entry_data shown e) ≤ 4
 of_entry shown e =
     deeper _ 3
     (both _ _ 3 (deeper _ 2 (of_items (alarm_data e.items) 2 (of_alarm e.items) e.rules))
@@ -84,7 +84,7 @@ of_target t =
 of_debt : (d : ℕ × ℕ) → depth (debt_data d) ≤ 1
 of_debt d = deeper _ 0 (both _ _ 0 (none 0) (both _ _ 0 (none 0) (none 0)))
 
-of_station : (f : Figures) → depth (station_data f) ≤ 3
+pub of_station : (f : Figures) → depth (station_data f) ≤ 3
 of_station f =
     deeper _ 2
     (both _ _ 2 (deeper _ 1 (of_items age_data 1 (λ a. none 1) f.ages.items))

@@ -7,4 +7,5 @@ pub mod Labels
 pub mod LastDot
 pub mod NoFloats
 pub mod Pushed
+pub mod Sound
 pub mod Tables

@@ -1,4 +1,4 @@
--- A report as JSON has no floating point numbers.
+-- The values of a report as JSON have no floating point numbers.
 use Rattle.std.proofs.Common.{◌≡◌, ℕ, ℤ, pos, negsuc, ◌^◌, List, [], ◌∷◌, Bool, true, false, ◌||◌, cond, Option, Some, None, decimal, map, nat_le, nat_lt, refl, String}
 use Rattle.std.specs.Fmt.{signed_decimal}
 use Rattle.serde_json.specs.Data.{Data, number, unsigned, negative, string}
@@ -9,9 +9,9 @@ use Rattle.mon_alarms.specs.Observed.{state_by}
 use Rattle.mon_alarms.specs.declared.alarm.AlarmState.{AlarmState}
 use Rattle.mon_alarms.specs.declared.alarm.AlarmState.TheVariants.{Clear, Raised}
 use Rattle.mon_rates.specs.Totals.{totals}
-use Rattle.mon_report.specs.Report.{Entry, samples_in}
+use Rattle.mon_report.specs.Report.{Entry}
 use Rattle.mon_page.specs.Cells.{value_of, rate_of}
-use Rattle.mon_formats.specs.Json.{exact, exact_signed, sample_data, raised_data, alarm_data, rate_data, totals_data, age_data, debt_data, refusal_data, target_data, station_data, entry_data, report_data}
+use Rattle.mon_formats.specs.Json.{exact, exact_signed, sample_data, raised_data, alarm_data, rate_data, totals_data, age_data, debt_data, refusal_data, target_data, station_data, entry_data}
 use Rattle.mon_page.specs.declared.figures.Figures.{Figures}
 use Rattle.mon_page.specs.declared.figures.TargetFigures.{TargetFigures}
 
@@ -27,7 +27,7 @@ of_items : {A : Type 0} (f : A → Data) → ((x : A) → has_float (f x) ≡ fa
 of_items f each [] = refl
 of_items f each (x ∷ xs) = neither _ _ (each x) (of_items f each xs)
 
-of_exact : (n : ℕ) → has_float (exact n) ≡ false
+pub of_exact : (n : ℕ) → has_float (exact n) ≡ false
 of_exact n = either_way (nat_le n (2 ^ 53)) (number (unsigned n)) (string (decimal n)) refl refl
 
 of_exact_signed : (z : ℤ) → has_float (exact_signed z) ≡ false
@@ -51,7 +51,7 @@ of_alarm items rule = neither _ _ (of_exact_signed rule.falling) (neither _ _ (o
 of_totals : (items : List ℕ) → has_float (totals_data items) ≡ false
 of_totals items = neither _ _ (of_exact (totals items).delta) (neither _ _ (of_exact (totals items).span) refl)
 
-of_entry : (shown : List ℕ → List ℕ) (e : Entry) → has_float (entry_data shown e) ≡ false
+pub of_entry : (shown : List ℕ → List ℕ) (e : Entry) → has_float (entry_data shown e) ≡ false
 of_entry shown e =
     neither _ _ (of_items (alarm_data e.items) (of_alarm e.items) e.rules)
     (neither _ _ (of_rate (rate_of e.items)) (neither _ _ (of_items sample_data of_sample e.items) (neither _ _ (of_totals e.items) refl)))
@@ -63,7 +63,7 @@ of_refusal (Some reason) = refl
 of_target : (t : TargetFigures) → has_float (target_data t) ≡ false
 of_target t = neither _ _ (of_exact t.given_up) (neither _ _ (of_refusal t.refusal) (neither _ _ (of_exact t.seconds) refl))
 
-of_station : (f : Figures) → has_float (station_data f) ≡ false
+pub of_station : (f : Figures) → has_float (station_data f) ≡ false
 of_station f =
     neither _ _ (of_items age_data (λ a. refl) f.ages.items)
     (neither _ _ (of_items debt_data (λ d. refl) f.debts.items)
@@ -71,8 +71,3 @@ of_station f =
     (neither _ _ (of_exact f.given_up)
     (neither _ _ (of_exact f.round_ms)
     (neither _ _ (of_exact f.strangers) (neither _ _ (of_exact f.taken) (neither _ _ (of_items target_data of_target f.targets.items) refl)))))))
-
-pub of_report : (shown : List ℕ → List ℕ) (entries : List Entry) (station : Option Figures) → has_float (report_data shown entries station) ≡ false
-of_report shown entries None = neither _ _ (of_items (entry_data shown) (of_entry shown) entries) (neither _ _ (of_exact (samples_in entries)) refl)
-of_report shown entries (Some f) =
-    neither _ _ (of_items (entry_data shown) (of_entry shown) entries) (neither _ _ (of_exact (samples_in entries)) (neither _ _ (of_station f) refl))

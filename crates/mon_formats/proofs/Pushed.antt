@@ -1,6 +1,6 @@
--- A value that is added to a list of values.
+-- What is added to a list, unless memory ran out.
 use Rattle.std.proofs.Common.{◌≡◌, ◌∙◌, List, [], ◌∷◌, ◌++◌, ap, map, Result, Ok, Err}
-use Rattle.std.specs.Prelude.{OnOk}
+use Rattle.std.specs.Prelude.{ℕ, OnOk, if◌then◌else◌, is_ok}
 use Rattle.std.proofs.lemmas.List.{map_push}
 use Rattle.serde_json.specs.Data.{Data}
 use Rattle.serde_json.specs.View.{view}
@@ -11,3 +11,8 @@ pub pushed : {A E : Type 0} (r : Result A E) (old new : List Value) (v : Value) 
     → OnOk r (map view new ≡ map view old ++ d ∷ [])
 pushed (Ok x) old new v d same added = ap (map view) added ∙ map_push view old v ∙ ap (λ e. map view old ++ e ∷ []) same
 pushed (Err x) old new v d same added = tt
+
+-- what follows from the octets that were added, unless it failed
+pub when_added : {A E : Type 0} (P : Type 0) (r : Result A E) (new all old : List ℕ) → new ≡ (if is_ok r then all else old) → (new ≡ all → P) → OnOk r P
+when_added P (Ok x) new all old added f = f added
+when_added P (Err x) new all old added f = tt

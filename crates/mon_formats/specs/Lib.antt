@@ -1,6 +1,7 @@
 pub mod Changes
 pub mod Named
 pub mod Json
+pub mod Sound
 pub mod Prometheus
 pub mod Columns
 pub mod FormatWord

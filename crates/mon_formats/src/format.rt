@@ -6,8 +6,8 @@ ghost use Rattle.mon_formats.specs.Formats.{formatted};
 ghost use Rattle.mon_formats.specs.Json.{ReadsAsReport};
 ghost use Rattle.mon_formats.specs.declared.format.Format.TheVariants.{Json};
 
+use crate::as_json::json_report;
 use crate::columns::columns_report;
-use crate::json::json_report;
 use crate::named::named_report;
 use crate::prometheus::prometheus_report;
 use mon_page::{Extras, page_report};

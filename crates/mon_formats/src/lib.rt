@@ -2,11 +2,11 @@
 //! Contract: each is a function of the instances' windows and rules, and of how names are shown; so equal windows give equal octets.
 #![tactic(auto)]
 
+mod as_json;
 mod cells;
 mod changes;
 mod columns;
 mod format;
-mod json;
 pub mod laws;
 mod named;
 mod prometheus;

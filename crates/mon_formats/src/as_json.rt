@@ -1,0 +1,555 @@
+//! A report as JSON.
+
+ghost use Rattle.std.specs.Prelude.{◌≡◌, ◌≤◌, ◌∷◌, ◌++◌, [], IfOk, IfSome, OnOk, codes, false, map, option_map, true};
+ghost use Rattle.hex.specs.Hex.{encode_lower};
+ghost use Rattle.serde_json.specs.Data.{array, depth, no_members, object, put as with_member, string};
+ghost use Rattle.serde_json.specs.Read.{max_depth};
+ghost use Rattle.serde_json.specs.View.{view, items_of, members_view};
+ghost use Rattle.serde_json.specs.Written.{comma_if, compact_text, has_float, items_text, members_text};
+ghost use Rattle.mon_page.specs.Cells.{rate_of};
+ghost use Rattle.mon_formats.specs.Json.{exact, exact_signed, sample_data, raised_data, alarm_data, rate_data, totals_data, age_data, debt_data, target_data, refusal_data, station_data, station_member, entry_data, report_data, json_report, ReadsAsReport};
+ghost use Rattle.mon_formats.specs.Sound.{IsSound};
+
+use crate::cells::count_samples;
+use mon_alarms::{AlarmState, Rule, state};
+use mon_page::{Figures, TargetFigures};
+use mon_report::Entry;
+use mon_sample::Sample;
+use mon_smi::NameTexts;
+use serde_json::{Map, Value, json, push, put};
+use std::alloc::{AllocError, Global};
+
+/// The largest whole number that is written as a number: readers that keep numbers as floats of 64 bits have it exactly.
+const LARGEST_NUMBER: u64 = 1 << 53;
+
+/// The report as JSON (RFC 8259), on one line.
+pub(crate) fn json_report<S: NameTexts>(
+    alloc: Global,
+    names: &S,
+    entries: &[Entry],
+    station: Option<&Figures>,
+) -> Result<Vec<u8>, AllocError>
+    ensures text { IfOk result (λ text. text.items ≡ json_report (S.shown names.now) entries.now (option_map (λ f. f.now) station.entry)) }
+    ensures read_back { IfOk result (λ text. ReadsAsReport (S.shown names.now) entries.now (option_map (λ f. f.now) station.entry) text.items) }
+{
+    let mut text = Vec::new(alloc);
+    put_report(alloc, &mut text, names, entries, station)?;
+    Ok(text)
+}
+
+/// Adds the report, with a line feed behind it.
+fn put_report<S: NameTexts>(
+    alloc: Global,
+    text: &mut Vec<u8>,
+    names: &S,
+    entries: &[Entry],
+    station: Option<&Figures>,
+) -> Result<(), AllocError>
+    ensures text { OnOk result (text.new.items ≡ text.old.items ++ json_report (S.shown names.now) entries.now (option_map (λ f. f.now) station.entry)) }
+    ensures sound { OnOk result (IsSound (report_data (S.shown names.now) entries.now (option_map (λ f. f.now) station.entry))) }
+{
+    text.extend_from_slice(b"{\"instances\":[")?;
+    put_instances(alloc, text, names, entries)?;
+    put_value(
+        alloc,
+        text,
+        b",\"samples\":",
+        &exact_value(alloc, count_samples(entries))?,
+    )?;
+    put_running(alloc, text, station)?;
+    text.extend_from_slice(b"}\n")
+}
+
+/// Adds what a running station says of itself, as a member behind others.
+fn put_running(
+    alloc: Global,
+    text: &mut Vec<u8>,
+    station: Option<&Figures>,
+) -> Result<(), AllocError>
+    ensures text { OnOk result (text.new.items ++ codes "}" ≡ text.old.items ++ members_text true (station_member (option_map (λ f. f.now) station.entry))) }
+    ensures sound { OnOk result (IfSome station.entry (λ f. IsSound (station_data f.now))) }
+{
+    match station {
+        None => Ok(()),
+        Some(figures) => put_value(
+            alloc,
+            text,
+            b",\"station\":",
+            &station_value(alloc, figures)?,
+        ),
+    }
+}
+
+/// Adds the instances, each as soon as its value is made, and the bracket behind them.
+fn put_instances<S: NameTexts>(
+    alloc: Global,
+    text: &mut Vec<u8>,
+    names: &S,
+    entries: &[Entry],
+) -> Result<(), AllocError>
+    ensures text { OnOk result (text.new.items ≡ text.old.items ++ items_text false (items_of (map (entry_data (S.shown names.now)) entries.now))) }
+    ensures sound { OnOk result (IsSound (array (items_of (map (entry_data (S.shown names.now)) entries.now)))) }
+{
+    let mut later = false;
+    for entry in entries {
+        put_instance(alloc, text, names, entry, later)?;
+        later = true;
+    }
+    text.extend_from_slice(b"]")
+}
+
+/// Adds an instance, behind a comma where another stands before it.
+fn put_instance<S: NameTexts>(
+    alloc: Global,
+    text: &mut Vec<u8>,
+    names: &S,
+    entry: &Entry,
+    later: bool,
+) -> Result<(), AllocError>
+    ensures text { OnOk result (text.new.items ≡ text.old.items ++ (comma_if later ++ compact_text (entry_data (S.shown names.now) entry.now))) }
+    ensures sound { OnOk result (IsSound (entry_data (S.shown names.now) entry.now)) }
+{
+    put_value(
+        alloc,
+        text,
+        comma(later),
+        &entry_value(alloc, names, entry)?,
+    )
+}
+
+/// The comma between two values; nothing before the first.
+fn comma(later: bool) -> &'static [u8]
+    ensures { result.now ≡ comma_if later }
+{
+    if later { b"," } else { b"" }
+}
+
+/// Adds a text, and a value behind it.
+fn put_value(
+    alloc: Global,
+    text: &mut Vec<u8>,
+    before: &[u8],
+    value: &Value,
+) -> Result<(), AllocError>
+    requires exact { has_float (view value.now) ≡ false }
+    requires shallow { depth (view value.now) ≤ max_depth }
+    ensures text { OnOk result (text.new.items ≡ text.old.items ++ (before.now ++ compact_text (view value.now))) }
+    ensures sound { OnOk result (IsSound (view value.now)) }
+{
+    text.extend_from_slice(before)?;
+    let written = value.to_vec(alloc)?;
+    text.extend_from_slice(written.as_slice())
+}
+
+/// What a station says of itself.
+fn station_value(alloc: Global, figures: &Figures) -> Result<Value, AllocError>
+    ensures { IfOk result (λ v. view v ≡ station_data figures.now) }
+{
+    let mut members = Map::new(alloc);
+    put_station(alloc, &mut members, figures)?;
+    Ok(Value::Object(members))
+}
+
+/// Puts what a station says of itself into an object without members.
+fn put_station(
+    alloc: Global,
+    members: &mut Map<String, Value>,
+    figures: &Figures,
+) -> Result<(), AllocError>
+    requires { members_view members.old.entries ≡ no_members }
+    ensures { OnOk result (object (members_view members.new.entries) ≡ station_data figures.now) }
+{
+    put(
+        members,
+        alloc,
+        "ages",
+        ages_value(alloc, figures.ages.as_slice())?,
+    )?;
+    put(
+        members,
+        alloc,
+        "debts",
+        debts_value(alloc, figures.debts.as_slice())?,
+    )?;
+    put_exact(
+        alloc,
+        members,
+        "failed_saves",
+        u128::from(figures.failed_saves),
+    )?;
+    put_exact(alloc, members, "given_up", u128::from(figures.given_up))?;
+    put(
+        members,
+        alloc,
+        "incarnation",
+        Value::from(figures.incarnation),
+    )?;
+    put_exact(alloc, members, "round_ms", u128::from(figures.round_ms))?;
+    put_exact(alloc, members, "strangers", u128::from(figures.strangers))?;
+    put_exact(alloc, members, "taken", u128::from(figures.taken))?;
+    put(
+        members,
+        alloc,
+        "targets",
+        targets_value(alloc, figures.targets.as_slice())?,
+    )
+}
+
+/// Puts a whole number into an object.
+fn put_exact(
+    alloc: Global,
+    members: &mut Map<String, Value>,
+    key: &str,
+    number: u128,
+) -> Result<(), AllocError>
+    ensures { OnOk result (members_view members.new.entries ≡ with_member key.now (exact number) (members_view members.old.entries)) }
+{
+    put(members, alloc, key, exact_value(alloc, number)?)
+}
+
+/// The array of ages.
+fn ages_value(alloc: Global, ages: &[u32]) -> Result<Value, AllocError>
+    ensures { IfOk result (λ v. view v ≡ array (items_of (map age_data ages.now))) }
+{
+    let mut values = Vec::new(alloc);
+    for age in ages {
+        values.push(age_value(*age))?;
+    }
+    Ok(Value::Array(values))
+}
+
+/// In how many rounds an instance had no new sample.
+fn age_value(age: u32) -> Value
+    ensures { view result ≡ age_data age }
+{
+    Value::from(age)
+}
+
+/// The array of the debts to peers.
+fn debts_value(alloc: Global, debts: &[(u32, u32)]) -> Result<Value, AllocError>
+    ensures { IfOk result (λ v. view v ≡ array (items_of (map debt_data debts.now))) }
+{
+    let mut values = Vec::new(alloc);
+    for (peer, samples) in debts {
+        push_debt(alloc, &mut values, *peer, *samples)?;
+    }
+    Ok(Value::Array(values))
+}
+
+/// Adds how many samples the station owes a peer.
+fn push_debt(
+    alloc: Global,
+    values: &mut Vec<Value>,
+    peer: u32,
+    samples: u32,
+) -> Result<(), AllocError>
+    ensures { OnOk result (map view values.new.items ≡ map view values.old.items ++ debt_data (peer, samples) ∷ []) }
+{
+    push(values, json!(in alloc; {"peer": peer, "samples": samples})?)
+}
+
+/// The array of what a station says of its targets.
+fn targets_value(alloc: Global, targets: &[TargetFigures]) -> Result<Value, AllocError>
+    ensures { IfOk result (λ v. view v ≡ array (items_of (map target_data targets.now))) }
+{
+    let mut values = Vec::new(alloc);
+    for target in targets {
+        push_target(alloc, &mut values, target)?;
+    }
+    Ok(Value::Array(values))
+}
+
+/// Adds what a station says of a target.
+fn push_target(
+    alloc: Global,
+    values: &mut Vec<Value>,
+    target: &TargetFigures,
+) -> Result<(), AllocError>
+    ensures { OnOk result (map view values.new.items ≡ map view values.old.items ++ target_data target.now ∷ []) }
+{
+    let mut members = Map::new(alloc);
+    put_target(alloc, &mut members, target)?;
+    push(values, Value::Object(members))
+}
+
+/// Puts what a station says of a target into an object without members.
+fn put_target(
+    alloc: Global,
+    members: &mut Map<String, Value>,
+    target: &TargetFigures,
+) -> Result<(), AllocError>
+    requires { members_view members.old.entries ≡ no_members }
+    ensures { OnOk result (object (members_view members.new.entries) ≡ target_data target.now) }
+{
+    put(
+        members,
+        alloc,
+        "address",
+        text_value(alloc, target.address.as_str())?,
+    )?;
+    put(
+        members,
+        alloc,
+        "engine",
+        engine_value(alloc, target.engine.as_slice())?,
+    )?;
+    put_exact(alloc, members, "given_up", u128::from(target.given_up))?;
+    put(members, alloc, "number", Value::from(target.number))?;
+    put(
+        members,
+        alloc,
+        "refusal",
+        refusal_value(alloc, &target.refusal)?,
+    )?;
+    put(members, alloc, "rounds", Value::from(target.rounds))?;
+    put_exact(alloc, members, "seconds", u128::from(target.seconds))?;
+    put(members, alloc, "up", Value::from(target.up))
+}
+
+/// Returns an engine id in hex digits.
+fn engine_value(alloc: Global, engine: &[u8]) -> Result<Value, AllocError>
+    ensures { IfOk result (λ v. view v ≡ string (encode_lower engine.now)) }
+{
+    Ok(Value::String(hex::encode(alloc, engine)?))
+}
+
+/// Why a target's last response was refused; null if none was.
+fn refusal_value(alloc: Global, refusal: &Option<String>) -> Result<Value, AllocError>
+    ensures { IfOk result (λ v. view v ≡ refusal_data refusal.now) }
+{
+    match refusal {
+        None => Ok(Value::Null),
+        Some(reason) => text_value(alloc, reason.as_str()),
+    }
+}
+
+/// Returns a text.
+fn text_value(alloc: Global, text: &str) -> Result<Value, AllocError>
+    ensures { IfOk result (λ v. view v ≡ string text.now) }
+{
+    Ok(Value::String(String::from_str(alloc, text)?))
+}
+
+/// What is known of an instance, its name as it is shown.
+fn entry_value<S: NameTexts>(alloc: Global, names: &S, entry: &Entry) -> Result<Value, AllocError>
+    ensures { IfOk result (λ v. view v ≡ entry_data (S.shown names.now) entry.now) }
+{
+    let mut members = Map::new(alloc);
+    put_entry(alloc, &mut members, names, entry)?;
+    Ok(Value::Object(members))
+}
+
+/// Puts what is known of an instance into an object without members.
+fn put_entry<S: NameTexts>(
+    alloc: Global,
+    members: &mut Map<String, Value>,
+    names: &S,
+    entry: &Entry,
+) -> Result<(), AllocError>
+    requires { members_view members.old.entries ≡ no_members }
+    ensures { OnOk result (object (members_view members.new.entries) ≡ entry_data (S.shown names.now) entry.now) }
+{
+    put(members, alloc, "alarms", alarms_value(alloc, entry)?)?;
+    put(
+        members,
+        alloc,
+        "engine",
+        engine_value(alloc, entry.engine())?,
+    )?;
+    put(members, alloc, "name", name_value(alloc, names, entry)?)?;
+    put(
+        members,
+        alloc,
+        "rate_thousandths",
+        rate_value(alloc, entry)?,
+    )?;
+    put(
+        members,
+        alloc,
+        "samples",
+        samples_value(alloc, entry.samples())?,
+    )?;
+    put(members, alloc, "totals", totals_value(alloc, entry)?)
+}
+
+/// Returns the name of an instance, as it is shown.
+fn name_value<S: NameTexts>(alloc: Global, names: &S, entry: &Entry) -> Result<Value, AllocError>
+    ensures { IfOk result (λ v. view v ≡ string (S.shown names.now entry.now.name)) }
+{
+    Ok(Value::String(names.text(alloc, entry.name())?))
+}
+
+/// The array of the alarms of an instance.
+fn alarms_value(alloc: Global, entry: &Entry) -> Result<Value, AllocError>
+    ensures { IfOk result (λ v. view v ≡ array (items_of (map (alarm_data entry.now.items) entry.now.rules))) }
+{
+    let rules = entry.rules(alloc)?;
+    rules_value(alloc, entry.samples(), rules.as_slice())
+}
+
+/// The array of the alarms of these rules over these samples.
+fn rules_value(alloc: Global, samples: &[Sample], rules: &[Rule]) -> Result<Value, AllocError>
+    ensures { IfOk result (λ v. view v ≡ array (items_of (map (alarm_data samples.now) rules.now))) }
+{
+    let mut values = Vec::new(alloc);
+    for rule in rules {
+        push_alarm(alloc, &mut values, samples, rule)?;
+    }
+    Ok(Value::Array(values))
+}
+
+/// Adds a rule with its thresholds in thousandths, and when its alarm was raised over these samples.
+fn push_alarm(
+    alloc: Global,
+    values: &mut Vec<Value>,
+    samples: &[Sample],
+    rule: &Rule,
+) -> Result<(), AllocError>
+    ensures { OnOk result (map view values.new.items ≡ map view values.old.items ++ alarm_data samples.now rule.now ∷ []) }
+{
+    let mut members = Map::new(alloc);
+    put_alarm(alloc, &mut members, samples, rule)?;
+    push(values, Value::Object(members))
+}
+
+/// Puts a rule and when its alarm was raised into an object without members.
+fn put_alarm(
+    alloc: Global,
+    members: &mut Map<String, Value>,
+    samples: &[Sample],
+    rule: &Rule,
+) -> Result<(), AllocError>
+    requires { members_view members.old.entries ≡ no_members }
+    ensures { OnOk result (object (members_view members.new.entries) ≡ alarm_data samples.now rule.now) }
+{
+    put(
+        members,
+        alloc,
+        "falling",
+        exact_signed_value(alloc, i128::from(rule.falling()))?,
+    )?;
+    put(
+        members,
+        alloc,
+        "raised",
+        raised_value(alloc, state(rule, samples))?,
+    )?;
+    put(
+        members,
+        alloc,
+        "rising",
+        exact_signed_value(alloc, i128::from(rule.rising()))?,
+    )
+}
+
+/// When an alarm was raised; null where it is clear.
+fn raised_value(alloc: Global, state: AlarmState) -> Result<Value, AllocError>
+    ensures { IfOk result (λ v. view v ≡ raised_data state) }
+{
+    match state {
+        AlarmState::Clear => Ok(Value::Null),
+        AlarmState::Raised { boots, time } => { json!(in alloc; {"boots": boots, "time": time}) }
+    }
+}
+
+/// The array of these samples.
+fn samples_value(alloc: Global, samples: &[Sample]) -> Result<Value, AllocError>
+    ensures { IfOk result (λ v. view v ≡ array (items_of (map sample_data samples.now))) }
+{
+    let mut values = Vec::new(alloc);
+    for sample in samples {
+        push_sample(alloc, &mut values, sample)?;
+    }
+    Ok(Value::Array(values))
+}
+
+/// Adds a sample: its stamp, its discontinuity, its kind and the number that its value means.
+fn push_sample(alloc: Global, values: &mut Vec<Value>, sample: &Sample) -> Result<(), AllocError>
+    ensures { OnOk result (map view values.new.items ≡ map view values.old.items ++ sample_data sample.now ∷ []) }
+{
+    let mut members = Map::new(alloc);
+    put_sample(alloc, &mut members, sample)?;
+    push(values, Value::Object(members))
+}
+
+/// Puts a sample into an object without members.
+fn put_sample(
+    alloc: Global,
+    members: &mut Map<String, Value>,
+    sample: &Sample,
+) -> Result<(), AllocError>
+    requires { members_view members.old.entries ≡ no_members }
+    ensures { OnOk result (object (members_view members.new.entries) ≡ sample_data sample.now) }
+{
+    put(members, alloc, "boots", Value::from(sample.boots()))?;
+    put(
+        members,
+        alloc,
+        "kind",
+        text_value(alloc, sample.kind().name())?,
+    )?;
+    put(members, alloc, "mark", Value::from(sample.discontinuity()))?;
+    put(members, alloc, "time", Value::from(sample.time()))?;
+    put(
+        members,
+        alloc,
+        "value",
+        exact_signed_value(alloc, sample.number())?,
+    )
+}
+
+/// The rate of an instance in thousandths; null if there is none.
+fn rate_value(alloc: Global, entry: &Entry) -> Result<Value, AllocError>
+    ensures { IfOk result (λ v. view v ≡ rate_data (rate_of entry.now.items)) }
+{
+    match entry.totals().thousandths() {
+        None => Ok(Value::Null),
+        Some(rate) => exact_value(alloc, rate),
+    }
+}
+
+/// How much the counter of an instance counted, and in how many seconds.
+fn totals_value(alloc: Global, entry: &Entry) -> Result<Value, AllocError>
+    ensures { IfOk result (λ v. view v ≡ totals_data entry.now.items) }
+{
+    let mut members = Map::new(alloc);
+    put_totals(alloc, &mut members, entry)?;
+    Ok(Value::Object(members))
+}
+
+/// Puts the totals of an instance into an object without members.
+fn put_totals(
+    alloc: Global,
+    members: &mut Map<String, Value>,
+    entry: &Entry,
+) -> Result<(), AllocError>
+    requires { members_view members.old.entries ≡ no_members }
+    ensures { OnOk result (object (members_view members.new.entries) ≡ totals_data entry.now.items) }
+{
+    let totals = entry.totals();
+    put_exact(alloc, members, "delta", totals.delta)?;
+    put_exact(alloc, members, "span", u128::from(totals.span))
+}
+
+/// A whole number with its sign: as a number up to 2^53 on either side of 0, else as a text.
+fn exact_signed_value(alloc: Global, number: i128) -> Result<Value, AllocError>
+    ensures { IfOk result (λ v. view v ≡ exact_signed number) }
+{
+    if number >= 0 {
+        return exact_value(alloc, number.unsigned_abs());
+    }
+    if number >= -i128::from(LARGEST_NUMBER) {
+        return Ok(Value::from(number as i64));
+    }
+    Ok(Value::String(number.to_string(alloc)?))
+}
+
+/// A whole number: as a number up to 2^53, else as a text.
+fn exact_value(alloc: Global, number: u128) -> Result<Value, AllocError>
+    ensures { IfOk result (λ v. view v ≡ exact number) }
+{
+    if number <= u128::from(LARGEST_NUMBER) {
+        return Ok(Value::from(number as u64));
+    }
+    Ok(Value::String(number.to_string(alloc)?))
+}
