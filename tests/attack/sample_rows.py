@@ -172,25 +172,74 @@ def alarms(chance):
     yield from ((f"alarm {rising} {falling} {hexed(records)}", alarm_row(rising, falling, records)) for rising, falling, records in cases)
 
 
-def changes_row(rising, falling, count, records):
-    """Each change of an alarm between what it is over the first samples and what it is with one more each time."""
-    samples = [sample(it) for it in records]
-    states = [formats.raised(rising, falling, samples[:end]) for end in range(count, len(samples) + 1)]
-    told = [is_now for was, is_now in zip(states, states[1:]) if bool(was) != bool(is_now)]
-    return " ".join(["then", *("raised@{}:{}".format(*it) if it else "clear" for it in told)])
+def changes_row(rising, falling, was, now):
+    """What two looks at an alarm's window report: by what the alarm is over each beginning of the samples of both, and of those that the first had."""
+    over = lambda records: formats.raised(rising, falling, [sample(it) for it in records])
+    both, events = sorted({*was, *now}), []
+    for at, it in enumerate(both):
+        before, after = over(both[:at]), over(both[: at + 1])
+        if bool(before) != bool(after):
+            had = [other for other in both[: at + 1] if other in was]
+            is_new = it not in was or bool(over(had[:-1])) != bool(before) or bool(over(had)) != bool(after)
+            events.append((is_new, bool(after), f"{'raised' if after else 'clear'}@{stamp(it)}"))
+    told = [it for it in events if it[0]]
+    if told and not events[-1][0]:
+        told.append(events[-1])
+    state = over(now)
+    if (told[-1][1] if told else bool(over(was))) != bool(state):
+        told.append((True, bool(state), "raised@{}:{}".format(*state) if state else "clear"))
+    return " ".join(["then", *(text for _, _, text in told)])
+
+
+def slid_rows(rising, falling, records, size):
+    """Two looks before and after each sample that follows, at a window of so many: one line for each sample that raises or clears an alarm, which
+    is clear too once no sample in the window is at `rising`."""
+    is_raised = False
+    for at, it in enumerate(records):
+        was, now = records[max(0, at - size) : at], records[max(0, at + 1 - size) : at + 1]
+        level, told = formats.observed(sample(was[-1]) if was else None, sample(it)), []
+        if level is not None and (level <= falling if is_raised else level >= rising):
+            is_raised = not is_raised
+            told.append(f"{'raised' if is_raised else 'clear'}@{stamp(it)}")
+        if is_raised and not formats.raised(rising, falling, [sample(other) for other in now]):
+            is_raised = False
+            told.append("clear")
+        yield f"changes {rising} {falling} {hexed(was)} {hexed(now)}", " ".join(["then", *told])
+
+
+def looks(chance, records):
+    """Two looks at a window: one that got later samples and lost the first ones, or not; others between and before; and any two."""
+    count = chance.randint(0, len(records))
+    was = [it for it in records if chance.randint(0, 2)]
+    yield records[:count], records[chance.choice([0, chance.randint(0, count)]) :]
+    yield was, records[chance.choice([0, chance.randint(0, len(records))]) :]
+    yield was, [it for it in records if chance.randint(0, 2)]
+
+
+def counting(chance):
+    """Thresholds, and samples one a second: of a counter they count, so that its rates are what the others have as values."""
+    rising, tag = chance.randint(3, 8), chance.choice([0x02, 0x41, 0x42])
+    numbers = [chance.randint(0, 10) for _ in range(chance.randint(1, 14))]
+    counted = [sum(numbers[: at + 1]) for at in range(len(numbers))] if tag == 0x41 else numbers
+    # A sample with another mark has no rate, and neither has the next one.
+    records = [record(3, 100 + at, value, 0 if chance.randint(0, 9) else 7, tag) for at, value in enumerate(counted)]
+    return 1000 * rising, 1000 * (rising - chance.randint(1, 3)), records
 
 
 def changes():
     chance = random.Random(5)
-    cases = [(1000, 500, 1, WRAPPED), (6, 5, 0, [])]
-    for _ in range(60):
-        rising, tag = chance.randint(3, 8), chance.choice([0x02, 0x41, 0x42])
-        numbers = [chance.randint(0, 10) for _ in range(chance.randint(1, 14))]
-        # Of a counter they are rates, of which some seconds have none.
-        counted = [sum(numbers[: at + 1]) for at in range(len(numbers))] if tag == 0x41 else numbers
-        records = [record(3, 100 + at, value, 0, tag) for at, value in enumerate(counted)]
-        cases.append((1000 * rising, 1000 * (rising - chance.randint(1, 3)), chance.randint(0, len(records)), records))
-    yield from ((f"changes {rising} {falling} {count} {hexed(records)}", changes_row(rising, falling, count, records)) for rising, falling, count, records in cases)
+    between = record(3, 105, 4294967295)
+    cases = [(1000, 500, WRAPPED[:1], WRAPPED), (1000, 500, WRAPPED, [WRAPPED[0], between, WRAPPED[1]]), (6, 5, [], []), (1000, 500, WRAPPED, [])]
+    for _ in range(30):
+        rising, falling, records = counting(chance)
+        cases += [(rising, falling, was, now) for was, now in looks(chance, records)]
+        falling, size = chance.randint(-3000, 60000), chance.randint(1, 8)
+        taken = [some(chance) for _ in range(chance.randint(1, 14))]
+        half = chance.randint(0, len(taken))
+        cases.append((falling + chance.randint(1, 30000), falling, kept({*taken[:half]}, size, size), kept({*taken}, size, size)))
+    yield from ((f"changes {rising} {falling} {hexed(was)} {hexed(now)}", changes_row(rising, falling, was, now)) for rising, falling, was, now in cases)
+    for _ in range(15):
+        yield from slid_rows(*counting(chance), chance.randint(1, 6))
 
 
 # ---- watches and boards

@@ -1,140 +1,124 @@
 //! Alarms that are raised or cleared.
 
-ghost use Rattle.std.specs.Prelude.{◌≡◌, ◌++◌, OnOk, option_copied};
-ghost use Rattle.mon_alarms.specs.Changes.{after_sample, change_at, changes_since, is_before, seen_over, seen_state, state_after};
+ghost use Rattle.std.specs.Prelude.{◌≡◌, ◌++◌, OnOk, option_to_list, true};
+ghost use Rattle.mon_alarms.specs.Changes.{changes_of, raised_now, raises, with_rule};
+ghost use Rattle.mon_alarms.specs.Observed.{state_by};
 
-use crate::alarm::{AlarmState, observe, state};
+use crate::alarm::{AlarmState, state};
+use crate::comparison::{Comparison, oldest};
 use crate::rule::Rule;
 use mon_sample::Sample;
 use std::alloc::AllocError;
 
-/// An alarm as it was seen.
+/// What became of an alarm. A stamp is the snmpEngineBoots and the snmpEngineTime of a sample
+/// (RFC 3411 section 5).
 #[derive(Clone, Copy, Debug, PartialEq, Eq)]
-pub enum SeenAlarm {
-    /// There was no sample, so it was clear.
-    Unsampled,
-    /// It had this state, and this was the newest sample.
-    Sampled { state: AlarmState, newest: Sample },
+pub enum AlarmEvent {
+    /// The sample of this stamp raised it.
+    Raised { boots: u32, time: u32 },
+    /// The sample of this stamp cleared it.
+    Cleared { boots: u32, time: u32 },
+    /// It is clear, since no sample that is left in the window raises it.
+    Lapsed,
 }
 
-impl SeenAlarm {
-    /// The alarm of a rule over the samples of its instance, the oldest first.
-    pub fn over(rule: &Rule, samples: &[Sample]) -> Self
-        ensures { result ≡ seen_over rule.now samples.now }
+impl AlarmEvent {
+    /// Returns `true` if the alarm is raised after it.
+    pub(crate) fn raises(self) -> bool
+        ensures { result ≡ raises self }
     {
-        match samples.last().copied() {
-            None => SeenAlarm::Unsampled,
-            Some(newest) => SeenAlarm::Sampled {
-                state: state(rule, samples),
-                newest,
-            },
-        }
-    }
-
-    /// The state that it had.
-    fn state(&self) -> AlarmState
-        ensures { result ≡ seen_state self.now }
-    {
-        match self {
-            SeenAlarm::Unsampled => AlarmState::Clear,
-            SeenAlarm::Sampled { state, .. } => *state,
-        }
-    }
-
-    /// Returns `true` if this sample is later than the newest one then, if there was one.
-    fn is_before(&self, sample: &Sample) -> bool
-        ensures { result ≡ is_before self.now sample.now }
-    {
-        match self {
-            SeenAlarm::Unsampled => true,
-            SeenAlarm::Sampled { newest, .. } => newest.compare(sample).is_lt(),
-        }
+        matches!(self, AlarmEvent::Raised { .. })
     }
 }
 
-/// The state that an alarm changed to.
+/// An alarm that was raised or cleared.
 #[derive(Clone, Copy, Debug, PartialEq, Eq)]
 pub struct AlarmChange {
     /// The number of its rule in the watch.
     pub rule: usize,
-    /// The state that it had then.
-    pub state: AlarmState,
+    /// What became of it.
+    pub event: AlarmEvent,
 }
 
-/// Adds what became of the alarm of this rule since it was seen: each time that a later sample raised
-/// or cleared it, in their order. The last change leads to its state now.
+/// Adds what became of the alarm of this rule between two looks at its window: each sample that raised
+/// or cleared it, in their order, also one that is older than others; but not where the first look had
+/// that sample and the same states before and after it.
 ///
-/// An alarm that stays raised has not changed, though its stamp is a later one once the sample that
-/// raised it has left the window.
+/// If the last event is not new, it comes again after those that are. If all that does not lead to the
+/// state over the window now, the state follows.
+///
+/// # Errors
+/// `AllocError`: then some of the changes may have been added.
 pub fn put_changes(
     changes: &mut Vec<AlarmChange>,
     number: usize,
     rule: &Rule,
-    seen: &SeenAlarm,
-    samples: &[Sample],
+    was: &[Sample],
+    is: &[Sample],
 ) -> Result<(), AllocError>
-    ensures { OnOk result (changes.new.items ≡ changes.old.items ++ changes_since number rule.now seen.now samples.now) }
+    ensures { OnOk result (changes.new.items ≡ changes.old.items ++ changes_of number rule.now was.now is.now) }
 {
-    let mut was = seen.state();
-    for place in 0..samples.len() {
-        let is = state_after(rule, seen, samples[..place].last(), &samples[place], was);
-        put_change(changes, number, was, is)?;
-        was = is;
-    }
-    put_change(changes, number, was, state(rule, samples))
-}
-
-/// The state after a sample that follows another one, if it is later than what was seen.
-fn state_after(
-    rule: &Rule,
-    seen: &SeenAlarm,
-    before: Option<&Sample>,
-    sample: &Sample,
-    state: AlarmState,
-) -> AlarmState
-    ensures { result ≡ state_after rule.now seen.now (option_copied before.entry) sample.now state }
-{
-    if !seen.is_before(sample) {
-        return state;
-    }
-    after_sample(rule, observe(before, sample), sample, state)
-}
-
-/// The state after a sample at which this is observed.
-fn after_sample(rule: &Rule, level: Option<i128>, sample: &Sample, state: AlarmState) -> AlarmState
-    ensures { result ≡ after_sample rule.now level sample.now state }
-{
-    let Some(level) = level else {
-        return state;
-    };
-    if state.is_raised() {
-        return if level <= i128::from(rule.falling()) {
-            AlarmState::Clear
-        } else {
-            state
-        };
-    }
-    if i128::from(rule.rising()) <= level {
-        return AlarmState::Raised {
-            boots: sample.boots(),
-            time: sample.time(),
-        };
-    }
-    state
-}
-
-/// Adds the change of a rule, where its alarm was raised or cleared.
-fn put_change(
-    changes: &mut Vec<AlarmChange>,
-    rule: usize,
-    old: AlarmState,
-    new: AlarmState,
-) -> Result<(), AllocError>
-    ensures { OnOk result (changes.new.items ≡ changes.old.items ++ change_at rule old new) }
-{
-    if old.is_raised() == new.is_raised() {
+    if are_equal(was, is) {
         return Ok(());
     }
-    changes.push(AlarmChange { rule, state: new })?;
+    let mut comparison = Comparison::new();
+    let (mut old, mut new) = (was, is);
+    while let Some(next) = oldest(old, new) {
+        let event = comparison.step(rule, &next.sample, next.is_known);
+        put_event(changes, number, event)?;
+        (old, new) = (next.was, next.is);
+    }
+    let last = comparison.last_again();
+    put_event(changes, number, last)?;
+    let right = comparison.put_right(state(rule, was), last, state(rule, is));
+    put_event(changes, number, right)?;
+    Ok(())
+}
+
+/// Returns `true` if both are the same samples.
+fn are_equal(some: &[Sample], others: &[Sample]) -> bool
+    ensures { result ≡ true → some.now ≡ others.now }
+{
+    if some.len() != others.len() {
+        return false;
+    }
+    for place in 0..some.len() {
+        if !some[place].compare(&others[place]).is_eq() {
+            return false;
+        }
+    }
+    true
+}
+
+/// Adds the alarm of a rule, if these samples raise it.
+///
+/// # Errors
+/// `AllocError`: then nothing was added.
+pub fn put_raised(
+    changes: &mut Vec<AlarmChange>,
+    number: usize,
+    rule: &Rule,
+    samples: &[Sample],
+) -> Result<(), AllocError>
+    ensures { OnOk result (changes.new.items ≡ changes.old.items ++ raised_now number (state_by rule.now samples.now)) }
+{
+    let event = match state(rule, samples) {
+        AlarmState::Clear => None,
+        AlarmState::Raised { boots, time } => Some(AlarmEvent::Raised { boots, time }),
+    };
+    put_event(changes, number, event)
+}
+
+/// Adds what became of a rule's alarm, if anything did.
+fn put_event(
+    changes: &mut Vec<AlarmChange>,
+    rule: usize,
+    event: Option<AlarmEvent>,
+) -> Result<(), AllocError>
+    ensures { OnOk result (changes.new.items ≡ changes.old.items ++ with_rule rule (option_to_list event)) }
+{
+    if let Some(event) = event {
+        changes.push(AlarmChange { rule, event })?;
+    }
     Ok(())
 }

@@ -208,9 +208,10 @@ written and a last save that failed end the command with status 1 once all
 rounds are done. --check prints how long a round may take and the limits of
 these settings, and starts nothing.
 
-Standard error says where it listens and by which incarnation, for each round
-which targets gave up or were refused and why, and each alarm that changed. What
-is refused ends no round; docs/OPERATING.md says what each line means.
+Standard error says where it listens and by which incarnation, which alarms are
+raised at the start, which are raised or cleared later, and for each round which
+targets gave up or were refused and why. What is refused ends no round;
+docs/OPERATING.md says what each line means.
 
 A damaged file ends it with mon_disk 5 Damaged, one of other instances with
 mon_saved 4 OtherWatch, and neither is touched. A file that is shorter than a

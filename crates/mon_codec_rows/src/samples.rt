@@ -1,6 +1,6 @@
 //! Samples by their records, and what a window of them keeps, counts and raises.
 
-use mon_alarms::{AlarmState, Rule, SeenAlarm, put_changes, state};
+use mon_alarms::{AlarmEvent, AlarmState, Rule, put_changes, state};
 use mon_rates::{Totals, Track};
 use mon_row_texts::{octets, parsed, put, put_digits, put_fault, three, two};
 use mon_sample::Sample;
@@ -197,23 +197,28 @@ pub(crate) fn alarm(alloc: Global, text: &mut String, line: &str) -> Option<()> 
     }
 }
 
-/// Appends each change of the alarm of a line `RISING FALLING COUNT RECORD,..` over its samples since
-/// the first COUNT of them were seen.
+/// Appends what became of the alarm of a line `RISING FALLING RECORD,.. RECORD,..` between a look at the
+/// first samples and one at the others.
 pub(crate) fn changes(alloc: Global, text: &mut String, line: &str) -> Option<()> {
     let (rising, falling, rest) = three(line, ' ')?;
-    let (count, records) = two(rest, ' ')?;
+    let (was, is) = two(rest, ' ')?;
     let rule = Rule::new(0, parsed(rising)?, parsed(falling)?).ok()?;
-    let samples = samples_of(alloc, records)?;
-    let samples = samples.as_slice();
-    let seen = SeenAlarm::over(&rule, samples.get(..parsed(count)?)?);
+    let (was, is) = (samples_of(alloc, was)?, samples_of(alloc, is)?);
     let mut changes = Vec::new(alloc);
-    put_changes(&mut changes, 0, &rule, &seen, samples).ok()?;
+    put_changes(&mut changes, 0, &rule, was.as_slice(), is.as_slice()).ok()?;
     put(text, "then")?;
     for change in changes.as_slice() {
-        put(text, " ")?;
-        put_state(text, change.state)?;
+        put_event(text, change.event)?;
     }
     Some(())
+}
+
+fn put_event(text: &mut String, event: AlarmEvent) -> Option<()> {
+    match event {
+        AlarmEvent::Raised { boots, time } => write!(text, " raised@{boots}:{time}").ok(),
+        AlarmEvent::Cleared { boots, time } => write!(text, " clear@{boots}:{time}").ok(),
+        AlarmEvent::Lapsed => put(text, " clear"),
+    }
 }
 
 fn put_state(text: &mut String, alarm: AlarmState) -> Option<()> {

@@ -2,16 +2,15 @@
 
 ghost use Rattle.std.specs.Prelude.{◌≡◌, ◌++◌, IfOk, OnOk, slice_get, string_bytes};
 ghost use Rattle.hex.specs.Hex.{encode_lower};
-ghost use Rattle.mon_formats.specs.Changes.{change_line, instance_text, line_at, line_on, thresholds_text};
-ghost use Rattle.mon_report.specs.Report.{state_text};
+ghost use Rattle.mon_formats.specs.Changes.{change_line, instance_text, line_at, line_on, thresholds_text, event_text};
 
-use mon_alarms::{AlarmChange, AlarmState, Rule};
+use mon_alarms::{AlarmChange, AlarmEvent, Rule};
 use mon_board::{Instance, Watch};
 use mon_smi::NameTexts;
 use std::alloc::{AllocError, Global};
 
-/// Returns the line of a change, without its end: the instance, the thresholds in thousandths and the
-/// state, as a report has them. It is empty if the watch has no such rule.
+/// Returns the line of a change, without its end: the instance and the thresholds in thousandths, as a
+/// report has them; `raised` or `clear`, and by which sample. It is empty if the watch has no such rule.
 pub fn alarm_line<S: NameTexts>(
     alloc: Global,
     names: &S,
@@ -21,7 +20,7 @@ pub fn alarm_line<S: NameTexts>(
     ensures { IfOk result (λ text. string_bytes text ≡ change_line (S.shown names.now) watch.now change.now) }
 {
     match watch.rules().get(change.rule) {
-        Some(rule) => rule_line(alloc, names, watch, rule, change.state),
+        Some(rule) => rule_line(alloc, names, watch, rule, change.event),
         None => Ok(String::new(alloc)),
     }
 }
@@ -62,37 +61,37 @@ fn put_engine(alloc: Global, text: &mut String, engine: &[u8]) -> Result<(), All
     text.push_str(digits.as_str())
 }
 
-/// Returns the line of a rule of a watch that has this state.
+/// Returns the line of a rule of a watch.
 fn rule_line<S: NameTexts>(
     alloc: Global,
     names: &S,
     watch: &Watch,
     rule: &Rule,
-    state: AlarmState,
+    event: AlarmEvent,
 ) -> Result<String, AllocError>
-    ensures { IfOk result (λ text. string_bytes text ≡ line_at (S.shown names.now) (slice_get watch.now.instances rule.now.instance) rule.now state) }
+    ensures { IfOk result (λ text. string_bytes text ≡ line_at (S.shown names.now) (slice_get watch.now.instances rule.now.instance) rule.now event) }
 {
     match watch.instances().get(usize::from(rule.instance())) {
-        Some(watched) => line_on(alloc, names, &watched.instance, rule, state),
+        Some(watched) => line_on(alloc, names, &watched.instance, rule, event),
         None => Ok(String::new(alloc)),
     }
 }
 
-/// Returns the line of a rule on an instance that has this state.
+/// Returns the line of a rule on an instance.
 #[tactic(auto, unfolding(crate::specs::Changes::line_on))]
 fn line_on<S: NameTexts>(
     alloc: Global,
     names: &S,
     instance: &Instance,
     rule: &Rule,
-    state: AlarmState,
+    event: AlarmEvent,
 ) -> Result<String, AllocError>
-    ensures { IfOk result (λ text. string_bytes text ≡ line_on (S.shown names.now) instance.now rule.now state) }
+    ensures { IfOk result (λ text. string_bytes text ≡ line_on (S.shown names.now) instance.now rule.now event) }
 {
     let mut text = String::new(alloc);
     put_instance(alloc, &mut text, names, instance)?;
     put_thresholds(&mut text, rule)?;
-    put_state(&mut text, state)?;
+    put_event(&mut text, event)?;
     Ok(text)
 }
 
@@ -104,12 +103,13 @@ fn put_thresholds(text: &mut String, rule: &Rule) -> Result<(), AllocError>
     write!(text, " alarm {rising}/{falling}=")
 }
 
-/// Adds the state of a rule.
-fn put_state(text: &mut String, state: AlarmState) -> Result<(), AllocError>
-    ensures { OnOk result (string_bytes text.new ≡ string_bytes text.old ++ state_text state) }
+/// Adds what became of an alarm.
+fn put_event(text: &mut String, event: AlarmEvent) -> Result<(), AllocError>
+    ensures { OnOk result (string_bytes text.new ≡ string_bytes text.old ++ event_text event) }
 {
-    match state {
-        AlarmState::Clear => text.push_str("clear"),
-        AlarmState::Raised { boots, time } => write!(text, "raised@{boots}:{time}"),
+    match event {
+        AlarmEvent::Raised { boots, time } => write!(text, "raised@{boots}:{time}"),
+        AlarmEvent::Cleared { boots, time } => write!(text, "clear@{boots}:{time}"),
+        AlarmEvent::Lapsed => text.push_str("clear"),
     }
 }

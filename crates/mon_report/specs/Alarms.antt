@@ -1,8 +1,8 @@
 -- A board's alarms, and what became of them.
 use Rattle.std.specs.Prelude.{ℕ, ◌+◌, List, [], ◌∷◌, ◌++◌, map}
 use Rattle.mon_alarms.specs.declared.change.AlarmChange.{AlarmChange}
-use Rattle.mon_alarms.specs.declared.change.SeenAlarm.{SeenAlarm}
-use Rattle.mon_alarms.specs.Changes.{changes_since, seen_over}
+use Rattle.mon_alarms.specs.Changes.{changes_of, raised_now}
+use Rattle.mon_alarms.specs.Observed.{state_by}
 use Rattle.mon_alarms.specs.Rule.{Rule}
 use Rattle.mon_board.specs.Board.{Board, window_of}
 use Rattle.mon_window.specs.Top.{rising}
@@ -11,12 +11,17 @@ use Rattle.mon_window.specs.Top.{rising}
 abbrev pub samples_for : Board → Rule → List ℕ
 samples_for b r = rising (window_of b r.instance)
 
--- a board's alarms as they are seen, in the order of the watch's rules
-abbrev pub alarms_of : Board → List SeenAlarm
-alarms_of b = map (λ r. seen_over r (samples_for b r)) b.watch.rules
+-- the windows of a board's rules, in the order of the watch
+abbrev pub windows_of : Board → List (List ℕ)
+windows_of b = map (samples_for b) b.watch.rules
 
--- what became of these rules' alarms since they were seen so, of which the first has this number
-abbrev pub changes_from : Board → ℕ → List Rule → List SeenAlarm → List AlarmChange
+-- what became of these rules' alarms since their windows were seen so, of which the first has this number
+abbrev pub changes_from : Board → ℕ → List Rule → List (List ℕ) → List AlarmChange
 changes_from b number [] seen = []
 changes_from b number (r ∷ rules) [] = []
-changes_from b number (r ∷ rules) (s ∷ seen) = changes_since number r s (samples_for b r) ++ changes_from b (number + 1) rules seen
+changes_from b number (r ∷ rules) (was ∷ seen) = changes_of number r was (samples_for b r) ++ changes_from b (number + 1) rules seen
+
+-- these rules' alarms that are raised, of which the first has this number
+abbrev pub raised_from : Board → ℕ → List Rule → List AlarmChange
+raised_from b number [] = []
+raised_from b number (r ∷ rules) = raised_now number (state_by r (samples_for b r)) ++ raised_from b (number + 1) rules

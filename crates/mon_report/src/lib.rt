@@ -10,7 +10,7 @@ mod line;
 mod report;
 mod writing;
 
-pub use alarms::{alarm_changes, seen_alarms};
+pub use alarms::{alarm_changes, raised_alarms, seen_windows};
 pub use fault::ReportFault;
 pub use line::{write_end, write_rate};
 pub use report::{Entry, entries_of, write_entry, write_report, write_rest};

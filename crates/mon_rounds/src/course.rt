@@ -1,16 +1,17 @@
 //! What a station did over its rounds, and when it reports.
 
-ghost use Rattle.std.specs.Prelude.{◌≡◌, ◌↔◌, IfOk, IsTrue, OnErr, OnOk};
+ghost use Rattle.std.specs.Prelude.{◌≡◌, ◌↔◌, IfOk, IsTrue, OnErr, OnOk, map};
 ghost use Rattle.std.specs.Duration.{as_nanos};
-ghost use Rattle.mon_report.specs.Alarms.{alarms_of, changes_from};
+ghost use Rattle.mon_report.specs.Alarms.{changes_from, windows_of};
 ghost use Rattle.mon_rounds.specs.Course.{IsDue, counted_on, debts_to, milliseconds_left};
 ghost use Rattle.mon_station.specs.State.{state_of};
 
 use crate::reporting::RoundReport;
-use mon_alarms::{AlarmChange, SeenAlarm};
+use mon_alarms::AlarmChange;
 use mon_board::Board;
 use mon_disk::Disk;
-use mon_report::{alarm_changes, seen_alarms};
+use mon_report::{alarm_changes, seen_windows};
+use mon_sample::Sample;
 use mon_station::Station;
 use std::alloc::{AllocError, Global};
 use std::time::Duration;
@@ -23,20 +24,21 @@ const LONGEST_REST: u128 = 60_000;
 pub struct Course {
     taken: u64,
     given_up: u64,
-    alarms: Vec<SeenAlarm>,
+    /// The windows of its alarms at the last look.
+    windows: Vec<Vec<Sample>>,
 }
 
 impl Course {
-    /// The course of a station that begins with this board: its alarms are known.
+    /// The course of a station that begins with this board: what its windows hold now is no change.
     pub fn new(alloc: Global, board: &Board) -> Result<Self, AllocError>
         ensures taken { IfOk result (λ c. c.taken ≡ 0) }
         ensures given_up { IfOk result (λ c. c.given_up ≡ 0) }
-        ensures alarms { IfOk result (λ c. c.alarms.items ≡ alarms_of board.now) }
+        ensures windows { IfOk result (λ c. map (λ w. w.items) c.windows.items ≡ windows_of board.now) }
     {
         Ok(Course {
             taken: 0,
             given_up: 0,
-            alarms: seen_alarms(alloc, board)?,
+            windows: seen_windows(alloc, board)?,
         })
     }
 
@@ -58,14 +60,14 @@ impl Course {
     pub fn add(&mut self, report: &RoundReport)
         ensures taken { self.new.taken ≡ counted_on self.old.taken report.now.taken }
         ensures given_up { self.new.given_up ≡ counted_on self.old.given_up report.now.given_up }
-        ensures alarms { self.new.alarms ≡ self.old.alarms }
+        ensures windows { self.new.windows ≡ self.old.windows }
     {
         self.taken = self.taken.saturating_add(report.taken);
         self.given_up = self.given_up.saturating_add(report.given_up);
     }
 
-    /// Returns what became of the board's alarms since the last call: each time that a later sample raised
-    /// or cleared one.
+    /// Returns what became of the board's alarms since the last call: each time that a sample raised or
+    /// cleared one, also a sample that is older than others, and the state now if these do not lead to it.
     ///
     /// # Errors
     /// `AllocError`: then the next call returns these changes too.
@@ -74,14 +76,14 @@ impl Course {
         alloc: Global,
         board: &Board,
     ) -> Result<Vec<AlarmChange>, AllocError>
-        ensures changes { IfOk result (λ v. v.items ≡ changes_from board.now 0 board.now.watch.rules self.old.alarms.items) }
-        ensures told { OnOk result (self.new.alarms.items ≡ alarms_of board.now) }
-        ensures kept { OnErr result (self.new.alarms ≡ self.old.alarms) }
+        ensures changes { IfOk result (λ v. v.items ≡ changes_from board.now 0 board.now.watch.rules (map (λ w. w.items) self.old.windows.items)) }
+        ensures told { OnOk result (map (λ w. w.items) self.new.windows.items ≡ windows_of board.now) }
+        ensures kept { OnErr result (self.new.windows ≡ self.old.windows) }
         ensures taken { self.new.taken ≡ self.old.taken }
         ensures given_up { self.new.given_up ≡ self.old.given_up }
     {
-        let changes = alarm_changes(alloc, board, self.alarms.as_slice())?;
-        self.alarms = seen_alarms(alloc, board)?;
+        let changes = alarm_changes(alloc, board, self.windows.as_slice())?;
+        self.windows = seen_windows(alloc, board)?;
         Ok(changes)
     }
 }

@@ -6,7 +6,7 @@ ghost use Rattle.mon_disk.specs.Fault.{number_of};
 use crate::opening::{or_socket_failure, unopened};
 use crate::pace::passed;
 use crate::showing::show_span;
-use crate::telling::{tell_alarm, tell_change, tell_notices};
+use crate::telling::{tell_alarm, tell_change, tell_notices, tell_raised};
 use mon_console::{Failure, Printing};
 use mon_core::Core;
 use mon_disk::{FileDisk, KeeperFault};
@@ -188,7 +188,7 @@ fn engines_of(alloc: Global, targets: &[Target]) -> Result<Vec<Vec<u8>>, AllocEr
     Ok(engines)
 }
 
-/// Opens the station, and prints where it is.
+/// Opens the station, and prints where it is and each alarm that its saved windows raise.
 pub(crate) fn start_station<R: Eprint + AllocGlobal, S: Receiver + Drop, O: Outbox + Drop>(
     rt: &R,
     settings: StationSettings,
@@ -200,7 +200,7 @@ pub(crate) fn start_station<R: Eprint + AllocGlobal, S: Receiver + Drop, O: Outb
     let Place { disk, at, origin } = place;
     let opened = open_station(rt.alloc(), core, disk, &file, &transport)?;
     tell_start(rt, opened.station.incarnation(), &transport, at, &file);
-    Ok(Live {
+    let live = Live {
         station: opened.station,
         transport,
         run: Run::new(rt.alloc()),
@@ -214,7 +214,9 @@ pub(crate) fn start_station<R: Eprint + AllocGlobal, S: Receiver + Drop, O: Outb
         unsaved: None,
         unprinted: None,
         unwritten: None,
-    })
+    };
+    tell_raised(rt, &live)?;
+    Ok(live)
 }
 
 /// Prints where a station is and what it polls.

@@ -6,6 +6,7 @@ use crate::live::Live;
 use mon_alarms::AlarmChange;
 use mon_disk::KeeperFault;
 use mon_poller::ResponseFault;
+use mon_report::raised_alarms;
 use mon_rounds::{
     Addresses, Change, Notice, Receiver, RoundReport, TargetAge, Trouble, explain_stale,
 };
@@ -105,6 +106,18 @@ fn shown_target(addresses: &Addresses, target: u16) -> Addr
         octets: [0; 4],
         port: 0,
     })
+}
+
+/// Prints each alarm that is raised.
+pub(crate) fn tell_raised<R: Eprint + AllocGlobal, S: Receiver + Drop, O: Outbox + Drop>(
+    rt: &R,
+    live: &Live<S, O>,
+) -> Result<(), AllocError> {
+    let raised = raised_alarms(rt.alloc(), live.station.board())?;
+    for change in raised.as_slice() {
+        tell_alarm(rt, live, change)?;
+    }
+    Ok(())
 }
 
 /// Prints an alarm that changed.

@@ -1,21 +1,6 @@
-"""Bugs of mon_alarms for planted_bugs: by a name the file, what stands there once, and the bug in its place."""
+"""Bugs of mon_alarms for planted_bugs: by a name the file, what is there once, and the bug in its place."""
 
 BUGS = {
-    "tells_the_state_before": (
-        "src/change.rt",
-        "    changes.push(AlarmChange { rule, state: new })?;",
-        "    changes.push(AlarmChange { rule, state: old })?;",
-    ),
-    "tells_a_later_stamp": (
-        "src/change.rt",
-        "if old.is_raised() == new.is_raised() {",
-        "if old == new {",
-    ),
-    "tells_no_alarm_that_is_cleared": (
-        "src/change.rt",
-        "if old.is_raised() == new.is_raised() {",
-        "if old.is_raised() || !new.is_raised() {",
-    ),
     "calls_a_clear_one_raised": (
         "src/alarm.rt",
         "matches!(self, AlarmState::Raised { .. })",
@@ -71,66 +56,6 @@ BUGS = {
         "Some(1000 * sample.number())",
         "Some(sample.number())",
     ),
-    "looks_at_the_first_sample_alone": (
-        "src/change.rt",
-        "for place in 0..samples.len() {",
-        "for place in 0..samples.len().min(1) {",
-    ),
-    "reports_no_change": (
-        "src/change.rt",
-        "    changes.push(AlarmChange { rule, state: new })?;\n",
-        "    let _ = (changes, rule);\n",
-    ),
-    "reports_the_first_rule_always": (
-        "src/change.rt",
-        "        put_change(changes, number, was, is)?;",
-        "        put_change(changes, 0, was, is)?;",
-    ),
-    "tells_the_last_change_alone": (
-        "src/change.rt",
-        "        put_change(changes, number, was, is)?;\n        was = is;\n",
-        "        let _ = is;\n",
-    ),
-    "tells_no_state_of_the_window": (
-        "src/change.rt",
-        "    put_change(changes, number, was, state(rule, samples))",
-        "    put_change(changes, number, was, was)",
-    ),
-    "tells_each_change_again": (
-        "src/change.rt",
-        "            SeenAlarm::Sampled { newest, .. } => newest.compare(sample).is_lt(),",
-        "            SeenAlarm::Sampled { .. } => {\n                let _ = sample;\n                true\n            }",
-    ),
-    "looks_at_the_newest_again": (
-        "src/change.rt",
-        "newest.compare(sample).is_lt()",
-        "newest.compare(sample).is_le()",
-    ),
-    "begins_clear": (
-        "src/change.rt",
-        "            SeenAlarm::Sampled { state, .. } => *state,",
-        "            SeenAlarm::Sampled { .. } => AlarmState::Clear,",
-    ),
-    "sees_the_oldest_as_the_newest": (
-        "src/change.rt",
-        "match samples.last().copied() {",
-        "match samples.first().copied() {",
-    ),
-    "clears_between_the_thresholds": (
-        "src/change.rt",
-        "        return if level <= i128::from(rule.falling()) {",
-        "        return if level < i128::from(rule.rising()) {",
-    ),
-    "raises_between_the_thresholds": (
-        "src/change.rt",
-        "    if i128::from(rule.rising()) <= level {\n        return AlarmState::Raised {\n            boots: sample.boots(),\n            time: sample.time(),\n        };\n    }\n    state",
-        "    if i128::from(rule.falling()) < level {\n        return AlarmState::Raised {\n            boots: sample.boots(),\n            time: sample.time(),\n        };\n    }\n    state",
-    ),
-    "stamps_each_change_with_the_newest": (
-        "src/change.rt",
-        "observe(before, sample), sample, state)",
-        "observe(before, sample), before.unwrap_or(sample), state)",
-    ),
     "looks_at_the_newest_alone": (
         "src/alarm.rt",
         "        state = next;",
@@ -176,113 +101,292 @@ BUGS = {
         "if i128::from(rule.rising()) <= level {",
         "if i128::from(rule.rising()) <= level && matches!(state, AlarmState::Clear) {",
     ),
-    "compares_then_and_now_alone": (
+    "never_says_raised": (
         "src/change.rt",
-        "    let mut was = seen.state();\n",
-        "    let mut was = seen.state();\n    if was.is_raised() == state(rule, samples).is_raised() {\n        return Ok(());\n    }\n",
+        "matches!(self, AlarmEvent::Raised { .. })",
+        "false",
     ),
-    "looks_only_if_the_newest_is_new": (
+    "says_that_a_cleared_one_is_raised": (
         "src/change.rt",
-        "    let mut was = seen.state();\n",
-        "    let mut was = seen.state();\n    match samples.last() {\n        Some(newest) => {\n            if !seen.is_before(newest) {\n                return Ok(());\n            }\n        }\n        None => return Ok(()),\n    }\n",
+        "matches!(self, AlarmEvent::Raised { .. })",
+        "!matches!(self, AlarmEvent::Lapsed)",
     ),
-    "ends_at_the_first_change": (
+    "looks_at_the_first_sample_alone": (
         "src/change.rt",
-        "        was = is;\n",
-        "        if was.is_raised() != is.is_raised() {\n            return Ok(());\n        }\n        was = is;\n",
+        "        (old, new) = (next.was, next.is);\n",
+        "        (old, new) = (&next.was[next.was.len()..], &next.is[next.is.len()..]);\n",
+    ),
+    "never_reports_the_last_again": (
+        "src/change.rt",
+        "    put_event(changes, number, last)?;\n",
+        "",
+    ),
+    "never_puts_right": (
+        "src/change.rt",
+        "    put_event(changes, number, right)?;\n",
+        "    let _ = right;\n",
+    ),
+    "reports_no_event": (
+        "src/change.rt",
+        "        put_event(changes, number, event)?;\n",
+        "        let _ = event;\n",
+    ),
+    "ends_at_the_first_event": (
+        "src/change.rt",
+        "        put_event(changes, number, event)?;\n",
+        "        put_event(changes, number, event)?;\n        if event.is_some() {\n            return Ok(());\n        }\n",
+    ),
+    "reports_rule_0_always": (
+        "src/change.rt",
+        "        put_event(changes, number, event)?;\n",
+        "        put_event(changes, 0, event)?;\n",
+    ),
+    "reports_no_change": (
+        "src/change.rt",
+        "        changes.push(AlarmChange { rule, event })?;\n",
+        "        let _ = (changes, rule, event);\n",
+    ),
+    "reports_each_change_twice": (
+        "src/change.rt",
+        "        changes.push(AlarmChange { rule, event })?;\n",
+        "        changes.push(AlarmChange { rule, event })?;\n        changes.push(AlarmChange { rule, event })?;\n",
     ),
     "forgets_the_changes_of_earlier_rules": (
         "src/change.rt",
-        "    let mut was = seen.state();\n",
-        "    changes.clear();\n    let mut was = seen.state();\n",
+        "    let mut comparison = Comparison::new();\n",
+        "    changes.clear();\n    let mut comparison = Comparison::new();\n",
     ),
-    "prints_the_last_change_twice": (
+    "compares_then_and_now_alone": (
         "src/change.rt",
-        "    put_change(changes, number, was, state(rule, samples))",
-        "    put_change(changes, number, seen.state(), state(rule, samples))",
+        "    if are_equal(was, is) {",
+        "    if state(rule, was).is_raised() == state(rule, is).is_raised() {",
     ),
-    "begins_in_the_state_now": (
+    "compares_only_longer_windows": (
         "src/change.rt",
-        "    let mut was = seen.state();\n",
-        "    let mut was = state(rule, samples);\n",
+        "    if are_equal(was, is) {",
+        "    if was.len() == is.len() {",
     ),
-    "leaves_out_the_oldest_sample": (
+    "knows_no_first_look": (
         "src/change.rt",
-        "for place in 0..samples.len() {",
-        "for place in 1..samples.len() {",
+        "let (mut old, mut new) = (was, is);",
+        "let (mut old, mut new) = (&was[..0], is);",
     ),
-    "walks_from_the_newest_backwards": (
+    "knows_all_samples": (
         "src/change.rt",
-        "samples[..place].last(), &samples[place], was);",
-        "samples[..samples.len() - 1 - place].last(), &samples[samples.len() - 1 - place], was);",
+        "rule, &next.sample, next.is_known);",
+        "rule, &next.sample, true);",
     ),
-    "never_has_a_rate": (
+    "knows_no_sample": (
         "src/change.rt",
-        "observe(before, sample), sample, state)",
-        "{\n        let _ = before;\n        observe(None, sample)\n    }, sample, state)",
+        "rule, &next.sample, next.is_known);",
+        "rule, &next.sample, false);",
+    ),
+    "forgets_what_left_the_window": (
+        "src/change.rt",
+        "        let event = comparison.step",
+        "        if !is.iter().any(|held| held.compare(&next.sample).is_eq()) {\n            (old, new) = (next.was, next.is);\n            continue;\n        }\n        let event = comparison.step",
+    ),
+    "puts_right_by_the_window_then": (
+        "src/change.rt",
+        "last, state(rule, is));",
+        "last, state(rule, was));",
+    ),
+    "puts_right_from_the_window_now": (
+        "src/change.rt",
+        "comparison.put_right(state(rule, was), last",
+        "comparison.put_right(state(rule, is), last",
+    ),
+    "windows_of_equal_length_are_equal": (
+        "src/change.rt",
+        "        if !some[place].compare(&others[place]).is_eq() {\n            return false;\n        }\n",
+        "        let _ = &others[place];\n",
+    ),
+    "a_clear_alarm_is_reported_at_the_start": (
+        "src/change.rt",
+        "        AlarmState::Clear => None,",
+        "        AlarmState::Clear => Some(AlarmEvent::Lapsed),",
+    ),
+    "nothing_is_raised_at_the_start": (
+        "src/change.rt",
+        "        AlarmState::Raised { boots, time } => Some(AlarmEvent::Raised { boots, time }),",
+        "        AlarmState::Raised { .. } => None,",
+    ),
+    "swaps_boots_and_time_at_the_start": (
+        "src/change.rt",
+        "Some(AlarmEvent::Raised { boots, time }),",
+        "Some(AlarmEvent::Raised { boots: time, time: boots }),",
+    ),
+    "takes_the_newer_first": (
+        "src/comparison.rt",
+        "            Ordering::Less => first(x, xs, is),\n",
+        "            Ordering::Less => second(y, was, ys),\n",
+    ),
+    "takes_an_equal_one_twice": (
+        "src/comparison.rt",
+        "            Ordering::Equal => first(x, xs, ys),",
+        "            Ordering::Equal => first(x, xs, is),",
+    ),
+    "takes_an_equal_one_as_new": (
+        "src/comparison.rt",
+        "            Ordering::Equal => first(x, xs, ys),",
+        "            Ordering::Equal => second(y, xs, ys),",
+    ),
+    "ends_with_the_first_look": (
+        "src/comparison.rt",
+        "        (None, Some((y, ys))) => Some(second(y, was, ys)),",
+        "        (None, Some(_)) => None,",
+    ),
+    "ends_with_the_second_look": (
+        "src/comparison.rt",
+        "        (Some((x, xs)), None) => Some(first(x, xs, is)),",
+        "        (Some(_), None) => None,",
+    ),
+    "skips_what_the_first_look_had": (
+        "src/comparison.rt",
+        "        (Some((x, xs)), None) => Some(first(x, xs, is)),",
+        "        (Some((x, xs)), None) => Some(first(x, &xs[xs.len()..], is)),",
+    ),
+    "begins_raised": (
+        "src/comparison.rt",
+        "            state: AlarmState::Clear,\n            newest: None,",
+        "            state: AlarmState::Raised { boots: 0, time: 0 },\n            newest: None,",
+    ),
+    "forgets_the_sample_before": (
+        "src/comparison.rt",
+        "        self.newest = Some(*sample);\n",
+        "",
+    ),
+    "keeps_the_oldest_as_the_sample_before": (
+        "src/comparison.rt",
+        "        self.newest = Some(*sample);\n",
+        "        if self.newest.is_none() {\n            self.newest = Some(*sample);\n        }\n",
+    ),
+    "never_changes_the_state": (
+        "src/comparison.rt",
+        "        self.state = after_sample(rule, level, sample, self.state);\n",
+        "        let _ = level;\n",
+    ),
+    "clears_between_the_thresholds": (
+        "src/comparison.rt",
+        "        return if level <= i128::from(rule.falling()) {",
+        "        return if level < i128::from(rule.rising()) {",
+    ),
+    "raises_between_the_thresholds": (
+        "src/comparison.rt",
+        "    if i128::from(rule.rising()) <= level {\n        return AlarmState::Raised {",
+        "    if i128::from(rule.falling()) < level {\n        return AlarmState::Raised {",
     ),
     "a_sample_without_a_rate_clears": (
-        "src/change.rt",
-        "    let Some(level) = level else {\n        return state;\n    };\n    if state.is_raised() {",
-        "    let Some(level) = level else {\n        return AlarmState::Clear;\n    };\n    if state.is_raised() {",
+        "src/comparison.rt",
+        "    let Some(level) = level else {\n        return state;\n    };\n    if state",
+        "    let Some(level) = level else {\n        return AlarmState::Clear;\n    };\n    if state",
     ),
-    "a_raised_one_takes_the_later_stamp": (
-        "src/change.rt",
-        "            AlarmState::Clear\n        } else {\n            state\n        };",
-        "            AlarmState::Clear\n        } else if i128::from(rule.rising()) <= level {\n            AlarmState::Raised {\n                boots: sample.boots(),\n                time: sample.time(),\n            }\n        } else {\n            state\n        };",
+    "takes_the_later_stamp": (
+        "src/comparison.rt",
+        "        } else {\n            state\n        };",
+        "        } else {\n            AlarmState::Raised {\n                boots: sample.boots(),\n                time: sample.time(),\n            }\n        };",
     ),
-    "a_clear_one_was_never_seen": (
-        "src/change.rt",
-        "            Some(newest) => SeenAlarm::Sampled {\n                state: state(rule, samples),\n                newest,\n            },",
-        "            Some(newest) => {\n                if !state(rule, samples).is_raised() {\n                    return SeenAlarm::Unsampled;\n                }\n                SeenAlarm::Sampled {\n                    state: state(rule, samples),\n                    newest,\n                }\n            }",
+    "reports_no_alarm_that_is_cleared": (
+        "src/comparison.rt",
+        "        (true, false) => Some(AlarmEvent::Cleared { boots, time }),\n",
+        "",
     ),
-    "sees_the_newest_sample_alone": (
-        "src/change.rt",
-        "                state: state(rule, samples),\n                newest,",
-        "                state: state(rule, &samples[samples.len() - 1..]),\n                newest,",
+    "reports_a_cleared_one_as_raised": (
+        "src/comparison.rt",
+        "        (true, false) => Some(AlarmEvent::Cleared { boots, time }),",
+        "        (true, false) => Some(AlarmEvent::Raised { boots, time }),",
     ),
-    "compares_times_without_boots": (
-        "src/change.rt",
-        "newest.compare(sample).is_lt()",
-        "newest.time() < sample.time()",
+    "clears_without_a_stamp": (
+        "src/comparison.rt",
+        "        (true, false) => Some(AlarmEvent::Cleared { boots, time }),",
+        "        (true, false) => Some(AlarmEvent::Lapsed),",
     ),
-    "compares_stamps_alone": (
-        "src/change.rt",
-        "newest.compare(sample).is_lt()",
-        "newest.boots() < sample.boots() || (newest.boots() == sample.boots() && newest.time() < sample.time())",
+    "stamps_the_mark_as_the_time": (
+        "src/comparison.rt",
+        "let (boots, time) = (sample.boots(), sample.time());",
+        "let (boots, time) = (sample.boots(), sample.discontinuity());",
     ),
-    "no_sample_is_later_than_none": (
-        "src/change.rt",
-        "            SeenAlarm::Unsampled => true,",
-        "            SeenAlarm::Unsampled => false,",
+    "reports_while_it_stays_raised": (
+        "src/comparison.rt",
+        "        (false, true) => Some",
+        "        (_, true) => Some",
     ),
-    "an_unsampled_one_was_raised": (
-        "src/change.rt",
-        "            SeenAlarm::Unsampled => AlarmState::Clear,",
-        "            SeenAlarm::Unsampled => AlarmState::Raised { boots: 0, time: 0 },",
+    "compares_the_state_after_alone": (
+        "src/comparison.rt",
+        "!(is_known && before.0 == before.1 && after.0 == after.1)",
+        "!(is_known && after.0 == after.1)",
     ),
-    "raises_only_above_on_the_way": (
-        "src/change.rt",
-        "    if i128::from(rule.rising()) <= level {",
-        "    if i128::from(rule.rising()) < level {",
+    "compares_the_state_before_alone": (
+        "src/comparison.rt",
+        "!(is_known && before.0 == before.1 && after.0 == after.1)",
+        "!(is_known && before.0 == before.1)",
     ),
-    "clears_only_below_on_the_way": (
-        "src/change.rt",
-        "        return if level <= i128::from(rule.falling()) {",
-        "        return if level < i128::from(rule.falling()) {",
+    "reports_what_was_so": (
+        "src/comparison.rt",
+        "    if is_new { event } else { None }",
+        "    let _ = is_new;\n    event",
     ),
-    "a_change_of_rule_256_is_of_rule_0": (
-        "src/change.rt",
-        "    changes.push(AlarmChange { rule, state: new })?;",
-        "    changes.push(AlarmChange { rule: rule % 256, state: new })?;",
+    "a_known_sample_does_nothing_new": (
+        "src/comparison.rt",
+        "!(is_known && before.0 == before.1 && after.0 == after.1)",
+        "{\n        let _ = (before, after);\n        !is_known\n    }",
+    ),
+    "a_new_sample_was_known": (
+        "src/comparison.rt",
+        "        if is_known {\n            self.known.step(rule, sample);\n        }\n",
+        "        let _ = is_known;\n        self.known.step(rule, sample);\n",
+    ),
+    "what_was_known_never_moves": (
+        "src/comparison.rt",
+        "        if is_known {\n            self.known.step(rule, sample);\n        }\n",
+        "        let _ = (rule, sample, is_known);\n",
+    ),
+    "repeats_the_last_always": (
+        "src/comparison.rt",
+        "            (Some(_), Some((event, false))) => Some(event),",
+        "            (_, Some((event, _))) => Some(event),",
+    ),
+    "repeats_the_last_new_one": (
+        "src/comparison.rt",
+        "            (Some(_), Some((event, false))) => Some(event),",
+        "            (Some(event), Some((_, false))) => Some(event),",
+    ),
+    "puts_right_always": (
+        "src/comparison.rt",
+        "        if reported == now.is_raised() {\n            return None;\n        }\n        Some(event_of(now))",
+        "        let _ = reported;\n        Some(event_of(now))",
+    ),
+    "puts_right_without_what_was_reported": (
+        "src/comparison.rt",
+        "raised_after(was, later_new(last, self.last_new));",
+        "{\n            let _ = last;\n            raised_after(was, None)\n        };",
+    ),
+    "keeps_the_first_as_the_last": (
+        "src/comparison.rt",
+        "        Some(event) => Some((event, is_new)),",
+        "        Some(event) => Some(before.unwrap_or((event, is_new))),",
+    ),
+    "calls_each_last_event_new": (
+        "src/comparison.rt",
+        "        Some(event) => Some((event, is_new)),",
+        "        Some(event) => Some((event, is_new || before.is_none())),",
+    ),
+    "keeps_the_first_as_the_last_new": (
+        "src/comparison.rt",
+        "        None => before,\n        Some(event) => Some(event),",
+        "        None => before,\n        Some(event) => Some(before.unwrap_or(event)),",
+    ),
+    "lapses_a_raised_one": (
+        "src/comparison.rt",
+        "        AlarmState::Raised { boots, time } => AlarmEvent::Raised { boots, time },",
+        "        AlarmState::Raised { .. } => AlarmEvent::Lapsed,",
     ),
 }
 
-# Those that break a promise as a whole, each with its function: tests/bodies tries them in the gate.
 PROMISES = {
     "cleared_only_below": "alarm::raised_before",
     "raised_only_above": "alarm::raised_before",
     "stamps_the_latest": "alarm::raised_before",
-    "tells_each_change_again": "change::SeenAlarm::is_before",
-    "tells_the_last_change_alone": "change::put_changes",
+    "never_puts_right": "change::put_changes",
+    "reports_what_was_so": "comparison::only_if",
 }

@@ -1,15 +1,25 @@
 """Bugs for planted_bugs to plant in mon_report: a file, what stands in it once, and what stands there then."""
 
 BUGS = {
-    "all_alarms_are_clear": (
+    "sees_empty_windows": (
         "src/alarms.rt",
-        "        alarms.push(SeenAlarm::over(rule, board.items(rule.instance())))?;",
-        "        alarms.push(SeenAlarm::over(rule, &[]))?;",
+        "        windows.push(Vec::from_slice(alloc, board.items(rule.instance()))?)?;",
+        "        let _ = rule;\n        windows.push(Vec::new(alloc))?;",
+    ),
+    "sees_the_first_window_always": (
+        "src/alarms.rt",
+        "        windows.push(Vec::from_slice(alloc, board.items(rule.instance()))?)?;",
+        "        windows.push(Vec::from_slice(alloc, board.items(rules[0].instance()))?)?;\n        let _ = rule;",
+    ),
+    "sees_all_but_the_newest_sample": (
+        "src/alarms.rt",
+        "        windows.push(Vec::from_slice(alloc, board.items(rule.instance()))?)?;",
+        "board.items(rule.instance()));\n        put_changes        windows.push(Vec::from_slice(alloc, &samples[..samples.len().saturating_sub(1)])?)?;",
     ),
     "tells_no_change": (
         "src/alarms.rt",
-        "        put_changes(&mut changes, number, rule, &seen[number], samples)?;\n",
-        "        let _ = (&seen[number], samples);\n",
+        "        put_changes(&mut changes, number, rule, was, is)?;\n",
+        "        let _ = (was, is, rule);\n",
     ),
     "changes_of_the_first_rule_alone": (
         "src/alarms.rt",
@@ -18,8 +28,43 @@ BUGS = {
     ),
     "changes_since_the_first_was_seen": (
         "src/alarms.rt",
-        "&seen[number], samples",
-        "&seen[0], samples",
+        "seen[number].as_slice()",
+        "seen[0].as_slice()",
+    ),
+    "compares_a_window_with_itself": (
+        "src/alarms.rt",
+        "        put_changes(&mut changes, number, rule, was, is)?;\n",
+        "        let _ = was;\n        put_changes(&mut changes, number, rule, is, is)?;\n",
+    ),
+    "compares_backwards": (
+        "src/alarms.rt",
+        "        put_changes(&mut changes, number, rule, was, is)?;\n",
+        "        put_changes(&mut changes, number, rule, is, was)?;\n",
+    ),
+    "tells_of_each_change_as_new": (
+        "src/alarms.rt",
+        "        put_changes(&mut changes, number, rule, was, is)?;\n",
+        "        let _ = was;\n        put_changes(&mut changes, number, rule, &[], is)?;\n",
+    ),
+    "changes_of_rule_0": (
+        "src/alarms.rt",
+        "        put_changes(&mut changes, number, rule, was, is)?;\n",
+        "        put_changes(&mut changes, 0, rule, was, is)?;\n",
+    ),
+    "no_alarm_is_raised": (
+        "src/alarms.rt",
+        "        put_raised(&mut raised, number, rule, board.items(rule.instance()))?;\n",
+        "        let _ = rule;\n",
+    ),
+    "the_first_raised_alarm_alone": (
+        "src/alarms.rt",
+        "    for number in 0..rules.len() {",
+        "    for number in 0..rules.len().min(1) {",
+    ),
+    "raised_by_the_first_instance": (
+        "src/alarms.rt",
+        "board.items(rule.instance()))?;\n    }\n    Ok(raised)",
+        "board.items(rules[0].instance()))?;\n    }\n    Ok(raised)",
     ),
     "digits_swapped": ("src/line.rt", "DIGITS[usize::from(octet / 16)]", "DIGITS[usize::from(octet % 16)]"),
     "upper_case": ("src/line.rt", 'b"0123456789abcdef"', 'b"0123456789ABCDEF"'),
@@ -112,33 +157,33 @@ BUGS = {
     "gives_up_at_an_interrupt": ("src/writing.rt", "                if fault.kind() != ErrorKind::Interrupted {\n                    return sent;\n                }", "                let _ = fault.kind() != ErrorKind::Interrupted;\n                return sent;"),
     "changes_of_the_last_rule_first": (
         "src/alarms.rt",
-        "        let rule = &rules[number];\n",
-        "        let number = rules.len().min(seen.len()) - 1 - number;\n        let rule = &rules[number];\n",
+        "        let rule = &rules[number];\n        let (was",
+        "        let number = rules.len().min(seen.len()) - 1 - number;\n        let rule = &rules[number];\n        let (was",
     ),
     "names_the_instance_for_the_rule": (
         "src/alarms.rt",
-        "put_changes(&mut changes, number, rule, &seen[number], samples)?;",
-        "put_changes(&mut changes, usize::from(rule.instance()), rule, &seen[number], samples)?;",
+        "put_changes(&mut changes, number, rule, was, is)?;",
+        "put_changes(&mut changes, usize::from(rule.instance()), rule, was, is)?;",
     ),
     "samples_of_the_rules_number": (
         "src/alarms.rt",
-        "        let samples = board.items(rule.instance());\n",
-        "        let samples = board.items(number as u16);\n",
+        "board.items(rule.instance()));\n        put_changes",
+        "board.items(number as u16));\n        put_changes",
     ),
     "leaves_out_alarms_without_samples": (
         "src/alarms.rt",
-        "        alarms.push(SeenAlarm::over(rule, board.items(rule.instance())))?;",
-        "        if board.items(rule.instance()).is_empty() {\n            continue;\n        }\n        alarms.push(SeenAlarm::over(rule, board.items(rule.instance())))?;",
+        "        windows.push(Vec::from_slice(alloc, board.items(rule.instance()))?)?;",
+        "        if board.items(rule.instance()).is_empty() {\n            continue;\n        }\n        windows.push(Vec::from_slice(alloc, board.items(rule.instance()))?)?;",
     ),
     "ends_at_the_first_rule_that_changed": (
         "src/alarms.rt",
-        "        put_changes(&mut changes, number, rule, &seen[number], samples)?;\n",
-        "        put_changes(&mut changes, number, rule, &seen[number], samples)?;\n        if !changes.is_empty() {\n            return Ok(changes);\n        }\n",
+        "        put_changes(&mut changes, number, rule, was, is)?;\n",
+        "        put_changes(&mut changes, number, rule, was, is)?;\n        if !changes.is_empty() {\n            return Ok(changes);\n        }\n",
     ),
     "looks_at_the_newest_sample_alone": (
         "src/alarms.rt",
-        "&seen[number], samples)?;",
-        "&seen[number], &samples[samples.len().saturating_sub(1)..])?;",
+        "rule, was, is)?;",
+        "rule, was, &is[is.len().saturating_sub(1)..])?;",
     ),
 }
 

@@ -310,7 +310,7 @@ BUGS = {
     ),
     "tells_each_alarm_again": (
         "src/course.rt",
-        "        self.alarms = seen_alarms(alloc, board)?;\n",
+        "        self.windows = seen_windows(alloc, board)?;\n",
         "",
     ),
     "tells_no_alarm": (
@@ -480,8 +480,8 @@ BUGS = {
     ),
     "says_all_alarms_at_the_start": (
         "src/course.rt",
-        "            alarms: seen_alarms(alloc, board)?,",
-        "            alarms: {\n                let _ = board;\n                Vec::new(alloc)\n            },",
+        "            windows: seen_windows(alloc, board)?,",
+        "            windows: {\n                let _ = board;\n                Vec::new(alloc)\n            },",
     ),
     "says_polls_for_samples": (
         "src/course.rt",
@@ -700,27 +700,27 @@ BUGS = {
     ),
     "looks_before_it_compares": (
         "src/course.rt",
-        "        let changes = alarm_changes(alloc, board, self.alarms.as_slice())?;\n        self.alarms = seen_alarms(alloc, board)?;\n",
-        "        self.alarms = seen_alarms(alloc, board)?;\n        let changes = alarm_changes(alloc, board, self.alarms.as_slice())?;\n",
+        "        let changes = alarm_changes(alloc, board, self.windows.as_slice())?;\n        self.windows = seen_windows(alloc, board)?;\n",
+        "        self.windows = seen_windows(alloc, board)?;\n        let changes = alarm_changes(alloc, board, self.windows.as_slice())?;\n",
     ),
     "looks_again_only_after_a_change": (
         "src/course.rt",
-        "        self.alarms = seen_alarms(alloc, board)?;\n",
-        "        if changes.is_empty() {\n            return Ok(changes);\n        }\n        self.alarms = seen_alarms(alloc, board)?;\n",
+        "        self.windows = seen_windows(alloc, board)?;\n",
+        "        if changes.is_empty() {\n            return Ok(changes);\n        }\n        self.windows = seen_windows(alloc, board)?;\n",
     ),
     "loses_alarm_changes_without_memory": (
         "src/course.rt",
-        "        let changes = alarm_changes(alloc, board, self.alarms.as_slice())?;\n        self.alarms = seen_alarms(alloc, board)?;\n        Ok(changes)\n",
-        "        let now = seen_alarms(alloc, board)?;\n        let changes = alarm_changes(alloc, board, self.alarms.as_slice());\n        self.alarms = now;\n        changes\n",
+        "        let changes = alarm_changes(alloc, board, self.windows.as_slice())?;\n        self.windows = seen_windows(alloc, board)?;\n        Ok(changes)\n",
+        "        let now = seen_windows(alloc, board)?;\n        let changes = alarm_changes(alloc, board, self.windows.as_slice());\n        self.windows = now;\n        changes\n",
     ),
     "keeps_the_alarms_without_memory_for_the_changes": (
         "src/course.rt",
-        "        self.alarms = seen_alarms(alloc, board)?;\n",
-        "        match seen_alarms(alloc, board) {\n            Ok(now) => self.alarms = now,\n            Err(_) => self.alarms = Vec::new(alloc),\n        }\n",
+        "        self.windows = seen_windows(alloc, board)?;\n",
+        "        match seen_windows(alloc, board) {\n            Ok(now) => self.windows = now,\n            Err(_) => self.windows = Vec::new(alloc),\n        }\n",
     ),
     "a_look_at_the_alarms_counts_anew": (
         "src/course.rt",
-        "        self.alarms = seen_alarms(alloc, board)?;\n        Ok(changes)\n",
-        "        self.alarms = seen_alarms(alloc, board)?;\n        if !changes.is_empty() {\n            self.taken = 0;\n            self.given_up = 0;\n        }\n        Ok(changes)\n",
+        "        self.windows = seen_windows(alloc, board)?;\n        Ok(changes)\n",
+        "        self.windows = seen_windows(alloc, board)?;\n        if !changes.is_empty() {\n            self.taken = 0;\n            self.given_up = 0;\n        }\n        Ok(changes)\n",
     ),
 }

@@ -1,19 +1,41 @@
-use Rattle.std.proofs.Common.{◌≡◌, None, take, sym, ap, ◌∙◌}
-use Rattle.std.specs.List.{last_or}
-use Rattle.mon_rates.proofs.Promised.{last_place}
-use Rattle.mon_alarms.specs.Changes.{state_after}
-use Rattle.mon_alarms.specs.Observed.{state_by}
-use Rattle.mon_alarms.proofs.Changing.{left_step}
+use Rattle.std.proofs.Common.{◌≡◌, ◌∷◌, ◌++◌, ℕ, Bool, [], ap, append_assoc, append-nil, refl, sym, ◌∙◌}
+use Rattle.std.specs.Prelude.{option_to_list}
+use Rattle.mon_alarms.specs.Changes.{changes_of, events_of, is_raised, last_again, merged, new_of, put_right, raised_after, with_rule}
+use Rattle.mon_alarms.proofs.Reported.{reports_once}
+use Rattle.mon_alarms.proofs.Stepping.{all_reported, reported_more}
 use Rattle.mon_alarms.proofs.change.put_changes.Goals as goal
 
-pub loop-place-preserved : goal.loop-place-preserved
-loop-place-preserved c =
-    let xs = c.args.samples.now in
-    let k = c.loop-place.place in
-    let x = c.index-samples-place.result in
+pub loop-next-init : goal.loop-next-init
+loop-next-init c = ([], refl, c.new-comparison.ensures c.args.rule.now, sym (append-nil c.args.changes.now.items))
+
+pub loop-next-preserved : goal.loop-next-preserved
+loop-next-preserved c =
+    let so_far = c.loop-next.invariant in
+    let seen = so_far.0 in
+    let next = c.in-Some.next in
+    let s : ℕ × Bool = (next.sample, next.is_known) in (
+      seen ++ s ∷ [],
+      so_far.1 ∙ ap (λ l. seen ++ l) c.in-Some.ensures.next ∙ sym (append_assoc seen (s ∷ []) (merged next.was.now next.is.now)),
+      c.step-event.ensures.comparison seen so_far.2,
+      reported_more c.args.rule.now seen s c.args.number _ _ _ _ so_far.3 (c.step-event.ensures.event seen so_far.2) c.in_ok-put_event.ensures,
+    )
+
+pub returns : goal.returns
+returns c =
+    let so_far = c.loop-next.invariant in
+    let seen = so_far.0 in
     let rule = c.args.rule.now in
-    let seen = c.args.seen.now in
-    let next : c.state_after-is.result ≡ state_after rule seen (last_or None (take k xs)) x c.loop-place.was =
-    c.state_after-is.ensures ∙ ap (λ o. state_after rule seen o x c.loop-place.was) (c.last.ensures.value ∙ sym (last_place (take k xs))) in
-    left_step c.args.number rule seen (state_by rule xs) xs k x c.loop-place.was c.state_after-is.result c.loop-place.changes.items c.put_change.new.changes.items _
-    c.loop-place-test.true c.index-samples-place.is next c.in_ok-put_change.ensures c.loop-place.invariant
+    let new = new_of (events_of rule seen) in
+    let last = c.last_again-last.result in
+    let of_both : merged c.args.was.now c.args.is.now ≡ seen = so_far.1 ∙ ap (λ l. seen ++ l) c.in_default.ensures.end ∙ append-nil seen in
+    let is_last = c.last_again-last.ensures ∙ (λ i. last_again (so_far.2.new i) (so_far.2.last i)) in
+    let is_right = c.put_right-right.ensures new so_far.2.new ∙ (λ i. put_right (raised_after (is_raised (c.state.ensures i)) (new ++ option_to_list last)) (c.state-2.ensures i)) in
+    all_reported rule c.args.was.now c.args.is.now c.args.number seen _ _ _ _ last _ of_both so_far.3 is_last c.in_ok-put_event-2.ensures is_right c.in_ok-put_event-3.ensures
+
+pub returns-then-are_equal : goal.returns-then-are_equal
+returns-then-are_equal c =
+    let rule = c.args.rule.now in
+    let n = c.args.number in
+    let none : changes_of n rule c.args.was.now c.args.is.now ≡ [] =
+    ap (λ xs. changes_of n rule xs c.args.is.now) (c.are_equal.ensures c.if-are_equal.true) ∙ ap (with_rule n) (reports_once rule c.args.is.now) in
+    sym (ap (λ l. c.args.changes.now.items ++ l) none ∙ append-nil c.args.changes.now.items)

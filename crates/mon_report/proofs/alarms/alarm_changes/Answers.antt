@@ -1,4 +1,4 @@
-use Rattle.std.proofs.Common.{◌≡◌, ◌≤◌, length, ap, ◌∙◌, arith}
+use Rattle.std.proofs.Common.{◌≡◌, ◌≤◌, length, map, ap, ◌∙◌, arith}
 use Rattle.std.specs.Prelude.{min}
 use Rattle.mon_report.specs.Alarms.{changes_from}
 use Rattle.mon_report.proofs.Changing.{none_left}
@@ -11,4 +11,4 @@ returns c =
     let rules = c.rules-rules.result.now in
     let is : rules ≡ b.watch.rules = c.rules-rules.ensures.rules ∙ ap (λ w. w.rules) c.watch.ensures.watch in
     let end : min (length rules) (length seen) ≤ c.loop-number.number = omega (arith, c.loop-number-test.false, c.min-number-end.ensures) in
-    none_left b c.loop-number.number rules seen c.loop-number.changes.items _ end c.loop-number.invariant ∙ ap (λ rs. changes_from b 0 rs seen) is
+    none_left (λ w. w.items) b c.loop-number.number rules seen c.loop-number.changes.items _ end c.loop-number.invariant ∙ ap (λ rs. changes_from b 0 rs (map (λ w. w.items) seen)) is
