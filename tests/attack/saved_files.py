@@ -90,6 +90,17 @@ def report_of(windows):
     return text(listed)
 
 
+def raised_lines(windows):
+    """What a station says at its start of the alarms that these windows raise."""
+    said = ""
+    for place, thresholds in ALARMS.items():
+        stamp = raised(*thresholds, list(map(sample_of, windows[place])))
+        if stamp:
+            it = WATCH[place]
+            said += "snmpmon: {} {} alarm {}/{}=raised@{}:{}\n".format(it.engine.hex(), ".".join(map(str, it.name)), *thresholds, *stamp)
+    return said
+
+
 def failed(fault, path):
     crate, number, name = fault.args
     return f"snmpmon: {crate} {number} {name}\n{path}: {WORDS[name]}\n"
@@ -134,6 +145,7 @@ def station(octets, path, targets):
         return 1, "", failed(fault, path), slots.laid_out(octets)
     said = short(octets, path)
     said += f"snmpmon: station 1 at HERE, incarnation {incarnation}, file {path}, targets: {len(targets)}, peers: 0\n"
+    said += raised_lines(windows)
     silent = "".join(f"snmpmon: round 1: target {number} at {address} gave up\n" for number, address in enumerate(targets, 1))
     try:
         return 0, report_of(windows), said + silent, slots.saved(file, image_of(incarnation, windows))
