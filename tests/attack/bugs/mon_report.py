@@ -11,11 +11,6 @@ BUGS = {
         "        windows.push(Vec::from_slice(alloc, board.items(rule.instance()))?)?;",
         "        windows.push(Vec::from_slice(alloc, board.items(rules[0].instance()))?)?;\n        let _ = rule;",
     ),
-    "sees_all_but_the_newest_sample": (
-        "src/alarms.rt",
-        "        windows.push(Vec::from_slice(alloc, board.items(rule.instance()))?)?;",
-        "board.items(rule.instance()));\n        put_changes        windows.push(Vec::from_slice(alloc, &samples[..samples.len().saturating_sub(1)])?)?;",
-    ),
     "tells_no_change": (
         "src/alarms.rt",
         "        put_changes(&mut changes, number, rule, was, is)?;\n",
