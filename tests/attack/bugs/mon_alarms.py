@@ -387,6 +387,6 @@ PROMISES = {
     "cleared_only_below": "alarm::raised_before",
     "raised_only_above": "alarm::raised_before",
     "stamps_the_latest": "alarm::raised_before",
-    "never_puts_right": "change::put_changes",
+    "compares_then_and_now_alone": "change::put_changes",
     "reports_what_was_so": "comparison::only_if",
 }
