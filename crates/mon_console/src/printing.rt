@@ -108,13 +108,14 @@ impl Printing {
     ) -> Result<Vec<u8>, AllocError>
         ensures { IfOk result (λ text. text.items ≡ formatted self.now.format (shown_by self.now.names) entries.now (option_map (λ f. f.now) station.entry) self.now.labels.items) }
     {
-        self.text_in(alloc, self.format, entries, station)
+        self.text_in(Vec::new(alloc), self.format, entries, station)
     }
 
     /// The report of these instances in this format, and for Prometheus of what the station says of itself.
+    /// The buffer's octets are dropped, and its capacity is used again.
     pub fn text_in(
         &self,
-        alloc: Global,
+        buffer: Vec<u8>,
         format: Format,
         entries: &[Entry],
         station: Option<&Figures>,
@@ -126,10 +127,10 @@ impl Printing {
             labels: self.labels.as_slice(),
         };
         match &self.names {
-            None => format_report(alloc, format, &InNumbers, entries, extras),
+            None => format_report(buffer, format, &InNumbers, entries, extras),
             Some(names) => {
-                let labels = names.labels(alloc)?;
-                format_report(alloc, format, &labels, entries, extras)
+                let labels = names.labels(*buffer.allocator())?;
+                format_report(buffer, format, &labels, entries, extras)
             }
         }
     }

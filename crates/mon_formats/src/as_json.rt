@@ -25,6 +25,7 @@ const LARGEST_NUMBER: u64 = 1 << 53;
 /// The report as JSON (RFC 8259), on one line.
 pub(crate) fn json_report<S: NameTexts>(
     alloc: Global,
+    buffer: Vec<u8>,
     names: &S,
     entries: &[Entry],
     station: Option<&Figures>,
@@ -32,7 +33,8 @@ pub(crate) fn json_report<S: NameTexts>(
     ensures text { IfOk result (λ text. text.items ≡ json_report (S.shown names.now) entries.now (option_map (λ f. f.now) station.entry)) }
     ensures read_back { IfOk result (λ text. ReadsAsReport (S.shown names.now) entries.now (option_map (λ f. f.now) station.entry) text.items) }
 {
-    let mut text = Vec::new(alloc);
+    let mut text = buffer;
+    text.clear();
     put_report(alloc, &mut text, names, entries, station)?;
     Ok(text)
 }

@@ -40,13 +40,19 @@ struct Listing<'a, 'e> {
 /// The report as a table.
 pub(crate) fn columns_report<S: NameTexts>(
     alloc: Global,
+    buffer: Vec<u8>,
     names: &S,
     entries: &[Entry],
     station: Option<&Figures>,
 ) -> Result<Vec<u8>, AllocError>
     ensures { IfOk result (λ text. text.items ≡ columns_report (S.shown names.now) entries.now (option_map (λ f. f.now) station.entry)) }
 {
-    let mut text = String::new(alloc);
+    let mut octets = buffer;
+    octets.clear();
+    let mut text = match String::from_utf8(octets) {
+        Ok(text) => text,
+        Err(_) => unreachable!(),
+    };
     put_report(alloc, &mut text, names, entries, station)?;
     Ok(text.into_bytes())
 }

@@ -13,7 +13,7 @@ use crate::prometheus::prometheus_report;
 use mon_page::{Extras, page_report};
 use mon_report::Entry;
 use mon_smi::NameTexts;
-use std::alloc::{AllocError, Global};
+use std::alloc::AllocError;
 
 /// A format of a report.
 #[derive(Clone, Copy, Debug, PartialEq, Eq)]
@@ -49,12 +49,12 @@ impl Format {
 
 /// Makes the report of instances in a format, with their names as `names` has them. All but
 /// the lines of text also have what the station says of itself. Prometheus' text has the labels, and a
-/// page the ifName and the ifAlias among them.
+/// page the ifName and the ifAlias among them. The buffer's octets are dropped, and its capacity is used again.
 ///
 /// # Errors
 /// `AllocError` if there is no memory for it.
 pub fn format_report<S: NameTexts>(
-    alloc: Global,
+    buffer: Vec<u8>,
     format: Format,
     names: &S,
     entries: &[Entry],
@@ -64,11 +64,12 @@ pub fn format_report<S: NameTexts>(
     // JSON reads back as the value of the report (RFC 8259).
     ensures read_back { format ≡ Json → IfOk result (λ text. ReadsAsReport (S.shown names.now) entries.now (option_map (λ f. f.now) extras.entry.station) text.items) }
 {
+    let alloc = *buffer.allocator();
     match format {
-        Format::Text => named_report(alloc, names, entries),
-        Format::Json => json_report(alloc, names, entries, extras.station),
-        Format::Prometheus => prometheus_report(alloc, names, entries, extras),
-        Format::Columns => columns_report(alloc, names, entries, extras.station),
-        Format::Html => page_report(alloc, names, entries, extras),
+        Format::Text => named_report(alloc, buffer, names, entries),
+        Format::Json => json_report(alloc, buffer, names, entries, extras.station),
+        Format::Prometheus => prometheus_report(alloc, buffer, names, entries, extras),
+        Format::Columns => columns_report(alloc, buffer, names, entries, extras.station),
+        Format::Html => page_report(alloc, buffer, names, entries, extras),
     }
 }

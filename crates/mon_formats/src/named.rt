@@ -15,12 +15,14 @@ use std::alloc::{AllocError, Global};
 #[tactic(auto, unfolding(crate::specs::Named::named_report))]
 pub(crate) fn named_report<S: NameTexts>(
     alloc: Global,
+    buffer: Vec<u8>,
     names: &S,
     entries: &[Entry],
 ) -> Result<Vec<u8>, AllocError>
     ensures { IfOk result (λ text. text.items ≡ named_report (S.shown names.now) entries.now) }
 {
-    let mut text = Vec::new(alloc);
+    let mut text = buffer;
+    text.clear();
     put_lines(alloc, &mut text, names, entries)?;
     put_end(alloc, &mut text, entries)?;
     Ok(text)

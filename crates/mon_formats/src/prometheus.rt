@@ -75,13 +75,15 @@ impl<'a, 'e> Listing<'a, 'e> {
 /// The report in Prometheus' text exposition format.
 pub(crate) fn prometheus_report<S: NameTexts>(
     alloc: Global,
+    buffer: Vec<u8>,
     names: &S,
     entries: &[Entry],
     extras: Extras<'_>,
 ) -> Result<Vec<u8>, AllocError>
     ensures { IfOk result (λ text. text.items ≡ prometheus_report (S.shown names.now) (labelled extras.entry.labels.now entries.now) (option_map (λ f. f.now) extras.entry.station)) }
 {
-    let mut text = Vec::new(alloc);
+    let mut text = buffer;
+    text.clear();
     put_report(alloc, &mut text, names, entries, extras)?;
     Ok(text)
 }

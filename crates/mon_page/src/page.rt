@@ -17,19 +17,22 @@ use std::alloc::{AllocError, Global};
 
 /// Makes the page of a report, with the names of instances as `names` has them, and below each name the ifName and
 /// the ifAlias of its labels. A browser loads the page of a running station again after the station's interval.
+/// The buffer's octets are dropped, and its capacity is used again.
 ///
 /// # Errors
 /// `AllocError` if there is no memory for it.
 #[tactic(auto, unfolding(crate::specs::Page::page_text))]
 pub fn page_report<S: NameTexts>(
     alloc: Global,
+    buffer: Vec<u8>,
     names: &S,
     entries: &[Entry],
     extras: Extras<'_>,
 ) -> Result<Vec<u8>, AllocError>
     ensures { IfOk result (λ text. text.items ≡ page_text (S.shown names.now) (labelled extras.entry.labels.now entries.now) (option_map (λ f. f.now) extras.entry.station)) }
 {
-    let mut text = Vec::new(alloc);
+    let mut text = buffer;
+    text.clear();
     put_head(&mut text, refresh_of(extras.station))?;
     put_body(alloc, &mut text, names, entries, extras)?;
     Ok(text)

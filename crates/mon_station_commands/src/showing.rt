@@ -1,14 +1,20 @@
 //! What a running station shows over HTTP.
 
+ghost use Rattle.std.specs.Prelude.{◌≡◌, OnOk, Some};
+ghost use Rattle.mon_console.specs.Shown.{shown_by};
+ghost use Rattle.mon_formats.specs.Formats.{formatted};
+
 use crate::figures::make_figures;
 use crate::live::Live;
-use mon_formats::Format;
-use mon_report::entries_of;
+use mon_console::Printing;
+use mon_formats::{Figures, Format};
+use mon_report::{Entry, entries_of};
 use mon_rounds::{Receiver, Span};
 use mon_station::Outbox;
 use mon_web::Texts;
 use mon_web_receiver::Shows;
 use std::alloc::{AllocError, Global};
+use std::mem;
 
 /// The format of the page for a browser.
 const PAGE: Format = Format::Html;
@@ -29,28 +35,50 @@ pub(crate) fn show_span<S: Shows + Drop, O: Outbox + Drop>(
     show(alloc, live);
 }
 
-/// Shows what is known. The texts so far are let go first, so that those of two rounds are never held at
-/// once.
+/// Shows what is known, by texts in the buffers of the texts so far.
 pub(crate) fn show<S: Shows + Drop, O: Outbox + Drop>(alloc: Global, live: &mut Live<S, O>) {
     if live.transport.rounds.receiver().is_shown() {
-        live.transport.rounds.receiver_mut().show(None);
-        let texts = make_texts(alloc, live).ok();
+        let before = live.transport.rounds.receiver_mut().take_texts();
+        let texts = make_texts(alloc, live, before).ok();
         live.transport.rounds.receiver_mut().show(texts);
     }
 }
 
-/// Makes the texts that are shown.
+/// Makes the texts that are shown, in the buffers of these before them.
 fn make_texts<S: Receiver + Drop, O: Outbox + Drop>(
     alloc: Global,
     live: &Live<S, O>,
+    before: Option<Texts>,
 ) -> Result<Texts, AllocError> {
     let figures = make_figures(alloc, live)?;
     let entries = entries_of(alloc, live.station.board())?;
     let entries = entries.as_slice();
     let printing = &live.reports.printing;
-    Ok(Texts {
-        metrics: printing.text_in(alloc, Format::Prometheus, entries, Some(&figures))?,
-        report: printing.text_in(alloc, Format::Json, entries, Some(&figures))?,
-        page: printing.text_in(alloc, PAGE, entries, Some(&figures))?,
-    })
+    let mut texts = before.unwrap_or(Texts::empty(alloc));
+    make_text(
+        &mut texts.metrics,
+        printing,
+        Format::Prometheus,
+        entries,
+        &figures,
+    )?;
+    make_text(&mut texts.report, printing, Format::Json, entries, &figures)?;
+    make_text(&mut texts.page, printing, PAGE, entries, &figures)?;
+    Ok(texts)
+}
+
+/// Makes the text anew in its own buffer: the report of these instances and of the station in this format.
+fn make_text(
+    text: &mut Vec<u8>,
+    printing: &Printing,
+    format: Format,
+    entries: &[Entry],
+    figures: &Figures,
+) -> Result<(), AllocError>
+    ensures { OnOk result (text.new.items ≡ formatted format (shown_by printing.now.names) entries.now (Some figures.now) printing.now.labels.items) }
+{
+    let empty = Vec::new(*text.allocator());
+    let buffer = mem::replace(text, empty);
+    *text = printing.text_in(buffer, format, entries, Some(figures))?;
+    Ok(())
 }

@@ -1,11 +1,12 @@
 //! What a station shows over HTTP.
 
-ghost use Rattle.std.specs.Prelude.{◌≡◌, ◌↔◌, ◌+◌, IsTrue, None, Some};
+ghost use Rattle.std.specs.Prelude.{◌≡◌, ◌↔◌, ◌+◌, [], IsTrue, None, Some};
 ghost use Rattle.mon_http.specs.Response.{fits, reply_of};
 ghost use Rattle.mon_http.specs.declared.route.Route.TheVariants as Route;
 ghost use Rattle.mon_web.specs.Site.{health_reply, is_healthy, metrics_reply, page_reply, reply_for, report_reply, text_reply};
 
 use mon_http::{Answer, Route};
+use std::alloc::Global;
 
 /// The texts that are shown. They are made once after each round, and copied for a request.
 pub struct Texts {
@@ -25,6 +26,21 @@ impl Drop for Texts {
             report: _,
             page: _,
         } = self;
+    }
+}
+
+impl Texts {
+    /// Texts without an octet, as buffers for the first ones.
+    pub fn empty(alloc: Global) -> Self
+        ensures metrics { result.metrics.items ≡ [] }
+        ensures report { result.report.items ≡ [] }
+        ensures page { result.page.items ≡ [] }
+    {
+        Texts {
+            metrics: Vec::new(alloc),
+            report: Vec::new(alloc),
+            page: Vec::new(alloc),
+        }
     }
 }
 
@@ -71,6 +87,16 @@ impl Site {
         ensures limit { self.new.limit ≡ self.old.limit }
     {
         self.texts = texts;
+    }
+
+    /// Takes the texts away, as buffers for the next ones. Until these are shown there are none.
+    pub fn take_texts(&mut self) -> Option<Texts>
+        ensures taken { result ≡ self.old.texts }
+        ensures texts { self.new.texts ≡ None }
+        ensures ended { self.new.ended ≡ self.old.ended }
+        ensures limit { self.new.limit ≡ self.old.limit }
+    {
+        self.texts.take()
     }
 
     /// Takes note that a round ended at this time.

@@ -1,6 +1,6 @@
 //! The listener and the connections, and what they and a socket are waited for by.
 
-ghost use Rattle.std.specs.Prelude.{◌≡◌, IfOk};
+ghost use Rattle.std.specs.Prelude.{◌≡◌, IfOk, None};
 ghost use Rattle.mon_web.specs.Site.{with_round, with_texts};
 
 use crate::door::Door;
@@ -55,6 +55,14 @@ impl Web {
         ensures { self.new.table.site ≡ with_texts texts self.old.table.site }
     {
         self.table.site.show(texts);
+    }
+
+    /// Takes the texts away, as buffers for the next ones. Until these are shown there are none.
+    pub fn take_texts(&mut self) -> Option<Texts>
+        ensures taken { result ≡ self.old.table.site.texts }
+        ensures site { self.new.table.site ≡ with_texts None self.old.table.site }
+    {
+        self.table.site.take_texts()
     }
 
     /// Takes note that a round ended at this time, in milliseconds since the station's start.

@@ -184,6 +184,10 @@ impl<R: Clock> Shows for WebReceiver<'_, R> {
         self.web.show(texts);
     }
 
+    fn take_texts(&mut self) -> Option<Texts> {
+        self.web.take_texts()
+    }
+
     fn note_round(&mut self, at: u64) {
         self.web.note_round(at);
     }

@@ -6,7 +6,7 @@ use std::rt::Clock;
 
 /// What a station receives datagrams by, and may show its texts by.
 pub trait Shows: Receiver {
-    ghost use Rattle.std.specs.Prelude.{◌≡◌, Option, option_map};
+    ghost use Rattle.std.specs.Prelude.{◌≡◌, None, Option, option_and_then, option_map};
     ghost use Rattle.std.specs.Option.{is_some};
     ghost use Rattle.mon_web.specs.Site.{with_round, with_texts};
     ghost use Rattle.mon_web.specs.declared.site.Site.{Site};
@@ -21,6 +21,13 @@ pub trait Shows: Receiver {
     /// Replaces the texts that it shows; by nothing if there was no memory for them.
     fn show(&mut self, texts: Option<Texts>)
         ensures shown { shown self.new ≡ option_map (with_texts texts) (shown self.old) }
+        ensures failures { Self.failures self.new ≡ Self.failures self.old };
+
+    /// Takes the texts away that it shows, as buffers for the next ones. Until these are shown there are
+    /// none.
+    fn take_texts(&mut self) -> Option<Texts>
+        ensures taken { result ≡ option_and_then (λ site. site.texts) (shown self.old) }
+        ensures shown { shown self.new ≡ option_map (with_texts None) (shown self.old) }
         ensures failures { Self.failures self.new ≡ Self.failures self.old };
 
     /// Takes note that a round ended at this time, in milliseconds since the station's start.
@@ -40,6 +47,10 @@ impl<R: Clock> Shows for SocketReceiver<'_, R> {
 
     fn show(&mut self, texts: Option<Texts>) {
         let _ = texts;
+    }
+
+    fn take_texts(&mut self) -> Option<Texts> {
+        None
     }
 
     fn note_round(&mut self, at: u64) {
