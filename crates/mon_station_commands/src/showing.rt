@@ -67,7 +67,7 @@ fn make_texts<S: Receiver + Drop, O: Outbox + Drop>(
     Ok(texts)
 }
 
-/// Makes the text anew in its own buffer: the report of these instances and of the station in this format.
+/// Makes a text in its own buffer: the report of these instances and of the station in this format.
 fn make_text(
     text: &mut Vec<u8>,
     printing: &Printing,

@@ -98,8 +98,8 @@ BUGS = {
     ),
     "a_report_says_nothing_of_its_station": (
         "src/printing.rt",
-        "        self.text_in(alloc, self.format, entries, station)",
-        "        let _ = station;\n        self.text_in(alloc, self.format, entries, None)",
+        "        self.text_in(Vec::new(alloc), self.format, entries, station)",
+        "        let _ = station;\n        self.text_in(Vec::new(alloc), self.format, entries, None)",
     ),
     "a_report_has_no_labels": (
         "src/printing.rt",
@@ -116,4 +116,6 @@ BUGS = {
         "            Some(names) => instance_text(alloc, &names.labels(alloc)?, instance),",
         "            Some(_) => instance_text(alloc, &InNumbers, instance),",
     ),
+    "gives_the_buffer_back": ("src/printing.rt", "            None => format_report(buffer, format, &InNumbers, entries, extras),", "            None => Ok(buffer),"),
+    "a_buffer_in_the_format_of_the_arguments": ("src/printing.rt", "            None => format_report(buffer, format, &InNumbers, entries, extras),", "            None => format_report(buffer, self.format, &InNumbers, entries, extras),"),
 }

@@ -348,6 +348,9 @@ BUGS = {
         "    text.extend_from_slice(narrow())?;\n",
         "",
     ),
+    "a_page_behind_what_the_buffer_had": ("src/page.rt", "    text.clear();\n", ""),
+    "gives_the_buffer_back": ("src/page.rt", "    put_body(alloc, &mut text, names, entries, extras)?;\n    Ok(text)", "    put_body(alloc, &mut text, names, entries, extras)?;\n    text.clear();\n    Ok(text)"),
+    "a_page_in_a_buffer_without_its_head": ("src/page.rt", "    text.clear();\n    put_head(&mut text, refresh_of(extras.station))?;\n", "    if text.is_empty() {\n        put_head(&mut text, refresh_of(extras.station))?;\n    }\n    text.clear();\n"),
 }
 
 PROMISES = {

@@ -116,4 +116,9 @@ BUGS = {
         "    let peers = Vec::from_slice(alloc, settings.core.peers())?;",
         "    let peers = Vec::new(alloc);",
     ),
+    "a_text_stays": ("src/showing.rt", "    let empty = Vec::new(*text.allocator());\n    let buffer = mem::replace(text, empty);\n    *text = printing.text_in(buffer, format, entries, Some(figures))?;\n", ""),
+    "a_text_is_taken_away": ("src/showing.rt", "    *text = printing.text_in(buffer, format, entries, Some(figures))?;\n", "    let _ = printing.text_in(buffer, format, entries, Some(figures))?;\n"),
+    "a_text_without_its_station": ("src/showing.rt", "    *text = printing.text_in(buffer, format, entries, Some(figures))?;\n", "    *text = printing.text_in(buffer, format, entries, None)?;\n"),
+    "each_text_is_a_page": ("src/showing.rt", "    *text = printing.text_in(buffer, format, entries, Some(figures))?;\n", "    *text = printing.text_in(buffer, PAGE, entries, Some(figures))?;\n"),
+    "a_text_of_no_instances": ("src/showing.rt", "    *text = printing.text_in(buffer, format, entries, Some(figures))?;\n", "    *text = printing.text_in(buffer, format, &[], Some(figures))?;\n"),
 }

@@ -221,6 +221,14 @@ BUGS = {
         "                self.seat(registry, place, stream, now);\n                true",
         "                self.seat(registry, place, stream, now);\n                self.site.note_round(now);\n                true",
     ),
+    "takes_no_texts_away": ("src/site.rt", "        self.texts.take()", "        None"),
+    "takes_texts_and_returns_none": ("src/site.rt", "        self.texts.take()", "        let _ = self.texts.take();\n        None"),
+    "forgets_the_round_with_the_texts": ("src/site.rt", "        self.texts.take()", "        self.ended = None;\n        self.texts.take()"),
+    "an_hour_more_with_the_texts": ("src/site.rt", "        self.texts.take()", "        self.limit = self.limit.saturating_add(3_600_000);\n        self.texts.take()"),
+    "takes_no_texts_of_the_site": ("src/web.rt", "        self.table.site.take_texts()", "        None"),
+    "shows_nothing_and_returns_nothing": ("src/web.rt", "        self.table.site.take_texts()", "        self.table.site.show(None);\n        None"),
+    "takes_texts_in_a_round": ("src/web.rt", "        self.table.site.take_texts()", "        self.table.site.note_round(0);\n        self.table.site.take_texts()"),
+    "takes_texts_and_shows_them_again": ("src/web.rt", "        self.table.site.take_texts()", "        let texts = self.table.site.take_texts();\n        self.table.site.show(texts);\n        None"),
 }
 
 # Those that break a promise as a whole, each with its function: tests/bodies tries them in the gate.

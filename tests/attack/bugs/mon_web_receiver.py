@@ -151,6 +151,10 @@ BUGS = {
         "            socket,\n            web,\n            origin,",
         "            socket,\n            web: {\n                let mut web = web;\n                web.show(None);\n                web\n            },\n            origin,",
     ),
+    "takes_no_texts_away": ("src/receiver.rt", "        self.web.take_texts()", "        None"),
+    "shows_nothing_and_takes_nothing": ("src/receiver.rt", "        self.web.take_texts()", "        self.web.show(None);\n        None"),
+    "takes_texts_in_a_round": ("src/receiver.rt", "        self.web.take_texts()", "        self.web.note_round(0);\n        self.web.take_texts()"),
+    "takes_texts_and_counts_a_failure": ("src/receiver.rt", "        self.web.take_texts()", "        self.failures = 1;\n        self.web.take_texts()"),
 }
 
 # Those that break a promise as a whole, each with its function: tests/bodies tries them in the gate.
