@@ -136,6 +136,7 @@ IsStation rows w = IsSettings rows w.settings
     × IsNumberOr 32 3 (one_of (codes "stale-after") rows) w.stale_after
     × (option_map (λ o. o.now) w.out ≡ first_of (codes "out") rows)
     × (option_map (λ o. o.now) w.http ≡ first_of (codes "http") rows)
+    × (texts w.http_hosts.now ≡ all_in (codes "http-host") rows)
     × (option_map (λ o. o.now) w.labels ≡ first_of (codes "labels") rows)
     × IsPrinted rows w.printed
 

@@ -113,6 +113,7 @@ arguments commands.Station = settings
     ∷ option (codes "stale-after") (up_to 1 1000000)
     ∷ option (codes "out") Text
     ∷ option (codes "http") Text
+    ∷ repeated (codes "http-host")
     ∷ option (codes "labels") Text
     ∷ printed
 arguments commands.Report = settings ∷ option (codes "labels") Text ∷ printed

@@ -385,6 +385,17 @@ HTTP at ADDRESS, a.b.c.d:port, without
 authentication",
 };
 
+const HTTP_HOST: Line = Line {
+    id: "http-host",
+    form: Form::Long,
+    takes: Takes::Each(Value::Text),
+    needed: false,
+    shown: "NAME",
+    help: "A name by which --http is reached; may be repeated.
+localhost and addresses are always served, and a
+request for another name gets 421",
+};
+
 const LABELS: Line = Line {
     id: "labels",
     form: Form::Long,
@@ -595,7 +606,7 @@ static ANSWER: [Line; 7] = [AGENT_SETTINGS, BOOTS, AT, FUSES, TIMES, MODULE, NAM
 
 static MIB: [Line; 2] = [FILE, MODULE];
 
-static STATION: [Line; 14] = [
+static STATION: [Line; 15] = [
     SETTINGS,
     ROUNDS,
     CHECK,
@@ -605,6 +616,7 @@ static STATION: [Line; 14] = [
     STALE_AFTER,
     OUT,
     HTTP,
+    HTTP_HOST,
     LABELS,
     FORMAT,
     COLUMNS,

@@ -199,6 +199,7 @@ fn station<'m, 'a>(matches: &'m ArgMatches<'a>) -> StationArgs<'m, 'a>
         stale_after: number_or(matches, "stale-after", USUAL_ROUNDS),
         out: find_value(matches, "out"),
         http: find_value(matches, "http"),
+        http_hosts: all(matches, "http-host"),
         labels: find_value(matches, "labels"),
         printed: read_printed(matches),
     }

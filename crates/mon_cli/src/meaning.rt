@@ -168,6 +168,8 @@ pub struct StationArgs<'m, 'a> {
     pub out: Option<&'a str>,
     /// The address at which its report is served over HTTP.
     pub http: Option<&'a str>,
+    /// The names by which that is reached, in the order of the command line.
+    pub http_hosts: &'m [&'a str],
     /// The file of labels of interfaces, if the arguments say so.
     pub labels: Option<&'a str>,
     pub printed: Printed<'m, 'a>,

@@ -214,8 +214,9 @@ targets gave up or were refused and why. What is refused ends no round;
 docs/OPERATING.md says what each line means.
 
 A damaged file ends it with mon_disk 5 Damaged, one of other instances with
-mon_saved 4 OtherWatch, and neither is touched. A file that is shorter than a
-station's, or in which no save was ever finished, counts as new.
+mon_saved 4 OtherWatch, one that another station has open with mon_disk 7 InUse,
+and none is touched. A file that is shorter than a station's, or in which no
+save was ever finished, counts as new.
 
 Examples: snmpmon station examples/station.toml --rounds 6 --interval 10
           snmpmon station examples/station.toml --rounds 6 --interval 10 --format prometheus --out snmpmon.prom

@@ -1,4 +1,4 @@
-//! Lines of what is read and written, by agents and by stations. tests/attack/codec_rows writes the
+//! Lines of what is read and written, by agents and by stations. tests/generators/codec_rows writes the
 //! rows, from independent readers.
 //!
 //!     value HEX         the value that these octets begin with, how many spell it, its size and

@@ -147,19 +147,19 @@ head_ends h good none =
         ∙ ap (λ (s : List ℕ). h.method ++ 32 ∷ (h.target ++ 32 ∷ (print_version h.minor ++ (print_end h.line_end ++ s)))) (append-nil (print_section h.fields h.last))
 
 -- a request within the limits has the verdict of its parts
-pub requests : (octets : List ℕ) (h : RequestHead) (rest : List ℕ) → ReadsRequest octets h rest → h.blank ≡ []
-    → length h.fields ≤ 32 → length (print_request h) ≤ most_octets → IsJudged octets (verdict_of h (length (print_request h)))
+pub requests : (names : List (List ℕ)) (octets : List ℕ) (h : RequestHead) (rest : List ℕ) → ReadsRequest octets h rest → h.blank ≡ []
+    → length h.fields ≤ 32 → length (print_request h) ≤ most_octets → IsJudged names octets (verdict_of names h (length (print_request h)))
 unfolding IsJudged
-requests octets h rest x none few short =
+requests names octets h rest x none few short =
     let text = print_request h in
     let n = length text in
     let (ends, lines) = head_ends h x.0 none in
     let found : head_length false (take most_octets (text ++ rest)) ≡ Some n =
-    head_found most_octets text rest n (ap (head_length false) (take_all most_octets text short) ∙ ends) in
+    head_found names most_octets text rest n (ap (head_length false) (take_all most_octets text short) ∙ ends) in
     let low : line_count text ≤ 34 = omega arith in
-    let good : IsVerdict text (verdict_of h n) = good_verdict text (verdict_of h n) h low (x.0, sym (append-nil text)) refl in
+    let good : IsVerdict names text (verdict_of names h n) = good_verdict names text (verdict_of names h n) h low (x.0, sym (append-nil text)) refl in
     inl (
       n,
       ap (λ (s : List ℕ). head_length false (take most_octets s)) x.1 ∙ found,
-      subst (λ (s : List ℕ). IsVerdict s (verdict_of h n)) (sym (ap (take n) x.1 ∙ take_at text rest n refl)) good,
+      subst (λ (s : List ℕ). IsVerdict names s (verdict_of names h n)) (sym (ap (take n) x.1 ∙ take_at text rest n refl)) good,
     )

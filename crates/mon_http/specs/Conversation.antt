@@ -44,11 +44,11 @@ abbrev pub with_refusal : Option Date → Refusal → Conversation → Conversat
 with_refusal date refusal c = with_text refusal.len refusal.keep_alive (refusal_text date refusal) c
 
 -- what a step finds at the front of the octets, and does: only a refusal is answered at once
-abbrev pub IsStep : Option Date → Conversation → Step → Conversation → Type 0
-IsStep date old St.Wait new = IsQuiet old.unread × (new ≡ old)
-IsStep date old (St.Asked request) new = IsJudged old.unread (Asked request) × (new ≡ old)
-IsStep date old St.Refused new =
-    (refusal : Refusal) × IsJudged old.unread (Refused refusal) × (new ≡ with_refusal date refusal old)
+abbrev pub IsStep : List (List ℕ) → Option Date → Conversation → Step → Conversation → Type 0
+IsStep names date old St.Wait new = IsQuiet old.unread × (new ≡ old)
+IsStep names date old (St.Asked request) new = IsJudged names old.unread (Asked request) × (new ≡ old)
+IsStep names date old St.Refused new =
+    (refusal : Refusal) × IsJudged names old.unread (Refused refusal) × (new ≡ with_refusal date refusal old)
 
 -- what the station answers at one time: the date, if it has a clock, and the reply for each route
 pub record Moment : Type 0 where
@@ -72,25 +72,25 @@ keeps (Refused refusal) = refusal.keep_alive
 
 -- what is answered to a stream of octets, from the k-th head on, and whether the connection is closed at the end.
 -- Response k is what the station answers at the time `moments k`
-pub data Talk (moments : ℕ → Moment) : ℕ → List ℕ → List ℕ → Bool → Type 0 where
-  quiet : (k : ℕ) (octets : List ℕ) → IsQuiet octets → Talk moments k octets [] false
-  closes : (k : ℕ) (octets : List ℕ) (v : Verdict) → IsJudged octets v → keeps v ≡ false
-      → Talk moments k octets (said (moments k) v) true
-  goes_on : (k : ℕ) (octets : List ℕ) (v : Verdict) (text : List ℕ) (closed : Bool) → IsJudged octets v → keeps v ≡ true
-      → Talk moments (k + 1) (skip_line_ends (drop (len_of v) octets)) text closed
-      → Talk moments k octets (said (moments k) v ++ text) closed
+pub data Talk (names : List (List ℕ)) (moments : ℕ → Moment) : ℕ → List ℕ → List ℕ → Bool → Type 0 where
+  quiet : (k : ℕ) (octets : List ℕ) → IsQuiet octets → Talk names moments k octets [] false
+  closes : (k : ℕ) (octets : List ℕ) (v : Verdict) → IsJudged names octets v → keeps v ≡ false
+      → Talk names moments k octets (said (moments k) v) true
+  goes_on : (k : ℕ) (octets : List ℕ) (v : Verdict) (text : List ℕ) (closed : Bool) → IsJudged names octets v → keeps v ≡ true
+      → Talk names moments (k + 1) (skip_line_ends (drop (len_of v) octets)) text closed
+      → Talk names moments k octets (said (moments k) v ++ text) closed
 
 -- a history of a connection: how many heads were answered, the octets that were received and sent, and what it holds.
 -- Its steps are those of the methods of `Connection`
-pub data History (moments : ℕ → Moment) : ℕ → List ℕ → List ℕ → Conversation → Type 0 where
-  began : History moments 0 [] [] start
-  received : (k : ℕ) (received sent : List ℕ) (c : Conversation) (octets : List ℕ) → History moments k received sent c
-      → History moments k (received ++ octets) sent (with_octets octets c)
-  sent : (k : ℕ) (received sent : List ℕ) (c : Conversation) (n : ℕ) → History moments k received sent c
-      → n ≤ length c.unsent → History moments k received (sent ++ take n c.unsent) (with_sent n c)
-  answered : (k : ℕ) (received sent : List ℕ) (c : Conversation) (v : Verdict) → History moments k received sent c
-      → c.closing ≡ false → c.unsent ≡ [] → IsJudged c.unread v
-      → History moments (k + 1) received sent (with_text (len_of v) (keeps v) (said (moments k) v) c)
+pub data History (names : List (List ℕ)) (moments : ℕ → Moment) : ℕ → List ℕ → List ℕ → Conversation → Type 0 where
+  began : History names moments 0 [] [] start
+  received : (k : ℕ) (received sent : List ℕ) (c : Conversation) (octets : List ℕ) → History names moments k received sent c
+      → History names moments k (received ++ octets) sent (with_octets octets c)
+  sent : (k : ℕ) (received sent : List ℕ) (c : Conversation) (n : ℕ) → History names moments k received sent c
+      → n ≤ length c.unsent → History names moments k received (sent ++ take n c.unsent) (with_sent n c)
+  answered : (k : ℕ) (received sent : List ℕ) (c : Conversation) (v : Verdict) → History names moments k received sent c
+      → c.closing ≡ false → c.unsent ≡ [] → IsJudged names c.unread v
+      → History names moments (k + 1) received sent (with_text (len_of v) (keeps v) (said (moments k) v) c)
 
 -- nothing is left to be done with what came
 abbrev pub IsAtRest : Conversation → Type 0

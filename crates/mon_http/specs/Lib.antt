@@ -5,3 +5,4 @@ pub mod Whole
 pub mod Request
 pub mod Response
 pub mod Conversation
+pub mod Host

@@ -1,5 +1,6 @@
 -- What a request asks for, and what octets are answered by.
 use Rattle.std.specs.Prelude.{◌≡◌, ℕ, ◌≤◌, ◌<◌, ◌⊎◌, Bool, true, false, not, ◌&&◌, ◌||◌, List, [], length, map, take, codes, ◌==◌, nat_lt, bytes_eq, Option, Some, None, MatchOption, MatchBool, if◌then◌else◌}
+use Rattle.std.specs.List.{list_any}
 use Rattle.httparse.specs.Grammar.{RequestHead, ReadsRequest}
 use Rattle.httparse.specs.Spans.{name_and_value}
 use Rattle.http1.specs.Fields.{known_fields}
@@ -9,10 +10,11 @@ use Rattle.http1.specs.declared.fields.ContentLength.TheVariants as Length
 use Rattle.http1.specs.declared.fields.TransferEncoding.{TransferEncoding}
 use Rattle.http1.specs.declared.fields.TransferEncoding.TheVariants as Coding
 use Rattle.mon_http.specs.declared.response.Status.{Status}
-use Rattle.mon_http.specs.declared.response.Status.TheVariants.{BadRequest, NotFound, MethodNotAllowed, HeaderFieldsTooLarge, VersionNotSupported}
+use Rattle.mon_http.specs.declared.response.Status.TheVariants.{BadRequest, NotFound, MethodNotAllowed, UriTooLong, Misdirected, HeaderFieldsTooLarge, NotImplemented, VersionNotSupported}
 use Rattle.mon_http.specs.declared.route.Route.{Route}
 use Rattle.mon_http.specs.declared.request.Verdict.{Verdict}
 use Rattle.mon_http.specs.declared.request.Verdict.TheVariants.{Asked, Refused}
+use Rattle.mon_http.specs.Host.{has_good_hosts, host_field, host_of, is_served_host}
 use Rattle.mon_http.specs.Route.{path_of, route_at}
 use Rattle.mon_http.specs.Front.{head_length, line_count, names_other_version}
 
@@ -49,19 +51,39 @@ routed method keep_alive len None = refusal NotFound keep_alive len
 routed method keep_alive len (Some route) =
     Asked (record { route = route; with_body = bytes_eq method (codes "GET"); keep_alive = keep_alive; len = len })
 
--- a request with good fields: 405 where the method is not served (RFC 9110, section 15.5.6)
+-- a method of HTTP that is not served (RFC 9110, section 9.3, and RFC 5789)
+abbrev pub is_known : List ℕ → Bool
+is_known method = bytes_eq method (codes "POST") || (bytes_eq method (codes "PUT") || (bytes_eq method (codes "DELETE")
+    || (bytes_eq method (codes "CONNECT") || (bytes_eq method (codes "OPTIONS") || (bytes_eq method (codes "TRACE")
+    || bytes_eq method (codes "PATCH"))))))
+
+-- why a method is not served: 405 for one that is known (RFC 9110, section 15.5.6), else 501 (section 15.6.2)
+abbrev pub method_status : List ℕ → Status
+method_status method = if is_known method then MethodNotAllowed else NotImplemented
+
+-- a request with good fields for a host that is served
 abbrev pub served : List ℕ → List ℕ → Bool → ℕ → Verdict
 served method target keep_alive len =
-    if is_served method then routed method keep_alive len (route_at (path_of target)) else refusal MethodNotAllowed keep_alive len
+    if is_served method then routed method keep_alive len (route_at (path_of target))
+    else refusal (method_status method) keep_alive len
 
--- what a request of these parts and this length asks for, or why it is refused
-unfoldable pub judged : List ℕ → List ℕ → ℕ → KnownFields → ℕ → Verdict
-judged method target minor known len =
-    if has_good_fields minor known then served method target (stays_open minor known) len else refusal BadRequest false len
+-- a request with good fields for this host: 421 if it is not served (RFC 9110, section 15.5.20)
+abbrev pub directed : List (List ℕ) → List ℕ → List ℕ → List ℕ → Bool → ℕ → Verdict
+directed names host method target keep_alive len =
+    if is_served_host names host then served method target keep_alive len else refusal Misdirected keep_alive len
+
+-- What a request of these parts and this length asks for, or why it is refused. Its field Host has
+-- this value, and these names are served.
+unfoldable pub judged : List (List ℕ) → List ℕ → List ℕ → ℕ → KnownFields → List ℕ → ℕ → Verdict
+judged names method target minor known field len =
+    if has_good_fields minor known && has_good_hosts target field
+    then directed names (host_of target field) method target (stays_open minor known) len
+    else refusal BadRequest false len
 
 -- what a request head of this length asks for, or why it is refused
-abbrev pub verdict_of : RequestHead → ℕ → Verdict
-verdict_of h len = judged h.method h.target h.minor (known_fields (map name_and_value h.fields)) len
+abbrev pub verdict_of : List (List ℕ) → RequestHead → ℕ → Verdict
+verdict_of names h len = let fields = map name_and_value h.fields in
+    judged names h.method h.target h.minor (known_fields fields) (host_field fields) len
 
 -- the most octets of a head
 abbrev pub most_octets : ℕ
@@ -76,8 +98,8 @@ abbrev pub bad_status : List ℕ → Status
 bad_status head = if names_other_version head then VersionNotSupported else BadRequest
 
 -- the head is a request of the grammar, and has this verdict
-abbrev pub IsGood : List ℕ → Verdict → Type 0
-IsGood head verdict = (h : RequestHead) × ReadsRequest head h [] × (verdict ≡ verdict_of h (length head))
+abbrev pub IsGood : List (List ℕ) → List ℕ → Verdict → Type 0
+IsGood names head verdict = (h : RequestHead) × ReadsRequest head h [] × (verdict ≡ verdict_of names h (length head))
 
 -- the head is no request of the grammar, and is refused
 abbrev pub IsBad : List ℕ → Verdict → Type 0
@@ -85,10 +107,10 @@ IsBad head verdict =
     ((h : RequestHead) → ReadsRequest head h [] → ⊥) × (verdict ≡ refusal (bad_status head) false (length head))
 
 -- what a head that ends with its empty line comes to: 431 with too many lines (RFC 6585, section 5)
-unfoldable pub IsVerdict : List ℕ → Verdict → Type 0
-IsVerdict head verdict =
+unfoldable pub IsVerdict : List (List ℕ) → List ℕ → Verdict → Type 0
+IsVerdict names head verdict =
     MatchBool (nat_lt most_lines (line_count head)) (verdict ≡ refusal HeaderFieldsTooLarge false (length head))
-    (IsGood head verdict ⊎ IsBad head verdict)
+    (IsGood names head verdict ⊎ IsBad head verdict)
 
 -- no head ends within the octets, and more may come
 abbrev pub IsQuiet : List ℕ → Type 0
@@ -99,15 +121,23 @@ abbrev pub IsTooLong : List ℕ → Type 0
 IsTooLong octets = (head_length false (take most_octets octets) ≡ None) × (most_octets ≤ length octets)
 
 -- a head ends within the octets, and has this verdict
-abbrev pub HasVerdict : List ℕ → Verdict → Type 0
-HasVerdict octets verdict =
-    (n : ℕ) × (head_length false (take most_octets octets) ≡ Some n) × IsVerdict (take n octets) verdict
+abbrev pub HasVerdict : List (List ℕ) → List ℕ → Verdict → Type 0
+HasVerdict names octets verdict =
+    (n : ℕ) × (head_length false (take most_octets octets) ≡ Some n) × IsVerdict names (take n octets) verdict
 
--- what the front of the octets comes to, where it is a head or too long for one (431)
-unfoldable pub IsJudged : List ℕ → Verdict → Type 0
-IsJudged octets verdict =
-    HasVerdict octets verdict ⊎ (IsTooLong octets × (verdict ≡ refusal HeaderFieldsTooLarge false 0))
+-- Why octets are too long for a head. Its request line has ended: 431. Its target has not: 414 (RFC 9110,
+-- section 15.5.15). Its method has not: 501 (RFC 9112, section 3).
+abbrev pub long_status : List ℕ → Status
+long_status octets =
+    if list_any (λ b. b == 10) octets then HeaderFieldsTooLarge
+    else if list_any (λ b. b == 32) octets then UriTooLong
+    else NotImplemented
+
+-- what the front of the octets comes to, where it is a head or too long for one
+unfoldable pub IsJudged : List (List ℕ) → List ℕ → Verdict → Type 0
+IsJudged names octets verdict =
+    HasVerdict names octets verdict ⊎ (IsTooLong octets × (verdict ≡ refusal (long_status (take most_octets octets)) false 0))
 
 -- the verdict, or None while more octets are needed
-abbrev pub IsProgress : List ℕ → Option Verdict → Type 0
-IsProgress octets progress = MatchOption progress (IsQuiet octets) (λ verdict. IsJudged octets verdict)
+abbrev pub IsProgress : List (List ℕ) → List ℕ → Option Verdict → Type 0
+IsProgress names octets progress = MatchOption progress (IsQuiet octets) (λ verdict. IsJudged names octets verdict)

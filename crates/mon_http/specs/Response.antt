@@ -3,7 +3,7 @@ use Rattle.std.specs.Prelude.{ℕ, Bool, true, false, List, [], ◌++◌, Option
 use Rattle.httpdate.specs.Date.{date_text}
 use Rattle.httpdate.specs.declared.date.HttpDate.{HttpDate as Date}
 use Rattle.mon_http.specs.declared.response.Status.{Status}
-use Rattle.mon_http.specs.declared.response.Status.TheVariants.{Success, BadRequest, NotFound, MethodNotAllowed, HeaderFieldsTooLarge, ServiceUnavailable, VersionNotSupported}
+use Rattle.mon_http.specs.declared.response.Status.TheVariants.{Success, BadRequest, NotFound, MethodNotAllowed, UriTooLong, Misdirected, HeaderFieldsTooLarge, NotImplemented, ServiceUnavailable, VersionNotSupported}
 use Rattle.mon_http.specs.declared.response.Media.{Media}
 use Rattle.mon_http.specs.declared.response.Media.TheVariants.{Prometheus, Json, Html, Plain}
 use Rattle.mon_http.specs.declared.response.Head.{Head}
@@ -20,7 +20,10 @@ status_text Success = codes "200 OK"
 status_text BadRequest = codes "400 Bad Request"
 status_text NotFound = codes "404 Not Found"
 status_text MethodNotAllowed = codes "405 Method Not Allowed"
+status_text UriTooLong = codes "414 URI Too Long"
+status_text Misdirected = codes "421 Misdirected Request"
 status_text HeaderFieldsTooLarge = codes "431 Request Header Fields Too Large"
+status_text NotImplemented = codes "501 Not Implemented"
 status_text ServiceUnavailable = codes "503 Service Unavailable"
 status_text VersionNotSupported = codes "505 HTTP Version Not Supported"
 

@@ -1,5 +1,6 @@
 -- What is served at which request target.
-use Rattle.std.specs.Prelude.{ℕ, List, [], ◌∷◌, Option, Some, None, take, drop, length, codes, ◌||◌, ◌==◌, bytes_eq, if◌then◌else◌}
+use Rattle.std.specs.Prelude.{ℕ, Bool, List, [], ◌∷◌, Option, Some, None, take, drop, length, codes, ◌&&◌, ◌||◌, ◌==◌, nat_le, bytes_eq, if◌then◌else◌}
+use Rattle.http1.specs.Text.{eq_ignore_case}
 use Rattle.mon_http.specs.declared.route.Route.{Route}
 use Rattle.mon_http.specs.declared.route.Route.TheVariants.{Metrics, Report, Page, Health}
 
@@ -12,12 +13,18 @@ before a b (octet ∷ octets) = if (octet == a) || (octet == b) then [] else oct
 abbrev pub or_root : List ℕ → List ℕ
 or_root text = if bytes_eq (take 1 text) (codes "/") then text else codes "/"
 
--- a target in origin form: an absolute one without its scheme and authority (RFC 9112, section 3.2.2), else the target itself
+-- the target is in absolute form (RFC 9112, section 3.2.2): it begins with the scheme, in any case
+abbrev pub is_absolute : List ℕ → Bool
+is_absolute target = nat_le 7 (length target) && eq_ignore_case (take 7 target) (codes "http://")
+
+-- the authority of a target in absolute form (RFC 3986, section 3.2)
+abbrev pub authority_of : List ℕ → List ℕ
+authority_of target = before 47 63 (drop 7 target)
+
+-- a target in origin form: an absolute one without its scheme and authority, else the target itself
 abbrev pub origin_form : List ℕ → List ℕ
 origin_form target =
-    if bytes_eq (take 7 target) (codes "http://")
-    then or_root (drop (length (before 47 63 (drop 7 target))) (drop 7 target))
-    else target
+    if is_absolute target then or_root (drop (length (authority_of target)) (drop 7 target)) else target
 
 -- the path of a request target, without its query (RFC 3986, section 3.4)
 abbrev pub path_of : List ℕ → List ℕ

@@ -1,6 +1,6 @@
 //! A connection: the octets that came and were not answered, and those to be sent.
 
-ghost use Rattle.std.specs.Prelude.{◌≡◌, ◌≤◌, ◌+◌, ◌-◌, ◌++◌, [], true, false, IsTrue, IfOk, OnErr, OnOk, drop, length, vec_capacity};
+ghost use Rattle.std.specs.Prelude.{◌≡◌, ◌≤◌, ◌+◌, ◌-◌, ◌++◌, [], true, false, IsTrue, IfOk, List, ℕ, OnErr, OnOk, drop, length, map, string_bytes, vec_capacity};
 ghost use Rattle.mon_http.specs.Front.{skip_line_ends};
 ghost use Rattle.mon_http.specs.Conversation.{start, with_octets, with_sent, with_text, with_reply, with_refusal, IsStep};
 ghost use Rattle.mon_http.specs.Request.{IsJudged, IsProgress};
@@ -10,7 +10,7 @@ ghost use Rattle.mon_http.specs.declared.request.Verdict.TheVariants as Verdicts
 
 use crate::answer::Answer;
 use crate::front::{line_ends, scan};
-use crate::request::{Refusal, Request, Verdict, judge, refuse};
+use crate::request::{Refusal, Request, Verdict, judge, long_status, refuse};
 use crate::response::{Head, Media, Status, put_head};
 use crate::step::Step;
 use httpdate::HttpDate;
@@ -156,20 +156,20 @@ impl Connection {
     }
 
     /// Judges the front of the octets, if a head ends there or they are too many for one.
-    fn progress(&mut self) -> Option<Verdict>
+    fn progress(&mut self, names: &[String]) -> Option<Verdict>
         ensures kept { self.new ≡ self.old }
-        ensures progress { IsProgress self.old.unread result }
+        ensures progress { IsProgress (map string_bytes names.now) self.old.unread result }
     {
         let found = scan(&self.input, self.scanned, self.is_blank);
         match found.end {
-            Some(n) => Some(judge(&self.input[..n])),
+            Some(n) => Some(judge(names, &self.input[..n])),
             None => {
                 self.scanned = self.input.len();
                 self.is_blank = found.blank;
                 if self.input.len() < MAX_OCTETS {
                     None
                 } else {
-                    Some(refuse(Status::HeaderFieldsTooLarge, false, 0))
+                    Some(refuse(long_status(&self.input), false, 0))
                 }
             }
         }
@@ -189,18 +189,23 @@ impl Connection {
     }
 
     /// Judges what came, once all that was pending is sent. A bad head is refused at once; a request is
-    /// left for [`Connection::answer`].
+    /// left for [`Connection::answer`]. Hosts of these names are served, `localhost` and addresses.
     ///
     /// # Errors
     /// `AllocError` if there is no memory for a refusal; nothing changes then.
-    pub fn step(&mut self, alloc: Global, date: Option<HttpDate>) -> Result<Step, AllocError>
+    pub fn step(
+        &mut self,
+        alloc: Global,
+        date: Option<HttpDate>,
+        names: &[String],
+    ) -> Result<Step, AllocError>
         requires open { self.old.closing ≡ false }
         requires sent { self.old.unsent ≡ [] }
-        ensures done { IfOk result (λ step. IsStep date self.old step self.new) }
+        ensures done { IfOk result (λ step. IsStep (map string_bytes names.now) date self.old step self.new) }
         ensures kept { OnErr result (self.new ≡ self.old) }
-        ensures cause { OnErr result ((refusal : RefusalData) × IsJudged self.old.unread (Verdicts.Refused refusal)) }
+        ensures cause { OnErr result ((refusal : RefusalData) × IsJudged (map string_bytes names.now) self.old.unread (Verdicts.Refused refusal)) }
     {
-        match self.progress() {
+        match self.progress(names) {
             None => Ok(Step::Wait),
             Some(Verdict::Asked(request)) => Ok(Step::Asked(request)),
             Some(Verdict::Refused(refusal)) => {
@@ -224,7 +229,7 @@ impl Connection {
     ) -> Result<(), AllocError>
         requires open { self.old.closing ≡ false }
         requires sent { self.old.unsent ≡ [] }
-        requires asked { IsJudged self.old.unread (Verdicts.Asked request) }
+        requires asked { (names : List (List ℕ)) × IsJudged names self.old.unread (Verdicts.Asked request) }
         requires fits { IsTrue (fits request.route answer) }
         ensures answered { OnOk result (self.new ≡ with_reply date request (reply_of answer.entry) self.old) }
         ensures kept { OnErr result (self.new ≡ self.old) }

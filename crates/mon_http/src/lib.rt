@@ -7,6 +7,7 @@
 mod answer;
 mod connection;
 mod front;
+mod host;
 pub mod laws;
 mod request;
 mod response;

@@ -1,10 +1,12 @@
 //! What a request asks for.
 
-ghost use Rattle.std.specs.Prelude.{◌≡◌, length};
+ghost use Rattle.std.specs.Prelude.{◌≡◌, ◌==◌, length, map, string_bytes};
+ghost use Rattle.std.specs.List.{list_any};
 ghost use Rattle.mon_http.specs.Whole.{whole_of};
-ghost use Rattle.mon_http.specs.Request.{has_no_content, has_good_fields, served, judged, bad_status, refusal, IsVerdict};
+ghost use Rattle.mon_http.specs.Request.{has_no_content, has_good_fields, is_known, long_status, method_status, served, judged, bad_status, refusal, IsVerdict};
 
 use crate::front::{line_count, names_other_version};
+use crate::host::{has_good_hosts, host_field, host_of, is_served_host};
 use crate::response::Status;
 use crate::route::{Route, route_of};
 use http1::fields::{ContentLength, KnownFields, TransferEncoding};
@@ -79,7 +81,31 @@ fn has_good_fields(minor: u8, known: &KnownFields) -> bool
         && has_no_content(known.transfer_encoding, known.content_length)
 }
 
-/// Judges a request with good fields.
+/// Returns `true` for a method of HTTP that is not served.
+fn is_known(method: &[u8]) -> bool
+    ensures { result ≡ is_known method.now }
+{
+    method == b"POST".as_slice()
+        || method == b"PUT".as_slice()
+        || method == b"DELETE".as_slice()
+        || method == b"CONNECT".as_slice()
+        || method == b"OPTIONS".as_slice()
+        || method == b"TRACE".as_slice()
+        || method == b"PATCH".as_slice()
+}
+
+/// Returns the status with which a method is refused.
+fn method_status(method: &[u8]) -> Status
+    ensures { result ≡ method_status method.now }
+{
+    if is_known(method) {
+        Status::MethodNotAllowed
+    } else {
+        Status::NotImplemented
+    }
+}
+
+/// Judges a request with good fields for a host that is served.
 fn served(method: &[u8], target: &[u8], keep_alive: bool, len: usize) -> Verdict
     ensures { result ≡ served method.now target.now keep_alive len }
 {
@@ -96,19 +122,63 @@ fn served(method: &[u8], target: &[u8], keep_alive: bool, len: usize) -> Verdict
             None => refuse(Status::NotFound, keep_alive, len),
         }
     } else {
-        refuse(Status::MethodNotAllowed, keep_alive, len)
+        refuse(method_status(method), keep_alive, len)
     }
 }
 
-/// Judges a request of these parts.
+/// The parts of a request that is judged.
+#[derive(Clone, Copy)]
+struct Parts<'a> {
+    method: &'a [u8],
+    target: &'a [u8],
+    /// The minor version, 0 or 1.
+    minor: u8,
+    /// The value of its field Host.
+    host: &'a [u8],
+    /// The number of octets of its head.
+    len: usize,
+}
+
+/// Judges a request of these parts, where these names are served.
 #[tactic(auto, unfolding(crate::specs::Request::judged))]
-fn judged(method: &[u8], target: &[u8], minor: u8, known: &KnownFields, len: usize) -> Verdict
-    ensures { result ≡ judged method.now target.now minor known.now len }
+fn judged(names: &[String], parts: Parts<'_>, known: &KnownFields) -> Verdict
+    ensures { result ≡ judged (map string_bytes names.now) parts.entry.method.now parts.entry.target.now parts.entry.minor known.now parts.entry.host.now parts.entry.len }
 {
-    if has_good_fields(minor, known) {
-        served(method, target, minor == 1 && !known.close, len)
+    let Parts {
+        method,
+        target,
+        minor,
+        host,
+        len,
+    } = parts;
+    if !has_good_fields(minor, known) || !has_good_hosts(target, host) {
+        return refuse(Status::BadRequest, false, len);
+    }
+    let keep_alive = minor == 1 && !known.close;
+    if is_served_host(names, host_of(target, host)) {
+        served(method, target, keep_alive, len)
     } else {
-        refuse(Status::BadRequest, false, len)
+        refuse(Status::Misdirected, keep_alive, len)
+    }
+}
+
+/// Returns `true` if one of the octets is this one.
+fn has_octet(octets: &[u8], wanted: u8) -> bool
+    ensures { result ≡ list_any (λ b. b == wanted) octets.now }
+{
+    octets.iter().any(|octet| *octet == wanted)
+}
+
+/// Returns the status with which octets are refused that are too long for a head.
+pub(crate) fn long_status(octets: &[u8]) -> Status
+    ensures { result ≡ long_status octets.now }
+{
+    if has_octet(octets, b'\n') {
+        Status::HeaderFieldsTooLarge
+    } else if has_octet(octets, b' ') {
+        Status::UriTooLong
+    } else {
+        Status::NotImplemented
     }
 }
 
@@ -136,9 +206,9 @@ fn whole(parsed: httparse::Result<RequestSpans>, len: usize) -> Option<RequestSp
     }
 }
 
-/// Judges a head that ends with its empty line.
-pub(crate) fn judge(head: &[u8]) -> Verdict
-    ensures { IsVerdict head.now result }
+/// Judges a head that ends with its empty line, where these names are served.
+pub(crate) fn judge(names: &[String], head: &[u8]) -> Verdict
+    ensures { IsVerdict (map string_bytes names.now) head.now result }
 {
     if line_count(head) > MAX_LINES {
         return refuse(Status::HeaderFieldsTooLarge, false, head.len());
@@ -146,9 +216,16 @@ pub(crate) fn judge(head: &[u8]) -> Verdict
     let mut headers = [EMPTY_HEADER_SPAN; MAX_FIELDS];
     match whole(parse_request(head, &mut headers), head.len()) {
         Some(found) => {
-            let known = KnownFields::from_spans(head, &headers[..found.headers]);
-            let (method, target) = (found.method.of(head), found.path.of(head));
-            judged(method, target, found.version, &known, head.len())
+            let fields = &headers[..found.headers];
+            let known = KnownFields::from_spans(head, fields);
+            let parts = Parts {
+                method: found.method.of(head),
+                target: found.path.of(head),
+                minor: found.version,
+                host: host_field(head, fields),
+                len: head.len(),
+            };
+            judged(names, parts, &known)
         }
         None => refuse(bad_status(head), false, head.len()),
     }

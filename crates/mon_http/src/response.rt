@@ -14,7 +14,10 @@ pub enum Status {
     BadRequest,
     NotFound,
     MethodNotAllowed,
+    UriTooLong,
+    Misdirected,
     HeaderFieldsTooLarge,
+    NotImplemented,
     ServiceUnavailable,
     VersionNotSupported,
 }
@@ -48,7 +51,10 @@ fn status_text(status: Status) -> &'static [u8]
         Status::BadRequest => b"400 Bad Request",
         Status::NotFound => b"404 Not Found",
         Status::MethodNotAllowed => b"405 Method Not Allowed",
+        Status::UriTooLong => b"414 URI Too Long",
+        Status::Misdirected => b"421 Misdirected Request",
         Status::HeaderFieldsTooLarge => b"431 Request Header Fields Too Large",
+        Status::NotImplemented => b"501 Not Implemented",
         Status::ServiceUnavailable => b"503 Service Unavailable",
         Status::VersionNotSupported => b"505 HTTP Version Not Supported",
     }

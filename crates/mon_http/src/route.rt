@@ -1,7 +1,9 @@
 //! What is served at which request target.
 
-ghost use Rattle.std.specs.Prelude.{◌≡◌, ◌≤◌, length};
-ghost use Rattle.mon_http.specs.Route.{before, or_root, origin_form, path_of, route_at};
+ghost use Rattle.std.specs.Prelude.{◌≡◌, ◌≤◌, ◌+◌, IsTrue, length};
+ghost use Rattle.mon_http.specs.Route.{authority_of, before, is_absolute, or_root, origin_form, path_of, route_at};
+
+use http1::text::eq_ignore_case;
 
 /// What is served.
 #[derive(Clone, Copy, Debug, PartialEq, Eq)]
@@ -35,16 +37,32 @@ fn or_root(text: &[u8]) -> &[u8]
     if text.starts_with(b"/") { text } else { b"/" }
 }
 
+/// Returns `true` if the target is in absolute form: it begins with the scheme, in any case.
+pub(crate) fn is_absolute(target: &[u8]) -> bool
+    ensures absolute { result ≡ is_absolute target.now }
+    ensures long { IsTrue result → 7 ≤ length target.now }
+{
+    target.len() >= 7 && eq_ignore_case(&target[..7], b"http://")
+}
+
+/// Returns the authority of a target in absolute form.
+pub(crate) fn authority_of(target: &[u8]) -> &[u8]
+    requires { 7 ≤ length target.now }
+    ensures text { result.now ≡ authority_of target.now }
+    ensures within { 7 + length result.now ≤ length target.now }
+{
+    before(&target[7..], b'/', b'?')
+}
+
 /// Returns the target without a scheme and authority, if it has them (RFC 9112, section 3.2.2).
 fn origin_form(target: &[u8]) -> &[u8]
     ensures { result.now ≡ origin_form target.now }
 {
-    if target.len() < 7 || target[..7] != b"http://"[..] {
-        return target;
+    if is_absolute(target) {
+        or_root(&target[7 + authority_of(target).len()..])
+    } else {
+        target
     }
-    let rest = &target[7..];
-    let authority = before(rest, b'/', b'?');
-    or_root(&rest[authority.len()..])
 }
 
 /// Returns the path of a request target, without its query (RFC 3986, section 3.4).

@@ -1,6 +1,7 @@
 -- Which labels are given for which instance.
-use Rattle.std.specs.Prelude.{ℕ, ◌+◌, ◌-◌, Bool, ◌==◌, List, [], ◌∷◌, length, Option, Some, None, option_map, option_and_then, slice_get, String, string_bytes, if◌then◌else◌}
+use Rattle.std.specs.Prelude.{ℕ, ◌+◌, ◌-◌, Bool, ◌==◌, ◌&&◌, ◌||◌, List, [], ◌∷◌, length, take, Option, Some, None, option_map, option_and_then, slice_get, String, string_bytes, if◌then◌else◌}
 use Rattle.std.specs.List.{find, list_any}
+use Rattle.std.specs.Str.{bytes_eq}
 use Rattle.mon_board.specs.declared.instance.Instance.{Instance}
 use Rattle.mon_board.specs.declared.instance.Watched.{Watched}
 use Rattle.mon_page.specs.declared.extras.InstanceLabels.{InstanceLabels}
@@ -35,13 +36,29 @@ target_for targets instance = target_from instance 0 targets
 abbrev pub address_of : {A : Type 0} → List Target → List (String A) → ℕ → Option (List ℕ)
 address_of targets addresses instance = option_map string_bytes (option_and_then (slice_get addresses) (target_for targets instance))
 
--- the last part of a name
-abbrev pub last_part : List ℕ → Option ℕ
-last_part name = slice_get name (length name - 1)
+-- what the names of columns of ifTable begin with (RFC 2863 section 6)
+abbrev pub if_entry : List ℕ
+if_entry = 1 ∷ 3 ∷ 6 ∷ 1 ∷ 2 ∷ 1 ∷ 2 ∷ 2 ∷ 1 ∷ []
 
--- the interface at the instance's engine whose index is the last part of the instance's name, if there is one
+-- what the names of columns of ifXTable begin with
+abbrev pub if_x_entry : List ℕ
+if_x_entry = 1 ∷ 3 ∷ 6 ∷ 1 ∷ 2 ∷ 1 ∷ 31 ∷ 1 ∷ 1 ∷ 1 ∷ []
+
+-- whether a name is that of a column of this table with an index of one number
+abbrev pub is_column_of : List ℕ → List ℕ → Bool
+is_column_of entry name = bytes_eq (take (length entry) name) entry && (length name == length entry + 2)
+
+-- whether a name is that of a column of ifTable or ifXTable
+abbrev pub is_column : List ℕ → Bool
+is_column name = is_column_of if_entry name || is_column_of if_x_entry name
+
+-- the index of the interface that a name is about; only columns of ifTable and ifXTable are about one
+abbrev pub interface_of : List ℕ → Option ℕ
+interface_of name = if is_column name then slice_get name (length name - 1) else None
+
+-- the interface at the instance's engine that the instance's name is about, if there is one
 abbrev pub interface_for : List InterfaceLabels → Instance → Option InterfaceLabels
-interface_for all i = option_and_then (λ index. find (λ l. is_of i.engine index (described l)) all) (last_part i.name)
+interface_for all i = option_and_then (λ index. find (λ l. is_of i.engine index (described l)) all) (interface_of i.name)
 
 -- the labels of a target's address and of an interface, if there is one
 abbrev pub labels_by : Option (List ℕ) → Option InterfaceLabels → Given

@@ -1,13 +1,19 @@
 //! Which instance has which labels.
 
-ghost use Rattle.std.specs.Prelude.{◌≡◌, [], IfOk, map, option_map, string_bytes};
-ghost use Rattle.mon_labels.specs.Given.{address_of, given, given_from, interface_for, labels_for, polls, target_for};
+ghost use Rattle.std.specs.Prelude.{◌≡◌, ◌≤◌, [], IfOk, length, map, option_map, string_bytes};
+ghost use Rattle.mon_labels.specs.Given.{address_of, given, given_from, interface_for, interface_of, is_column, is_column_of, labels_for, polls, target_for};
 
 use crate::interface::{InterfaceLabels, find_interface};
 use mon_board::{Instance, Watched};
 use mon_page::InstanceLabels;
 use mon_poller::Target;
 use std::alloc::{AllocError, Global};
+
+/// What columns of ifTable begin with (RFC 2863 section 6).
+const IF_ENTRY: [u32; 9] = [1, 3, 6, 1, 2, 1, 2, 2, 1];
+
+/// What columns of ifXTable begin with.
+const IF_X_ENTRY: [u32; 10] = [1, 3, 6, 1, 2, 1, 31, 1, 1, 1];
 
 /// The labels of interfaces, in the order of their text.
 #[derive(Debug, Drop)]
@@ -34,8 +40,8 @@ impl Labels {
     }
 
     /// Returns the labels of these instances, in their order: the address of the first target that is polled for
-    /// the instance, and the ifName and ifAlias of the interface at its engine whose index is the last
-    /// sub-identifier of its name.
+    /// the instance, and the ifName and ifAlias of the interface at its engine, if its name is a column of
+    /// ifTable or ifXTable.
     ///
     /// # Errors
     /// `AllocError` if there is no memory for them.
@@ -80,15 +86,44 @@ impl Labels {
     fn interface_for(&self, instance: &Instance) -> Option<&InterfaceLabels>
         ensures { option_map (λ l. l.now) result ≡ interface_for self.now.interfaces.items instance.now }
     {
-        match instance.name.parts().last() {
+        match interface_of(instance.name.parts()) {
             None => None,
             Some(index) => find_interface(
                 self.interfaces.as_slice(),
                 instance.engine.as_slice(),
-                *index,
+                index,
             ),
         }
     }
+}
+
+/// Returns the index of the interface that a name is about. `None` if the name is no column of
+/// ifTable or ifXTable with an index of one number (RFC 2863 section 6).
+fn interface_of(name: &[u32]) -> Option<u32>
+    ensures { result ≡ interface_of name.now }
+{
+    if is_column(name) {
+        name.last().copied()
+    } else {
+        None
+    }
+}
+
+/// Returns `true` if a name is that of a column of ifTable or ifXTable.
+fn is_column(name: &[u32]) -> bool
+    ensures { result ≡ is_column name.now }
+{
+    let of_if = is_column_of(&IF_ENTRY, name);
+    let of_if_x = is_column_of(&IF_X_ENTRY, name);
+    of_if || of_if_x
+}
+
+/// Returns `true` if a name is that of a column of this table with an index of one number.
+fn is_column_of(entry: &[u32], name: &[u32]) -> bool
+    requires { length entry.now ≤ 10 }
+    ensures { result ≡ is_column_of entry.now name.now }
+{
+    name.starts_with(entry) && name.len() == entry.len() + 2
 }
 
 /// Returns labels of these texts.

@@ -1,4 +1,4 @@
--- The plot of a window: a path through what was observed at each sample, 1000 units wide and 200 high. Samples are evenly spaced, oldest first.
+-- The plot of a window: a path through what was observed at each sample, 1000 units wide and 200 high. Samples are evenly spaced, oldest first, the newest at the right edge.
 use Rattle.std.specs.Prelude.{ℕ, ℤ, pos, nat_abs, int_lt, int_div, ◌+ℤ◌, ◌+◌, ◌-◌, ◌*◌, ◌/◌, ◌%◌, ◌^◌, min, max, Bool, true, false, ◌&&◌, ◌==◌, List, [], ◌∷◌, ◌++◌, Option, Some, None, is_some, codes, decimal, length, slice_get, if◌then◌else◌}
 use Rattle.mon_sample.specs.Key.{boots_of, discontinuity_of, kind_of, sample_value}
 use Rattle.mon_rates.specs.Part.{is_counter}
@@ -41,9 +41,9 @@ scale_from items s place (x ∷ xs) = scale_from items (widened s (level (before
 abbrev pub scale_of : List ℕ → Scale
 scale_of items = scale_from items (record { low = 2 ^ 128 - 1; high = 0 }) 0 items
 
--- how far from the left a place is
+-- how far from the left a place is: the newest of so many samples is at the right edge, at 1000
 abbrev pub across : ℕ → ℕ → ℕ
-across count place = place * 1000 / max count 1
+across count place = 1000 - min ((count - 1 - place) * 1000 / max (count - 1) 1) 1000
 
 -- how far from the top a level is
 abbrev pub below_top : Scale → ℕ → ℕ

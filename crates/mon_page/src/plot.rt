@@ -82,11 +82,13 @@ fn scale_of(samples: &[Sample]) -> Scale
     scale
 }
 
-/// Returns how far from the left a place is.
+/// Returns how far from the left a place is: the newest of so many samples at the right edge, at 1000.
 fn across(count: usize, place: usize) -> u128
     ensures { result ≡ across count place }
 {
-    (place as u128) * 1000 / (count as u128).max(1)
+    let newest = (count as u128).saturating_sub(1);
+    let behind = newest.saturating_sub(place as u128);
+    1000 - (behind * 1000 / newest.max(1)).min(1000)
 }
 
 /// Returns how far from the top a level is.

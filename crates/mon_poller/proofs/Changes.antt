@@ -51,8 +51,8 @@ module _ (targets : List Target) (n : ℕ) (old new : Slab OpenPoll) (are : AreP
       distinct = put_distinct old new key p are.slots.distinct here elsewhere u;
     };
     each = λ k x at. elim (cases_eq k key) [
-      | inl e ↦ subst (λ (y : OpenPoll). IsOpenPoll targets (n + 1) y) (same_poll p x (sym u.changed ∙ ap (get new) (sym e) ∙ at)) (record { id = omega arith; sends = sends })
-      | inr ne ↦ let r = are.each k x (sym (u.others k ne) ∙ at) in record { id = omega arith; sends = r.sends }
+      | inl e ↦ subst (λ (y : OpenPoll). IsOpenPoll targets (n + 1) y) (same_poll p x (sym u.changed ∙ ap (get new) (sym e) ∙ at)) (record { id = omega arith; counted = omega arith; sends = sends })
+      | inr ne ↦ let r = are.each k x (sym (u.others k ne) ∙ at) in record { id = omega arith; counted = r.counted; sends = r.sends }
     ];
     few = omega arith;
     room = omega (arith, are.room);
@@ -122,7 +122,7 @@ module _ (targets : List Target) (n : ℕ) (old : Slab OpenPoll) (are : ArePolls
       | inl e ↦
           let first = are.each key p was in
           subst (λ (y : OpenPoll). IsOpenPoll targets n y) (same_poll q x (sym updated.changed ∙ ap (get (with_value old key q)) (sym e) ∙ at))
-          (record { id = subst (λ (m : ℕ). m ≤ n) (sym id) first.id; sends = subst (λ (t : ℕ). q.sends ≤ (target_at targets t).tries) (sym target) sends })
+          (record { id = subst (λ (m : ℕ). m ≤ n) (sym id) first.id; counted = subst (λ (m : ℕ). 0 < m) (sym id) first.counted; sends = subst (λ (t : ℕ). q.sends ≤ (target_at targets t).tries) (sym target) sends })
       | inr ne ↦ are.each k x (sym (updated.others k ne) ∙ at)
     ];
     few = omega (arith, same_count, are.few);

@@ -39,9 +39,10 @@ pub record AreSlots (targets : List Target) (s : Slab OpenPoll) : Type 0 where
   pub there : (key : ℕ) (p : OpenPoll) → get s key ≡ Some p → p.target < length targets
   pub distinct : (k j : ℕ) (p q : OpenPoll) → get s k ≡ Some p → get s j ≡ Some q → p.id ≡ q.id → k ≡ j
 
--- an open poll was given its request-id, and was sent no more often than its target is tried
+-- an open poll was given its request-id, which is not 0, and was sent no more often than its target is tried
 pub record IsOpenPoll (targets : List Target) (started : ℕ) (p : OpenPoll) : Type 0 where
   pub id : p.id ≤ started
+  pub counted : 0 < p.id
   pub sends : p.sends ≤ (target_at targets p.target).tries
 
 -- targets within their limits, and at most 64 open polls of them, for which there is capacity

@@ -1,5 +1,5 @@
 -- The open polls, and how each event changes them.
-use Rattle.std.specs.Prelude.{ℕ, ◌+◌, pos, negsuc, ℤ, nat_lt, if◌then◌else◌, Option, Some, None}
+use Rattle.std.specs.Prelude.{ℕ, ◌+◌, ◌≤◌, ◌<◌, IsTrue, pos, negsuc, ℤ, nat_lt, if◌then◌else◌, Option, Some, None}
 use Rattle.std.specs.FinMap as map
 use Rattle.std.specs.Ordering.{nat_cmp}
 
@@ -43,6 +43,13 @@ resent tries id poll p =
 abbrev pub timed_at : (ℕ → ℕ) → ℕ → Option Poll → Polls → Polls
 timed_at tries id None p = p
 timed_at tries id (Some poll) p = resent (tries poll.target) id poll p
+
+-- the least of the open polls' request-ids that are greater than this one; None: none is greater
+abbrev pub IsOldestAfter : ℕ → Open → Option ℕ → Type 0
+IsOldestAfter id polls None = (other : ℕ) → IsTrue (map.contains_key polls other) → other ≤ id
+IsOldestAfter id polls (Some oldest) =
+    IsTrue (map.contains_key polls oldest) × (id < oldest)
+    × ((other : ℕ) → IsTrue (map.contains_key polls other) → id < other → oldest ≤ other)
 
 -- the poll that is open under a request-id, sent again or closed
 abbrev pub timed : (ℕ → ℕ) → ℕ → Polls → Polls

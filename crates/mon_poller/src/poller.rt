@@ -4,14 +4,14 @@ ghost use Rattle.std.specs.Prelude.{◌≡◌, ◌↔◌, ◌≤◌, ℕ, Option
 ghost use Rattle.std.specs.FinMap as map;
 ghost use Rattle.mon_pdu.specs.declared.message.Message.{Message as AnyMessage};
 ghost use Rattle.mon_pdu.specs.Grammar.{BeginsWithMessage};
-ghost use Rattle.mon_poller.specs.Polls.{no_polls, with_poll, timed};
+ghost use Rattle.mon_poller.specs.Polls.{IsOldestAfter, no_polls, with_poll, timed};
 ghost use Rattle.mon_poller.specs.Target.{AreTargets, poll_octets, target_at};
 ghost use Rattle.mon_poller.specs.Verdict.{to_offered};
 
 use crate::asked::Asked;
 use crate::awaiting::{ends_poll, find_awaited, read};
 use crate::fault::{PollFault, ResponseFault};
-use crate::finding::{find, least_id};
+use crate::finding::{find, least_after};
 use crate::in_place::in_place;
 use crate::laws;
 use crate::offers::poll_answer;
@@ -196,11 +196,18 @@ impl Poller {
 
     /// The least request-id of an open poll. As request-ids rise, it is the poll that was started first.
     pub fn oldest(&self) -> Option<u32>
-        ensures there { IfSome result (λ id. IsTrue (map.contains_key self.now.polls.open_polls id)) }
-        ensures least { IfSome result (λ id. (other : ℕ) → IsTrue (map.contains_key self.now.polls.open_polls other) → id ≤ other) }
+        ensures oldest { IsOldestAfter 0 self.now.polls.open_polls result }
+        ensures all { IfSome result (λ id. (other : ℕ) → IsTrue (map.contains_key self.now.polls.open_polls other) → id ≤ other) }
         ensures none { IfNone result (self.now.polls.open_polls ≡ map.empty) }
     {
-        least_id(&self.polls)
+        least_after(&self.polls, 0)
+    }
+
+    /// The least request-id of an open poll that is greater than this one. So all open polls are met, the oldest first.
+    pub fn oldest_after(&self, id: u32) -> Option<u32>
+        ensures { IsOldestAfter id self.now.polls.open_polls result }
+    {
+        least_after(&self.polls, id)
     }
 
     /// What a datagram from this address offers, or the first reason why it offers nothing. It ends its poll where it is accepted

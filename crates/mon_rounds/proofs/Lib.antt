@@ -3,5 +3,6 @@ mod InPlace
 mod Onward
 mod Notices
 mod Becoming
-mod Wholly
 mod Pushed
+mod Wholly
+mod Waited

@@ -1,5 +1,5 @@
 -- The events of a round as it goes on.
-use Rattle.std.proofs.Common.{◌≡◌, ◌≤◌, ◌<◌, ◌+◌, ◌-◌, ℕ, suc, true, List, [], ◌∷◌, ◌++◌, Some, None, All, length, take, refl, sym, ap, ◌∙◌, subst, arith, append_assoc, length-append}
+use Rattle.std.proofs.Common.{◌≡◌, ◌≤◌, ◌<◌, ◌+◌, ◌-◌, ℕ, suc, Bool, true, false, rules, List, [], ◌∷◌, ◌++◌, Some, None, All, length, take, refl, sym, ap, ◌∙◌, subst, arith, append_assoc, length-append}
 use Rattle.std.specs.Prelude.{zero, slice_get}
 use Rattle.std.proofs.lemmas.List.{append-nil, map-append, take_all, take_more}
 use Rattle.std.proofs.lemmas.List.Elements.{All-nil, All-push}
@@ -7,10 +7,10 @@ use Rattle.std.proofs.lemmas.List.Sums.{sum_by-append}
 use Rattle.std.proofs.lemmas.Option.{get_or_from_slice_get, same_Some, slice_get-get_or, slice_get_within}
 use Rattle.mon_rounds.specs.declared.receiver.Wait.{Wait}
 use Rattle.mon_rounds.specs.declared.round.Phase.{Phase}
-use Rattle.mon_rounds.specs.declared.round.Phase.TheVariants.{Polling, Hearing, Sharing, Listening, Over, Resting, Rested}
-use Rattle.mon_rounds.specs.Next.{RoundState, events_left, is_hearing, share_at, slot_after}
-use Rattle.mon_rounds.specs.Order.{RoundEvent, AreSoFar, HasListened, HasPolled, HasShared, IsDatagram, IsHeard, datagrams_in, datagrams_of, polls_of, shares_with}
-use Rattle.mon_rounds.specs.Orderly.{IsOrderly, IsSaving, IsSharing}
+use Rattle.mon_rounds.specs.declared.round.Phase.TheVariants.{Polling, Hearing, TimingOut, Sharing, Listening, Over, Resting, Rested}
+use Rattle.mon_rounds.specs.Next.{RoundState, events_left, is_hearing, may_time_out, quiets_left, settled_phase, share_at, slot_after, timed_out}
+use Rattle.mon_rounds.specs.Order.{RoundEvent, AreHeardAfter, AreHeardIn, AreRising, AreSoFar, AreTimedOut, HasListened, HasPolled, HasShared, HasTimedOut, IsDatagram, IsRound, datagrams_in, datagrams_of, polls_of, shares_with, timeouts_of}
+use Rattle.mon_rounds.specs.Orderly.{IsOrderly, IsSaving, IsSharing, IsTiming}
 use Rattle.mon_station.specs.declared.event.Event.TheVariants.{StartPoll, Timeout, Share, Save}
 
 -- ---- counts
@@ -30,36 +30,128 @@ few_more events es e left more none few =
 pub polls_more : (n : ℕ) → polls_of (n + 1) ≡ polls_of n ++ StartPoll n ∷ []
 polls_more n = let one : n + 1 ≡ suc n = omega arith in ap polls_of one
 
-pub polled_all : (n t : ℕ) (es : List RoundEvent) → n ≡ t + 1 → es ≡ polls_of t ++ StartPoll t ∷ [] → HasPolled n es
-polled_all n t es all more = record {
+pub polled_all : (n m t : ℕ) (es : List RoundEvent) → n ≡ t + 1 → es ≡ polls_of t ++ StartPoll t ∷ [] → HasPolled n m es
+polled_all n m t es all more = record {
+  quiet = 0;
+  few_quiet = omega arith;
   heard = [];
-  each = All-nil IsHeard;
+  each = All-nil IsDatagram;
   are = more ∙ sym (polls_more t) ∙ ap polls_of (sym all) ∙ sym (append-nil (polls_of n));
 }
 
-pub polled_more : (n : ℕ) (events es : List RoundEvent) (e : RoundEvent) → HasPolled n events → IsHeard e → es ≡ events ++ e ∷ [] → HasPolled n es
-polled_more n events es e polled is more = record {
+-- a datagram more
+heard_on : (quiet : ℕ) (heard : List RoundEvent) (e : RoundEvent) → AreHeardIn quiet heard → IsDatagram e → AreHeardIn quiet (heard ++ e ∷ [])
+heard_on zero heard e each is = All-push IsDatagram heard e each is
+heard_on (suc quiet) heard e each is = record {
+  before = each.before;
+  last = each.last;
+  timed_out = each.timed_out;
+  heard = each.heard ++ e ∷ [];
+  each = All-push IsDatagram each.heard e each.each is;
+  are = ap (λ l. l ++ e ∷ []) each.are ∙ append_assoc each.before each.heard (e ∷ []);
+}
+
+pub polled_more : (n m : ℕ) (events es : List RoundEvent) (e : RoundEvent) → HasPolled n m events → IsDatagram e → es ≡ events ++ e ∷ [] → HasPolled n m es
+polled_more n m events es e polled is more = record {
+  quiet = polled.quiet;
+  few_quiet = polled.few_quiet;
   heard = polled.heard ++ e ∷ [];
-  each = All-push IsHeard polled.heard e polled.each is;
+  each = heard_on polled.quiet polled.heard e polled.each is;
   are = more ∙ ap (λ l. l ++ e ∷ []) polled.are ∙ append_assoc (polls_of n) polled.heard (e ∷ []);
 }
 
+-- ---- timeouts
+-- one request-id more
+rising_on : (after last id : ℕ) (ids : List ℕ) → AreRising after last ids → last < id → AreRising after id (ids ++ id ∷ [])
+rising_on after last id [] rise lt = (subst (λ a. a < id) (sym rise) lt, refl)
+rising_on after last id (x ∷ ids) rise lt = (rise.0, rising_on x last id ids rise.1 lt)
+
+-- the first timeout after a quiet wait
+pub timed_first : (n m more id : ℕ) (events es : List RoundEvent) → HasPolled n m events → m < more → 0 < id → es ≡ events ++ Timeout id ∷ [] → HasTimedOut n more id es
+timed_first n m more id events es polled lt some is = record {
+  quiet = polled.quiet;
+  few_quiet = omega (arith, polled.few_quiet, lt);
+  heard = polled.heard ++ Timeout id ∷ [];
+  each = record { before = polled.heard; earlier = polled.each; ids = id ∷ []; rise = (some, refl); are = refl };
+  are = is ∙ ap (λ l. l ++ Timeout id ∷ []) polled.are ∙ append_assoc (polls_of n) polled.heard (Timeout id ∷ []);
+}
+
+-- a further one
+pub timed_more : (n m last id : ℕ) (events es : List RoundEvent) → HasTimedOut n m last events → last < id → es ≡ events ++ Timeout id ∷ [] → HasTimedOut n m id es
+timed_more n m last id events es timed lt is =
+    let each = timed.each in
+    record {
+      quiet = timed.quiet;
+      few_quiet = timed.few_quiet;
+      heard = timed.heard ++ Timeout id ∷ [];
+      each = record {
+        before = each.before;
+        earlier = each.earlier;
+        ids = each.ids ++ id ∷ [];
+        rise = rising_on 0 last id each.ids each.rise lt;
+        are = ap (λ l. l ++ Timeout id ∷ []) each.are ∙ append_assoc each.before (timeouts_of each.ids) (Timeout id ∷ [])
+            ∙ ap (λ l. each.before ++ l) (sym (map-append Timeout each.ids (id ∷ [])));
+      };
+      are = is ∙ ap (λ l. l ++ Timeout id ∷ []) timed.are ∙ append_assoc (polls_of n) timed.heard (Timeout id ∷ []);
+    }
+
+-- no further one: the next wait follows
+pub timed_all : (n m last : ℕ) (events : List RoundEvent) → HasTimedOut n m last events → HasPolled n m events
+timed_all n m last events timed = record {
+  quiet = suc timed.quiet;
+  few_quiet = timed.few_quiet;
+  heard = timed.heard;
+  each = record { before = timed.heard; last = last; timed_out = timed.each; heard = []; each = All-nil IsDatagram; are = sym (append-nil timed.heard) };
+  are = timed.are;
+}
+
+-- ---- more quiet waits than there were
+polled_within : (n a b : ℕ) (events : List RoundEvent) → a ≤ b → HasPolled n a events → HasPolled n b events
+polled_within n a b events le polled = record {
+  quiet = polled.quiet;
+  few_quiet = omega (arith, polled.few_quiet, le);
+  heard = polled.heard;
+  each = polled.each;
+  are = polled.are;
+}
+
+shared_within : (n a b : ℕ) (peers : List ℕ) (events : List RoundEvent) → a ≤ b → HasShared n a peers events → HasShared n b peers events
+shared_within n a b peers events le shared = record { before = shared.before; polled = polled_within n a b shared.before le shared.polled; are = shared.are }
+
+listened_within : (n a b : ℕ) (peers : List ℕ) (events : List RoundEvent) → a ≤ b → HasListened n a peers events → HasListened n b peers events
+listened_within n a b peers events le listened = record {
+  before = listened.before;
+  shared = shared_within n a b peers listened.before le listened.shared;
+  heard = listened.heard;
+  each = listened.each;
+  are = listened.are;
+}
+
+pub round_within : (n a b : ℕ) (peers : List ℕ) (events : List RoundEvent) → a ≤ b → IsRound n a peers events → IsRound n b peers events
+round_within n a b peers events le round = record {
+  before = round.before;
+  listened = listened_within n a b peers round.before le round.listened;
+  are = round.are;
+  few = round.few;
+}
+
 -- ---- shares
-pub shared_none : (n : ℕ) (peers : List ℕ) (events : List RoundEvent) → HasPolled n events → HasShared n (take 0 peers) events
-shared_none n peers events polled = record { before = events; polled = polled; are = sym (append-nil events) }
+pub shared_none : (n m : ℕ) (peers : List ℕ) (events : List RoundEvent) → HasPolled n m events → HasShared n m (take 0 peers) events
+shared_none n m peers events polled = record { before = events; polled = polled; are = sym (append-nil events) }
 
-pub shared_so_far : (n slot : ℕ) (peers : List ℕ) (phase : Phase) (events : List RoundEvent) → IsSharing phase slot → AreSoFar n peers phase events → HasShared n (take slot peers) events
-shared_so_far n slot peers Hearing events at polled = subst (λ k. HasShared n (take k peers) events) (sym at) (shared_none n peers events polled)
-shared_so_far n slot peers (Sharing next) events at shared = subst (λ k. HasShared n (take k peers) events) (sym at) shared.1
-shared_so_far n slot peers (Polling t) events at so_far = elim at [ ]
-shared_so_far n slot peers Listening events at so_far = elim at [ ]
-shared_so_far n slot peers Over events at so_far = elim at [ ]
-shared_so_far n slot peers Resting events at so_far = elim at [ ]
-shared_so_far n slot peers Rested events at so_far = elim at [ ]
+pub shared_so_far : (n m slot : ℕ) (peers : List ℕ) (phase : Phase) (events : List RoundEvent) → IsSharing phase slot → AreSoFar n m peers phase events → HasShared n m (take slot peers) events
+shared_so_far n m slot peers Hearing events at polled = subst (λ k. HasShared n m (take k peers) events) (sym at) (shared_none n m peers events polled)
+shared_so_far n m slot peers (Sharing next) events at shared = subst (λ k. HasShared n m (take k peers) events) (sym at) shared.1
+shared_so_far n m slot peers (Polling t) events at so_far = elim at [ ]
+shared_so_far n m slot peers (TimingOut last) events at timed = subst (λ k. HasShared n m (take k peers) events) (sym at) (shared_none n m peers events (timed_all n m last events timed))
+shared_so_far n m slot peers Listening events at so_far = elim at [ ]
+shared_so_far n m slot peers Over events at so_far = elim at [ ]
+shared_so_far n m slot peers Resting events at so_far = elim at [ ]
+shared_so_far n m slot peers Rested events at so_far = elim at [ ]
 
-pub shared_more : (n slot : ℕ) (peers : List ℕ) (p : ℕ) (events es : List RoundEvent) → HasShared n (take slot peers) events → slice_get peers slot ≡ Some p → es ≡ events ++ Share p ∷ []
-    → HasShared n (take (slot + 1) peers) es
-shared_more n slot peers p events es shared at more =
+pub shared_more : (n m slot : ℕ) (peers : List ℕ) (p : ℕ) (events es : List RoundEvent) → HasShared n m (take slot peers) events → slice_get peers slot ≡ Some p → es ≡ events ++ Share p ∷ []
+    → HasShared n m (take (slot + 1) peers) es
+shared_more n m slot peers p events es shared at more =
     let lt : slot < length peers = slice_get_within peers slot p at in
     let one : take (slot + 1) peers ≡ take slot peers ++ p ∷ [] = take_more peers slot p lt ∙ ap (λ q. take slot peers ++ q ∷ []) (get_or_from_slice_get peers slot p p at) in
     record {
@@ -70,11 +162,11 @@ shared_more n slot peers p events es shared at more =
     }
 
 -- ---- what is received after the shares
-pub listened_none : (n : ℕ) (peers : List ℕ) (events : List RoundEvent) → HasShared n peers events → HasListened n peers events
-listened_none n peers events shared = record { before = events; shared = shared; heard = []; each = All-nil IsDatagram; are = sym (append-nil events) }
+pub listened_none : (n m : ℕ) (peers : List ℕ) (events : List RoundEvent) → HasShared n m peers events → HasListened n m peers events
+listened_none n m peers events shared = record { before = events; shared = shared; heard = []; each = All-nil IsDatagram; are = sym (append-nil events) }
 
-pub listened_more : (n : ℕ) (peers : List ℕ) (events es : List RoundEvent) (e : RoundEvent) → HasListened n peers events → IsDatagram e → es ≡ events ++ e ∷ [] → HasListened n peers es
-listened_more n peers events es e listened is more = record {
+pub listened_more : (n m : ℕ) (peers : List ℕ) (events es : List RoundEvent) (e : RoundEvent) → HasListened n m peers events → IsDatagram e → es ≡ events ++ e ∷ [] → HasListened n m peers es
+listened_more n m peers events es e listened is more = record {
   before = listened.before;
   shared = listened.shared;
   heard = listened.heard ++ e ∷ [];
@@ -82,38 +174,42 @@ listened_more n peers events es e listened is more = record {
   are = more ∙ ap (λ l. l ++ e ∷ []) listened.are ∙ append_assoc listened.before listened.heard (e ∷ []);
 }
 
-pub listened_so_far : (n : ℕ) (peers : List ℕ) (phase : Phase) (events : List RoundEvent) → IsSaving phase peers → AreSoFar n peers phase events → HasListened n peers events
-listened_so_far n peers Hearing events none polled =
-    listened_none n peers events (subst (λ ps. HasShared n ps events) (sym none) (shared_none n [] events polled))
-listened_so_far n peers Listening events at listened = listened
-listened_so_far n peers (Polling t) events at so_far = elim at [ ]
-listened_so_far n peers (Sharing slot) events at so_far = elim at [ ]
-listened_so_far n peers Over events at so_far = elim at [ ]
-listened_so_far n peers Resting events at so_far = elim at [ ]
-listened_so_far n peers Rested events at so_far = elim at [ ]
+pub listened_so_far : (n m : ℕ) (peers : List ℕ) (phase : Phase) (events : List RoundEvent) → IsSaving phase peers → AreSoFar n m peers phase events → HasListened n m peers events
+listened_so_far n m peers Hearing events none polled =
+    listened_none n m peers events (subst (λ ps. HasShared n m ps events) (sym none) (shared_none n m [] events polled))
+listened_so_far n m peers (TimingOut last) events none timed =
+    listened_none n m peers events (subst (λ ps. HasShared n m ps events) (sym none) (shared_none n m [] events (timed_all n m last events timed)))
+listened_so_far n m peers Listening events at listened = listened
+listened_so_far n m peers (Polling t) events at so_far = elim at [ ]
+listened_so_far n m peers (Sharing slot) events at so_far = elim at [ ]
+listened_so_far n m peers Over events at so_far = elim at [ ]
+listened_so_far n m peers Resting events at so_far = elim at [ ]
+listened_so_far n m peers Rested events at so_far = elim at [ ]
 
 -- ---- datagrams
-pub heard_more : (n : ℕ) (peers : List ℕ) (phase : Phase) (events es : List RoundEvent) (e : RoundEvent) → is_hearing phase ≡ true → IsHeard e → IsDatagram e
-    → AreSoFar n peers phase events → es ≡ events ++ e ∷ [] → AreSoFar n peers phase es
-heard_more n peers Hearing events es e at heard is so_far more = polled_more n events es e so_far heard more
-heard_more n peers Listening events es e at heard is so_far more = listened_more n peers events es e so_far is more
-heard_more n peers Resting events es e at heard is so_far more = subst (λ l. All IsDatagram l) (sym more) (All-push IsDatagram events e so_far is)
-heard_more n peers (Polling target) events es e at heard is so_far more = absurd cc
-heard_more n peers (Sharing slot) events es e at heard is so_far more = absurd cc
-heard_more n peers Over events es e at heard is so_far more = absurd cc
-heard_more n peers Rested events es e at heard is so_far more = absurd cc
+pub heard_more : (n m : ℕ) (peers : List ℕ) (phase : Phase) (events es : List RoundEvent) (e : RoundEvent) → is_hearing phase ≡ true → IsDatagram e
+    → AreSoFar n m peers phase events → es ≡ events ++ e ∷ [] → AreSoFar n m peers phase es
+heard_more n m peers Hearing events es e at is so_far more = polled_more n m events es e so_far is more
+heard_more n m peers Listening events es e at is so_far more = listened_more n m peers events es e so_far is more
+heard_more n m peers Resting events es e at is so_far more = subst (λ l. All IsDatagram l) (sym more) (All-push IsDatagram events e so_far is)
+heard_more n m peers (Polling target) events es e at is so_far more = absurd cc
+heard_more n m peers (TimingOut last) events es e at is so_far more = absurd cc
+heard_more n m peers (Sharing slot) events es e at is so_far more = absurd cc
+heard_more n m peers Over events es e at is so_far more = absurd cc
+heard_more n m peers Rested events es e at is so_far more = absurd cc
 
 -- ---- a round goes on
 -- a target but the last is polled
 pub after_poll : (room now : ℕ) (r : RoundState) (t : ℕ) (w : Wait) (es : List RoundEvent) → IsOrderly room r → r.phase ≡ Polling t → t + 1 < length r.targets
     → es ≡ r.events ++ StartPoll t ∷ [] → now ≡ room → IsOrderly now (record r { phase = Polling (t + 1); wait = w; events = es })
 after_poll room now r t w es orderly at next more same =
-    let so_far : AreSoFar (length r.targets) r.peers (Polling t) r.events = subst (λ p. AreSoFar (length r.targets) r.peers p r.events) at orderly.order in
+    let so_far : AreSoFar (length r.targets) (r.tries - r.quiets) r.peers (Polling t) r.events = subst (λ p. AreSoFar (length r.targets) (r.tries - r.quiets) r.peers p r.events) at orderly.order in
     let left : events_left r.phase r ≡ length r.targets - t + length r.peers + 1 = ap (λ p. events_left p r) at in
     let long = length_more r.events es (StartPoll t) more in
     record {
       order = (next, more ∙ ap (λ l. l ++ StartPoll t ∷ []) so_far.1 ∙ sym (polls_more t));
       few = few_more r.events es (StartPoll t) r.datagrams more refl orderly.few;
+      quiets = orderly.quiets;
       space = omega (arith, orderly.space, left, long, same, next);
       whole = omega (arith, orderly.whole, same);
     }
@@ -122,37 +218,114 @@ after_poll room now r t w es orderly at next more same =
 pub after_last_poll : (room now : ℕ) (r : RoundState) (t : ℕ) (w : Wait) (es : List RoundEvent) → IsOrderly room r → r.phase ≡ Polling t → length r.targets ≤ t + 1
     → es ≡ r.events ++ StartPoll t ∷ [] → now ≡ room → IsOrderly now (record r { phase = Hearing; wait = w; events = es })
 after_last_poll room now r t w es orderly at next more same =
-    let so_far : AreSoFar (length r.targets) r.peers (Polling t) r.events = subst (λ p. AreSoFar (length r.targets) r.peers p r.events) at orderly.order in
+    let so_far : AreSoFar (length r.targets) (r.tries - r.quiets) r.peers (Polling t) r.events = subst (λ p. AreSoFar (length r.targets) (r.tries - r.quiets) r.peers p r.events) at orderly.order in
     let left : events_left r.phase r ≡ length r.targets - t + length r.peers + 1 = ap (λ p. events_left p r) at in
     let long = length_more r.events es (StartPoll t) more in
     let lt = so_far.0 in
     let all : length r.targets ≡ t + 1 = omega (arith, lt, next) in
     record {
-      order = polled_all (length r.targets) t es all (more ∙ ap (λ l. l ++ StartPoll t ∷ []) so_far.1);
+      order = polled_all (length r.targets) (r.tries - r.quiets) t es all (more ∙ ap (λ l. l ++ StartPoll t ∷ []) so_far.1);
       few = few_more r.events es (StartPoll t) r.datagrams more refl orderly.few;
+      quiets = orderly.quiets;
       space = omega (arith, orderly.space, left, long, same, lt);
       whole = omega (arith, orderly.whole, same);
     }
 
+-- polls are timed out, or may be
+timing_left : (r : RoundState) (phase : Phase) → IsTiming phase → events_left phase r ≡ length r.peers + 1
+timing_left r Hearing at = refl
+timing_left r (TimingOut last) at = refl
+timing_left r (Polling t) at = elim at [ ]
+timing_left r (Sharing slot) at = elim at [ ]
+timing_left r Listening at = elim at [ ]
+timing_left r Over at = elim at [ ]
+timing_left r Resting at = elim at [ ]
+timing_left r Rested at = elim at [ ]
+
+-- a quiet wait is used up, and there was one
+timed_so_far : (r : RoundState) (phase : Phase) (id : ℕ) (es : List RoundEvent) → IsTiming phase → timed_out phase < id → may_time_out phase r ≡ true → r.quiets ≤ r.tries
+    → AreSoFar (length r.targets) (r.tries - r.quiets) r.peers phase r.events → es ≡ r.events ++ Timeout id ∷ []
+    → HasTimedOut (length r.targets) (r.tries - quiets_left phase r.quiets) id es × (quiets_left phase r.quiets ≤ r.tries)
+timed_so_far r Hearing id es at lt may le so_far more =
+    let both : (0 < r.timeouts) × (0 < r.quiets) = search rules in
+    let some = both.1 in
+    (timed_first (length r.targets) (r.tries - r.quiets) (r.tries - (r.quiets - 1)) id r.events es so_far (omega (arith, le, some)) lt more, omega (arith, le))
+timed_so_far r (TimingOut last) id es at lt may le so_far more = (timed_more (length r.targets) (r.tries - r.quiets) last id r.events es so_far lt more, le)
+timed_so_far r (Polling t) id es at lt may le so_far more = elim at [ ]
+timed_so_far r (Sharing slot) id es at lt may le so_far more = elim at [ ]
+timed_so_far r Listening id es at lt may le so_far more = elim at [ ]
+timed_so_far r Over id es at lt may le so_far more = elim at [ ]
+timed_so_far r Resting id es at lt may le so_far more = elim at [ ]
+timed_so_far r Rested id es at lt may le so_far more = elim at [ ]
+
+pub some_timeouts : (r : RoundState) (phase : Phase) → IsTiming phase → may_time_out phase r ≡ true → 0 < r.timeouts
+some_timeouts r Hearing at may = search rules
+some_timeouts r (TimingOut last) at may = search rules
+some_timeouts r (Polling t) at may = elim at [ ]
+some_timeouts r (Sharing slot) at may = elim at [ ]
+some_timeouts r Listening at may = elim at [ ]
+some_timeouts r Over at may = elim at [ ]
+some_timeouts r Resting at may = elim at [ ]
+some_timeouts r Rested at may = elim at [ ]
+
 -- a poll is timed out
-pub after_timeout : (room now : ℕ) (r : RoundState) (id : ℕ) (w : Wait) (es : List RoundEvent) → IsOrderly room r → r.phase ≡ Hearing → 0 < r.timeouts
-    → es ≡ r.events ++ Timeout id ∷ [] → now ≡ room → IsOrderly now (record r { wait = w; timeouts = r.timeouts - 1; events = es })
-after_timeout room now r id w es orderly at some more same =
-    let so_far : AreSoFar (length r.targets) r.peers Hearing r.events = subst (λ p. AreSoFar (length r.targets) r.peers p r.events) at orderly.order in
+pub after_timeout : (room now : ℕ) (r : RoundState) (id quiets : ℕ) (w : Wait) (es : List RoundEvent) → IsOrderly room r → IsTiming r.phase → timed_out r.phase < id → may_time_out r.phase r ≡ true
+    → quiets ≡ quiets_left r.phase r.quiets → es ≡ r.events ++ Timeout id ∷ [] → now ≡ room
+    → IsOrderly now (record r { phase = TimingOut id; wait = w; quiets = quiets; timeouts = r.timeouts - 1; events = es })
+after_timeout room now r id quiets w es orderly at lt may used more same =
+    let so_far = timed_so_far r r.phase id es at lt may orderly.quiets orderly.order more in
+    let some = some_timeouts r r.phase at may in
     let long = length_more r.events es (Timeout id) more in
-    let left : events_left r.phase r ≡ length r.peers + 1 = ap (λ p. events_left p r) at in
-    let still : events_left r.phase (record r { wait = w; timeouts = r.timeouts - 1; events = es }) ≡ length r.peers + 1 =
-    ap (λ p. events_left p (record r { wait = w; timeouts = r.timeouts - 1; events = es })) at in
+    let left = timing_left r r.phase at in
     record {
-      order = subst (λ p. AreSoFar (length r.targets) r.peers p es) (sym at) (polled_more (length r.targets) r.events es (Timeout id) so_far tt more);
+      order = subst (λ q. HasTimedOut (length r.targets) (r.tries - q) id es) (sym used) so_far.0;
+      quiets = subst (λ q. q ≤ r.tries) (sym used) so_far.1;
       few = few_more r.events es (Timeout id) r.datagrams more refl orderly.few;
-      space = omega (arith, orderly.space, left, still, long, same, some);
+      space = omega (arith, orderly.space, left, long, same, some);
       whole = omega (arith, orderly.whole, same);
     }
+
+-- where no further poll is timed out, the next wait follows
+settles : (room : ℕ) (r : RoundState) (more : Bool) → IsOrderly room r → IsOrderly room (record r { phase = settled_phase r.phase more })
+settles room r more orderly = record {
+  order = ordered r.phase more orderly.order;
+  quiets = orderly.quiets;
+  few = orderly.few;
+  space = subst (λ n. length r.events + (n + (r.datagrams + r.timeouts)) ≤ room) (sym (left_alike r.phase more)) orderly.space;
+  whole = orderly.whole;
+}
+  where
+    ordered : (phase : Phase) (more : Bool) → AreSoFar (length r.targets) (r.tries - r.quiets) r.peers phase r.events
+        → AreSoFar (length r.targets) (r.tries - r.quiets) r.peers (settled_phase phase more) r.events
+    ordered (TimingOut last) true so_far = so_far
+    ordered (TimingOut last) false so_far = timed_all (length r.targets) (r.tries - r.quiets) last r.events so_far
+    ordered (Polling t) more so_far = so_far
+    ordered Hearing more so_far = so_far
+    ordered (Sharing slot) more so_far = so_far
+    ordered Listening more so_far = so_far
+    ordered Over more so_far = so_far
+    ordered Resting more so_far = so_far
+    ordered Rested more so_far = so_far
+
+    left_alike : (phase : Phase) (more : Bool) → events_left (settled_phase phase more) (record r { phase = settled_phase r.phase more }) ≡ events_left phase r
+    left_alike (TimingOut last) true = refl
+    left_alike (TimingOut last) false = refl
+    left_alike (Polling t) more = refl
+    left_alike Hearing more = refl
+    left_alike (Sharing slot) more = refl
+    left_alike Listening more = refl
+    left_alike Over more = refl
+    left_alike Resting more = refl
+    left_alike Rested more = refl
+
+-- the same, by the phase that was chosen
+pub settles_as : (room : ℕ) (r : RoundState) (next : Phase) (more : Bool) → next ≡ settled_phase r.phase more → IsOrderly room r → IsOrderly room (record r { phase = next })
+settles_as room r next more is orderly = subst (λ p. IsOrderly room (record r { phase = p })) (sym is) (settles room r more orderly)
 
 -- how much is left while peers are offered something
 pub sharing_left : (r : RoundState) (phase : Phase) (slot : ℕ) → IsSharing phase slot → events_left phase r ≡ length r.peers - slot + 1
 sharing_left r Hearing slot at = omega (arith, at)
+sharing_left r (TimingOut last) slot at = omega (arith, at)
 sharing_left r (Sharing next) slot at = omega (arith, at)
 sharing_left r (Polling t) slot at = elim at [ ]
 sharing_left r Listening slot at = elim at [ ]
@@ -164,12 +337,13 @@ sharing_left r Rested slot at = elim at [ ]
 pub after_share : (room now : ℕ) (r : RoundState) (slot p : ℕ) (w : Wait) (es : List RoundEvent) → IsOrderly room r → IsSharing r.phase slot → slice_get r.peers slot ≡ Some p
     → slot + 1 < length r.peers → es ≡ r.events ++ Share p ∷ [] → now ≡ room → IsOrderly now (record r { phase = Sharing (slot + 1); wait = w; events = es })
 after_share room now r slot p w es orderly at found next more same =
-    let shared = shared_so_far (length r.targets) slot r.peers r.phase r.events at orderly.order in
+    let shared = shared_so_far (length r.targets) (r.tries - r.quiets) slot r.peers r.phase r.events at orderly.order in
     let left = sharing_left r r.phase slot at in
     let long = length_more r.events es (Share p) more in
     record {
-      order = (next, shared_more (length r.targets) slot r.peers p r.events es shared found more);
+      order = (next, shared_more (length r.targets) (r.tries - r.quiets) slot r.peers p r.events es shared found more);
       few = few_more r.events es (Share p) r.datagrams more refl orderly.few;
+      quiets = orderly.quiets;
       space = omega (arith, orderly.space, left, long, same, next);
       whole = omega (arith, orderly.whole, same);
     }
@@ -178,14 +352,15 @@ after_share room now r slot p w es orderly at found next more same =
 pub after_last_share : (room now : ℕ) (r : RoundState) (slot p : ℕ) (w : Wait) (es : List RoundEvent) → IsOrderly room r → IsSharing r.phase slot → slice_get r.peers slot ≡ Some p
     → length r.peers ≤ slot + 1 → es ≡ r.events ++ Share p ∷ [] → now ≡ room → IsOrderly now (record r { phase = Listening; wait = w; events = es })
 after_last_share room now r slot p w es orderly at found last more same =
-    let shared = shared_so_far (length r.targets) slot r.peers r.phase r.events at orderly.order in
+    let shared = shared_so_far (length r.targets) (r.tries - r.quiets) slot r.peers r.phase r.events at orderly.order in
     let left = sharing_left r r.phase slot at in
     let long = length_more r.events es (Share p) more in
     let within = slice_get_within r.peers slot p found in
-    let all = shared_more (length r.targets) slot r.peers p r.events es shared found more in
+    let all = shared_more (length r.targets) (r.tries - r.quiets) slot r.peers p r.events es shared found more in
     record {
-      order = listened_none (length r.targets) r.peers es (subst (λ ps. HasShared (length r.targets) ps es) (take_all (slot + 1) r.peers last) all);
+      order = listened_none (length r.targets) (r.tries - r.quiets) r.peers es (subst (λ ps. HasShared (length r.targets) (r.tries - r.quiets) ps es) (take_all (slot + 1) r.peers last) all);
       few = few_more r.events es (Share p) r.datagrams more refl orderly.few;
+      quiets = orderly.quiets;
       space = omega (arith, orderly.space, left, long, same, within);
       whole = omega (arith, orderly.whole, same);
     }
@@ -193,6 +368,7 @@ after_last_share room now r slot p w es orderly at found last more same =
 -- something is left before a save
 pub saving_left : (r : RoundState) (phase : Phase) → IsSaving phase r.peers → 1 ≤ events_left phase r
 saving_left r Hearing none = omega arith
+saving_left r (TimingOut last) none = omega arith
 saving_left r Listening at = omega arith
 saving_left r (Polling t) at = elim at [ ]
 saving_left r (Sharing slot) at = elim at [ ]
@@ -210,26 +386,28 @@ after_save room now r w es orderly at more same =
     record {
       order = record {
         before = r.events;
-        listened = listened_so_far (length r.targets) r.peers r.phase r.events at orderly.order;
+        listened = listened_so_far (length r.targets) (r.tries - r.quiets) r.peers r.phase r.events at orderly.order;
         are = more;
         few = omega (arith, few);
       };
       few = few;
+      quiets = orderly.quiets;
       space = omega (arith, orderly.space, left, long, same);
       whole = omega (arith, orderly.whole, same);
     }
 
 -- a datagram came
-pub after_arrival : (room now : ℕ) (r : RoundState) (e : RoundEvent) (w : Wait) (es : List RoundEvent) → IsOrderly room r → is_hearing r.phase ≡ true → 0 < r.datagrams → IsHeard e → IsDatagram e
+pub after_arrival : (room now : ℕ) (r : RoundState) (e : RoundEvent) (w : Wait) (es : List RoundEvent) → IsOrderly room r → is_hearing r.phase ≡ true → 0 < r.datagrams → IsDatagram e
     → es ≡ r.events ++ e ∷ [] → now ≡ room → IsOrderly now (record r { wait = w; datagrams = r.datagrams - 1; events = es })
-after_arrival room now r e w es orderly at some heard is more same =
+after_arrival room now r e w es orderly at some is more same =
     let new : RoundState = record r { wait = w; datagrams = r.datagrams - 1; events = es } in
     let long = length_more r.events es e more in
     let still : events_left r.phase new ≡ events_left r.phase r = left_alike r.phase in
     let count : datagrams_in es ≡ datagrams_in r.events + datagrams_of e = ap datagrams_in more ∙ datagrams_more r.events e in
     record {
-      order = heard_more (length r.targets) r.peers r.phase r.events es e at heard is orderly.order more;
+      order = heard_more (length r.targets) (r.tries - r.quiets) r.peers r.phase r.events es e at is orderly.order more;
       few = omega (arith, count, is, orderly.few, some);
+      quiets = orderly.quiets;
       space = omega (arith, orderly.space, still, long, same, some);
       whole = omega (arith, orderly.whole, same);
     }
@@ -237,6 +415,7 @@ after_arrival room now r e w es orderly at some heard is more same =
     left_alike : (phase : Phase) → events_left phase (record r { wait = w; datagrams = r.datagrams - 1; events = es }) ≡ events_left phase r
     left_alike (Polling t) = refl
     left_alike Hearing = refl
+    left_alike (TimingOut last) = refl
     left_alike (Sharing slot) = refl
     left_alike Listening = refl
     left_alike Over = refl
@@ -255,22 +434,26 @@ share_past (q ∷ peers) zero past = absurd cc
 share_past (q ∷ peers) (suc slot) past = share_past peers slot past
 
 -- if there is no peer at the slot, all is saved next
-pub saving_past : (n slot : ℕ) (peers : List ℕ) (phase : Phase) (events : List RoundEvent) → IsSharing phase slot → AreSoFar n peers phase events → slice_get peers slot ≡ None → IsSaving phase peers
-saving_past n slot [] Hearing events at so_far past = refl
-saving_past n slot (q ∷ peers) Hearing events at so_far past =
+pub saving_past : (n m slot : ℕ) (peers : List ℕ) (phase : Phase) (events : List RoundEvent) → IsSharing phase slot → AreSoFar n m peers phase events → slice_get peers slot ≡ None → IsSaving phase peers
+saving_past n m slot [] Hearing events at so_far past = refl
+saving_past n m slot (q ∷ peers) Hearing events at so_far past =
     let first : slice_get (q ∷ peers) 0 ≡ None = subst (λ k. slice_get (q ∷ peers) k ≡ None) at past in absurd cc
-saving_past n slot peers (Sharing next) events at so_far past =
+saving_past n m slot [] (TimingOut last) events at so_far past = refl
+saving_past n m slot (q ∷ peers) (TimingOut last) events at so_far past =
+    let first : slice_get (q ∷ peers) 0 ≡ None = subst (λ k. slice_get (q ∷ peers) k ≡ None) at past in absurd cc
+saving_past n m slot peers (Sharing next) events at so_far past =
     let there = slice_get-get_or peers next 0 so_far.0 in
     let gone : slice_get peers next ≡ None = subst (λ k. slice_get peers k ≡ None) at past in
     absurd cc
-saving_past n slot peers (Polling t) events at so_far past = elim at [ ]
-saving_past n slot peers Listening events at so_far past = elim at [ ]
-saving_past n slot peers Over events at so_far past = elim at [ ]
-saving_past n slot peers Resting events at so_far past = elim at [ ]
-saving_past n slot peers Rested events at so_far past = elim at [ ]
+saving_past n m slot peers (Polling t) events at so_far past = elim at [ ]
+saving_past n m slot peers Listening events at so_far past = elim at [ ]
+saving_past n m slot peers Over events at so_far past = elim at [ ]
+saving_past n m slot peers Resting events at so_far past = elim at [ ]
+saving_past n m slot peers Rested events at so_far past = elim at [ ]
 
 pub slot_next : (phase : Phase) (slot : ℕ) → IsSharing phase slot → slot_after phase ≡ slot + 1
 slot_next Hearing slot at = omega (arith, at)
+slot_next (TimingOut last) slot at = omega (arith, at)
 slot_next (Sharing next) slot at = omega (arith, at)
 slot_next (Polling t) slot at = elim at [ ]
 slot_next Listening slot at = elim at [ ]

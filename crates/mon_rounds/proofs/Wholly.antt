@@ -1,26 +1,34 @@
 -- A round from its beginning to its end.
-use Rattle.std.proofs.Common.{ℕ, ◌≡◌, ◌≤◌, ◌+◌, inl, inr, ⊎_elim, Bool, true, false, List, [], ◌∷◌, ◌++◌, Option, Some, None, Result, Ok, Err, length, refl, sym, ap, subst, ◌∙◌, arith}
-use Rattle.std.specs.Prelude.{zero, suc, cond, nat_lt, option_map}
+use Rattle.std.proofs.Common.{ℕ, ◌≡◌, ◌≤◌, ◌+◌, ◌-◌, inl, inr, ⊎_elim, Bool, true, false, List, [], ◌∷◌, ◌++◌, Option, Some, None, Result, Ok, Err, length, refl, sym, ap, subst, ◌∙◌, arith}
+use Rattle.std.specs.Prelude.{zero, suc, cond, is_some, nat_lt, option_map, ◌&&◌}
 use Rattle.std.proofs.lemmas.List.{append-nil}
+use Rattle.std.proofs.lemmas.List.Elements.{All-append, All-nil}
+use Rattle.std.proofs.lemmas.List.Sums.{sum_by-append}
 use Rattle.mon_disk.specs.declared.disk.Disk.{Ghosts}
+use Rattle.mon_poller.specs.Polls.{Open}
 use Rattle.mon_station.specs.ReadEvent.{OwnedEvent}
+use Rattle.mon_station.specs.declared.running.Answer.{Answer}
 use Rattle.mon_station.specs.declared.event.Event.TheVariants.{StartPoll, Timeout, Save}
 use Rattle.mon_udp.specs.declared.addr.Addr.{Addr}
 use Rattle.mon_rounds.specs.declared.receiver.Arrival.{Arrival}
 use Rattle.mon_rounds.specs.declared.receiver.Arrival.TheVariants.{Datagram, Quiet}
 use Rattle.mon_rounds.specs.declared.round.Phase.{Phase}
-use Rattle.mon_rounds.specs.declared.round.Phase.TheVariants.{Polling, Hearing, Sharing, Listening, Over, Resting, Rested}
+use Rattle.mon_rounds.specs.declared.round.Phase.TheVariants.{Polling, Hearing, TimingOut, Sharing, Listening, Over, Resting, Rested}
 use Rattle.mon_rounds.specs.declared.round.Span.{Span}
 use Rattle.mon_rounds.specs.declared.round.Span.TheVariants.{Round, Between}
 use Rattle.mon_rounds.specs.Given.{AreGiven, IsGiven, with_octets}
-use Rattle.mon_rounds.specs.Next.{GivesNext, IsEnded, LeadsTo, Proceeds, RoundState, TakesTurn, after_datagram, after_event, after_failure, after_polls, event_from, event_in_phase, next_event, phase_after, phase_ended, share_at, slot_after, turns_left}
+use Rattle.mon_rounds.specs.Next.{GivesNext, IsEnded, LeadsTo, Proceeds, Receives, RoundState, TakesTurn, after_datagram, after_event, after_failure, after_polls, event_from, event_in_phase, may_time_out, next_event, phase_after, phase_ended, settled, settled_phase, share_at, slot_after, listens_to, turns_left, waits_left}
 use Rattle.mon_rounds.specs.Order.{RoundEvent, AreSoFar, IsRound}
-use Rattle.mon_rounds.specs.Orderly.{first_phase}
-use Rattle.mon_rounds.specs.Reception.{Reception}
+use Rattle.mon_rounds.specs.Orderly.{begun, first_phase, first_wait, most_waits}
+use Rattle.mon_rounds.proofs.Waited.{Keeps, settled_used}
+use Rattle.mon_rounds.proofs.Onward.{round_within}
+use Rattle.mon_rounds.specs.Reception.{EachLasts, HasWaits, Lasts, Reception, begins_in, begins_of}
+use Rattle.mon_udp.proofs.Promised.{extended_by_none, extended_on}
+use Rattle.mon_udp.specs.Told.{GoesOnBy, extended}
 use Rattle.mon_rounds.specs.Whole.{GivesOn, HasRun, HasSame, IsWhole, IsWholeRest, IsWholeRound, RoundsView, view_of}
 use Rattle.mon_station.specs.declared.running.Run.{Run}
 use Rattle.mon_station.specs.declared.running.SourceFault.{SourceFault}
-use Rattle.mon_station.specs.Ran.{AreAsked, AreCalls, Call, End, Event, Fault, Gave, Ran, Turn, events_of, go_on, goes_on, result_of, turn_in, turns_of, view_after}
+use Rattle.mon_station.specs.Ran.{AreAsked, AreCalls, Call, End, Event, Fault, Gave, Ran, Turn, events_of, go_on, goes_on, last_answer, result_of, state_after, turn_in, turns_of, view_after}
 use Rattle.mon_station.specs.Seen.{Seen}
 use Rattle.mon_station.specs.State.{State}
 
@@ -47,6 +55,7 @@ is_rest Resting = true
 is_rest Rested = true
 is_rest (Polling target) = false
 is_rest Hearing = false
+is_rest (TimingOut last) = false
 is_rest (Sharing slot) = false
 is_rest Listening = false
 is_rest Over = false
@@ -58,12 +67,21 @@ record IsLeft (r new : RoundState) (result : Result (Option OwnedEvent) SourceFa
   rest : is_rest new.phase ≡ is_rest r.phase
 
 itself : (r : RoundState) → HasSame r r
-itself r = record { targets = refl; peers = refl; peer_addresses = refl; wait_ms = refl }
+itself r = record { targets = refl; peers = refl; peer_addresses = refl; wait_ms = refl; tries = refl }
 
 share_rest : (r : RoundState) (peers : List ℕ) (slot : ℕ) → is_rest (phase_after r (share_at peers slot)) ≡ false
 share_rest r [] slot = refl
 share_rest r (p ∷ peers) zero = elim (nat_lt (slot_after r.phase) (length r.peers)) as (λ b. is_rest (cond b (Sharing (slot_after r.phase)) Listening) ≡ false) [ true ↦ refl | false ↦ refl ]
 share_rest r (p ∷ peers) (suc slot) = share_rest r peers slot
+
+-- after the polls a round goes on
+polls_rest : (r : RoundState) (oldest : Option ℕ) → is_rest (phase_after r (after_polls r oldest)) ≡ false
+polls_rest r None = share_rest r r.peers 0
+polls_rest r (Some id) = timed (may_time_out r.phase r)
+  where
+    timed : (b : Bool) → is_rest (phase_after r (cond b (Timeout id) (share_at r.peers 0))) ≡ false
+    timed true = refl
+    timed false = share_rest r r.peers 0
 
 -- the phase that an event of a round leaves
 event_rest : (r : RoundState) (oldest : Option ℕ) (phase : Phase) (e : RoundEvent) → r.phase ≡ phase → event_in_phase phase r oldest ≡ Some e → is_rest (phase_after r e) ≡ is_rest phase
@@ -73,15 +91,10 @@ event_rest r oldest (Polling target) e is given =
     (elim (nat_lt (target + 1) (length r.targets)) as (λ b. is_rest (cond b (Polling (target + 1)) Hearing) ≡ false) [ true ↦ refl | false ↦ refl ])
 event_rest r oldest Hearing e is given =
     let same : after_polls r oldest ≡ e = (let s : Some (after_polls r oldest) ≡ Some e = given in cc) in
-    subst (λ x. is_rest (phase_after r x) ≡ false) same (polls oldest)
-  where
-    timed : (b : Bool) (id : ℕ) → is_rest (phase_after r (cond b (Timeout id) (share_at r.peers 0))) ≡ false
-    timed true id = ap is_rest is
-    timed false id = share_rest r r.peers 0
-
-    polls : (oldest : Option ℕ) → is_rest (phase_after r (after_polls r oldest)) ≡ false
-    polls None = share_rest r r.peers 0
-    polls (Some id) = timed (nat_lt 0 r.timeouts) id
+    subst (λ x. is_rest (phase_after r x) ≡ false) same (polls_rest r oldest)
+event_rest r oldest (TimingOut last) e is given =
+    let same : after_polls r oldest ≡ e = (let s : Some (after_polls r oldest) ≡ Some e = given in cc) in
+    subst (λ x. is_rest (phase_after r x) ≡ false) same (polls_rest r oldest)
 event_rest r oldest (Sharing slot) e is given =
     let same : share_at r.peers slot ≡ e = (let s : Some (share_at r.peers slot) ≡ Some e = given in cc) in
     subst (λ x. is_rest (phase_after r x) ≡ false) same (share_rest r r.peers slot)
@@ -95,6 +108,7 @@ event_rest r oldest Rested e is given = absurd (let s : None ≡ Some e = given 
 ended_rest : (phase : Phase) → is_rest (phase_ended phase) ≡ is_rest phase
 ended_rest (Polling target) = refl
 ended_rest Hearing = refl
+ended_rest (TimingOut last) = refl
 ended_rest (Sharing slot) = refl
 ended_rest Listening = refl
 ended_rest Over = refl
@@ -103,9 +117,9 @@ ended_rest Rested = refl
 
 -- the next event of the round, if it has one
 next_left : (r : RoundState) (oldest : Option ℕ) (n : Option RoundEvent) → next_event r oldest ≡ n → IsLeft r (after_event r n) (Ok (option_map (λ e. with_octets e []) n))
-next_left r oldest None is = record { same = record { targets = refl; peers = refl; peer_addresses = refl; wait_ms = refl }; given = λ all are. given_none r.events all are; rest = ended_rest r.phase }
+next_left r oldest None is = record { same = record { targets = refl; peers = refl; peer_addresses = refl; wait_ms = refl; tries = refl }; given = λ all are. given_none r.events all are; rest = ended_rest r.phase }
 next_left r oldest (Some e) is = record {
-  same = record { targets = refl; peers = refl; peer_addresses = refl; wait_ms = refl };
+  same = record { targets = refl; peers = refl; peer_addresses = refl; wait_ms = refl; tries = refl };
   given = λ all are. given_more r.events all e (with_octets e []) are ([], refl);
   rest = event_rest r oldest r.phase e refl is;
 }
@@ -117,16 +131,36 @@ proceeds_left : (r new : RoundState) (oldest : Option ℕ) (result : Result (Opt
 proceeds_left r new oldest result p = left_as r new _ result _ p.after p.event (next_left r oldest (next_event r oldest) refl)
 
 arrived_left : (r new : RoundState) (oldest : Option ℕ) (arrival : Option Arrival) (result : Result (Option OwnedEvent) SourceFault) → LeadsTo r oldest arrival result new → IsLeft r new result
-arrived_left r new oldest None result m = left_as r new (after_failure r) result (Err m.fault.0) m.after m.fault.1 (record { same = record { targets = refl; peers = refl; peer_addresses = refl; wait_ms = refl }; given = λ all are. given_none r.events all are; rest = refl })
+arrived_left r new oldest None result m = left_as r new (after_failure r) result (Err m.fault.0) m.after m.fault.1 (record { same = record { targets = refl; peers = refl; peer_addresses = refl; wait_ms = refl; tries = refl }; given = λ all are. given_none r.events all are; rest = refl })
 arrived_left r new oldest (Some Quiet) result p = proceeds_left r new oldest result p
 arrived_left r new oldest (Some (Datagram from octets)) result h =
     left_as r new (after_datagram r from) result (Ok (Some (with_octets (event_from r from) octets))) h.after h.event
-    (record { same = record { targets = refl; peers = refl; peer_addresses = refl; wait_ms = refl }; given = λ all are. given_more r.events all (event_from r from) (with_octets (event_from r from) octets) are (octets, refl); rest = refl })
+    (record { same = record { targets = refl; peers = refl; peer_addresses = refl; wait_ms = refl; tries = refl }; given = λ all are. given_more r.events all (event_from r from) (with_octets (event_from r from) octets) are (octets, refl); rest = refl })
 
-call_left : (r new : RoundState) (oldest : Option ℕ) (log : List Reception) (result : Result (Option OwnedEvent) SourceFault) → GivesNext r oldest log result new → IsLeft r new result
-call_left r new oldest [] result g = proceeds_left r new oldest result g.1
-call_left r new oldest (one ∷ []) result g = arrived_left r new oldest one.arrival result g.1
-call_left r new oldest (one ∷ two ∷ more) result g = absurd g
+received_left : (r new : RoundState) (oldest : Option ℕ) (last : Option Answer) (log : List Reception) (result : Result (Option OwnedEvent) SourceFault) → Receives r oldest last log result new → IsLeft r new result
+received_left r new oldest last [] result g = proceeds_left r new oldest result g.1
+received_left r new oldest last (one ∷ []) result g = arrived_left r new oldest one.arrival result g.1
+received_left r new oldest last (one ∷ two ∷ more) result g = absurd g
+
+settled_rest : (phase : Phase) (more : Bool) → is_rest (settled_phase phase more) ≡ is_rest phase
+settled_rest (TimingOut last) true = refl
+settled_rest (TimingOut last) false = refl
+settled_rest (Polling target) more = refl
+settled_rest Hearing more = refl
+settled_rest (Sharing slot) more = refl
+settled_rest Listening more = refl
+settled_rest Over more = refl
+settled_rest Resting more = refl
+settled_rest Rested more = refl
+
+call_left : (r new : RoundState) (open_polls : Open) (last : Option Answer) (log : List Reception) (result : Result (Option OwnedEvent) SourceFault) → GivesNext r open_polls last log result new → IsLeft r new result
+call_left r new open_polls last log result g =
+    let left = received_left (settled r g.more) new g.oldest last log result g.gives in
+    record {
+      same = record { targets = left.same.targets; peers = left.same.peers; peer_addresses = left.same.peer_addresses; wait_ms = left.same.wait_ms; tries = left.same.tries };
+      given = left.given;
+      rest = left.rest ∙ settled_rest r.phase (is_some g.more && nat_lt 0 r.timeouts);
+    }
 
 -- ---- all calls
 same_then : (a b c : RoundState) → HasSame a b → HasSame b c → HasSame a c
@@ -135,6 +169,7 @@ same_then a b c one two = record {
   peers = two.peers ∙ one.peers;
   peer_addresses = two.peer_addresses ∙ one.peer_addresses;
   wait_ms = two.wait_ms ∙ one.wait_ms;
+  tries = two.tries ∙ one.tries;
 }
 
 -- what the turn of a call was given
@@ -154,7 +189,7 @@ calls_left v s [] none are = record { same = itself v.round; are = subst (λ (l 
 calls_left v s (c ∷ calls) none are =
     let before = calls_left v s calls none are.2 in
     let gives = are.0.gives in
-    let left = call_left (view_after v calls).round c.view.round c.oldest gives.step.more (result_of c.gave) gives.step.holds in
+    let left = call_left (view_after v calls).round c.view.round (state_after s (turns_of calls)).poller.polls.open_polls (last_answer calls) gives.step.more (result_of c.gave) gives.step.holds in
     record {
       same = same_then v.round (view_after v calls).round c.view.round before.same left.same;
       are = subst (AreGiven c.view.round.events) (sym (turn_given c.gave (turns_of calls))) (left.given (events_of (turns_of calls)) before.are);
@@ -202,6 +237,42 @@ pub rested : (phase : Phase) → IsEnded phase → is_rest phase ≡ true → ph
 rested phase (inl is) rest = absurd (let no : false ≡ true = sym (ap is_rest is) ∙ rest in cc)
 rested phase (inr is) rest = is
 
+-- ---- waits
+-- the waits of calls
+record AreWaited (m : ℕ) (v w : RoundsView) : Type 0 where
+  more : List Reception
+  told : w.heard ≡ extended v.heard more
+  few : begins_in more + waits_left w.round.phase w.round ≤ waits_left v.round.phase v.round
+  each : EachLasts m more
+  keeps : Keeps m w.round
+
+calls_waited : (m : ℕ) (v : RoundsView) (s : State) (calls : List (Call RoundsView)) → Keeps m v.round → AreCalls GivesOn v s calls → AreWaited m v (view_after v calls)
+calls_waited m v s [] keeps are = record { more = []; told = sym (extended_by_none v.heard); few = omega arith; each = All-nil (λ r. Lasts m r.wait); keeps = keeps }
+calls_waited m v s (c ∷ calls) keeps are =
+    let before = calls_waited m v s calls keeps are.2 in
+    let step = are.0.gives.step in
+    let used = settled_used m (view_after v calls).round c.view.round step.holds.more step.holds.oldest (last_answer calls) step.more (result_of c.gave) step.holds.gives before.keeps in
+    let count : begins_in (before.more ++ step.more) ≡ begins_in before.more + begins_in step.more = sum_by-append (λ r. begins_of r.wait) before.more step.more in
+    record {
+      more = before.more ++ step.more;
+      told = extended_on v.heard (view_after v calls).heard c.view.heard before.more step.more before.told step.told;
+      few = omega (arith, before.few, used.few, count);
+      each = All-append (λ r. Lasts m r.wait) before.more step.more before.each used.each;
+      keeps = used.keeps;
+    }
+
+begin_keeps : (span : Span) (r : RoundState) → Keeps (first_wait span r.wait_ms) (begun span r)
+begin_keeps Round r = inr (refl, inl refl)
+begin_keeps (Between milliseconds) r = inr (refl, inr refl)
+
+first_left : (r : RoundState) (targets : List Addr) → waits_left (first_phase Round targets) (begun Round r) ≡ 1 + (r.tries + listens_to r.peers)
+first_left r [] = refl
+first_left r (t ∷ targets) = refl
+
+begin_left : (span : Span) (r : RoundState) → waits_left (begun span r).phase (begun span r) ≡ most_waits span r
+begin_left Round r = first_left r r.targets
+begin_left (Between milliseconds) r = refl
+
 -- ---- whole runs
 begins_round : (targets : List Addr) → is_rest (first_phase Round targets) ≡ false
 begins_round [] = refl
@@ -209,7 +280,7 @@ begins_round (t ∷ targets) = refl
 
 module _ {X : Type 0} {G : Ghosts X} (old new : RoundState) (begins : RoundState) (heard now : Option (List Reception)) (before after : Seen RoundsView G) (run : Run)
     (ran : Ran GivesOn before after 5000 run) (from : before.view ≡ view_of begins heard) (to : after.view ≡ view_of new now)
-    (none : begins.events ≡ []) (few : turns_left begins ≤ 4704) (still : HasSame old begins) (order : AreSoFar (length new.targets) new.peers new.phase new.events) where
+    (none : begins.events ≡ []) (few : turns_left begins ≤ 4704) (still : HasSame old begins) (order : AreSoFar (length new.targets) (new.tries - new.quiets) new.peers new.phase new.events) where
   abbrev given : List OwnedEvent
   given = events_of (turns_of ran.calls)
 
@@ -234,13 +305,16 @@ module _ {X : Type 0} {G : Ghosts X} (old new : RoundState) (begins : RoundState
   whole_round : is_rest begins.phase ≡ false → HasRun (IsWholeRound old new) before after run
   whole_round round =
       let phase : new.phase ≡ Over = over new.phase ended (left.rest ∙ round) in
-      let events : IsRound (length new.targets) new.peers new.events = subst (λ (p : Phase). AreSoFar (length new.targets) new.peers p new.events) phase order in
+      let events : IsRound (length new.targets) (new.tries - new.quiets) new.peers new.events = subst (λ (p : Phase). AreSoFar (length new.targets) (new.tries - new.quiets) new.peers p new.events) phase order in
+      let within : IsRound (length new.targets) new.tries new.peers new.events = round_within (length new.targets) (new.tries - new.quiets) new.tries new.peers new.events (omega arith) events in
       record {
         ran = ran;
         are = record {
           same = kept;
           over = phase;
-          order = subst (λ (n : ℕ). IsRound n old.peers new.events) (ap length kept.targets) (subst (λ (p : List ℕ). IsRound (length new.targets) p new.events) kept.peers events);
+          order =
+              subst (λ (t : ℕ). IsRound (length old.targets) t old.peers new.events) kept.tries
+              (subst (λ (n : ℕ). IsRound n new.tries old.peers new.events) (ap length kept.targets) (subst (λ (p : List ℕ). IsRound (length new.targets) new.tries p new.events) kept.peers within));
           are = left.are;
         };
       }
@@ -253,7 +327,7 @@ module _ {X : Type 0} {G : Ghosts X} (old new : RoundState) (begins : RoundState
         are = record {
           same = kept;
           over = phase;
-          each = subst (λ (p : Phase). AreSoFar (length new.targets) new.peers p new.events) phase order;
+          each = subst (λ (p : Phase). AreSoFar (length new.targets) (new.tries - new.quiets) new.peers p new.events) phase order;
           are = left.are;
         };
       }
@@ -261,3 +335,17 @@ module _ {X : Type 0} {G : Ghosts X} (old new : RoundState) (begins : RoundState
   pub whole : (span : Span) → begins.phase ≡ first_phase span begins.targets → HasRun (IsWhole span old new) before after run
   whole Round is = whole_round (ap is_rest is ∙ begins_round begins.targets)
   whole (Between milliseconds) is = whole_rest (ap is_rest is)
+
+  pub waited : (span : Span) → begins ≡ begun span old → GoesOnBy (HasWaits (most_waits span old) (first_wait span old.wait_ms)) heard now
+  waited span is =
+      let m = first_wait span old.wait_ms in
+      let at : before.view.round ≡ begun span old = first_is ∙ is in
+      let all = calls_waited m before.view before.state ran.calls (subst (Keeps m) (sym at) (begin_keeps span old)) ran.did.are in
+      let left : waits_left before.view.round.phase before.view.round ≡ most_waits span old = ap (λ (r : RoundState). waits_left r.phase r) at ∙ begin_left span old in
+      let last : (view_after before.view ran.calls).heard ≡ now = ap (λ (v : RoundsView). v.heard) (sym ran.did.view ∙ to) in
+      let first : before.view.heard ≡ heard = ap (λ (v : RoundsView). v.heard) from in
+      record {
+        more = all.more;
+        holds = record { few = omega (arith, all.few, left); each = all.each };
+        told = sym last ∙ all.told ∙ ap (λ h. extended h all.more) first;
+      }

@@ -1,31 +1,41 @@
 -- What a round gives next, and what becomes of it.
-use Rattle.std.specs.Prelude.{ℕ, zero, suc, ◌≡◌, ◌<◌, ◌+◌, ◌-◌, ◌⊎◌, Bool, true, false, ◌&&◌, ◌||◌, nat_lt, cond, List, [], ◌∷◌, ◌++◌, Option, Some, None, Result, Ok, Err, length, option_map}
+use Rattle.std.specs.Prelude.{ℕ, zero, suc, ◌≡◌, ◌<◌, ◌+◌, ◌-◌, ◌⊎◌, Bool, true, false, is_some, ◌&&◌, ◌||◌, nat_lt, cond, List, [], ◌∷◌, ◌++◌, Option, Some, None, Result, Ok, Err, length, option_map}
 use Rattle.std.specs.List.{list_any}
 use Rattle.mon_rounds.specs.Order.{RoundEvent}
+use Rattle.mon_poller.specs.Fault.{response_number}
+use Rattle.mon_poller.specs.Polls.{IsOldestAfter, Open}
 use Rattle.mon_station.specs.ReadEvent.{OwnedEvent}
+use Rattle.mon_station.specs.declared.fault.StationFault.{StationFault}
+use Rattle.mon_station.specs.declared.fault.StationFault.TheVariants as fault
+use Rattle.mon_station.specs.declared.running.Answer.{Answer}
+use Rattle.mon_station.specs.declared.running.Answer.TheVariants.{Handled, GaveUp, Memory, Refused, Keeper}
 use Rattle.mon_station.specs.declared.event.Event.TheVariants.{StartPoll, Timeout, FromAgent, FromPeer, Share, Save}
 use Rattle.mon_udp.specs.declared.addr.Addr.{Addr}
 use Rattle.mon_udp.specs.Addr.{same_addr}
 use Rattle.mon_rounds.specs.declared.receiver.Arrival.{Arrival}
 use Rattle.mon_rounds.specs.declared.receiver.Arrival.TheVariants.{Datagram, Quiet}
 use Rattle.mon_rounds.specs.declared.receiver.Wait.{Wait}
-use Rattle.mon_rounds.specs.declared.receiver.Wait.TheVariants.{Anew, Rest}
+use Rattle.mon_rounds.specs.declared.receiver.Wait.TheVariants.{Begin, Renew, Rest}
 use Rattle.mon_rounds.specs.declared.round.Phase.{Phase}
-use Rattle.mon_rounds.specs.declared.round.Phase.TheVariants.{Polling, Hearing, Sharing, Listening, Over, Resting, Rested}
+use Rattle.mon_rounds.specs.declared.round.Phase.TheVariants.{Polling, Hearing, TimingOut, Sharing, Listening, Over, Resting, Rested}
 use Rattle.mon_rounds.specs.Given.{with_octets}
-use Rattle.mon_rounds.specs.Reception.{Reception}
+use Rattle.mon_rounds.specs.Reception.{Reception, begins_of}
 use Rattle.mon_station.specs.declared.running.SourceFault.{SourceFault}
 
--- what is known of a round: where targets and peers are reached, how long a wait is, its phase, the
--- next wait, how many datagrams, timeouts and failures it may still have, and its events so far
+-- What is known of a round: where targets and peers are reached, how long a wait is and how often a
+-- poll is tried at most; its phase and the next wait, which is renewed if the last datagram was
+-- taken; how many datagrams, quiet waits with timeouts, timeouts and failures it may still have; and
+-- its events so far.
 pub record RoundState : Type 0 where
   pub targets : List Addr
   pub peers : List ℕ
   pub peer_addresses : List Addr
   pub wait_ms : ℕ
+  pub tries : ℕ
   pub phase : Phase
   pub wait : Wait
   pub datagrams : ℕ
+  pub quiets : ℕ
   pub timeouts : ℕ
   pub failures : ℕ
   pub events : List RoundEvent
@@ -41,19 +51,54 @@ is_hearing Hearing = true
 is_hearing Listening = true
 is_hearing Resting = true
 is_hearing (Polling target) = false
+is_hearing (TimingOut last) = false
 is_hearing (Sharing slot) = false
 is_hearing Over = false
 is_hearing Rested = false
 
--- the wait in which a datagram must be received next, if one must be
-abbrev pub next_wait : RoundState → Option Wait
-next_wait r = cond (is_hearing r.phase && (nat_lt 0 r.datagrams && nat_lt 0 r.failures)) (Some r.wait) None
+-- whether a datagram must be received next
+abbrev pub must_receive : RoundState → Bool
+must_receive r = is_hearing r.phase && (nat_lt 0 r.datagrams && nat_lt 0 r.failures)
 
--- the wait after a datagram from this address: only a target's or a peer's begins it again, and
--- between two rounds none
-abbrev pub wait_in : Phase → RoundState → Addr → Wait
-wait_in Resting r from = Rest
-wait_in phase r from = cond (stands_in r.targets from || stands_in r.peer_addresses from) (Anew r.wait_ms) Rest
+-- a response that is refused so ends its poll
+abbrev pub ends_poll : StationFault → Bool
+ends_poll (fault.Response f) = nat_lt 5 (response_number f)
+ends_poll fault.OutOfMemory = false
+ends_poll (fault.Keeper f) = false
+ends_poll (fault.Poll f) = false
+ends_poll (fault.Exchange f) = false
+ends_poll (fault.Image f) = false
+ends_poll fault.NoMoreIncarnations = false
+
+-- a datagram with this answer was taken: it was handled, or ended its poll
+abbrev pub is_taken : Option Answer → Bool
+is_taken None = false
+is_taken (Some (Handled samples)) = true
+is_taken (Some (GaveUp target)) = false
+is_taken (Some Memory) = false
+is_taken (Some (Refused f)) = ends_poll f
+is_taken (Some (Keeper number)) = false
+
+-- the wait after a last event with this answer: only a datagram that was taken renews it
+abbrev pub wait_due : Wait → Option Answer → Wait
+wait_due (Begin milliseconds) last = Begin milliseconds
+wait_due Renew last = cond (is_taken last) Renew Rest
+wait_due Rest last = Rest
+
+-- the wait in which a datagram must be received next, if one must be
+abbrev pub next_wait : RoundState → Option Answer → Option Wait
+next_wait r last = cond (must_receive r) (Some (wait_due r.wait last)) None
+
+-- the wait after a datagram: between two rounds none is renewed
+abbrev pub wait_in : Phase → Wait
+wait_in Resting = Rest
+wait_in (Polling target) = Renew
+wait_in Hearing = Renew
+wait_in (TimingOut last) = Renew
+wait_in (Sharing slot) = Renew
+wait_in Listening = Renew
+wait_in Over = Renew
+wait_in Rested = Renew
 
 -- the event of a datagram from this address
 abbrev pub event_from : RoundState → Addr → RoundEvent
@@ -61,7 +106,7 @@ event_from r from = cond (stands_in r.peer_addresses from) (FromPeer from) (From
 
 -- after a datagram from this address
 abbrev pub after_datagram : RoundState → Addr → RoundState
-after_datagram r from = record r { wait = wait_in r.phase r from; datagrams = r.datagrams - 1; events = r.events ++ event_from r from ∷ [] }
+after_datagram r from = record r { wait = wait_in r.phase; datagrams = r.datagrams - 1; events = r.events ++ event_from r from ∷ [] }
 
 -- after a reception that failed
 abbrev pub after_failure : RoundState → RoundState
@@ -74,15 +119,55 @@ share_at [] slot = Save
 share_at (p ∷ peers) zero = Share p
 share_at (p ∷ peers) (suc slot) = share_at peers slot
 
--- a timeout of the oldest open poll, where one is open and there may be a timeout; else the first share
+-- ---- timeouts
+-- the request-id after which the next poll is timed out
+abbrev pub timed_out : Phase → ℕ
+timed_out (TimingOut last) = last
+timed_out (Polling target) = 0
+timed_out Hearing = 0
+timed_out (Sharing slot) = 0
+timed_out Listening = 0
+timed_out Over = 0
+timed_out Resting = 0
+timed_out Rested = 0
+
+-- whether there may be a timeout: after a quiet wait only if it may still have any, and then of each
+-- open poll
+abbrev pub may_time_out : Phase → RoundState → Bool
+may_time_out (TimingOut last) r = nat_lt 0 r.timeouts
+may_time_out (Polling target) r = nat_lt 0 r.timeouts && nat_lt 0 r.quiets
+may_time_out Hearing r = nat_lt 0 r.timeouts && nat_lt 0 r.quiets
+may_time_out (Sharing slot) r = nat_lt 0 r.timeouts && nat_lt 0 r.quiets
+may_time_out Listening r = nat_lt 0 r.timeouts && nat_lt 0 r.quiets
+may_time_out Over r = nat_lt 0 r.timeouts && nat_lt 0 r.quiets
+may_time_out Resting r = nat_lt 0 r.timeouts && nat_lt 0 r.quiets
+may_time_out Rested r = nat_lt 0 r.timeouts && nat_lt 0 r.quiets
+
+-- the phase, if a further poll is to be timed out; else the next wait follows
+abbrev pub settled_phase : Phase → Bool → Phase
+settled_phase (TimingOut last) more = cond more (TimingOut last) Hearing
+settled_phase (Polling target) more = Polling target
+settled_phase Hearing more = Hearing
+settled_phase (Sharing slot) more = Sharing slot
+settled_phase Listening more = Listening
+settled_phase Over more = Over
+settled_phase Resting more = Resting
+settled_phase Rested more = Rested
+
+-- a round that knows which open poll is timed out next, if one is: where none is, the next wait follows
+abbrev pub settled : RoundState → Option ℕ → RoundState
+settled r more = record r { phase = settled_phase r.phase (is_some more && nat_lt 0 r.timeouts) }
+
+-- a timeout of the next open poll, where one is open and there may be a timeout; else the first share
 abbrev pub after_polls : RoundState → Option ℕ → RoundEvent
 after_polls r None = share_at r.peers 0
-after_polls r (Some id) = cond (nat_lt 0 r.timeouts) (Timeout id) (share_at r.peers 0)
+after_polls r (Some id) = cond (may_time_out r.phase r) (Timeout id) (share_at r.peers 0)
 
 -- the event that a round gives in a phase, where it gives one
 abbrev pub event_in_phase : Phase → RoundState → Option ℕ → Option RoundEvent
 event_in_phase (Polling target) r oldest = Some (StartPoll target)
 event_in_phase Hearing r oldest = Some (after_polls r oldest)
+event_in_phase (TimingOut last) r oldest = Some (after_polls r oldest)
 event_in_phase (Sharing slot) r oldest = Some (share_at r.peers slot)
 event_in_phase Listening r oldest = Some Save
 event_in_phase Over r oldest = None
@@ -103,7 +188,7 @@ abbrev pub phase_after : RoundState → RoundEvent → Phase
 phase_after r (StartPoll target) = cond (nat_lt (target + 1) (length r.targets)) (Polling (target + 1)) Hearing
 phase_after r (Share peer) = cond (nat_lt (slot_after r.phase) (length r.peers)) (Sharing (slot_after r.phase)) Listening
 phase_after r Save = Over
-phase_after r (Timeout id) = r.phase
+phase_after r (Timeout id) = TimingOut id
 phase_after r (FromAgent from none) = r.phase
 phase_after r (FromPeer from) = r.phase
 
@@ -112,6 +197,22 @@ abbrev pub timeouts_after : ℕ → RoundEvent → ℕ
 timeouts_after n (Timeout id) = n - 1
 timeouts_after n e = n
 
+-- how many quiet waits with timeouts there may be after an event: the first timeout after one uses it up
+abbrev pub quiets_left : Phase → ℕ → ℕ
+quiets_left (TimingOut last) n = n
+quiets_left (Polling target) n = n - 1
+quiets_left Hearing n = n - 1
+quiets_left (Sharing slot) n = n - 1
+quiets_left Listening n = n - 1
+quiets_left Over n = n - 1
+quiets_left Resting n = n - 1
+quiets_left Rested n = n - 1
+
+-- how many waits that are quiet with open polls may still come after an event
+abbrev pub quiets_after : RoundState → RoundEvent → ℕ
+quiets_after r (Timeout id) = quiets_left r.phase r.quiets
+quiets_after r e = r.quiets
+
 -- the phase after one that gives no event
 abbrev pub phase_ended : Phase → Phase
 phase_ended Resting = Rested
@@ -119,8 +220,8 @@ phase_ended phase = phase
 
 -- after the event that a round gave next, if it gave one; a wait that follows begins again
 abbrev pub after_event : RoundState → Option RoundEvent → RoundState
-after_event r None = record r { phase = phase_ended r.phase; wait = Anew r.wait_ms }
-after_event r (Some e) = record r { phase = phase_after r e; wait = Anew r.wait_ms; timeouts = timeouts_after r.timeouts e; events = r.events ++ e ∷ [] }
+after_event r None = record r { phase = phase_ended r.phase; wait = Begin r.wait_ms }
+after_event r (Some e) = record r { phase = phase_after r e; wait = Begin r.wait_ms; quiets = quiets_after r e; timeouts = timeouts_after r.timeouts e; events = r.events ++ e ∷ [] }
 
 -- ---- one call for the next event
 -- without a reception, or after one that brought nothing: the next event of the round
@@ -145,16 +246,26 @@ LeadsTo r oldest (Some Quiet) result new = Proceeds r oldest result new
 LeadsTo r oldest (Some (Datagram from octets)) result new = HandsOn r from octets result new
 
 -- A call for the next event, with these receptions: one in the wait that was due, or none where none was due.
-abbrev pub GivesNext : RoundState → Option ℕ → List Reception → Result (Option OwnedEvent) SourceFault → RoundState → Type 0
-GivesNext r oldest [] result new = (next_wait r ≡ None) × Proceeds r oldest result new
-GivesNext r oldest (one ∷ []) result new = (next_wait r ≡ Some one.wait) × LeadsTo r oldest one.arrival result new
-GivesNext r oldest (one ∷ two ∷ more) result new = ⊥
+abbrev pub Receives : RoundState → Option ℕ → Option Answer → List Reception → Result (Option OwnedEvent) SourceFault → RoundState → Type 0
+Receives r oldest last [] result new = (next_wait r last ≡ None) × Proceeds r oldest result new
+Receives r oldest last (one ∷ []) result new = (next_wait r last ≡ Some one.wait) × LeadsTo r oldest one.arrival result new
+Receives r oldest last (one ∷ two ∷ more) result new = ⊥
+
+-- A call for the next event, where these polls are open and the last event had this answer: if no
+-- further poll is to be timed out, the next wait follows in it.
+pub record GivesNext (r : RoundState) (open_polls : Open) (last : Option Answer) (log : List Reception) (result : Result (Option OwnedEvent) SourceFault) (new : RoundState) : Type 0 where
+  pub more : Option ℕ
+  pub is_more : IsOldestAfter (timed_out r.phase) open_polls more
+  pub oldest : Option ℕ
+  pub is_oldest : IsOldestAfter (timed_out (settled r more).phase) open_polls oldest
+  pub gives : Receives (settled r more) oldest last log result new
 
 -- ---- how long a round is
 -- how many events that are no datagrams and timeouts are still to come
 abbrev pub events_left : Phase → RoundState → ℕ
 events_left (Polling target) r = length r.targets - target + length r.peers + 1
 events_left Hearing r = length r.peers + 1
+events_left (TimingOut last) r = length r.peers + 1
 events_left (Sharing slot) r = length r.peers - slot + 1
 events_left Listening r = 1
 events_left Over r = 0
@@ -165,6 +276,24 @@ events_left Rested r = 0
 abbrev pub turns_left : RoundState → ℕ
 turns_left r = events_left r.phase r + (r.datagrams + (r.timeouts + r.failures))
 
+-- ---- how often a round waits
+-- after the shares with peers it waits once
+abbrev pub listens_to : List ℕ → ℕ
+listens_to [] = 0
+listens_to (p ∷ peers) = 1
+
+-- how many waits may still begin
+abbrev pub waits_left : Phase → RoundState → ℕ
+waits_left (Polling target) r = 1 + (r.quiets + listens_to r.peers)
+waits_left Hearing r = begins_of r.wait + (r.quiets + listens_to r.peers)
+waits_left (TimingOut last) r = 1 + (r.quiets + listens_to r.peers)
+waits_left (Sharing slot) r = 1
+waits_left Listening r = begins_of r.wait
+waits_left Over r = 0
+waits_left Resting r = begins_of r.wait
+waits_left Rested r = 0
+
+-- ---- how long a round is, after a call
 -- a call that gave an event, or a fault, leaves fewer
 abbrev pub TakesTurn : Result (Option OwnedEvent) SourceFault → ℕ → ℕ → Type 0
 TakesTurn (Ok None) before now = Unit {0}

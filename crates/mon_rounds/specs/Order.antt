@@ -1,8 +1,9 @@
 -- The order of a round's events: each target is polled, what comes is received, each peer is
--- offered what it is owed, what comes is received, and all is saved.
+-- offered what it is owed, what comes is received, and all is saved. After a quiet wait with open
+-- polls each of them is timed out, by rising request-id, before the next wait.
 use Rattle.std.specs.Prelude.{ℕ, zero, suc, ◌≡◌, ◌≤◌, ◌<◌, List, [], ◌∷◌, ◌++◌, All, map, take, length, sum_by}
 use Rattle.mon_rounds.specs.declared.round.Phase.{Phase}
-use Rattle.mon_rounds.specs.declared.round.Phase.TheVariants.{Polling, Hearing, Sharing, Listening, Over, Resting, Rested}
+use Rattle.mon_rounds.specs.declared.round.Phase.TheVariants.{Polling, Hearing, TimingOut, Sharing, Listening, Over, Resting, Rested}
 use Rattle.mon_station.specs.declared.event.Event.{Event}
 use Rattle.mon_station.specs.declared.event.Event.TheVariants.{StartPoll, Timeout, FromAgent, FromPeer, Share, Save}
 use Rattle.mon_udp.specs.declared.addr.Addr.{Addr}
@@ -37,48 +38,86 @@ datagrams_in events = sum_by datagrams_of events
 abbrev pub IsDatagram : RoundEvent → Type 0
 IsDatagram e = datagrams_of e ≡ 1
 
--- what may come while polls are open: datagrams and timeouts
-abbrev pub IsHeard : RoundEvent → Type 0
-IsHeard (FromAgent from none) = Unit {0}
-IsHeard (FromPeer from) = Unit {0}
-IsHeard (Timeout id) = Unit {0}
-IsHeard (StartPoll target) = ⊥
-IsHeard (Share peer) = ⊥
-IsHeard Save = ⊥
+-- ---- timeouts
+-- these request-ids rise; they come after the first number, and the last of them is the second
+abbrev pub AreRising : (after last : ℕ) → List ℕ → Type 0
+AreRising after last [] = after ≡ last
+AreRising after last (id ∷ ids) = (after < id) × AreRising id last ids
 
--- all targets are polled; then datagrams and timeouts came
-pub record HasPolled (targets : ℕ) (events : List RoundEvent) : Type 0 where
-  pub heard : List RoundEvent
-  pub each : All IsHeard heard
-  pub are : events ≡ polls_of targets ++ heard
+-- a timeout of each of these polls, in order
+abbrev pub timeouts_of : List ℕ → List RoundEvent
+timeouts_of ids = map Timeout ids
 
--- after that these peers were offered what they are owed
-pub record HasShared (targets : ℕ) (peers : List ℕ) (events : List RoundEvent) : Type 0 where
+-- After a quiet wait polls are timed out, up to this one: each once, by rising request-id.
+pub record AreTimedOut (Earlier : List RoundEvent → Type 0) (last : ℕ) (events : List RoundEvent) : Type 0 where
   pub before : List RoundEvent
-  pub polled : HasPolled targets before
-  pub are : events ≡ before ++ shares_with peers
+  pub earlier : Earlier before
+  pub ids : List ℕ
+  pub rise : AreRising 0 last ids
+  pub are : events ≡ before ++ timeouts_of ids
 
--- after that datagrams came
-pub record HasListened (targets : ℕ) (peers : List ℕ) (events : List RoundEvent) : Type 0 where
+-- after that datagrams came in the next wait
+pub record AreHeardAfter (Earlier : List RoundEvent → Type 0) (events : List RoundEvent) : Type 0 where
   pub before : List RoundEvent
-  pub shared : HasShared targets peers before
+  pub last : ℕ
+  pub timed_out : AreTimedOut Earlier last before
   pub heard : List RoundEvent
   pub each : All IsDatagram heard
   pub are : events ≡ before ++ heard
 
--- the events of a whole round: after that all was saved, and at most 4096 datagrams came
-pub record IsRound (targets : ℕ) (peers : List ℕ) (events : List RoundEvent) : Type 0 where
+-- What comes while polls are open, in waits of which this many were quiet: datagrams in each wait,
+-- and between two of them timeouts.
+abbrev pub AreHeardIn : ℕ → List RoundEvent → Type 0
+AreHeardIn zero events = All IsDatagram events
+AreHeardIn (suc quiet) events = AreHeardAfter (AreHeardIn quiet) events
+
+-- ---- a round
+-- all targets are polled; then datagrams came, and timeouts after at most so many quiet waits
+pub record HasPolled (targets most : ℕ) (events : List RoundEvent) : Type 0 where
+  pub quiet : ℕ
+  pub few_quiet : quiet ≤ most
+  pub heard : List RoundEvent
+  pub each : AreHeardIn quiet heard
+  pub are : events ≡ polls_of targets ++ heard
+
+-- the same, where after the last of the quiet waits polls up to this one are timed out so far
+pub record HasTimedOut (targets most last : ℕ) (events : List RoundEvent) : Type 0 where
+  pub quiet : ℕ
+  pub few_quiet : quiet < most
+  pub heard : List RoundEvent
+  pub each : AreTimedOut (AreHeardIn quiet) last heard
+  pub are : events ≡ polls_of targets ++ heard
+
+-- after that these peers were offered what they are owed
+pub record HasShared (targets most : ℕ) (peers : List ℕ) (events : List RoundEvent) : Type 0 where
   pub before : List RoundEvent
-  pub listened : HasListened targets peers before
+  pub polled : HasPolled targets most before
+  pub are : events ≡ before ++ shares_with peers
+
+-- after that datagrams came
+pub record HasListened (targets most : ℕ) (peers : List ℕ) (events : List RoundEvent) : Type 0 where
+  pub before : List RoundEvent
+  pub shared : HasShared targets most peers before
+  pub heard : List RoundEvent
+  pub each : All IsDatagram heard
+  pub are : events ≡ before ++ heard
+
+-- The events of a whole round: after that all was saved, and at most 4096 datagrams came. Polls were
+-- timed out after at most so many quiet waits, each at most once after each of them.
+pub record IsRound (targets most : ℕ) (peers : List ℕ) (events : List RoundEvent) : Type 0 where
+  pub before : List RoundEvent
+  pub listened : HasListened targets most peers before
   pub are : events ≡ before ++ Save ∷ []
   pub few : datagrams_in events ≤ 4096
 
--- the events of a round, or of the time between two, that is in this phase
-abbrev pub AreSoFar : ℕ → List ℕ → Phase → List RoundEvent → Type 0
-AreSoFar targets peers (Polling target) events = (target < targets) × (events ≡ polls_of target)
-AreSoFar targets peers Hearing events = HasPolled targets events
-AreSoFar targets peers (Sharing slot) events = (slot < length peers) × HasShared targets (take slot peers) events
-AreSoFar targets peers Listening events = HasListened targets peers events
-AreSoFar targets peers Over events = IsRound targets peers events
-AreSoFar targets peers Resting events = All IsDatagram events
-AreSoFar targets peers Rested events = All IsDatagram events
+-- the events of a round, or of the time between two, that is in this phase, with timeouts after at
+-- most so many quiet waits so far
+abbrev pub AreSoFar : (targets most : ℕ) → List ℕ → Phase → List RoundEvent → Type 0
+AreSoFar targets most peers (Polling target) events = (target < targets) × (events ≡ polls_of target)
+AreSoFar targets most peers Hearing events = HasPolled targets most events
+AreSoFar targets most peers (TimingOut last) events = HasTimedOut targets most last events
+AreSoFar targets most peers (Sharing slot) events = (slot < length peers) × HasShared targets most (take slot peers) events
+AreSoFar targets most peers Listening events = HasListened targets most peers events
+AreSoFar targets most peers Over events = IsRound targets most peers events
+AreSoFar targets most peers Resting events = All IsDatagram events
+AreSoFar targets most peers Rested events = All IsDatagram events

@@ -1,7 +1,9 @@
 -- A whole round of a station, and the whole time between two.
 use Rattle.std.specs.Prelude.{ℕ, ◌≡◌, List, Option, None, Result, Ok, All, length}
 use Rattle.mon_disk.specs.declared.disk.Disk.{Ghosts}
+use Rattle.mon_poller.specs.Polls.{Open}
 use Rattle.mon_station.specs.ReadEvent.{OwnedEvent}
+use Rattle.mon_station.specs.declared.running.Answer.{Answer}
 use Rattle.mon_udp.specs.Told.{GoesOnBy}
 use Rattle.mon_rounds.specs.declared.round.Phase.TheVariants.{Over, Rested}
 use Rattle.mon_rounds.specs.declared.round.Span.{Span}
@@ -28,17 +30,18 @@ view_of r heard = record { round = r; heard = heard }
 -- A call for the next event returns what the round has next, by what the receiver got in it. Each
 -- call but the last leaves fewer of them, and where nothing is given the round, or the time between
 -- two, is over.
-pub record GivesOn (before : RoundsView) (oldest : Option ℕ) (result : Result (Option OwnedEvent) SourceFault) (after : RoundsView) : Type 0 where
-  pub step : GoesOnBy (λ log. GivesNext before.round oldest log result after.round) before.heard after.heard
+pub record GivesOn (before : RoundsView) (open_polls : Open) (last : Option Answer) (result : Result (Option OwnedEvent) SourceFault) (after : RoundsView) : Type 0 where
+  pub step : GoesOnBy (λ log. GivesNext before.round open_polls last log result after.round) before.heard after.heard
   pub turns : TakesTurn result (turns_left before.round) (turns_left after.round)
   pub ended : result ≡ Ok None → IsEnded after.round.phase
 
--- targets and peers are reached where they were, and a wait is as long
+-- targets and peers are reached where they were, a wait is as long, and polls are tried as often
 pub record HasSame (old new : RoundState) : Type 0 where
   pub targets : new.targets ≡ old.targets
   pub peers : new.peers ≡ old.peers
   pub peer_addresses : new.peer_addresses ≡ old.peer_addresses
   pub wait_ms : new.wait_ms ≡ old.wait_ms
+  pub tries : new.tries ≡ old.tries
 
 -- These events are those of a whole round over the same targets and peers: each target is polled,
 -- what comes is received and what is not answered times out, each peer is offered what it is owed,
@@ -46,7 +49,7 @@ pub record HasSame (old new : RoundState) : Type 0 where
 pub record IsWholeRound (old new : RoundState) (given : List OwnedEvent) : Type 0 where
   pub same : HasSame old new
   pub over : new.phase ≡ Over
-  pub order : IsRound (length old.targets) old.peers new.events
+  pub order : IsRound (length old.targets) old.tries old.peers new.events
   pub are : AreGiven new.events given
 
 -- these events are those of a whole time between two rounds: only datagrams

@@ -4,8 +4,9 @@
 //! `RoundReport::of` says what is reported of it, `Freshness::add` how long ago each target answered
 //! and each instance had a new sample, and `Troubles::take_changes` what changed in that.
 //! Contract: a round polls each target, receives, offers each peer what it is owed, receives again
-//! and saves, in this order; what it gives a station is fixed by what its receiver got, and only a
-//! datagram from a target or a peer begins a wait again.
+//! and saves, in this order; what it gives a station is fixed by what its receiver got. Only a
+//! datagram that was taken renews a wait, after a quiet wait each open poll is timed out once, and so
+//! a round ends soon whatever comes.
 #![tactic(auto)]
 
 mod addresses;
@@ -14,6 +15,7 @@ mod course;
 mod explaining;
 mod freshness;
 mod grid;
+pub mod laws;
 mod polled;
 mod receiver;
 mod reporting;

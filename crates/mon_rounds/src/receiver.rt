@@ -4,11 +4,14 @@ use mon_ber::Octets;
 use mon_udp::Addr;
 use thiserror::Error;
 
-/// Which wait a reception is part of.
+/// Which wait a reception is part of. A wait is over when it was quiet for its length, and at the
+/// latest four times its length after it began.
 #[derive(Clone, Copy)]
 pub enum Wait {
     /// One that begins now and lasts this many milliseconds.
-    Anew(u32),
+    Begin(u32),
+    /// The last one, quiet since now.
+    Renew,
     /// The rest of the last one.
     Rest,
 }

@@ -1,15 +1,15 @@
 //! A round: what a station is handed in it, and in which order.
 
-ghost use Rattle.std.specs.Prelude.{◌≡◌, ◌≤◌, ◌<◌, ◌+◌, [], None, Some, IfOk, IsSome, OnSome, length, option_map, slice_get};
+ghost use Rattle.std.specs.Prelude.{◌≡◌, ◌≤◌, ◌<◌, ◌+◌, ◌-◌, [], None, Some, IfOk, IfSome, OnSome, length, option_map, slice_get, true};
 ghost use Rattle.mon_rounds.specs.Given.{with_octets};
-ghost use Rattle.mon_rounds.specs.Orderly.{IsSaving, IsSharing, begun, unbegun};
-ghost use Rattle.mon_rounds.specs.Next.{after_datagram, after_event, after_failure, after_polls, event_from, is_hearing, next_event, next_wait, share_at, slot_after, stands_in, turns_left, wait_in};
+ghost use Rattle.mon_rounds.specs.Orderly.{IsSaving, IsSharing, IsTiming, begun, unbegun};
+ghost use Rattle.mon_rounds.specs.Next.{after_datagram, after_event, after_failure, after_polls, event_from, is_hearing, is_taken, may_time_out, must_receive, next_event, next_wait, quiets_left, settled, settled_phase, share_at, slot_after, stands_in, timed_out, turns_left, wait_due, wait_in};
 ghost use Rattle.mon_rounds.specs.Order.{AreSoFar, datagrams_in};
 
 use crate::addresses::Addresses;
 use crate::receiver::Wait;
 use mon_ber::Octets;
-use mon_station::{Event, OwnedEvent};
+use mon_station::{Answer, Event, OwnedEvent, StationFault};
 use mon_udp::Addr;
 use std::alloc::{AllocError, Global};
 use std::marker::Model;
@@ -19,6 +19,9 @@ const MOST_DATAGRAMS: u32 = 4096;
 
 /// The most timeouts of a round: 64 polls, each sent 8 times.
 const MOST_TIMEOUTS: u32 = 512;
+
+/// The greatest number of a response's fault that ends no poll.
+const LAST_STRAY: u8 = 5;
 
 /// The most failures of the receiver in a round.
 const MOST_FAILURES: u32 = 16;
@@ -41,8 +44,10 @@ pub enum Span {
 pub enum Phase {
     /// The target of this number is polled next.
     Polling(u16),
-    /// Datagrams are received; if a wait times out, so does the oldest open poll.
+    /// Datagrams are received; after a quiet wait the open polls are timed out.
     Hearing,
+    /// Open polls are timed out, the next of them after this request-id; then a wait begins.
+    TimingOut(u32),
     /// The peer of this slot is offered next what it is owed.
     Sharing(u16),
     /// Datagrams are received after the shares; if a wait times out, all is saved.
@@ -62,9 +67,11 @@ pub type RoundEvent = Event<(), Addr>;
 pub struct Round {
     addresses: Addresses,
     wait_ms: u32,
+    tries: u32,
     phase: Phase,
     wait: Wait,
     datagrams: u32,
+    quiets: u32,
     timeouts: u32,
     failures: u32,
     events: Vec<RoundEvent>,
@@ -76,9 +83,11 @@ impl Drop for Round {
         let Round {
             addresses: _,
             wait_ms: _,
+            tries: _,
             phase: _,
             wait: _,
             datagrams: _,
+            quiets: _,
             timeouts: _,
             failures: _,
             events: _,
@@ -98,9 +107,11 @@ impl Model for Round {
       peers = r.addresses.peers.items;
       peer_addresses = r.addresses.peer_addresses.items;
       wait_ms = r.wait_ms;
+      tries = r.tries;
       phase = r.phase;
       wait = r.wait;
       datagrams = r.datagrams;
+      quiets = r.quiets;
       timeouts = r.timeouts;
       failures = r.failures;
       events = r.events.items;
@@ -111,9 +122,11 @@ impl Model for Round {
       peers = r.addresses.peers.items;
       peer_addresses = r.addresses.peer_addresses.items;
       wait_ms = r.wait_ms;
+      tries = r.tries;
       phase = r.phase;
       wait = r.wait;
       datagrams = r.datagrams;
+      quiets = r.quiets;
       timeouts = r.timeouts;
       failures = r.failures;
       events = r.events.items;
@@ -121,16 +134,24 @@ impl Model for Round {
 }
 
 impl Round {
-    /// Between two rounds. A wait times out after this many milliseconds.
-    pub(crate) fn new(alloc: Global, addresses: Addresses, wait_ms: u32) -> Result<Self, AllocError>
-        ensures state { IfOk result (λ r. r ≡ unbegun addresses.targets.items addresses.peers.items addresses.peer_addresses.items wait_ms) }
+    /// Between two rounds. A wait is over when it was quiet for this many milliseconds, and a poll is
+    /// tried at most so often.
+    pub(crate) fn new(
+        alloc: Global,
+        addresses: Addresses,
+        wait_ms: u32,
+        tries: u8,
+    ) -> Result<Self, AllocError>
+        ensures state { IfOk result (λ r. r ≡ unbegun addresses.targets.items addresses.peers.items addresses.peer_addresses.items wait_ms tries) }
     {
         Ok(Round {
             addresses,
             wait_ms,
+            tries: u32::from(tries),
             phase: Phase::Rested,
-            wait: Wait::Anew(wait_ms),
+            wait: Wait::Begin(wait_ms),
             datagrams: MOST_DATAGRAMS,
+            quiets: 0,
             timeouts: 0,
             failures: 0,
             events: Vec::with_capacity(alloc, ROOM)?,
@@ -144,14 +165,15 @@ impl Round {
     {
         self.events.clear();
         self.datagrams = MOST_DATAGRAMS;
+        self.quiets = self.tries;
         self.timeouts = MOST_TIMEOUTS;
         self.failures = MOST_FAILURES;
         (self.phase, self.wait) = match span {
-            Span::Between(milliseconds) => (Phase::Resting, Wait::Anew(milliseconds)),
+            Span::Between(milliseconds) => (Phase::Resting, Wait::Begin(milliseconds)),
             Span::Round if self.addresses.targets.is_empty() => {
-                (Phase::Hearing, Wait::Anew(self.wait_ms))
+                (Phase::Hearing, Wait::Begin(self.wait_ms))
             }
-            Span::Round => (Phase::Polling(0), Wait::Anew(self.wait_ms)),
+            Span::Round => (Phase::Polling(0), Wait::Begin(self.wait_ms)),
         };
     }
 
@@ -166,7 +188,7 @@ impl Round {
     pub fn events(&self) -> &[RoundEvent]
         ensures events { result.now ≡ self.now.events }
         // They are in the order of a round; where it is over, they are those of a whole round.
-        ensures order { AreSoFar (length self.now.targets) self.now.peers self.now.phase self.now.events }
+        ensures order { AreSoFar (length self.now.targets) (self.now.tries - self.now.quiets) self.now.peers self.now.phase self.now.events }
     {
         self.events.as_slice()
     }
@@ -199,12 +221,40 @@ impl Round {
         self.addresses.is_target(from)
     }
 
-    /// Returns the wait in which a datagram must be received next, if one must be.
-    pub(crate) fn next_wait(&self) -> Option<Wait>
-        ensures { result ≡ next_wait self.now }
+    /// Returns the request-id after which the next poll is timed out.
+    pub(crate) fn timed_out(&self) -> u32
+        ensures { result ≡ timed_out self.now.phase }
     {
-        if is_hearing(self.phase) && self.datagrams > 0 && self.failures > 0 {
-            Some(self.wait)
+        match self.phase {
+            Phase::TimingOut(last) => last,
+            _ => 0,
+        }
+    }
+
+    /// Ends the timeouts after a quiet wait if no further poll is open. It is given the request-id of
+    /// the next open poll.
+    pub(crate) fn settle(&mut self, more: Option<u32>)
+        ensures state { self.new ≡ settled self.old more }
+        ensures turns { turns_left self.new ≡ turns_left self.old }
+    {
+        let goes_on = more.is_some() && self.timeouts > 0;
+        self.phase = settled_phase(self.phase, goes_on);
+    }
+
+    /// Returns `true` if a datagram must be received next.
+    fn must_receive(&self) -> bool
+        ensures { result ≡ must_receive self.now }
+    {
+        is_hearing(self.phase) && self.datagrams > 0 && self.failures > 0
+    }
+
+    /// Returns the wait in which a datagram must be received next, if one must be. It is given what
+    /// became of the last event.
+    pub(crate) fn next_wait(&self, last: Option<Answer>) -> Option<Wait>
+        ensures { result ≡ next_wait self.now last }
+    {
+        if self.must_receive() {
+            Some(wait_due(self.wait, last))
         } else {
             None
         }
@@ -212,12 +262,12 @@ impl Round {
 
     /// A datagram was received.
     pub(crate) fn take(&mut self, from: Addr, octets: Octets) -> OwnedEvent
-        requires due { IsSome (next_wait self.old) }
+        requires due { must_receive self.old ≡ true }
         ensures state { self.new ≡ after_datagram self.old from }
         ensures event { result ≡ with_octets (event_from self.old from) octets }
         ensures turns { turns_left self.new < turns_left self.old }
     {
-        self.wait = self.wait_after(from);
+        self.wait = wait_in(self.phase);
         self.datagrams -= 1;
         if self.addresses.is_peer(from) {
             self.events.push_reserved(RoundEvent::FromPeer(from));
@@ -228,22 +278,9 @@ impl Round {
         }
     }
 
-    /// The wait after a datagram from this address.
-    fn wait_after(&self, from: Addr) -> Wait
-        ensures { result ≡ wait_in self.now.phase self.now from }
-    {
-        match self.phase {
-            Phase::Resting => Wait::Rest,
-            _ if self.addresses.is_target(from) || self.addresses.is_peer(from) => {
-                Wait::Anew(self.wait_ms)
-            }
-            _ => Wait::Rest,
-        }
-    }
-
     /// A reception failed.
     pub(crate) fn fail(&mut self)
-        requires due { IsSome (next_wait self.old) }
+        requires due { must_receive self.old ≡ true }
         ensures state { self.new ≡ after_failure self.old }
         ensures turns { turns_left self.new < turns_left self.old }
     {
@@ -252,15 +289,16 @@ impl Round {
     }
 
     /// Returns the next event when nothing more is received, if there is one. It is given the
-    /// request-id of the oldest open poll.
+    /// request-id of the open poll that is timed out next.
     pub(crate) fn proceed(&mut self, oldest: Option<u32>) -> Option<OwnedEvent>
+        requires later { IfSome oldest (λ id. timed_out self.old.phase < id) }
         ensures state { self.new ≡ after_event self.old (next_event self.old oldest) }
         ensures event { result ≡ option_map (λ e. with_octets e []) (next_event self.old oldest) }
         ensures turns { OnSome result (turns_left self.new < turns_left self.old) }
     {
         match self.phase {
             Phase::Polling(target) => Some(self.poll(target)),
-            Phase::Hearing => Some(self.time_out(oldest)),
+            Phase::Hearing | Phase::TimingOut(_) => Some(self.time_out(oldest)),
             Phase::Sharing(slot) => Some(self.share(slot)),
             Phase::Listening => Some(self.save()),
             Phase::Resting | Phase::Over | Phase::Rested => {
@@ -275,7 +313,7 @@ impl Round {
         requires phase { next_event self.old None ≡ None }
         ensures state { self.new ≡ after_event self.old None }
     {
-        self.wait = Wait::Anew(self.wait_ms);
+        self.wait = Wait::Begin(self.wait_ms);
         if self.phase == Phase::Resting {
             self.phase = Phase::Rested;
         }
@@ -288,7 +326,7 @@ impl Round {
         ensures event { result ≡ Event.StartPoll target }
         ensures turns { turns_left self.new < turns_left self.old }
     {
-        self.wait = Wait::Anew(self.wait_ms);
+        self.wait = Wait::Begin(self.wait_ms);
         self.phase = if usize::from(target) + 1 < self.addresses.targets.len() {
             Phase::Polling(target + 1)
         } else {
@@ -298,22 +336,45 @@ impl Round {
         OwnedEvent::StartPoll(target)
     }
 
-    /// Times out the oldest open poll. Where none is open, sharing begins.
+    /// Returns `true` if there may be a timeout.
+    fn may_time_out(&self) -> bool
+        ensures { result ≡ may_time_out self.now.phase self.now }
+    {
+        match self.phase {
+            Phase::TimingOut(_) => self.timeouts > 0,
+            _ => self.timeouts > 0 && self.quiets > 0,
+        }
+    }
+
+    /// Times out the next open poll. Where none is open, sharing begins.
     fn time_out(&mut self, oldest: Option<u32>) -> OwnedEvent
-        requires phase { self.old.phase ≡ Phase.Hearing }
+        requires phase { IsTiming self.old.phase }
+        requires later { IfSome oldest (λ id. timed_out self.old.phase < id) }
         ensures state { self.new ≡ after_event self.old (Some (after_polls self.old oldest)) }
         ensures event { result ≡ with_octets (after_polls self.old oldest) [] }
         ensures turns { turns_left self.new < turns_left self.old }
     {
         match oldest {
-            Some(id) if self.timeouts > 0 => {
-                self.wait = Wait::Anew(self.wait_ms);
-                self.timeouts -= 1;
-                self.events.push_reserved(RoundEvent::Timeout(id));
-                OwnedEvent::Timeout(id)
-            }
+            Some(id) if self.may_time_out() => self.time_out_one(id),
             _ => self.share(0),
         }
+    }
+
+    /// Times out the open poll of this request-id.
+    fn time_out_one(&mut self, id: u32) -> OwnedEvent
+        requires phase { IsTiming self.old.phase }
+        requires later { timed_out self.old.phase < id }
+        requires may { may_time_out self.old.phase self.old ≡ true }
+        ensures state { self.new ≡ after_event self.old (Some (Event.Timeout id)) }
+        ensures event { result ≡ Event.Timeout id }
+        ensures turns { turns_left self.new < turns_left self.old }
+    {
+        self.wait = Wait::Begin(self.wait_ms);
+        self.quiets = quiets_left(self.phase, self.quiets);
+        self.phase = Phase::TimingOut(id);
+        self.timeouts -= 1;
+        self.events.push_reserved(RoundEvent::Timeout(id));
+        OwnedEvent::Timeout(id)
     }
 
     /// Offers the peer of this slot what it is owed, or saves if there is no such peer.
@@ -338,7 +399,7 @@ impl Round {
         ensures event { result ≡ Event.Share peer }
         ensures turns { turns_left self.new < turns_left self.old }
     {
-        self.wait = Wait::Anew(self.wait_ms);
+        self.wait = Wait::Begin(self.wait_ms);
         self.phase = if usize::from(slot) + 1 < self.addresses.peers.len() {
             Phase::Sharing(slot + 1)
         } else {
@@ -355,7 +416,7 @@ impl Round {
         ensures event { result ≡ Event.Save }
         ensures turns { turns_left self.new < turns_left self.old }
     {
-        self.wait = Wait::Anew(self.wait_ms);
+        self.wait = Wait::Begin(self.wait_ms);
         self.phase = Phase::Over;
         self.events.push_reserved(RoundEvent::Save);
         OwnedEvent::Save
@@ -368,6 +429,58 @@ fn is_hearing(phase: Phase) -> bool
 {
     match phase {
         Phase::Hearing | Phase::Listening | Phase::Resting => true,
-        Phase::Polling(_) | Phase::Sharing(_) | Phase::Over | Phase::Rested => false,
+        Phase::Polling(_) | Phase::TimingOut(_) | Phase::Sharing(_) | Phase::Over | Phase::Rested =>
+            false,
+    }
+}
+
+/// Returns the phase, by whether a further poll is to be timed out; if none is, the next wait follows.
+fn settled_phase(phase: Phase, more: bool) -> Phase
+    ensures { result ≡ settled_phase phase more }
+{
+    match phase {
+        Phase::TimingOut(_) if !more => Phase::Hearing,
+        phase => phase,
+    }
+}
+
+/// Returns the wait after a datagram: between two rounds none is renewed.
+fn wait_in(phase: Phase) -> Wait
+    ensures { result ≡ wait_in phase }
+{
+    match phase {
+        Phase::Resting => Wait::Rest,
+        _ => Wait::Renew,
+    }
+}
+
+/// Returns how many quiet waits with timeouts there may be after a timeout in this phase.
+fn quiets_left(phase: Phase, quiets: u32) -> u32
+    ensures { result ≡ quiets_left phase quiets }
+{
+    match phase {
+        Phase::TimingOut(_) => quiets,
+        _ => quiets.saturating_sub(1),
+    }
+}
+
+/// Returns the wait after a last event with this answer: only a datagram that was taken renews it.
+fn wait_due(wait: Wait, last: Option<Answer>) -> Wait
+    ensures { result ≡ wait_due wait last }
+{
+    match wait {
+        Wait::Renew if !is_taken(last) => Wait::Rest,
+        wait => wait,
+    }
+}
+
+/// Returns `true` if a datagram with this answer was taken: it was handled, or ended its poll.
+fn is_taken(last: Option<Answer>) -> bool
+    ensures { result ≡ is_taken last }
+{
+    match last {
+        Some(Answer::Handled(_)) => true,
+        Some(Answer::Refused(StationFault::Response(fault))) => fault.number() > LAST_STRAY,
+        _ => false,
     }
 }

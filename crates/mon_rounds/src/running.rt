@@ -1,7 +1,9 @@
 //! Running a station through a round, or the time between two.
 
 ghost use Rattle.std.specs.Prelude.{◌≡◌, ◌≤◌, IfErr, IsOk, OnErr, OnOk, vec_capacity};
-ghost use Rattle.mon_rounds.specs.Orderly.{begun};
+ghost use Rattle.mon_rounds.specs.Orderly.{begun, first_wait, most_waits};
+ghost use Rattle.mon_rounds.specs.Reception.{HasWaits};
+ghost use Rattle.mon_udp.specs.Told.{GoesOnBy};
 ghost use Rattle.mon_rounds.specs.Whole.{HasRun, IsWhole, view_of};
 ghost use Rattle.mon_station.specs.Ran.{HasFailed, IsEmpty, failures_after, faults_in};
 ghost use Rattle.mon_station.specs.Seen.{seen};
@@ -34,6 +36,8 @@ impl<R: Receiver + Drop> Rounds<R> {
         // The station was given the events of a whole round, or what came between two, and answered them so.
         ensures ran { OnOk result (HasRun (IsWhole span self.old.round self.new.round) (seen station.old (view_of (begun span self.old.round) (R.heard self.old.receiver)) (O.handed outbox.old))
             (seen station.new (view_of self.new.round (R.heard self.new.receiver)) (O.handed outbox.new)) run.new) }
+        // At most so many waits begin, each as long as a wait is, whatever comes.
+        ensures waits { OnOk result (GoesOnBy (HasWaits (most_waits span self.old.round) (first_wait span self.old.round.wait_ms)) (R.heard self.old.receiver) (R.heard self.new.receiver)) }
         ensures refused { OnOk result (run.new.refused ≡ faults_in run.new.answers.items) }
         ensures source { OnOk result (R.failures self.new.receiver ≡ failures_after run.new.source_faults (R.failures self.old.receiver)) }
         ensures outbox { OnOk result (HasFailed (O.failures outbox.old) (O.failures outbox.new) run.new.send_faults) }

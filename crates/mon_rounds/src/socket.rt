@@ -1,37 +1,37 @@
 //! A station receives and sends by one socket, so that responses and claims come back to it.
 
-ghost use Rattle.std.specs.Prelude.{◌≡◌, IfOk, IsErr, None, OnOk};
-ghost use Rattle.std.specs.Duration.{as_nanos};
-ghost use Rattle.mon_rounds.specs.AtSocket.{IsArrival, goes_to};
-ghost use Rattle.mon_rounds.specs.Reception.{length_in};
+ghost use Rattle.std.specs.Prelude.{◌≡◌, IfOk, IsErr, None, OnOk, length};
+ghost use Rattle.mon_rounds.specs.AtSocket.{IsArrival, IsGot, IsSentTo, goes_to};
+ghost use Rattle.mon_rounds.specs.Reception.{IsTimed};
 
 use crate::addresses::Addresses;
 use crate::receiver::{Arrival, Receiver, ReceiverFault, Wait};
 use mon_ber::Octets;
 use mon_station::{Outbox, OutboxFault, Outgoing, To};
-use mon_udp::{Addr, Socket, Waiting, datagram_buffer, failed_after};
+use mon_udp::{Addr, Receives, Socket, Ticks, Waiting, datagram_buffer, failed_after};
 use std::alloc::Global;
 use std::io;
 use std::net::SocketAddr;
-use std::rt::Clock;
 
 /// Receives a station's datagrams by its socket.
 #[derive(Drop)]
-pub struct SocketReceiver<'a, R: Clock> {
+pub struct SocketReceiver<'a, R: Ticks, S: Receives> {
     alloc: Global,
-    socket: &'a Socket,
+    socket: &'a S,
     waiting: Waiting<'a, R>,
     buffer: Vec<u8>,
     failures: u64,
 }
 
-impl<'a, R: Clock> SocketReceiver<'a, R> {
-    /// Returns a receiver by this socket, in no wait yet.
+impl<'a, R: Ticks, S: Receives> SocketReceiver<'a, R, S> {
+    /// Returns a receiver by this socket, in no wait yet, with a buffer for the largest datagram.
     ///
     /// # Errors
     /// `OutOfMemory` if there is no memory for a datagram, the system's fault if the clock fails.
-    pub fn new(rt: &'a R, alloc: Global, socket: &'a Socket) -> io::Result<Self>
-        ensures { IfOk result (λ r. r.failures ≡ 0) }
+    pub fn new(rt: &'a R, alloc: Global, socket: &'a S) -> io::Result<Self>
+        ensures failures { IfOk result (λ r. r.failures ≡ 0) }
+        ensures over { IfOk result (λ r. r.waiting.timer.milliseconds ≡ 0) }
+        ensures room { IfOk result (λ r. length r.buffer.items ≡ 65507) }
     {
         Ok(SocketReceiver {
             alloc,
@@ -43,16 +43,47 @@ impl<'a, R: Clock> SocketReceiver<'a, R> {
     }
 }
 
-impl<R: Clock> SocketReceiver<'_, R> {
-    /// Receives something in a wait that begins now, or in the rest of the last one.
-    fn receive_in(&mut self, wait: Wait) -> io::Result<Option<(usize, SocketAddr)>>
-        ensures length { OnOk result (as_nanos self.new.waiting.length ≡ length_in wait (as_nanos self.old.waiting.length)) }
+impl<R: Ticks, S: Receives> SocketReceiver<'_, R, S> {
+    /// Begins a wait, begins its quiet anew, or goes on with it.
+    fn begin(&mut self, wait: Wait) -> io::Result<()>
+        ensures wait { OnOk result (IsTimed (R.told self.old.waiting.rt.now self.old.waiting.timer.quiet) wait self.old.waiting.timer self.new.waiting.timer) }
+        ensures rt { self.new.waiting.rt ≡ self.old.waiting.rt }
+        ensures socket { self.new.socket ≡ self.old.socket }
+        ensures room { self.new.buffer ≡ self.old.buffer }
     {
-        if let Wait::Anew(milliseconds) = wait {
-            self.waiting.begin(milliseconds)?;
+        match wait {
+            Wait::Begin(milliseconds) => self.waiting.begin(milliseconds),
+            Wait::Renew => self.waiting.renew(),
+            Wait::Rest => Ok(()),
         }
-        self.waiting
+    }
+
+    /// Receives something in the rest of the wait.
+    fn receive_rest(&mut self) -> Result<Arrival, ReceiverFault>
+        ensures got { IfOk result (IsGot (R.told self.old.waiting.rt.now self.old.waiting.timer.quiet) (S.quiet self.old.socket.now) (S.received self.old.socket.now) self.new.buffer.items self.old.waiting.timer) }
+        ensures waiting { self.new.waiting ≡ self.old.waiting }
+        ensures room { length self.new.buffer.items ≡ length self.old.buffer.items }
+    {
+        match self
+            .waiting
             .receive(self.socket, self.buffer.as_mut_slice())
+        {
+            Ok(Some((len, from))) => arrival_of(self.alloc, self.buffer.as_slice(), len, from),
+            Ok(None) => Ok(Arrival::Quiet),
+            Err(_) => Err(ReceiverFault),
+        }
+    }
+
+    /// Receives something in this wait.
+    fn receive_in(&mut self, wait: Wait) -> Result<Arrival, ReceiverFault>
+        ensures wait { OnOk result (IsTimed (R.told self.old.waiting.rt.now self.old.waiting.timer.quiet) wait self.old.waiting.timer self.new.waiting.timer) }
+        ensures got { IfOk result (IsGot (R.told self.old.waiting.rt.now self.new.waiting.timer.quiet) (S.quiet self.old.socket.now) (S.received self.old.socket.now) self.new.buffer.items self.new.waiting.timer) }
+        ensures room { length self.new.buffer.items ≡ length self.old.buffer.items }
+    {
+        match self.begin(wait) {
+            Ok(()) => self.receive_rest(),
+            Err(_) => Err(ReceiverFault),
+        }
     }
 }
 
@@ -76,7 +107,7 @@ pub fn arrival_of(
     }
 }
 
-impl<R: Clock> Receiver for SocketReceiver<'_, R> {
+impl<R: Ticks, S: Receives> Receiver for SocketReceiver<'_, R, S> {
     ghost use Rattle.mon_udp.specs.Counts.{failed_after};
 
     // What happens at a socket is not known.
@@ -86,14 +117,14 @@ impl<R: Clock> Receiver for SocketReceiver<'_, R> {
 
     fn receive(&mut self, wait: Wait) -> Result<Arrival, ReceiverFault>
         ensures failures { self.new.failures ≡ failed_after result self.old.failures }
-        ensures length { OnOk result (as_nanos self.new.waiting.length ≡ length_in wait (as_nanos self.old.waiting.length)) }
+        // The wait begins, or is quiet since, the time that the clock tells in this call.
+        ensures wait { OnOk result (IsTimed (R.told self.old.waiting.rt.now self.old.waiting.timer.quiet) wait self.old.waiting.timer self.new.waiting.timer) }
+        // A datagram is the system's; there is none only if the wait is over.
+        ensures got { IfOk result (IsGot (R.told self.old.waiting.rt.now self.new.waiting.timer.quiet) (S.quiet self.old.socket.now) (S.received self.old.socket.now) self.new.buffer.items self.new.waiting.timer) }
+        ensures room { length self.new.buffer.items ≡ length self.old.buffer.items }
     {
         let failures = self.failures;
-        let received = match self.receive_in(wait) {
-            Ok(Some((len, from))) => arrival_of(self.alloc, self.buffer.as_slice(), len, from),
-            Ok(None) => Ok(Arrival::Quiet),
-            Err(_) => Err(ReceiverFault),
-        };
+        let received = self.receive_in(wait);
         self.failures = failed_after(failures, &received);
         received
     }
@@ -101,11 +132,22 @@ impl<R: Clock> Receiver for SocketReceiver<'_, R> {
 
 /// What a station's datagrams are sent by.
 pub trait Sends {
+    ghost use Rattle.std.specs.Prelude.{List, ℕ, OnOk};
+    ghost use Rattle.mon_udp.specs.declared.addr.Addr.{Addr as AnyAddr};
+
+    // These octets were sent to this address. Code that is generic over what sends has this from a
+    // call of `send` alone.
+    ghost sent: { Self → List ℕ → AnyAddr → Type 0 };
+
     /// Sends a datagram to this address.
-    fn send(&self, octets: &[u8], to: Addr) -> io::Result<()>;
+    fn send(&self, octets: &[u8], to: Addr) -> io::Result<()>
+        ensures { OnOk result (sent self.now octets.now to) };
 }
 
 impl Sends for Socket {
+    // What happens at a socket is not known.
+    ghost sent = { λ _ _ _. Unit {0} };
+
     fn send(&self, octets: &[u8], to: Addr) -> io::Result<()> {
         Socket::send(self, octets, to)
     }
@@ -154,7 +196,9 @@ impl<'a, S: Sends> SocketOutbox<'a, S> {
 
     /// Sends a datagram to where it goes.
     fn put(&self, out: &Outgoing) -> Result<(), OutboxFault>
-        ensures { goes_to self.now.addresses out.now.to ≡ None → IsErr result }
+        ensures nowhere { goes_to self.now.addresses out.now.to ≡ None → IsErr result }
+        // What is answered as sent was sent: its octets, to where it goes.
+        ensures sent { OnOk result (IsSentTo (S.sent self.now.socket.now) (goes_to self.now.addresses out.now.to) out.now.octets) }
     {
         let Some(to) = self.address_of(out.to) else {
             return Err(OutboxFault);
@@ -178,6 +222,8 @@ impl<S: Sends> Outbox for SocketOutbox<'_, S> {
         ensures addresses { self.new.addresses ≡ self.old.addresses }
         // What has no address is not sent, and that counts as a failure.
         ensures nowhere { goes_to self.old.addresses out.now.to ≡ None → IsErr result }
+        // What is answered as sent was sent: its octets, to where it goes.
+        ensures sent { OnOk result (IsSentTo (S.sent self.old.socket.now) (goes_to self.old.addresses out.now.to) out.now.octets) }
     {
         let sent = self.put(out);
         self.failures = failed_after(self.failures, &sent);

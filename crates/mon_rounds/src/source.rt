@@ -1,19 +1,20 @@
 //! A station's events, from its rounds and a receiver.
 
-ghost use Rattle.std.specs.Prelude.{◌≡◌, ◌≤◌, IfOk, Ok, None, Some, length};
+ghost use Rattle.std.specs.Prelude.{◌≡◌, ◌≤◌, ◌<◌, ◌-◌, IfOk, IfSome, Ok, None, Some, length, true};
 ghost use Rattle.mon_udp.specs.Counts.{failed_after};
 ghost use Rattle.mon_udp.specs.Told.{GoesOnBy};
 ghost use Rattle.mon_rounds.specs.Order.{AreSoFar};
 ghost use Rattle.mon_rounds.specs.Whole.{GivesOn, RoundsView, view_of};
 ghost use Rattle.mon_rounds.specs.Orderly.{begun, unbegun};
-ghost use Rattle.mon_rounds.specs.Next.{GivesNext, IsEnded, TakesTurn, next_wait, turns_left};
+ghost use Rattle.mon_rounds.specs.Next.{GivesNext, IsEnded, Receives, TakesTurn, must_receive, next_wait, timed_out, turns_left};
 
 use crate::addresses::Addresses;
 use crate::receiver::{Arrival, Receiver, Wait};
 use crate::round::{Round, Span};
 use mon_ber::Octets;
+use mon_poller::Poller;
 use mon_reasons::Latest;
-use mon_station::{OwnedEvent, Source, SourceFault};
+use mon_station::{Answer, OwnedEvent, Source, SourceFault};
 use mon_udp::Addr;
 use std::alloc::{AllocError, Global};
 
@@ -38,19 +39,20 @@ impl<R: Receiver + Drop> Drop for Rounds<R> {
 }
 
 impl<R: Receiver + Drop> Rounds<R> {
-    /// Between two rounds: there is no event until one begins. A wait times out after this many
-    /// milliseconds.
+    /// Between two rounds: there is no event until one begins. A wait is over when it was quiet for
+    /// this many milliseconds; `tries` is how often a poll is sent at most, over all targets.
     pub fn new(
         alloc: Global,
         addresses: Addresses,
         wait_ms: u32,
+        tries: u8,
         receiver: R,
     ) -> Result<Self, AllocError>
-        ensures round { IfOk result (λ r. r.round ≡ unbegun addresses.targets.items addresses.peers.items addresses.peer_addresses.items wait_ms) }
+        ensures round { IfOk result (λ r. r.round ≡ unbegun addresses.targets.items addresses.peers.items addresses.peer_addresses.items wait_ms tries) }
         ensures receiver { IfOk result (λ r. r.receiver ≡ receiver) }
     {
         Ok(Rounds {
-            round: Round::new(alloc, addresses, wait_ms)?,
+            round: Round::new(alloc, addresses, wait_ms, tries)?,
             receiver,
             alloc,
             latest: Latest::new(alloc),
@@ -66,7 +68,7 @@ impl<R: Receiver + Drop> Rounds<R> {
 
     /// The events of the round are in its order. It does nothing.
     pub(crate) fn invariants(&self)
-        ensures { AreSoFar (length self.now.round.targets) self.now.round.peers self.now.round.phase self.now.round.events }
+        ensures { AreSoFar (length self.now.round.targets) (self.now.round.tries - self.now.round.quiets) self.now.round.peers self.now.round.phase self.now.round.events }
     {
         // Proof: the invariant of the round.
         let _ = self.round.events();
@@ -104,22 +106,51 @@ impl<R: Receiver + Drop> Rounds<R> {
     }
 
     /// Returns the next event, by what the receiver got.
-    fn give(&mut self, oldest: Option<u32>) -> Result<Option<OwnedEvent>, SourceFault>
-        ensures step { GoesOnBy (λ log. GivesNext self.old.round oldest log result self.new.round) (R.heard self.old.receiver) (R.heard self.new.receiver) }
+    fn give(
+        &mut self,
+        polls: &Poller,
+        last: Option<Answer>,
+    ) -> Result<Option<OwnedEvent>, SourceFault>
+        ensures step { GoesOnBy (λ log. GivesNext self.old.round polls.now.polls.open_polls last log result self.new.round) (R.heard self.old.receiver) (R.heard self.new.receiver) }
         ensures failures { R.failures self.new.receiver ≡ failed_after result (R.failures self.old.receiver) }
         ensures ended { result ≡ Ok None → IsEnded self.new.round.phase }
         ensures turns { TakesTurn result (turns_left self.old.round) (turns_left self.new.round) }
     {
-        match self.round.next_wait() {
-            Some(wait) => self.hear(wait, oldest),
+        let more = polls.oldest_after(self.round.timed_out());
+        self.round.settle(more);
+        let oldest = polls.oldest_after(self.round.timed_out());
+        self.give_settled(oldest, last)
+    }
+
+    /// Returns the next event, where this open poll is timed out next.
+    fn give_settled(
+        &mut self,
+        oldest: Option<u32>,
+        last: Option<Answer>,
+    ) -> Result<Option<OwnedEvent>, SourceFault>
+        requires later { IfSome oldest (λ id. timed_out self.old.round.phase < id) }
+        ensures step { GoesOnBy (λ log. Receives self.old.round oldest last log result self.new.round) (R.heard self.old.receiver) (R.heard self.new.receiver) }
+        ensures failures { R.failures self.new.receiver ≡ failed_after result (R.failures self.old.receiver) }
+        ensures ended { result ≡ Ok None → IsEnded self.new.round.phase }
+        ensures turns { TakesTurn result (turns_left self.old.round) (turns_left self.new.round) }
+    {
+        match self.round.next_wait(last) {
+            Some(wait) => self.hear(wait, oldest, last),
             None => Ok(self.round.proceed(oldest)),
         }
     }
 
     /// Receives in this wait.
-    fn hear(&mut self, wait: Wait, oldest: Option<u32>) -> Result<Option<OwnedEvent>, SourceFault>
-        requires due { next_wait self.old.round ≡ Some wait }
-        ensures step { GoesOnBy (λ log. GivesNext self.old.round oldest log result self.new.round) (R.heard self.old.receiver) (R.heard self.new.receiver) }
+    fn hear(
+        &mut self,
+        wait: Wait,
+        oldest: Option<u32>,
+        last: Option<Answer>,
+    ) -> Result<Option<OwnedEvent>, SourceFault>
+        requires due { next_wait self.old.round last ≡ Some wait }
+        requires must { must_receive self.old.round ≡ true }
+        requires later { IfSome oldest (λ id. timed_out self.old.round.phase < id) }
+        ensures step { GoesOnBy (λ log. Receives self.old.round oldest last log result self.new.round) (R.heard self.old.receiver) (R.heard self.new.receiver) }
         ensures failures { R.failures self.new.receiver ≡ failed_after result (R.failures self.old.receiver) }
         ensures ended { result ≡ Ok None → IsEnded self.new.round.phase }
         ensures turns { TakesTurn result (turns_left self.old.round) (turns_left self.new.round) }
@@ -160,9 +191,13 @@ impl<R: Receiver + Drop> Source for Rounds<R> {
 
     ghost failures = { λ s. R.failures s.receiver };
 
-    /// Returns the next event, or None if the round is over. It is given the request-id of the
-    /// oldest open poll.
-    fn next(&mut self, oldest: Option<u32>) -> Result<Option<OwnedEvent>, SourceFault> {
-        self.give(oldest)
+    /// Returns the next event, or None if the round is over. It is given the station's polls, and
+    /// what became of the event of the call before.
+    fn next(
+        &mut self,
+        polls: &Poller,
+        last: Option<Answer>,
+    ) -> Result<Option<OwnedEvent>, SourceFault> {
+        self.give(polls, last)
     }
 }

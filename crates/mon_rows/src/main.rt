@@ -1,5 +1,5 @@
 //! Does what each line of standard input says, and prints what is answered, a line for each, to be
-//! compared with the expected lines: tests/calls runs it over the rows of tests/rows.d. A line that
+//! compared with the expected lines: tests/calls runs it over the rows of tests/cases/calls. A line that
 //! is empty or begins with # is passed over. Where no answer can be given, the program ends with
 //! status 1.
 //!

@@ -13,7 +13,7 @@ use mon_console::{Failure, Fault, answer_failure};
 use mon_oid::Oid;
 use mon_pdu::{Binding, Body, Message};
 use mon_survey::{Answers, Column, Kinds, SurveyFault, columns, engine_of};
-use std::alloc::Global;
+use std::alloc::{AllocError, Global};
 use std::net::Net;
 use std::rt::{Clock, Files};
 use std::{mem, slice};
@@ -21,8 +21,8 @@ use std::{mem, slice};
 /// How many rounds a GetBulk asks for.
 const REPETITIONS: i32 = 32;
 
-/// How many requests the walk of a column makes at most.
-const REQUESTS: u32 = 65_536;
+/// How many variables a walk takes at most, of all its columns.
+const MAX_CELLS: u32 = 65_536;
 
 /// snmpEngineID.0, snmpEngineBoots.0 and snmpEngineTime.0 (RFC 3411 section 5).
 const ENGINE_GROUP: [[u32; 11]; 3] = [
@@ -76,6 +76,8 @@ struct Asker<'a, W> {
     community: &'a [u8],
     /// How many questions there were, the last one's request-id.
     asked: u32,
+    /// How many variables were taken, of all columns.
+    taken: u32,
 }
 
 impl<'a, R: Clock + Net> Asker<'a, SocketWire<'a, R>> {
@@ -90,6 +92,7 @@ impl<'a, R: Clock + Net> Asker<'a, SocketWire<'a, R>> {
                 agent: asked.agent.word,
                 community: asked.community,
                 asked: 0,
+                taken: 0,
             }),
             Err(fault) => Err(answer_failure(rt.alloc(), asked.agent.word, fault)),
         }
@@ -126,8 +129,20 @@ impl<W: Wire> Asker<'_, W> {
             answers: Answers::new(alloc),
         };
         self.walk_columns(alloc, kinds, &mut survey.answers)?;
+        self.require_engine(alloc, survey.engine.as_slice())?;
         tell_count(rt, self.agent, number, survey.answers.count());
         Ok(survey)
+    }
+
+    /// Asks for the engine group once more. `EngineChanged` if the agent has another engine id than
+    /// this one, with which the walk began.
+    fn require_engine(&mut self, alloc: Global, engine: &[u8]) -> Result<(), Failure> {
+        let bindings = self.ask_first(alloc)?;
+        match engine_in(&bindings) {
+            Ok(now) if now == engine => Ok(()),
+            Ok(_) => Err(survey_failure(alloc, self.agent, SurveyFault::EngineChanged)),
+            Err(fault) => Err(survey_failure(alloc, self.agent, fault)),
+        }
     }
 
     /// Returns the agent's engine id and its ifNumber.
@@ -176,12 +191,13 @@ impl<W: Wire> Asker<'_, W> {
         answers: &mut Answers,
     ) -> Result<(), Failure> {
         let mut place = Place::at(alloc, column)?;
-        for _ in 0..REQUESTS {
+        // Each step takes a variable at least, so there are no more steps than variables.
+        for _ in 0..MAX_CELLS {
             if !self.step(alloc, &mut place, answers)? {
                 return Ok(());
             }
         }
-        Err(self.unending(alloc))
+        Err(self.unending(alloc, &place))
     }
 
     /// Asks for the cells after the last one and takes them. Returns `false` at the end of the column.
@@ -201,7 +217,7 @@ impl<W: Wire> Asker<'_, W> {
 
     /// Takes the cells of a reply. Returns `false` at the end of the column.
     fn take(
-        &self,
+        &mut self,
         alloc: Global,
         place: &mut Place,
         bindings: &mut [Binding],
@@ -219,8 +235,11 @@ impl<W: Wire> Asker<'_, W> {
     }
 
     /// Takes a cell, which becomes the last one. Returns `false` if it is past the column.
+    ///
+    /// # Errors
+    /// That of a walk without an end, if there were as many as a walk takes at most.
     fn put(
-        &self,
+        &mut self,
         alloc: Global,
         place: &mut Place,
         binding: &mut Binding,
@@ -232,6 +251,10 @@ impl<W: Wire> Asker<'_, W> {
         if !place.last.compare(&binding.name).is_lt() {
             return Err(answer_failure(alloc, self.agent, AppFault::NotIncreasing));
         }
+        if self.taken >= MAX_CELLS {
+            return Err(self.unending(alloc, place));
+        }
+        self.taken += 1;
         let value = mem::replace(&mut binding.value, Value::Null);
         match answers.take(&binding.name, value) {
             Ok(()) => {
@@ -242,16 +265,21 @@ impl<W: Wire> Asker<'_, W> {
         }
     }
 
-    /// A walk that found no end.
-    fn unending(&self, alloc: Global) -> Failure
+    /// A walk that found no end: the failure names the column that it was in.
+    fn unending(&self, alloc: Global, place: &Place) -> Failure
         ensures { result.fault ≡ Fault.App AppFault.Timeout }
     {
-        let agent = self.agent;
         Failure::said(
             Fault::App(AppFault::Timeout),
-            format!(in alloc; "{agent}: a column had no end after {REQUESTS} requests"),
+            unending_text(alloc, self.agent, &place.start),
         )
     }
+}
+
+/// Returns what is said of a column that has no end.
+fn unending_text(alloc: Global, agent: &str, column: &Oid) -> Result<String, AllocError> {
+    let name = column.text(alloc)?;
+    format!(in alloc; "{agent}: no end of {name} after {MAX_CELLS} variables of all columns")
 }
 
 /// Where a walk is in its column.

@@ -4,7 +4,7 @@ use Rattle.std.specs.Prelude.{◌&&◌}
 use Rattle.std.specs.FinSet as set
 use Rattle.mon_board.specs.Board.{is_marked, window_of}
 use Rattle.mon_board.specs.Instance.{instances_of}
-use Rattle.mon_board.specs.Watch.{Watch}
+use Rattle.mon_board.specs.Watch.{Watch, epoch_of, size_of}
 use Rattle.mon_board.specs.Windows.{kept_by}
 use Rattle.mon_disk.specs.Disk.{Leaves, LeavesSince}
 use Rattle.mon_disk.specs.Keeper.{FindsBody}
@@ -22,9 +22,17 @@ use Rattle.mon_station.specs.Stops.{IsDiskAfter, OrSaved}
 use Rattle.mon_station.specs.Taken.{Answered, Entry, Nothing, Origin, Other, Restart, Saved, at_place, taken}
 use Rattle.mon_station.specs.Told.{IsAnswered}
 use Rattle.mon_station.specs.Verdict.{IsSave, Setting}
+use Rattle.mon_sample.specs.Key.{boots_of}
+use Rattle.mon_window.specs.Keep.{keep}
+use Rattle.mon_window.specs.Top.{top}
 use Rattle.mon_window.specs.Window.{In, Samples}
 use Rattle.mon_window.proofs.Promised.{union_none}
 use Rattle.mon_board.proofs.Promised.{kept_twice}
+
+-- ---- an epoch of the window's size
+pub newest_kept : ((boots : ℕ → ℕ) (n : ℕ) (a : Samples) → keep boots n n a ≡ top n a) → (s : State) (i : ℕ) (a : Samples) → epoch_of s.board.watch i ≡ size_of s.board.watch i
+    → window_of s.board i ≡ kept_by s.board.watch i a → window_of s.board i ≡ top (size_of s.board.watch i) a
+newest_kept whole s i a same kept = let n = size_of s.board.watch i in kept ∙ subst (λ (m : ℕ). keep boots_of n m a ≡ top n a) (sym same) (whole boots_of n a)
 
 -- ---- a refusal
 -- windows that are what is kept of something keep all of it

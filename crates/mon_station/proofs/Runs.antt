@@ -1,11 +1,14 @@
 -- A run, one call after another.
-use Rattle.std.proofs.Common.{ℕ, ◌≡◌, Bool, true, List, [], ◌∷◌, ◌++◌, Option, Some, None, Result, Ok, Err, refl, sym, ap, subst, ◌∙◌, append_assoc, ◌+◌, ◌≤◌, ◌⊎◌, length, length-append, zero-add, arith, ◌<◌, ◌^◌, ◌-◌, suc, add-one, inl, inr, ⊎_elim}
-use Rattle.std.specs.Prelude.{IfNone, IfSome, IsTrue}
+use Rattle.std.proofs.Common.{ℕ, ◌≡◌, Bool, true, List, [], ◌∷◌, ◌++◌, false, Option, Some, None, Result, Ok, Err, refl, sym, ap, subst, ◌∙◌, append_assoc, ◌+◌, ◌≤◌, ◌⊎◌, length, length-append, zero-add, arith, ◌<◌, ◌^◌, ◌-◌, suc, add-one, inl, inr, ⊎_elim}
+use Rattle.std.specs.Prelude.{IfNone, IfSome, IsTrue, ◌||◌}
 use Rattle.std.specs.FinMap as map
 use Rattle.mon_disk.specs.declared.disk.Disk.{Ghosts}
 use Rattle.mon_disk.specs.declared.fault.KeeperFault.TheVariants as keeper
 use Rattle.mon_disk.specs.Disk.{Leaves, LeavesSince}
-use Rattle.mon_disk.specs.Keeper.{FindsAs, FindsBody, IsAs}
+use Rattle.mon_disk.specs.Fault.{HasDiskCause}
+use Rattle.mon_disk.specs.File.{found}
+use Rattle.mon_disk.specs.declared.file.TheConstants.{SLOT_SIZE}
+use Rattle.mon_disk.specs.Keeper.{FindsAs, FindsBody, IsAs, found_generation}
 use Rattle.mon_disk.proofs.Promised.{as_body_of, as_then, at_rest, chained, itself, weaker}
 use Rattle.mon_udp.specs.Counts.{failed_after, next_count}
 use Rattle.mon_udp.specs.Told.{extended}
@@ -21,13 +24,14 @@ use Rattle.mon_station.specs.declared.running.SourceFault.{SourceFault}
 use Rattle.mon_station.specs.Lived.{HandledIn, IsLived, last_state}
 use Rattle.mon_station.specs.ReadEvent.{ReadEvent, ReadsAs, owned, OwnedEvent, LentEvent, StartPoll, Timeout, FromAgent, FromPeer, Share, Save}
 use Rattle.mon_station.specs.Ran as ran
-use Rattle.mon_station.specs.Ran.{AreAsked, AreCalls, Call, Did, FindsAfter, FindsAmid, FindsDuring, FindsLast, FindsSaved, Gave, HasFailed, IsKnown, IsMet, IsOldest, IsTurn, LiveOn, Ran, Tells, Turn, answers_of, entries_by, entry_of, failed_in, failed_of, failures_after, faults_in, go_on, goes_on, result_of, sent_of, shown, state_after, turn_in, turns_of, view_after}
-use Rattle.mon_station.specs.Saved.{FindsRunning, FindsState, IsSavedAs, OrLast}
+use Rattle.mon_station.specs.Ran.{AreAsked, AreCalls, Call, CountsFaults, Did, FindsAfter, FindsAmid, FindsDuring, FindsLast, FindsSaved, Gave, HasFailed, IsFull, IsKeptFault, IsKnown, IsMet, IsTurn, LiveOn, Ran, Tells, Turn, answer_in, answers_of, entries_by, entry_of, failed_in, failed_of, failures_after, faults_in, go_on, goes_on, has_answer, is_disk_fault, is_last_fault, last_answer, result_of, sent_of, shown, state_after, turn_in, turns_of, view_after}
+use Rattle.mon_station.specs.Saved.{FindsRunning, FindsState, IsCausedBy, IsSaveFault, IsSavedAs, OrLast}
 use Rattle.mon_station.specs.Seen.{Seen, met}
 use Rattle.mon_station.specs.State.{State, IsHandled}
 use Rattle.mon_station.specs.Taken.{Entry, Answered}
 use Rattle.mon_station.specs.Told.{IsAnswered}
-use Rattle.mon_station.specs.Turned.{Called, RanSoFar, Turned}
+use Rattle.mon_station.specs.Turned.{Called, RanSoFar, Turned, told_of}
+use Rattle.mon_station.proofs.Kept.{disk_cause}
 
 pub append_nil : {A : Type 0} (xs : List A) → xs ++ [] ≡ xs
 append_nil [] = refl
@@ -187,15 +191,53 @@ answers_on (ran.Event t) turns = refl
 answers_on ran.End turns = append_nil (answers_of turns)
 answers_on (ran.Fault f) turns = append_nil (answers_of turns)
 
-module _ {V X : Type 0} (G : Ghosts X) (Gives : V → Option ℕ → Result (Option OwnedEvent) SourceFault → V → Type 0) where
+-- ---- faults of the file
+one_of : (a b : Bool) → (a || b) ≡ true → (a ≡ true) ⊎ (b ≡ true)
+one_of true b e = inl refl
+one_of false b e = inr e
+
+-- of one turn
+counted_one : (before now : ℕ) (t : Turn) → CountsFaults before now (t ∷ []) → is_disk_fault t.answer ≡ true → (before < now) ⊎ (before ≡ 2 ^ 64 - 1)
+counted_one before now t h is = h.told (ap (λ b. b || false) is)
+
+counts_more : (gave : Gave) (a b c : ℕ) (turns : List Turn) → CountsFaults a b turns → CountsFaults b c (turn_in gave ++ []) → CountsFaults a c (turn_in gave ++ turns)
+counts_more (ran.Event t) a b c turns first last = record {
+  no_less = omega (arith, first.no_less, last.no_less);
+  told = λ is. ⊎_elim
+      (λ here. (disk_cause a b c keeper.DiskFault first.no_less (record { no_less = last.no_less; told = λ _. counted_one b c t last here })).told refl)
+      (λ there. ⊎_elim (λ (rose : a < b). inl (omega (arith, rose, last.no_less))) (λ (end : a ≡ 2 ^ 64 - 1). inr end) (first.told there))
+      (one_of (is_disk_fault t.answer) (has_answer is_disk_fault turns) is);
+}
+counts_more ran.End a b c turns first last = record {
+  no_less = omega (arith, first.no_less, last.no_less);
+  told = λ is. ⊎_elim (λ (rose : a < b). inl (omega (arith, rose, last.no_less))) (λ (end : a ≡ 2 ^ 64 - 1). inr end) (first.told is);
+}
+counts_more (ran.Fault f) a b c turns first last = record {
+  no_less = omega (arith, first.no_less, last.no_less);
+  told = λ is. ⊎_elim (λ (rose : a < b). inl (omega (arith, rose, last.no_less))) (λ (end : a ≡ 2 ^ 64 - 1). inr end) (first.told is);
+}
+
+full_more : {X : Type 0} (G : Ghosts X) (gave : Gave) (turns : List Turn) → IsFull G turns → IsFull G (turn_in gave ++ []) → IsFull G (turn_in gave ++ turns)
+full_more G (ran.Event t) turns first last = λ is. ⊎_elim (λ here. last (ap (λ b. b || false) here)) (λ there. first there) (one_of (is_last_fault t.answer) (has_answer is_last_fault turns) is)
+full_more G ran.End turns first last = first
+full_more G (ran.Fault f) turns first last = first
+
+none_counted : (n : ℕ) → CountsFaults n n []
+none_counted n = record { no_less = omega arith; told = λ e. let no : false ≡ true = e in cc }
+
+none_full : {X : Type 0} (G : Ghosts X) → IsFull G []
+none_full G = λ e. let no : false ≡ true = e in cc
+
+module _ {V X : Type 0} (G : Ghosts X) (Gives : V → Open → Option Answer → Result (Option OwnedEvent) SourceFault → V → Type 0) where
   -- one call more
-  pub did_more : (a b c : Seen V G) (calls : List (Call V)) (call : Call V) → Did Gives a b calls → go_on calls ≡ true → Did Gives b c (call ∷ []) → Did Gives a c (call ∷ calls)
+  pub did_more : (a b c : Seen V G) (calls : List (Call V)) (call : Call V) → Did Gives a b calls → go_on calls ≡ true → Did (told_of (last_answer calls) Gives) b c (call ∷ []) → Did Gives a c (call ∷ calls)
   did_more a b c calls call so_far going last =
       let turns : List Turn = turns_of calls in
       let more : List Outgoing = sent_of (turn_in call.gave ++ []) in
       record {
         are = (
-          subst (λ (s : State). ran.IsCall Gives (view_after a.view calls) s call) so_far.state (subst (λ (v : V). ran.IsCall Gives v b.state call) so_far.view last.are.0),
+          subst (λ (s : State). ran.IsCall Gives (view_after a.view calls) s (last_answer calls) call) so_far.state
+              (subst (λ (v : V). ran.IsCall Gives v b.state (last_answer calls) call) so_far.view (record { gives = last.are.0.gives; met = last.are.0.met })),
           going,
           so_far.are,
         );
@@ -207,21 +249,25 @@ module _ {V X : Type 0} (G : Ghosts X) (Gives : V → Option ℕ → Result (Opt
         any_moment = λ h. chained G.moment G.left_since G.may_leave a.disk b.disk c.disk _
             (weaker G.moment G.left_since G.may_leave a.disk b.disk _ _ (amid_more a.state (met a) turns call.gave) (so_far.any_moment h))
             (weaker G.moment G.left_since G.may_leave b.disk c.disk _ _ (amid_on a.state b.state (met a) (met b) turns so_far.state (so_far.file h) call.gave) (last.any_moment (so_far.honest h)));
+        counted = counts_more call.gave (G.faults a.disk) (G.faults b.disk) (G.faults c.disk) turns so_far.counted last.counted;
+        full = full_more G call.gave turns so_far.full last.full;
       }
 
   -- a call that gave an event
-  pub did_event : (before after : State) (v w : V) (handed0 handed1 : Option (List Outgoing)) (old new : X) (last0 last1 : Option (List ℕ)) (oldest : Option ℕ) (event : OwnedEvent) (answer : Answer)
+  pub did_event : (before after : State) (v w : V) (handed0 handed1 : Option (List Outgoing)) (old new : X) (last0 last1 : Option (List ℕ)) (event : OwnedEvent) (answer : Answer)
       → (t : Turned {G = G} (record { state = before; view = tt {0}; handed = handed0; disk = old; last = last0 }) (record { state = after; view = tt {0}; handed = handed1; disk = new; last = last1 }) event answer)
-      → IsOldest before.poller.polls.open_polls oldest → Gives v oldest (Ok (Some event)) w
-      → Did {G = G} Gives (record { state = before; view = v; handed = handed0; disk = old; last = last0 }) (record { state = after; view = w; handed = handed1; disk = new; last = last1 }) (record { oldest = oldest; gave = ran.Event t.turn; view = w } ∷ [])
-  did_event before after v w handed0 handed1 old new last0 last1 oldest event answer t least gives = record {
-    are = (record { oldest = least; gives = subst (λ (e : OwnedEvent). Gives v oldest (Ok (Some e)) w) (sym t.event_is) gives; met = t.is }, refl, tt);
+      → Gives v before.poller.polls.open_polls None (Ok (Some event)) w
+      → Did {G = G} Gives (record { state = before; view = v; handed = handed0; disk = old; last = last0 }) (record { state = after; view = w; handed = handed1; disk = new; last = last1 }) (record { gave = ran.Event t.turn; view = w } ∷ [])
+  did_event before after v w handed0 handed1 old new last0 last1 event answer t gives = record {
+    are = (record { gives = subst (λ (e : OwnedEvent). Gives v before.poller.polls.open_polls None (Ok (Some e)) w) (sym t.event_is) gives; met = t.is }, refl, tt);
     state = t.state;
     view = refl;
     handed = t.handed;
     honest = t.honest;
     file = t.file;
     any_moment = t.any_moment;
+    counted = t.counted;
+    full = t.full;
   }
 
   -- a call that gave none
@@ -238,44 +284,50 @@ module _ {V X : Type 0} (G : Ghosts X) (Gives : V → Option ℕ → Result (Opt
       honest = λ h. h;
       file = λ h c l. itself (met s) c l;
       any_moment = rests s.state s.disk s.last;
+      counted = none_counted (G.faults s.disk);
+      full = none_full G;
     }
 
-    pub did_none : (state : State) (v w : V) (handed : Option (List Outgoing)) (disk : X) (last : Option (List ℕ)) (oldest : Option ℕ) (gave : Gave) → turn_in gave ≡ [] → IsMet state gave
-        → IsOldest state.poller.polls.open_polls oldest → Gives v oldest (result_of gave) w
-        → Did {G = G} Gives (record { state = state; view = v; handed = handed; disk = disk; last = last }) (record { state = state; view = w; handed = handed; disk = disk; last = last }) (record { oldest = oldest; gave = gave; view = w } ∷ [])
-    did_none state v w handed disk last oldest gave none met least gives =
+    pub did_none : (state : State) (v w : V) (handed : Option (List Outgoing)) (disk : X) (last : Option (List ℕ)) (gave : Gave) → turn_in gave ≡ [] → IsMet state gave
+        → Gives v state.poller.polls.open_polls None (result_of gave) w
+        → Did {G = G} Gives (record { state = state; view = v; handed = handed; disk = disk; last = last }) (record { state = state; view = w; handed = handed; disk = disk; last = last }) (record { gave = gave; view = w } ∷ [])
+    did_none state v w handed disk last gave none met gives =
         let no_turn : turn_in gave ++ [] ≡ [] = ap (λ (ts : List Turn). ts ++ []) none in
         record {
-          are = (record { oldest = least; gives = gives; met = met }, refl, tt);
+          are = (record { gives = gives; met = met }, refl, tt);
           state = sym (ap (state_after state) no_turn);
           view = refl;
           handed = extended_none handed ∙ sym (ap (λ (ts : List Turn). extended handed (sent_of ts)) no_turn);
           honest = λ h. h;
           file = λ h. subst (λ (ts : List Turn). Leaves (OrLast (G.may_leave disk) last) (FindsLast state (OrLast (G.may_leave disk) last) ts)) (sym no_turn) (λ c l. itself (OrLast (G.may_leave disk) last) c l);
           any_moment = λ h. subst (λ (ts : List Turn). LeavesSince G.moment G.left_since disk disk (FindsAmid state (OrLast (G.may_leave disk) last) ts)) (sym no_turn) (rests state disk last h);
+          counted = subst (CountsFaults (G.faults disk) (G.faults disk)) (sym no_turn) (none_counted (G.faults disk));
+          full = subst (IsFull G) (sym no_turn) (none_full G);
         }
 
-    pub so_far_none : (s : Seen V G) (run : Run) → ran.IsEmpty run → RanSoFar Gives s s run true
+    pub so_far_none : (s : Seen V G) (run : Run) → ran.IsEmpty run → RanSoFar Gives s s run None true
     so_far_none s run empty = record {
       calls = [];
       did = did_nothing s;
       told = record { turns = empty.turns; answers = empty.answers; source_faults = empty.source_faults };
+      last_is = refl;
       going_is = refl;
     }
 
   -- what is said of one call more
-  pub so_far_more : (a b c : Seen V G) (run mid new : Run) (going : Bool) → RanSoFar Gives a b run true → Called Gives b c mid new going
-      → mid.answers.items ≡ run.answers.items → mid.source_faults ≡ run.source_faults → mid.turns ≡ run.turns + 1 → RanSoFar Gives a c new going
-  so_far_more a b c run mid new going so called answers faults turns =
+  pub so_far_more : (a b c : Seen V G) (run mid new : Run) (last next : Option Answer) (going : Bool) → RanSoFar Gives a b run last true → Called (told_of last Gives) b c mid new next going
+      → mid.answers.items ≡ run.answers.items → mid.source_faults ≡ run.source_faults → mid.turns ≡ run.turns + 1 → RanSoFar Gives a c new next going
+  so_far_more a b c run mid new last next going so called answers faults turns =
       let gave : Gave = called.call.gave in
       record {
         calls = called.call ∷ so.calls;
-        did = did_more a b c so.calls called.call so.did so.going_is called.did;
+        did = did_more a b c so.calls called.call so.did so.going_is (subst (λ (l : Option Answer). Did (told_of l Gives) b c (called.call ∷ [])) (sym so.last_is) called.did);
         told = record {
           turns = omega (arith, called.counted.turns, turns, so.told.turns);
           answers = called.counted.answers ∙ ap (λ (l : List Answer). l ++ answers_of (turn_in gave)) (answers ∙ so.told.answers) ∙ answers_on gave (turns_of so.calls);
           source_faults = called.counted.faults ∙ ap (λ n. n + failed_in gave) (faults ∙ so.told.source_faults);
         };
+        last_is = called.last_is;
         going_is = called.going_is;
       }
 
@@ -284,20 +336,14 @@ module _ {V X : Type 0} (G : Ghosts X) (Gives : V → Option ℕ → Result (Opt
   lives view first [] are = λ past lived is. (lived, is)
   lives view first (c ∷ calls) are = live_gave first (turns_of calls) c.gave are.0.met (lives view first calls are.2)
 
-  pub ran_of : (a b : Seen V G) (turns : ℕ) (run : Run) (going : Bool) (so : RanSoFar Gives a b run going) → AreAsked turns so.calls → Ran Gives a b turns run
-  ran_of a b turns run going so asked = record {
+  pub ran_of : (a b : Seen V G) (turns : ℕ) (run : Run) (last : Option Answer) (going : Bool) (so : RanSoFar Gives a b run last going) → AreAsked turns so.calls → Ran Gives a b turns run
+  ran_of a b turns run last going so asked = record {
     calls = so.calls;
     did = so.did;
     told = so.told;
     asked = asked;
     lived = subst (λ (s : State). LiveOn a.state s (entries_by (turns_of so.calls))) (sym so.did.state) (lives a.view a.state so.calls so.did.are);
   }
-
--- ---- one call
-pub oldest_of : (polls : Open) (oldest : Option ℕ) → IfSome oldest (λ id. IsTrue (map.contains_key polls id)) → IfSome oldest (λ id. (other : ℕ) → IsTrue (map.contains_key polls other) → id ≤ other) → IfNone oldest (polls ≡ map.empty)
-    → IsOldest polls oldest
-oldest_of polls None there least none = none
-oldest_of polls (Some id) there least none = (there, least)
 
 -- ---- one event
 -- how it reads, if that is known
@@ -313,19 +359,61 @@ known_fault s event station.NoMoreIncarnations h = let r = h (λ e. cc) in (Some
 no_fault : {f : StationFault} → None ≡ Some f → ⊥
 no_fault e = cc
 
+kept_fault : (event : OwnedEvent) (f : StationFault) → (event ≡ Save → IsSaveFault f) → IsKeptFault (Some f) event
+kept_fault (StartPoll t) f h = tt
+kept_fault (Timeout id) f h = tt
+kept_fault (FromAgent a o) f h = tt
+kept_fault (FromPeer o) f h = tt
+kept_fault (Share y) f h = tt
+kept_fault Save f h = h refl
+
+-- what the cause of a fault says of the count
+cause_counted : (before now : ℕ) (f : StationFault) → IsCausedBy before now f → (before ≤ now) × (is_disk_fault (Some f) ≡ true → (before < now) ⊎ (before ≡ 2 ^ 64 - 1))
+cause_counted before now station.OutOfMemory h = (h, λ e. let no : false ≡ true = e in cc)
+cause_counted before now (station.Poll f) h = (h, λ e. let no : false ≡ true = e in cc)
+cause_counted before now (station.Response f) h = (h, λ e. let no : false ≡ true = e in cc)
+cause_counted before now (station.Exchange f) h = (h, λ e. let no : false ≡ true = e in cc)
+cause_counted before now (station.Image f) h = (h, λ e. let no : false ≡ true = e in cc)
+cause_counted before now station.NoMoreIncarnations h = (h, λ e. let no : false ≡ true = e in cc)
+cause_counted before now (station.Keeper keeper.OutOfMemory) h = (h.no_less, λ e. let no : false ≡ true = e in cc)
+cause_counted before now (station.Keeper keeper.DiskFault) h = (h.no_less, λ e. h.told refl)
+cause_counted before now (station.Keeper keeper.NoMoreGenerations) h = (h.no_less, λ e. let no : false ≡ true = e in cc)
+cause_counted before now (station.Keeper keeper.TooLarge) h = (h.no_less, λ e. let no : false ≡ true = e in cc)
+cause_counted before now (station.Keeper keeper.Damaged) h = (h.no_less, λ e. let no : false ≡ true = e in cc)
+cause_counted before now (station.Keeper keeper.Reopen) h = (h.no_less, λ e. let no : false ≡ true = e in cc)
+
+or_none : (b : Bool) → (b || false) ≡ true → b ≡ true
+or_none true e = refl
+or_none false e = e
+
+is_last : (f : StationFault) → is_last_fault (Some f) ≡ true → f ≡ station.Keeper keeper.NoMoreGenerations
+is_last station.OutOfMemory e = let no : false ≡ true = e in cc
+is_last (station.Poll f) e = let no : false ≡ true = e in cc
+is_last (station.Response f) e = let no : false ≡ true = e in cc
+is_last (station.Exchange f) e = let no : false ≡ true = e in cc
+is_last (station.Image f) e = let no : false ≡ true = e in cc
+is_last station.NoMoreIncarnations e = let no : false ≡ true = e in cc
+is_last (station.Keeper keeper.OutOfMemory) e = let no : false ≡ true = e in cc
+is_last (station.Keeper keeper.DiskFault) e = let no : false ≡ true = e in cc
+is_last (station.Keeper keeper.NoMoreGenerations) e = refl
+is_last (station.Keeper keeper.TooLarge) e = let no : false ≡ true = e in cc
+is_last (station.Keeper keeper.Damaged) e = let no : false ≡ true = e in cc
+is_last (station.Keeper keeper.Reopen) e = let no : false ≡ true = e in cc
+
 module _ {X : Type 0} (G : Ghosts X) (before after : State) (event : OwnedEvent) (old new : X) (last0 last1 : Option (List ℕ)) (still : G.is_honest old → G.is_honest new) where
   pub turned_told : (told : Told) (handed0 handed1 : Option (List Outgoing)) (answer : Answer) → ((e : ReadEvent) → ReadsAs before.board.watch event e → IsAnswered before after e (Ok told))
-      → (e : ReadEvent) × ReadsAs before.board.watch event e → handed1 ≡ extended handed0 told.sends.items → answer ≡ shown None told.taken told.given_up
+      → (e : ReadEvent) × ReadsAs before.board.watch event e → handed1 ≡ extended handed0 told.sends.items → answer ≡ shown None told.taken told.given_up → G.faults old ≤ G.faults new
       → (G.is_honest old → Leaves (OrLast (G.may_leave new) last1) (λ c. FindsAfter before event None (FindsAs (OrLast (G.may_leave old) last0) c) c))
       → (G.is_honest old → LeavesSince G.moment G.left_since old new (λ c. FindsAs (OrLast (G.may_leave old) last0) c ⊎ FindsDuring before event (FindsAs (OrLast (G.may_leave old) last0) c) c))
       → Turned {G = G} (record { state = before; view = tt {0}; handed = handed0; disk = old; last = last0 }) (record { state = after; view = tt {0}; handed = handed1; disk = new; last = last1 }) event answer
-  turned_told told handed0 handed1 answer h read handed is file amid = record {
+  turned_told told handed0 handed1 answer h read handed is count file amid = record {
     turn = record { event = event; reading = Some read.0; answer = None; taken = told.taken; given_up = told.given_up; sent = told.sends.items; after = after };
     event_is = refl;
     is = record {
       each = λ e reads. let r = h e reads in record { handled = r.0; taken = r.1.taken; given_up = r.1.given_up; sent = r.1.sent };
       known = read.1;
       memory = λ e. absurd (no_fault e);
+      fault = tt;
     };
     state = refl;
     handed = handed;
@@ -333,15 +421,19 @@ module _ {X : Type 0} (G : Ghosts X) (before after : State) (event : OwnedEvent)
     honest = still;
     file = file;
     any_moment = amid;
+    counted = record { no_less = count; told = λ e. let no : false ≡ true = e in cc };
+    full = λ e. let no : false ≡ true = e in cc;
   }
 
   pub turned_fault : (fault : StationFault) (handed : Option (List Outgoing)) (answer : Answer) → ((e : ReadEvent) → ReadsAs before.board.watch event e → IsAnswered before after e (Err fault))
       → ((fault ≡ station.OutOfMemory → ⊥) → (e : ReadEvent) × ReadsAs before.board.watch event e) → (fault ≡ station.OutOfMemory → after ≡ before) → answer ≡ shown (Some fault) [] None
+      → (event ≡ Save → IsSaveFault fault) → IsCausedBy (G.faults old) (G.faults new) fault → (fault ≡ station.Keeper keeper.NoMoreGenerations → G.is_honest old → found_generation (found SLOT_SIZE (G.seen old)) ≡ 2 ^ 64 - 1)
       → (G.is_honest old → Leaves (OrLast (G.may_leave new) last1) (λ c. FindsAfter before event (Some fault) (FindsAs (OrLast (G.may_leave old) last0) c) c))
       → (G.is_honest old → LeavesSince G.moment G.left_since old new (λ c. FindsAs (OrLast (G.may_leave old) last0) c ⊎ FindsDuring before event (FindsAs (OrLast (G.may_leave old) last0) c) c))
       → Turned {G = G} (record { state = before; view = tt {0}; handed = handed; disk = old; last = last0 }) (record { state = after; view = tt {0}; handed = handed; disk = new; last = last1 }) event answer
-  turned_fault fault handed answer h read stays is file amid =
+  turned_fault fault handed answer h read stays is kept cause full file amid =
       let known = known_fault before event fault read in
+      let causes = cause_counted (G.faults old) (G.faults new) fault cause in
       record {
         turn = record { event = event; reading = known.0; answer = Some fault; taken = []; given_up = None; sent = []; after = after };
         event_is = refl;
@@ -349,6 +441,7 @@ module _ {X : Type 0} (G : Ghosts X) (before after : State) (event : OwnedEvent)
           each = λ e reads. record { handled = h e reads; taken = refl; given_up = refl; sent = refl };
           known = known.1;
           memory = λ e. record { after = stays (some_fault e); taken = refl; given_up = refl; sent = refl };
+          fault = kept_fault event fault kept;
         };
         state = refl;
         handed = extended_none handed;
@@ -356,6 +449,8 @@ module _ {X : Type 0} (G : Ghosts X) (before after : State) (event : OwnedEvent)
         honest = still;
         file = file;
         any_moment = amid;
+        counted = record { no_less = causes.0; told = λ e. causes.1 (or_none (is_disk_fault (Some fault)) e) };
+        full = λ e. (old, full (is_last fault (or_none (is_last_fault (Some fault)) e)));
       }
 
 -- what a crash amid an event leaves

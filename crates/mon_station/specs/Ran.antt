@@ -1,12 +1,14 @@
 -- What a run of a station did, call by call.
-use Rattle.std.specs.Prelude.{ℕ, zero, suc, ◌≡◌, ◌≤◌, ◌+◌, ◌⊎◌, Bool, true, false, IsTrue, List, [], ◌∷◌, ◌++◌, length, Option, Some, None, Result, Ok, Err}
+use Rattle.std.specs.Prelude.{ℕ, zero, suc, ◌≡◌, ◌≤◌, ◌<◌, ◌+◌, ◌-◌, ◌^◌, ◌⊎◌, ◌||◌, Bool, true, false, IsTrue, List, [], ◌∷◌, ◌++◌, length, Option, Some, None, Result, Ok, Err}
 use Rattle.std.specs.FinMap as map
 use Rattle.mon_board.specs.Watch.{Watch}
 use Rattle.mon_disk.specs.declared.disk.Disk.{Ghosts}
 use Rattle.mon_disk.specs.declared.fault.KeeperFault.TheVariants as keeper
 use Rattle.mon_disk.specs.Disk.{Leaves, LeavesSince}
 use Rattle.mon_disk.specs.Fault as keeping
-use Rattle.mon_disk.specs.Keeper.{FindsAs}
+use Rattle.mon_disk.specs.File.{found}
+use Rattle.mon_disk.specs.Keeper.{FindsAs, found_generation}
+use Rattle.mon_disk.specs.declared.file.TheConstants.{SLOT_SIZE}
 use Rattle.mon_udp.specs.Counts.{next_count}
 use Rattle.mon_udp.specs.Told.{extended}
 use Rattle.mon_poller.specs.Polls.{Open}
@@ -19,7 +21,7 @@ use Rattle.mon_station.specs.declared.running.Run.{Run}
 use Rattle.mon_station.specs.declared.running.SourceFault.{SourceFault}
 use Rattle.mon_station.specs.Lived.{IsLived, last_state}
 use Rattle.mon_station.specs.ReadEvent.{ReadEvent, ReadsAs, OwnedEvent, Save}
-use Rattle.mon_station.specs.Saved.{FindsState}
+use Rattle.mon_station.specs.Saved.{FindsState, IsSaveFault}
 use Rattle.mon_station.specs.Seen.{Seen, met}
 use Rattle.mon_station.specs.State.{State, IsHandled, setting_of}
 use Rattle.mon_station.specs.Taken.{Entry, Answered}
@@ -115,12 +117,18 @@ pub record IsNothing (before : State) (t : Turn) : Type 0 where
   pub given_up : t.given_up ≡ None
   pub sent : t.sent ≡ []
 
+-- a save has only faults of a save
+abbrev pub IsKeptFault : Option StationFault → OwnedEvent → Type 0
+IsKeptFault (Some f) Save = IsSaveFault f
+IsKeptFault answer event = Unit {0}
+
 -- a turn: its event was answered so in every way that it reads, it reads in one unless memory ran
--- out, and out of memory does nothing
+-- out, out of memory does nothing, and a save has only faults of a save
 pub record IsTurn (before : State) (t : Turn) : Type 0 where
   pub each : (e : ReadEvent) → ReadsAs before.board.watch t.event e → IsAnswer before e t
   pub known : IsKnown before.board.watch t.event t.answer t.reading
   pub memory : t.answer ≡ Some fault.OutOfMemory → IsNothing before t
+  pub fault : IsKeptFault t.answer t.event
 
 -- ---- calls, the newest first
 -- what a call for the next event gave: an event, with the turn that it led to; the end; or a fault
@@ -129,10 +137,8 @@ pub data Gave : Type 0 where
   End : Gave
   Fault : SourceFault → Gave
 
--- a call: the oldest open poll that the source was given, what it gave, and the view of it after
--- that
+-- a call: what the source gave, and the view of it after that
 pub record Call (V : Type 0) : Type 0 where
-  pub oldest : Option ℕ
   pub gave : Gave
   pub view : V
 
@@ -169,6 +175,17 @@ abbrev pub view_after : {V : Type 0} → V → List (Call V) → V
 view_after first [] = first
 view_after first (c ∷ calls) = c.view
 
+-- what became of the event that a call gave, if it gave one
+abbrev pub answer_in : Gave → Option Answer
+answer_in (Event t) = Some (shown t.answer t.taken t.given_up)
+answer_in End = None
+answer_in (Fault f) = None
+
+-- what became of the event that the newest call gave
+abbrev pub last_answer : {V : Type 0} → List (Call V) → Option Answer
+last_answer [] = None
+last_answer (c ∷ calls) = answer_in c.gave
+
 -- there may be a further call: the source did not end
 abbrev pub goes_on : Gave → Bool
 goes_on (Event t) = true
@@ -180,27 +197,22 @@ abbrev pub go_on : {V : Type 0} → List (Call V) → Bool
 go_on [] = true
 go_on (c ∷ calls) = goes_on c.gave
 
--- this is the least request-id of an open poll, or none is open
-abbrev pub IsOldest : Open → Option ℕ → Type 0
-IsOldest polls None = polls ≡ map.empty
-IsOldest polls (Some id) = IsTrue (map.contains_key polls id) × ((other : ℕ) → IsTrue (map.contains_key polls other) → id ≤ other)
-
 -- what a call led to: an event to its turn, and all else to nothing
 abbrev pub IsMet : State → Gave → Type 0
 IsMet s (Event t) = IsTurn s t
 IsMet s End = Unit {0}
 IsMet s (Fault f) = Unit {0}
 
--- a source that was given the oldest open poll gave this, and it was met
-pub record IsCall {V : Type 0} (Gives : V → Option ℕ → Result (Option OwnedEvent) SourceFault → V → Type 0) (before : V) (s : State) (c : Call V) : Type 0 where
-  pub oldest : IsOldest s.poller.polls.open_polls c.oldest
-  pub gives : Gives before c.oldest (result_of c.gave) c.view
+-- a source that was given the open polls and the last answer gave this, and it was met
+pub record IsCall {V : Type 0} (Gives : V → Open → Option Answer → Result (Option OwnedEvent) SourceFault → V → Type 0) (before : V) (s : State) (last : Option Answer) (c : Call V) : Type 0 where
+  pub gives : Gives before s.poller.polls.open_polls last (result_of c.gave) c.view
   pub met : IsMet s c.gave
 
--- each call is one, in the state and the view that the calls before it left, and none follows the end
-abbrev pub AreCalls : {V : Type 0} (Gives : V → Option ℕ → Result (Option OwnedEvent) SourceFault → V → Type 0) → V → State → List (Call V) → Type 0
+-- each call is one, with the state, the view and the answer that the calls before it left, and none
+-- follows the end
+abbrev pub AreCalls : {V : Type 0} (Gives : V → Open → Option Answer → Result (Option OwnedEvent) SourceFault → V → Type 0) → V → State → List (Call V) → Type 0
 AreCalls Gives view first [] = Unit {0}
-AreCalls Gives view first (c ∷ calls) = IsCall Gives (view_after view calls) (state_after first (turns_of calls)) c × (go_on calls ≡ true) × AreCalls Gives view first calls
+AreCalls Gives view first (c ∷ calls) = IsCall Gives (view_after view calls) (state_after first (turns_of calls)) (last_answer calls) c × (go_on calls ≡ true) × AreCalls Gives view first calls
 
 -- ---- the file
 -- an opening of this file finds the saved state, or what was said of it before, by the answer to the save
@@ -247,11 +259,37 @@ entries_by (t ∷ turns) = entry_of t.reading t.answer t.after ++ entries_by tur
 abbrev pub LiveOn : State → State → List (Entry × State) → Type 0
 LiveOn before after more = (past : List (Entry × State)) → IsLived past → last_state past ≡ Some before → IsLived (more ++ past) × (last_state (more ++ past) ≡ Some after)
 
+-- ---- faults of the file
+-- whether an answer is the disk's fault
+abbrev pub is_disk_fault : Option StationFault → Bool
+is_disk_fault (Some (fault.Keeper keeper.DiskFault)) = true
+is_disk_fault answer = false
+
+-- whether an answer is that there is no generation left
+abbrev pub is_last_fault : Option StationFault → Bool
+is_last_fault (Some (fault.Keeper keeper.NoMoreGenerations)) = true
+is_last_fault answer = false
+
+-- whether one of these turns has such an answer
+abbrev pub has_answer : (Option StationFault → Bool) → List Turn → Bool
+has_answer test [] = false
+has_answer test (t ∷ turns) = test t.answer || has_answer test turns
+
+-- the count of a disk's failures did not fall, and it rose, or was at its end, if one of these turns
+-- was answered by the disk's fault
+pub record CountsFaults (before now : ℕ) (turns : List Turn) : Type 0 where
+  pub no_less : before ≤ now
+  pub told : has_answer is_disk_fault turns ≡ true → (before < now) ⊎ (before ≡ 2 ^ 64 - 1)
+
+-- if one of these turns was answered so, the greatest generation was found on an honest disk
+abbrev pub IsFull : {X : Type 0} (G : Ghosts X) → List Turn → Type 0
+IsFull {X = X} G turns = has_answer is_last_fault turns ≡ true → (disk : X) × (G.is_honest disk → found_generation (found SLOT_SIZE (G.seen disk)) ≡ 2 ^ 64 - 1)
+
 -- ---- runs
 -- What calls did, from one sight of a station to another. They left the state, the view and what
 -- the outbox was given; an honest disk stays so; a crash after them leaves the last save, which the
 -- keeper knows too, and a crash in the middle of them what was saved then.
-pub record Did {V X : Type 0} {G : Ghosts X} (Gives : V → Option ℕ → Result (Option OwnedEvent) SourceFault → V → Type 0) (before after : Seen V G) (calls : List (Call V)) : Type 0 where
+pub record Did {V X : Type 0} {G : Ghosts X} (Gives : V → Open → Option Answer → Result (Option OwnedEvent) SourceFault → V → Type 0) (before after : Seen V G) (calls : List (Call V)) : Type 0 where
   pub are : AreCalls Gives before.view before.state calls
   pub state : after.state ≡ state_after before.state (turns_of calls)
   pub view : after.view ≡ view_after before.view calls
@@ -259,6 +297,8 @@ pub record Did {V X : Type 0} {G : Ghosts X} (Gives : V → Option ℕ → Resul
   pub honest : G.is_honest before.disk → G.is_honest after.disk
   pub file : G.is_honest before.disk → Leaves (met after) (FindsLast before.state (met before) (turns_of calls))
   pub any_moment : G.is_honest before.disk → LeavesSince G.moment G.left_since before.disk after.disk (FindsAmid before.state (met before) (turns_of calls))
+  pub counted : CountsFaults (G.faults before.disk) (G.faults after.disk) (turns_of calls)
+  pub full : IsFull G (turns_of calls)
 
 -- what is said of calls: how many they were, how their events were answered, in order, and how
 -- often the source failed
@@ -273,7 +313,7 @@ AreAsked turns calls = (length calls ≡ turns) ⊎ ((length calls ≤ turns) ×
 
 -- a run of at most this many calls: what they did and what is said of them; and they are the next
 -- entries of any life of the station
-pub record Ran {V X : Type 0} {G : Ghosts X} (Gives : V → Option ℕ → Result (Option OwnedEvent) SourceFault → V → Type 0) (before after : Seen V G) (turns : ℕ) (run : Run) : Type 0 where
+pub record Ran {V X : Type 0} {G : Ghosts X} (Gives : V → Open → Option Answer → Result (Option OwnedEvent) SourceFault → V → Type 0) (before after : Seen V G) (turns : ℕ) (run : Run) : Type 0 where
   pub calls : List (Call V)
   pub did : Did Gives before after calls
   pub told : Tells run calls

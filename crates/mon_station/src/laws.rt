@@ -3,7 +3,7 @@
 ghost use Rattle.std.specs.Prelude.{◌≡◌, ◌<◌, ◌∷◌, true, List, None, Option, Some, ℕ};
 ghost use Rattle.std.specs.List.{AllByRecursion};
 ghost use Rattle.mon_board.specs.Board.{window_of};
-ghost use Rattle.mon_board.specs.Watch.{Watch as AnyWatch};
+ghost use Rattle.mon_board.specs.Watch.{Watch as AnyWatch, epoch_of, size_of};
 ghost use Rattle.mon_board.specs.Windows.{IsWhole, of_both, kept_by};
 ghost use Rattle.mon_disk.specs.Disk.{Leaves};
 ghost use Rattle.mon_disk.specs.Keeper.{FindsBody, is_undamaged};
@@ -16,6 +16,7 @@ ghost use Rattle.mon_station.specs.Stops.{FindsOneOf, GoesOn, Happening, IsHisto
 ghost use Rattle.mon_station.specs.Taken as lives;
 ghost use Rattle.mon_station.specs.Taken.{Answered, Entry};
 ghost use Rattle.mon_station.specs.Verdict.{Setting};
+ghost use Rattle.mon_window.specs.Top.{top};
 ghost use Rattle.mon_window.specs.Window.{Samples};
 
 use mon_disk::Disk;
@@ -38,8 +39,9 @@ pub fn taken()
 }
 
 /// The headline. Over any list of events, answered in any lawful way, and of lives that begin from what was saved: each window is what the watch keeps of the samples that
-/// were taken of its instance, so two stations with equal watches that took the same, directly or through others, hold equal windows and print equal reports. Joining
-/// windows is commutative, associative and idempotent. What is refused, for memory too, changes nothing but a poll that it ends.
+/// were taken of its instance (the n newest, where its epoch is as great as the window's size n), so two stations with equal watches that took the same, directly or
+/// through others, hold equal windows and print equal reports. Joining windows is commutative, associative and idempotent. What is refused, for memory too, changes
+/// nothing but a poll that it ends.
 ///
 /// `Station::open`, `step` and `run` extend such a list by what they answered (`lived`), so it holds of every station.
 pub fn headline()
@@ -51,6 +53,8 @@ pub fn headline()
     ensures reports { (some others : List (Entry × State)) (s t : State) → IsLived some → IsLived others → last_state some ≡ Some s → last_state others ≡ Some t
         → s.board.watch ≡ t.board.watch → ((i : ℕ) → lives.taken (entries_of some) i ≡ lives.taken (entries_of others) i)
         → report s.board.watch (window_of s.board) ≡ report t.board.watch (window_of t.board) }
+    ensures newest { (history : List (Entry × State)) (s : State) → IsLived history → last_state history ≡ Some s → (i : ℕ) → epoch_of s.board.watch i ≡ size_of s.board.watch i
+        → window_of s.board i ≡ top (size_of s.board.watch i) (lives.taken (entries_of history) i) }
     ensures commutative { (watch : AnyWatch) (a b : ℕ → Samples) (i : ℕ) → of_both watch a b i ≡ of_both watch b a i }
     ensures associative { (watch : AnyWatch) (a b c : ℕ → Samples) (i : ℕ) → of_both watch (of_both watch a b) c i ≡ of_both watch a (of_both watch b c) i }
     ensures idempotent { (watch : AnyWatch) (a : ℕ → Samples) (i : ℕ) → IsWhole watch a i → of_both watch a a i ≡ a i }
@@ -60,6 +64,7 @@ pub fn headline()
         → lives.taken (entries_of ((Answered e (Some fault), new) ∷ past)) i ≡ lives.taken (entries_of past) i }
 {
     taken();
+    mon_window::laws::whole_epoch();
     mon_board::laws::joining();
 }
 

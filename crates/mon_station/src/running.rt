@@ -1,17 +1,17 @@
 //! Running a station: events from a source, datagrams to an outbox.
 
-ghost use Rattle.std.specs.Prelude.{◌≡◌, ◌≤◌, ◌<◌, ◌+◌, ◌∷◌, [], ℕ, IfErr, IsOk, None, OnErr, OnOk, Option, Some, length, vec_capacity};
-ghost use Rattle.mon_udp.specs.Counts.{failed_after as counted_after};
+ghost use Rattle.std.specs.Prelude.{◌≡◌, ◌≤◌, ◌<◌, ◌+◌, ◌∷◌, [], ℕ, IfErr, IsOk, None, OnErr, OnOk, Some, length, vec_capacity};
 ghost use Rattle.mon_udp.specs.Told.{extended};
 ghost use Rattle.mon_station.specs.Ran as ran;
-ghost use Rattle.mon_station.specs.Ran.{HasFailed, IsEmpty, IsOldest, Ran, failures_after, faults_in};
-ghost use Rattle.mon_station.specs.Turned.{Called, Turned};
+ghost use Rattle.mon_station.specs.Ran.{HasFailed, IsEmpty, Ran, failures_after, faults_in};
+ghost use Rattle.mon_station.specs.Turned.{Called, Turned, told_of};
 ghost use Rattle.mon_station.specs.Seen.{seen};
 
 use crate::event::{Outgoing, OwnedEvent, Told};
 use crate::fault::StationFault;
 use crate::station::Station;
 use mon_disk::Disk;
+use mon_poller::Poller;
 use mon_udp::failed_after;
 use std::alloc::{AllocError, Global};
 use thiserror::Error;
@@ -30,7 +30,9 @@ pub struct OutboxFault;
 pub trait Source {
     ghost use Rattle.std.specs.Prelude.{◌≡◌, Option, Result, ℕ};
     ghost use Rattle.mon_udp.specs.Counts.{failed_after};
+    ghost use Rattle.mon_poller.specs.Polls.{Open};
     ghost use Rattle.mon_station.specs.ReadEvent.{OwnedEvent as AnyEvent};
+    ghost use Rattle.mon_station.specs.declared.running.Answer.{Answer as AnyAnswer};
     ghost use Rattle.mon_station.specs.declared.running.SourceFault.{SourceFault as AnySourceFault};
 
     // What can be said of it.
@@ -39,16 +41,22 @@ pub trait Source {
     // The view of this one.
     ghost view: { Self → View };
 
-    // From this view, a call that is given this oldest open poll returns this and leaves that view.
-    ghost gives: { View → Option ℕ → Result (Option AnyEvent) AnySourceFault → View → Type 0 };
+    // From this view, a call that is given these open polls and this answer returns this and leaves
+    // that view.
+    ghost gives: { View → Open → Option AnyAnswer → Result (Option AnyEvent) AnySourceFault → View → Type 0 };
 
     // How often it failed, at most 2^64 - 1.
     ghost failures: { Self → ℕ };
 
-    /// Returns the next event, or None if the source has ended. It is given the request-id of the
-    /// oldest open poll.
-    fn next(&mut self, oldest: Option<u32>) -> Result<Option<OwnedEvent>, SourceFault>
-        ensures gives { gives (view self.old) oldest result (view self.new) }
+    /// Returns the next event, or None if the source has ended. It is given the station's polls, and
+    /// what became of the event that the call before it gave: None if that gave none, or if this is
+    /// the first call of its run.
+    fn next(
+        &mut self,
+        polls: &Poller,
+        last: Option<Answer>,
+    ) -> Result<Option<OwnedEvent>, SourceFault>
+        ensures gives { gives (view self.old) polls.now.polls.open_polls last result (view self.new) }
         ensures failures { failures self.new ≡ failed_after result (failures self.old) };
 }
 
@@ -161,53 +169,51 @@ impl<D: Disk + Drop> Station<D> {
         ensures same_outbox { OnErr result (outbox.new ≡ outbox.old) }
     {
         run.begin(turns)?;
+        let mut last = None;
         for turn in 0..turns {
             run.turns = turn + 1;
-            if !self.take_turn(alloc, source, outbox, run) {
+            if !self.take_turn(alloc, source, outbox, run, &mut last) {
                 return Ok(());
             }
         }
         Ok(())
     }
 
-    /// Asks the source, and handles what it gives. Says whether the source goes on.
+    /// Asks the source, and handles what it gives. Says whether the source goes on, and leaves in
+    /// `last` what became of its event.
     fn take_turn<S: Source, O: Outbox>(
         &mut self,
         alloc: Global,
         source: &mut S,
         outbox: &mut O,
         run: &mut Run,
+        last: &mut Option<Answer>,
     ) -> bool
         requires room { length run.old.answers.items < vec_capacity run.old.answers }
         requires faults { run.old.source_faults < u64.MAX }
         requires refused { run.old.refused < u64.MAX }
-        ensures called { Called S.gives (seen self.old (S.view source.old) (O.handed outbox.old)) (seen self.new (S.view source.new) (O.handed outbox.new)) run.old run.new result }
+        ensures called { Called (told_of last.old S.gives) (seen self.old (S.view source.old) (O.handed outbox.old)) (seen self.new (S.view source.new) (O.handed outbox.new)) run.old run.new last.new result }
         ensures source { (first : ℕ) → S.failures source.old ≡ failures_after run.old.source_faults first → S.failures source.new ≡ failures_after run.new.source_faults first }
         ensures outbox { (first : ℕ) → HasFailed first (O.failures outbox.old) run.old.send_faults → HasFailed first (O.failures outbox.new) run.new.send_faults }
     {
-        match self.ask(source) {
+        match source.next(&self.life.poller, *last) {
             Ok(Some(event)) => {
                 let answer = self.turn(alloc, outbox, event, &mut run.send_faults);
                 run.answers.push(answer).unwrap();
                 run.refused = count_refused(run.refused, answer);
+                *last = Some(answer);
                 true
             }
-            Ok(None) => false,
+            Ok(None) => {
+                *last = None;
+                false
+            }
             Err(_) => {
                 run.source_faults += 1;
+                *last = None;
                 true
             }
         }
-    }
-
-    /// Asks the source for the next event, and gives it the oldest open poll.
-    #[tactic(auto, using(crate::proofs::Runs::oldest_of))]
-    fn ask<S: Source>(&self, source: &mut S) -> Result<Option<OwnedEvent>, SourceFault>
-        ensures asked { (oldest : Option ℕ) × IsOldest self.now.life.poller.polls.open_polls oldest × S.gives (S.view source.old) oldest result (S.view source.new) }
-        ensures failures { S.failures source.new ≡ counted_after result (S.failures source.old) }
-    {
-        let oldest = self.life.poller.oldest();
-        source.next(oldest)
     }
 
     /// Handles an event, and hands its datagrams to the outbox.

@@ -1,15 +1,16 @@
 -- How long a round waits.
-use Rattle.std.specs.Prelude.{Bool, true, false, ℕ, ◌+◌, ◌*◌, List, [], ◌∷◌, if◌then◌else◌, sum_by, ◌==◌}
+use Rattle.std.specs.Prelude.{Bool, true, false, ℕ, ◌+◌, ◌*◌, List, [], ◌∷◌, if◌then◌else◌, max, ◌==◌}
+use Rattle.std.specs.List.{fold}
 use Rattle.mon_poller.specs.declared.target.Target.{Target}
 
--- The milliseconds that a round waits if it waits once after its polls, once after each sending that
--- is not answered, and with peers once after its shares.
-abbrev pub waits : (wait_ms unanswered : ℕ) (has_peers : Bool) → ℕ
-waits wait_ms unanswered has_peers = wait_ms * (1 + unanswered + (if has_peers then 1 else 0))
+-- The milliseconds that a round waits if it waits once after its polls, once after each quiet wait
+-- with open polls, and with peers once after its shares.
+abbrev pub waits : (wait_ms quiet : ℕ) (has_peers : Bool) → ℕ
+waits wait_ms quiet has_peers = wait_ms * (1 + quiet + (if has_peers then 1 else 0))
 
--- how often the polls of targets are sent if none answers: each as often as it is tried
-abbrev pub sends_of : List Target → ℕ
-sends_of targets = sum_by (λ t. t.tries) targets
+-- how often a poll is sent at most, over all targets: so many waits are quiet if none answers
+abbrev pub greatest_tries : List Target → ℕ
+greatest_tries targets = fold (λ most t. max most t.tries) 0 targets
 
 -- whether a list has an element
 abbrev pub has_some : List ℕ → Bool

@@ -23,6 +23,7 @@ pub(crate) fn make_figures<S: Receiver + Drop, O: Outbox + Drop>(
     ensures failed_saves { IfOk result (λ figures. figures.failed_saves ≡ live.now.freshness.failed_saves) }
     ensures strangers { IfOk result (λ figures. figures.strangers ≡ live.now.freshness.strangers) }
     ensures round_ms { IfOk result (λ figures. figures.round_ms ≡ live.now.freshness.round_ms) }
+    ensures targets { IfOk result (λ figures. map (λ (f : TargetFigures). f.up) figures.targets.items ≡ map (λ (t : TargetAge). t.up) live.now.freshness.targets.items) }
     ensures ages { IfOk result (λ figures. figures.ages.items ≡ map (λ (i : InstanceAge). i.rounds) live.now.freshness.instances.items) }
     ensures stale_after { IfOk result (λ figures. figures.stale_after ≡ live.now.reports.stale_after) }
     ensures interval { IfOk result (λ figures. figures.interval ≡ live.now.reports.interval) }
@@ -50,10 +51,17 @@ fn target_figures(
     targets: &[TargetAge],
     engines: &[Vec<u8>],
     now: u64,
-) -> Result<Vec<TargetFigures>, AllocError> {
+) -> Result<Vec<TargetFigures>, AllocError>
+    ensures up { IfOk result (λ v. map (λ (f : TargetFigures). f.up) v.items ≡ map (λ (t : TargetAge). t.up) targets.now) }
+    ensures numbers { IfOk result (λ v. map (λ (f : TargetFigures). f.number) v.items ≡ map (λ (t : TargetAge). t.number + 1) targets.now) }
+{
     let mut figures = Vec::with_capacity(alloc, targets.len())?;
-    for (target, engine) in targets.iter().zip(engines) {
-        figures.push(one_target(alloc, target, engine.as_slice(), now)?)?;
+    for (place, target) in targets.iter().enumerate() {
+        let engine: &[u8] = match engines.get(place) {
+            Some(engine) => engine.as_slice(),
+            None => &[],
+        };
+        figures.push(one_target(alloc, target, engine, now)?)?;
     }
     Ok(figures)
 }

@@ -1,7 +1,7 @@
 //! What limits a station of some settings.
 
-ghost use Rattle.std.specs.Prelude.{◌≡◌, ◌≤◌, length};
-ghost use Rattle.mon_station_commands.specs.Limits.{has_some, sends_of, waits};
+ghost use Rattle.std.specs.Prelude.{◌≡◌, ◌*◌};
+ghost use Rattle.mon_station_commands.specs.Limits.{greatest_tries, has_some, waits};
 
 use mon_console::{Failure, print};
 use mon_disk::SLOT_SIZE;
@@ -9,12 +9,17 @@ use mon_poller::Target;
 use mon_settings::StationSettings;
 use std::alloc::{AllocError, Global};
 
+/// How many times its length a wait lasts at most, whatever comes.
+const MOST: u64 = 4;
+
 /// How long a round may take, in milliseconds. What it takes to handle datagrams is not among it.
 #[derive(Clone, Copy)]
 struct RoundTime {
     /// If all targets answer.
     least: u64,
     /// If none does.
+    silent: u64,
+    /// Whatever comes.
     most: u64,
 }
 
@@ -45,11 +50,11 @@ fn put_round(
     interval: u32,
 ) -> Result<(), AllocError> {
     let time = round_time(settings);
-    let (least, most) = (time.least, time.most);
+    let (least, silent, most) = (time.least, time.silent, time.most);
     let wait_ms = settings.wait_ms;
     write!(
         text,
-        "round: {least} ms if all targets answer, {most} ms if none does (wait_ms = {wait_ms}); at most 4096 datagrams\n"
+        "round: {least} ms if all targets answer, {silent} ms if none does, {most} ms at most (wait_ms = {wait_ms}); at most 4096 datagrams\n"
     )?;
     if interval == 0 || most <= u64::from(interval) * 1000 {
         return Ok(());
@@ -63,33 +68,37 @@ fn put_round(
 /// Returns how long a round may take.
 fn round_time(settings: &StationSettings) -> RoundTime
     ensures least { result.least ≡ waits settings.now.wait_ms 0 (has_some settings.now.core.peers) }
-    ensures most { result.most ≡ waits settings.now.wait_ms (sends_of settings.now.core.targets) (has_some settings.now.core.peers) }
+    ensures silent { result.silent ≡ waits settings.now.wait_ms (greatest_tries settings.now.core.targets) (has_some settings.now.core.peers) }
+    ensures most { result.most ≡ 4 * waits settings.now.wait_ms (greatest_tries settings.now.core.targets) (has_some settings.now.core.peers) }
 {
     let has_peers = !settings.core.peers().is_empty();
-    let sends = count_sends(settings.core.targets());
+    let tries = u32::from(greatest_tries(settings.core.targets()));
+    let silent = waits(settings.wait_ms, tries, has_peers);
     RoundTime {
         least: waits(settings.wait_ms, 0, has_peers),
-        most: waits(settings.wait_ms, sends, has_peers),
+        silent,
+        most: MOST * silent,
     }
 }
 
-/// Returns how many milliseconds a round waits in which this many sendings are not answered.
-fn waits(wait_ms: u32, unanswered: u32, has_peers: bool) -> u64
-    ensures { result ≡ waits wait_ms unanswered has_peers }
+/// Returns how many milliseconds a round waits in which this many waits with open polls are quiet.
+fn waits(wait_ms: u32, quiet: u32, has_peers: bool) -> u64
+    ensures { result ≡ waits wait_ms quiet has_peers }
 {
-    u64::from(wait_ms) * (1 + u64::from(unanswered) + u64::from(has_peers))
+    u64::from(wait_ms) * (1 + u64::from(quiet) + u64::from(has_peers))
 }
 
-/// Returns how often the polls of targets are sent if none answers.
-fn count_sends(targets: &[Target]) -> u32
-    requires { length targets.now ≤ 64 }
-    ensures { result ≡ sends_of targets.now }
+/// Returns how often a poll is sent at most, over all targets.
+pub(crate) fn greatest_tries(targets: &[Target]) -> u8
+    ensures { result ≡ greatest_tries targets.now }
 {
-    let mut sends = 0;
+    let mut most = 0;
     for target in targets {
-        sends += u32::from(target.tries);
+        if target.tries > most {
+            most = target.tries;
+        }
     }
-    sends
+    most
 }
 
 /// Adds a line for each target: how many objects its poll asks for, and how often it is sent.

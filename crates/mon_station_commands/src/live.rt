@@ -3,6 +3,7 @@
 ghost use Rattle.std.specs.Prelude.{◌≡◌, ◌≤◌, IfOk, length};
 ghost use Rattle.mon_disk.specs.Fault.{number_of};
 
+use crate::limits::greatest_tries;
 use crate::opening::{or_socket_failure, unopened};
 use crate::pace::passed;
 use crate::showing::show_span;
@@ -161,6 +162,7 @@ pub(crate) fn make_transport<S: Receiver + Drop, O: Outbox + Drop>(
         alloc,
         addresses_of(alloc, settings)?,
         settings.wait_ms,
+        greatest_tries(settings.core.targets()),
         receiver,
     )?;
     let peers = Vec::from_slice(alloc, settings.core.peers())?;

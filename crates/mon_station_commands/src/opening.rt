@@ -1,19 +1,27 @@
 //! The file and the socket of a station.
 
-ghost use Rattle.std.specs.Prelude.{◌≡◌, ◌↔◌, ◌<◌, ◌≤◌, IsTrue, Ok};
-ghost use Rattle.mon_faults.specs.Fault.{station_fault};
+ghost use Rattle.std.specs.Prelude.{◌≡◌, ◌↔◌, ◌<◌, ◌≤◌, IsTrue, Ok, codes};
+ghost use Rattle.mon_faults.specs.Fault.{innermost_of, station_fault};
+ghost use Rattle.mon_station_commands.specs.Opening.{IsFaultOf};
 
 use mon_board::Board;
 use mon_cli::ReportArgs;
 use mon_console::{Failure, Fault, print, read_first, read_labelled_station};
-use mon_disk::{Disk, DiskError, FileDisk, KeeperFault, SLOT_SIZE};
+use mon_disk::{Disk, DiskError, FileDisk, KeeperFault, OpenFault, SLOT_SIZE};
 use mon_settings::StationSettings;
-use mon_station::{StationFault, board_in};
+use mon_station::{Innermost, StationFault, board_in};
 use mon_udp::Addr;
 use std::alloc::Global;
 use std::fs::File;
+use std::os::unix::fs::FileExt;
 use std::rt::Files;
 use std::{fs, io};
+
+/// How many octets the head of a slot has: its gate, its generation and the length of its body.
+const HEAD: usize = 17;
+
+/// How often a file is read in all that is saved to meanwhile.
+const READS: u32 = 16;
 
 /// Returns the socket of the settings, which is taken before the file, so that of two processes over
 /// one file the second neither makes the file nor writes it; yet the faults of an existing
@@ -34,12 +42,12 @@ pub(crate) fn or_no_socket<T: Drop, R: Files<File = File> + AllocGlobal>(
     }
 }
 
-/// Opens the file of the settings.
+/// Opens the file of the settings, which no other process can then open as a station's.
 pub(crate) fn open_file<R: Files<File = File> + Eprint + AllocGlobal>(
     rt: &R,
     settings: &StationSettings,
 ) -> Result<FileDisk, Failure> {
-    let mut disk = in_file(
+    let mut disk = or_file_failure(
         rt.alloc(),
         &settings.file,
         FileDisk::open_or_create(rt, &settings.file),
@@ -90,22 +98,80 @@ pub(crate) fn saved_in<R: Files<File = File> + AllocGlobal>(
     settings: &StationSettings,
 ) -> Result<Board, Failure> {
     let alloc = rt.alloc();
-    // A file that is longer than a station's is damaged, whatever follows.
-    let octets = read_first(rt, &settings.file, 2 * SLOT_SIZE + 1)?;
+    let octets = read_saved(rt, &settings.file)?;
     match board_in(alloc, settings.core.watch(), octets.as_slice()) {
         Ok(board) => Ok(board),
         Err(fault) => Err(file_failure(alloc, &settings.file, fault)),
     }
 }
 
-/// What a call of the station's file gave.
-fn in_file<T: Drop>(alloc: Global, path: &str, given: io::Result<T>) -> Result<T, Failure>
+/// Reads a station's file, which may be saved to meanwhile. If a head of it changed until the end of
+/// the read, it is read again, at most 16 times in all.
+fn read_saved<R: Files<File = File> + AllocGlobal>(rt: &R, path: &str) -> Result<Vec<u8>, Failure> {
+    // A file that is longer than a station's is damaged, whatever follows.
+    let mut octets = read_first(rt, path, 2 * SLOT_SIZE + 1)?;
+    for _ in 1..READS {
+        if has_heads_of(rt, path, octets.as_slice()) {
+            break;
+        }
+        octets = read_first(rt, path, 2 * SLOT_SIZE + 1)?;
+    }
+    Ok(octets)
+}
+
+/// Returns `true` if the heads of both slots in the file are still those of these octets, or cannot
+/// be read: then nothing tells that the file changed.
+fn has_heads_of<R: Files<File = File>>(rt: &R, path: &str, octets: &[u8]) -> bool {
+    match File::open(rt, path) {
+        Ok(file) => has_head_of(&file, octets, 0) && has_head_of(&file, octets, SLOT_SIZE),
+        Err(_) => true,
+    }
+}
+
+/// Returns `true` if the head of the slot at this place is that of these octets, or cannot be read.
+fn has_head_of(file: &File, octets: &[u8], at: u64) -> bool {
+    let mut head = [0u8; HEAD];
+    match file.read_exact_at(&mut head, at) {
+        Ok(()) => octets.iter().skip(at as usize).take(HEAD).eq(head.iter()),
+        Err(_) => true,
+    }
+}
+
+/// Returns what the opening of the station's file gave.
+fn or_file_failure<T: Drop>(
+    alloc: Global,
+    path: &str,
+    given: Result<T, OpenFault>,
+) -> Result<T, Failure>
     ensures { (value : T) → given ≡ Ok value → result ≡ Ok value }
 {
     match given {
         Ok(value) => Ok(value),
-        Err(error) => Err(Failure::stream(alloc, path, error)),
+        Err(fault) => Err(opening_failure(alloc, path, fault)),
     }
+}
+
+/// Returns why a station's file could not be opened.
+fn opening_failure(alloc: Global, path: &str, fault: OpenFault) -> Failure
+    ensures { IsFaultOf fault result.fault }
+{
+    match fault {
+        OpenFault::InUse => in_use(alloc, path),
+        OpenFault::System(error) => Failure::stream(alloc, path, error),
+    }
+}
+
+/// Returns the failure of a station's file that another process has open.
+fn in_use(alloc: Global, path: &str) -> Failure
+    ensures part { (innermost_of result.fault).part ≡ codes "mon_disk" }
+    ensures number { (innermost_of result.fault).number ≡ 7 }
+    ensures name { (innermost_of result.fault).name ≡ codes "InUse" }
+{
+    let innermost = Innermost::new("mon_disk", OpenFault::IN_USE_NUMBER, OpenFault::IN_USE_NAME);
+    Failure::said(
+        Fault::Other(innermost),
+        format!(in alloc; "{path}: another process has the file open as a station's"),
+    )
 }
 
 /// What a call of the station's socket gave.

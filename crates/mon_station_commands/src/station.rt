@@ -1,6 +1,6 @@
 //! The command `station`.
 
-ghost use Rattle.std.specs.Prelude.{◌≡◌, IfErr, IfOk, IfSome, IsOk, None, Ok, OnOk, Some, option_copied, option_map, string_bytes};
+ghost use Rattle.std.specs.Prelude.{◌≡◌, IfErr, IfOk, IfSome, IsOk, None, Ok, OnOk, Some, map, option_copied, option_map, string_bytes};
 ghost use Rattle.mon_disk.specs.declared.fault.KeeperFault.{KeeperFault};
 ghost use Rattle.mon_faults.specs.declared.fault.Fault.TheVariants.{Keeper};
 ghost use Rattle.mon_station_commands.specs.Limits.{longest_gap};
@@ -20,7 +20,7 @@ use mon_station::Outbox;
 use mon_udp::{Addr, Socket};
 use mon_web::{Door, Site, Web};
 use mon_web_receiver::{PolledSocket, Shows, WebReceiver};
-use std::alloc::Global;
+use std::alloc::{AllocError, Global};
 use std::fs::File;
 use std::io;
 use std::net::{Net, SocketAddr};
@@ -50,8 +50,21 @@ pub fn run_station<R: Clock + Files<File = File> + Net + Print + Eprint + AllocG
     };
     match door {
         None => run_unseen(rt, settings, reports, words.timing),
-        Some(door) => run_shown(rt, settings, reports, words.timing, door),
+        Some(at) => {
+            let front = Front {
+                at,
+                hosts: words.http_hosts,
+            };
+            run_shown(rt, settings, reports, words.timing, front)
+        }
     }
+}
+
+/// Where a station serves HTTP, and by which names of hosts.
+#[derive(Clone, Copy)]
+struct Front<'m, 'a> {
+    at: Addr,
+    hosts: &'m [&'a str],
 }
 
 /// Prints what limits the station of the settings.
@@ -87,21 +100,21 @@ fn open_unseen<R: Clock + Files<File = File> + Net + Eprint + AllocGlobal>(
     Ok((socket, place))
 }
 
-/// Runs a station that serves HTTP at this address.
+/// Runs a station that serves HTTP.
 fn run_shown<R: Clock + Files<File = File> + Net + Print + Eprint + AllocGlobal>(
     rt: &R,
     settings: StationSettings,
     reports: Reports,
     timing: Timing,
-    door: Addr,
+    front: Front<'_, '_>,
 ) -> Result<(), Failure> {
     let Shown {
         socket,
         place,
         web,
         at,
-    } = open_shown(rt, &settings, door, timing)?;
-    let receiver = WebReceiver::new(rt, &socket, web, place.origin);
+    } = open_shown(rt, &settings, front, timing)?;
+    let receiver = WebReceiver::new(rt, rt, &socket, web, place.origin);
     let transport = open_transport(rt.alloc(), &settings, &socket, receiver)?;
     let mut live = start_station(rt, settings, place, transport, reports)?;
     let _ = eprintln!(rt; "snmpmon: HTTP at {at}");
@@ -119,15 +132,15 @@ struct Shown {
     at: SocketAddr,
 }
 
-/// Opens the socket of the settings, the listener at this address and the file of the settings.
+/// Opens the socket of the settings, the listener for HTTP and the file of the settings.
 fn open_shown<R: Clock + Files<File = File> + Net + Eprint + AllocGlobal>(
     rt: &R,
     settings: &StationSettings,
-    door: Addr,
+    front: Front<'_, '_>,
     timing: Timing,
 ) -> Result<Shown, Failure> {
     let socket = or_no_socket(rt, settings, PolledSocket::open(rt, settings.listen))?;
-    let (web, at) = open_web(rt, door, timing)?;
+    let (web, at) = open_web(rt, front, timing)?;
     let place = open_place(rt, settings, socket.address())?;
     Ok(Shown {
         socket,
@@ -149,18 +162,29 @@ fn open_place<R: Clock + Files<File = File> + Eprint + AllocGlobal>(
     Ok(Place { disk, at, origin })
 }
 
-/// Listens for HTTP at this address, and returns where that is too.
+/// Listens for HTTP, and returns at which address too.
 fn open_web<R: Net + AllocGlobal>(
     rt: &R,
-    at: Addr,
+    front: Front<'_, '_>,
     timing: Timing,
 ) -> Result<(Web, SocketAddr), Failure> {
-    let alloc = rt.alloc();
+    let (alloc, at) = (rt.alloc(), front.at);
     let door = or_socket_failure(alloc, at, Door::open(rt, at.socket()))?;
     let place = or_socket_failure(alloc, at, door.address())?;
-    let site = Site::new(longest_gap(timing.interval));
+    let site = Site::new(longest_gap(timing.interval), copies_of(alloc, front.hosts)?);
     let web = or_socket_failure(alloc, at, Web::new(alloc, door, site))?;
     Ok((web, place))
+}
+
+/// Returns copies of texts, in their order.
+fn copies_of(alloc: Global, texts: &[&str]) -> Result<Vec<String>, AllocError>
+    ensures { IfOk result (λ copies. map string_bytes copies.items ≡ map (λ t. t.now) texts.now) }
+{
+    let mut copies = Vec::with_capacity(alloc, texts.len())?;
+    for text in texts {
+        copies.push(String::from_str(alloc, text)?)?;
+    }
+    Ok(copies)
 }
 
 /// Returns within how many milliseconds of one another rounds have to end: three intervals, or half a

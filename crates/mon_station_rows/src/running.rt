@@ -6,6 +6,7 @@ ghost use Rattle.mon_station_rows.specs.Listed.{RanOver};
 use crate::events::events_of;
 use crate::printing::{put_fault, put_sent};
 use mon_disk::{FuseDisk, MemoryDisk};
+use mon_poller::Poller;
 use mon_row_texts::{parsed, put, two};
 use mon_station::{
     Answer, Outbox, OutboxFault, Outgoing, OwnedEvent, Run, Source, SourceFault, Station,
@@ -24,11 +25,10 @@ struct Listed {
 }
 
 impl Listed {
-    ghost use Rattle.std.specs.Prelude.{None};
-    ghost use Rattle.mon_station_rows.specs.Listed.{GivesListed};
+    ghost use Rattle.mon_station_rows.specs.Listed.{GivesNext};
 
     fn given(&mut self) -> Result<Option<OwnedEvent>, SourceFault>
-        ensures given { GivesListed (record { events = self.old.events.items; calls_to_fault = self.old.calls_to_the_failing_one }) None result
+        ensures given { GivesNext (record { events = self.old.events.items; calls_to_fault = self.old.calls_to_the_failing_one }) result
             (record { events = self.new.events.items; calls_to_fault = self.new.calls_to_the_failing_one }) }
         ensures same { self.new.failures ≡ self.old.failures }
     {
@@ -52,7 +52,11 @@ impl Source for Listed {
 
     ghost failures = { λ s. s.failures };
 
-    fn next(&mut self, _oldest: Option<u32>) -> Result<Option<OwnedEvent>, SourceFault> {
+    fn next(
+        &mut self,
+        _polls: &Poller,
+        _last: Option<Answer>,
+    ) -> Result<Option<OwnedEvent>, SourceFault> {
         let given = self.given();
         self.failures = failed_after(self.failures, &given);
         given

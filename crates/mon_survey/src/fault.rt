@@ -64,10 +64,13 @@ pub enum SurveyFault {
     /// A file of labels of more than 4,096 interfaces, which are this many.
     #[error("{0} interfaces are more than the 4,096 of a file of labels: choose fewer by --match or --up")]
     TooManyInterfaces(usize),
+    /// The agent's engine id was another one at the end of the walk than at its start.
+    #[error("the agent's engine id changed during the walk: is another agent behind this address?")]
+    EngineChanged,
 }
 
 impl SurveyFault {
-    /// The number of the fault, 1 to 13.
+    /// The number of the fault, 1 to 14.
     pub fn number(self) -> u8
         ensures { result ≡ number_of self }
     {
@@ -85,6 +88,7 @@ impl SurveyFault {
             SurveyFault::TooManyTargets(_) => 11,
             SurveyFault::BadLabels => 12,
             SurveyFault::TooManyInterfaces(_) => 13,
+            SurveyFault::EngineChanged => 14,
         }
     }
 
@@ -106,6 +110,7 @@ impl SurveyFault {
             SurveyFault::TooManyTargets(_) => "TooManyTargets",
             SurveyFault::BadLabels => "BadLabels",
             SurveyFault::TooManyInterfaces(_) => "TooManyInterfaces",
+            SurveyFault::EngineChanged => "EngineChanged",
         }
     }
 }

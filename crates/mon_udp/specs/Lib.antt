@@ -1,3 +1,5 @@
 pub mod Addr
+pub mod Bound
 pub mod Counts
 pub mod Told
+pub mod Wait

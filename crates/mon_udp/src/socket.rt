@@ -3,9 +3,12 @@
 ghost use Rattle.std.specs.Prelude.{◌≡◌, ◌≤◌, IfOk, length};
 
 use crate::addr::Addr;
+use crate::binding::{Binds, open_at};
+use crate::receiving::{Receives, receive_from};
 use std::alloc::{AllocError, Global};
 use std::io;
 use std::net::{Net, SocketAddr, UdpSocket};
+use std::time::Duration;
 
 /// How often a reception that a signal interrupts is tried in all.
 pub(crate) const TRIES: u8 = 255;
@@ -30,10 +33,9 @@ impl Socket {
     /// Opens a socket at this address; port 0 takes a free one.
     ///
     /// # Errors
-    /// That of the system, if the address is not available.
+    /// That of the system, or `AddrNotAvailable` if the system bound it to another address.
     pub fn open<R: Net>(rt: &R, at: Addr) -> io::Result<Self> {
-        let udp = UdpSocket::bind(rt, at.socket())?;
-        Ok(Socket { udp })
+        open_at(rt, at)
     }
 
     /// Returns the address that it is at.
@@ -62,12 +64,48 @@ impl Socket {
         ensures length { length buffer.new ≡ length buffer.old }
         ensures within { IfOk result (λ r. r.0 ≤ length buffer.new) }
     {
-        for _ in 1..TRIES {
-            match self.udp.recv_from(buffer) {
-                Err(error) if error.kind() == io::ErrorKind::Interrupted => {}
-                received => return received,
-            }
-        }
+        receive_from(self, buffer)
+    }
+}
+
+impl Binds for Socket {
+    // What happens at a socket is not known.
+    ghost bound = { λ _ _. Unit {0} };
+
+    ghost stands = { λ _ _. Unit {0} };
+
+    fn bind<R: Net>(rt: &R, at: Addr) -> io::Result<Self> {
+        let udp = UdpSocket::bind(rt, at.socket())?;
+        Ok(Socket { udp })
+    }
+
+    fn bound_to(&self) -> io::Result<SocketAddr> {
+        self.udp.local_addr()
+    }
+}
+
+impl Receives for Socket {
+    // What happens at a socket is not known.
+    ghost received = { λ _ _ _ _. Unit {0} };
+
+    ghost quiet = { λ _ _. Unit {0} };
+
+    fn receive_next(&self, buffer: &mut [u8]) -> io::Result<(usize, SocketAddr)> {
         self.udp.recv_from(buffer)
+    }
+
+    fn receive_within(
+        &self,
+        time: Duration,
+        buffer: &mut [u8],
+    ) -> io::Result<Option<(usize, SocketAddr)>> {
+        self.udp.set_read_timeout(Some(time))?;
+        match self.udp.recv_from(buffer) {
+            Ok(received) => Ok(Some(received)),
+            Err(error) => match error.kind() {
+                io::ErrorKind::WouldBlock | io::ErrorKind::TimedOut => Ok(None),
+                _ => Err(error),
+            },
+        }
     }
 }

@@ -1,1 +1,3 @@
 pub mod Oldest
+pub mod Streams
+pub mod Swept

@@ -5,7 +5,7 @@ use Rattle.mon_http.specs.Conversation.{Conversation, Moment as Replies, with_te
 use Rattle.mon_http.specs.Request.{IsJudged, IsQuiet}
 use Rattle.mon_web.specs.declared.site.Site.{Site}
 use Rattle.mon_web.specs.declared.response.Moment.{Moment}
-use Rattle.mon_web.specs.Site.{out_of_memory, reply_for}
+use Rattle.mon_web.specs.Site.{names_of, out_of_memory, reply_for}
 
 -- what a site answers at this time
 abbrev pub replies : Site → Moment → Replies
@@ -23,5 +23,5 @@ after replies verdict c = with_text (len_of verdict) (keeps verdict) (said repli
 -- that there is no memory for that. These are the steps of mon_http's histories.
 abbrev pub IsResponse : Site → Moment → Conversation → Bool → Conversation → Type 0
 IsResponse site at old false new = IsQuiet old.unread × (new ≡ old)
-IsResponse site at old true new = (verdict : Verdict) × IsJudged old.unread verdict
+IsResponse site at old true new = (verdict : Verdict) × IsJudged (names_of site) old.unread verdict
     × ((new ≡ after (replies site at) verdict old) ⊎ (new ≡ after (poor_replies at) verdict old))

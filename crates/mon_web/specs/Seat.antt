@@ -1,6 +1,6 @@
 -- The places for connections: who is late, and whose place a newcomer gets.
-use Rattle.std.specs.Prelude.{◌≡◌, ℕ, ◌+◌, ◌-◌, ◌≤◌, ◌⊎◌, Bool, true, false, List, Option, Some, None, All, slice_get, nat_le, if◌then◌else◌}
-use Rattle.std.specs.List.{position}
+use Rattle.std.specs.Prelude.{◌≡◌, ℕ, ◌+◌, ◌-◌, ◌≤◌, ◌⊎◌, Bool, true, false, List, Option, Some, None, All, length, slice_get, nat_le, if◌then◌else◌}
+use Rattle.std.specs.List.{list_all, position}
 use Rattle.mon_web.specs.declared.seat.Seat.{Seat}
 use Rattle.mon_web.specs.declared.seat.Stage.{Stage}
 use Rattle.mon_web.specs.declared.seat.Stage.TheVariants.{Free, Asking, Idle, Sending, Closing}
@@ -56,3 +56,24 @@ IsChosen now seats place = (position (λ seat. is_free seat.stage) seats ≡ Som
 -- no place is free, and no client may be closed for a newcomer
 abbrev pub NoneFits : ℕ → List Seat → Type 0
 NoneFits now seats = (position (λ seat. is_free seat.stage) seats ≡ None) × IsOldest now seats None
+
+-- a place without a client
+abbrev pub free_seat : Seat
+free_seat = record { stage = Free; since = 0; is_ready = false }
+
+-- no client has been in its stage for as long as it may
+abbrev pub NoneLate : ℕ → List Seat → Type 0
+NoneLate now seats = All (λ seat. ¬ (IsLate now seat)) seats
+
+-- there are as many places, and those that are not `gone` are as they were
+pub record KeepsOthers (gone : Seat → Type 0) (old new : List Seat) : Type 0 where
+  pub many : length new ≡ length old
+  pub kept : (place : ℕ) (seat : Seat) → slice_get old place ≡ Some seat → ¬ (gone seat) → slice_get new place ≡ Some seat
+
+-- How long a wait lasts at most, in nanoseconds: 100 milliseconds while a newcomer waits for a place,
+-- one second while there are clients, and else as long as it may.
+abbrev pub longest_wait : Bool → List Seat → Option ℕ
+longest_wait has_newcomer seats =
+    if has_newcomer then Some 100_000_000
+    else if list_all (λ seat. is_free seat.stage) seats then None
+    else Some 1_000_000_000

@@ -1,5 +1,5 @@
 -- What a station shows over HTTP, and what it answers to a request.
-use Rattle.std.specs.Prelude.{ℕ, ◌-◌, Bool, true, false, Option, Some, None, codes, nat_le}
+use Rattle.std.specs.Prelude.{ℕ, ◌-◌, Bool, true, false, List, map, string_bytes, Option, Some, None, codes, nat_le}
 use Rattle.mon_http.specs.declared.response.Status.TheVariants.{Success, ServiceUnavailable}
 use Rattle.mon_http.specs.declared.response.Media.TheVariants.{Prometheus, Json, Html, Plain}
 use Rattle.mon_http.specs.declared.route.Route.{Route}
@@ -45,6 +45,10 @@ reply_for site now Metrics = text_reply metrics_reply site.texts
 reply_for site now Report = text_reply report_reply site.texts
 reply_for site now Page = text_reply page_reply site.texts
 reply_for site now Health = health_reply (is_healthy site.ended site.limit now)
+
+-- the names of hosts that a site serves, beside localhost and addresses
+abbrev pub names_of : Site → List (List ℕ)
+names_of site = map string_bytes site.names.items
 
 -- a site with these texts
 abbrev pub with_texts : Option Texts → Site → Site

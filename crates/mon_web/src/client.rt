@@ -1,19 +1,18 @@
 //! A client: its stream, and what came and goes on it.
 
-ghost use Rattle.std.specs.Prelude.{◌≡◌, ◌≤◌, [], false, length};
+ghost use Rattle.std.specs.Prelude.{◌≡◌, ◌≢◌, [], false, true};
+ghost use Rattle.mon_web.specs.Client.{IsAnswering, IsReceiving, IsSending};
 
 use crate::response::{Moment, respond};
 use crate::seat::Stage;
 use crate::site::Site;
+use crate::stream::{Stream, receive_part, send_part};
 use mio::net::TcpStream;
 use mio::{Interest, Registry, Token};
 use mon_http::Connection;
 use std::alloc::Global;
-use std::io::{self, ErrorKind, Read, Write};
+use std::io::{self, ErrorKind};
 use std::net::Shutdown;
-
-/// How many octets are sent in a turn at most.
-const MAX_SENT: usize = 65_536;
 
 /// A client.
 #[derive(Drop)]
@@ -54,13 +53,14 @@ impl Client {
 
     /// Does one thing for the client: sends a part of its response, or answers it, or reads once. Octets
     /// are read into the buffer.
-    pub(crate) fn turn(
-        &mut self,
-        alloc: Global,
-        site: &Site,
-        buffer: &mut [u8],
-        at: Moment,
-    ) -> Turn {
+    pub(crate) fn turn(&mut self, alloc: Global, site: &Site, buffer: &mut [u8], at: Moment) -> Turn
+        ensures sends { self.old.connection.unsent ≢ []
+            → IsSending self.old.connection self.new.connection }
+        ensures drains { self.old.connection.unsent ≡ [] → self.old.connection.closing ≡ true
+            → self.new.connection ≡ self.old.connection }
+        ensures answers { self.old.connection.unsent ≡ [] → self.old.connection.closing ≡ false
+            → IsAnswering site.now at self.old.connection self.new.connection result }
+    {
         if !self.connection.pending().is_empty() {
             return self.send();
         }
@@ -75,20 +75,19 @@ impl Client {
     }
 
     /// Sends a part of what is pending.
-    fn send(&mut self) -> Turn {
-        let pending = self.connection.pending();
-        let len = pending.len().min(MAX_SENT);
-        match self.stream.write(&pending[..len]) {
-            Ok(n) => self.take_note(n),
+    fn send(&mut self) -> Turn
+        ensures { IsSending self.old.connection self.new.connection }
+    {
+        match send_part(&mut self.stream, &mut self.connection) {
+            Ok(()) => self.after_sending(),
             Err(error) => after_error(error),
         }
     }
 
-    /// Takes note that `n` octets were sent.
-    fn take_note(&mut self, n: usize) -> Turn
-        requires { n ≤ length self.old.connection.unsent }
+    /// Returns what comes after a part was sent.
+    fn after_sending(&mut self) -> Turn
+        ensures { self.new.connection ≡ self.old.connection }
     {
-        self.connection.sent(n);
         if !self.connection.pending().is_empty() {
             return Turn::GoesOn;
         }
@@ -102,21 +101,21 @@ impl Client {
     }
 
     /// Reads as much as the connection has capacity for.
-    fn read(&mut self, buffer: &mut [u8]) -> Turn {
-        let room = self.connection.room().min(buffer.len());
-        match self.stream.read(&mut buffer[..room]) {
+    fn read(&mut self, buffer: &mut [u8]) -> Turn
+        ensures { IsReceiving self.old.connection self.new.connection }
+    {
+        match receive_part(&mut self.stream, &mut self.connection, buffer) {
             Ok(0) => Turn::Ends,
-            Ok(n) => {
-                self.connection.receive(&buffer[..n]);
-                Turn::GoesOn
-            }
+            Ok(_) => Turn::GoesOn,
             Err(error) => after_error(error),
         }
     }
 
     /// Reads what still comes after the last response, which is not looked at.
-    fn drain(&mut self, buffer: &mut [u8]) -> Turn {
-        match self.stream.read(buffer) {
+    fn drain(&mut self, buffer: &mut [u8]) -> Turn
+        ensures { self.new.connection ≡ self.old.connection }
+    {
+        match self.stream.get(buffer) {
             Ok(0) => Turn::Ends,
             Ok(_) => Turn::GoesOn,
             Err(error) => after_error(error),

@@ -11,10 +11,11 @@ mod door;
 mod response;
 mod seat;
 mod site;
+mod stream;
 mod table;
 mod web;
 
-pub use door::Door;
+pub use door::{Door, DoorBy, Listener};
 pub use response::Moment;
 pub use seat::{Seat, Stage, choose_seat, is_late};
 pub use site::{Site, Texts};

@@ -1,6 +1,6 @@
 //! What is answered on a connection.
 
-ghost use Rattle.std.specs.Prelude.{◌≡◌, ◌⊎◌, [], false, IfOk, IsTrue, OnErr, OnOk};
+ghost use Rattle.std.specs.Prelude.{◌≡◌, ◌⊎◌, [], false, List, ℕ, IfOk, IsTrue, OnErr, OnOk};
 ghost use Rattle.mon_http.specs.Conversation.{with_reply};
 ghost use Rattle.mon_http.specs.Request.{IsJudged};
 ghost use Rattle.mon_http.specs.Response.{fits, reply_of};
@@ -38,7 +38,7 @@ pub(crate) fn respond(
     ensures answered { IfOk result (λ done. IsResponse site.now at connection.old done connection.new) }
     ensures kept { OnErr result (connection.new ≡ connection.old) }
 {
-    match connection.step(alloc, at.date)? {
+    match connection.step(alloc, at.date, site.names())? {
         Step::Wait => Ok(false),
         Step::Refused => Ok(true),
         Step::Asked(request) => {
@@ -59,7 +59,7 @@ fn answer_or_tell(
 ) -> Result<(), AllocError>
     requires open { connection.old.closing ≡ false }
     requires sent { connection.old.unsent ≡ [] }
-    requires asked { IsJudged connection.old.unread (Verdicts.Asked request) }
+    requires asked { (names : List (List ℕ)) × IsJudged names connection.old.unread (Verdicts.Asked request) }
     requires fits { IsTrue (fits request.route said) }
     ensures answered { OnOk result ((connection.new ≡ with_reply at.date request (reply_of said.entry) connection.old)
         ⊎ (connection.new ≡ with_reply at.date request out_of_memory connection.old)) }

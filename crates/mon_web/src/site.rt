@@ -44,8 +44,10 @@ impl Texts {
     }
 }
 
-/// What is shown: the texts, and whether rounds end in time.
+/// What is shown: the texts, and whether rounds end in time; and by which names.
 pub struct Site {
+    /// The names of the host that are served, beside `localhost` and addresses.
+    pub(crate) names: Vec<String>,
     /// None if there was no memory for them.
     pub(crate) texts: Option<Texts>,
     /// When the last round ended, in milliseconds since the station's start.
@@ -58,6 +60,7 @@ pub struct Site {
 impl Drop for Site {
     fn drop(self) {
         let Site {
+            names: _,
             texts: _,
             ended: _,
             limit: _,
@@ -67,17 +70,27 @@ impl Drop for Site {
 
 impl Site {
     /// A site without texts, of a station whose rounds have to end within `limit` milliseconds of
-    /// one another.
-    pub fn new(limit: u64) -> Self
+    /// one another. A request for a host by a name is answered if the name is `localhost` or one of
+    /// these, in any case and with any port; by an address it always is.
+    pub fn new(limit: u64, names: Vec<String>) -> Self
+        ensures names { result.names ≡ names }
         ensures texts { result.texts ≡ None }
         ensures ended { result.ended ≡ None }
         ensures limit { result.limit ≡ limit }
     {
         Site {
+            names,
             texts: None,
             ended: None,
             limit,
         }
+    }
+
+    /// Returns the names that are served, beside `localhost` and addresses.
+    pub(crate) fn names(&self) -> &[String]
+        ensures { result.now ≡ self.now.names.items }
+    {
+        self.names.as_slice()
     }
 
     /// Replaces the texts; by nothing if there was no memory for them.
@@ -85,6 +98,7 @@ impl Site {
         ensures texts { self.new.texts ≡ texts }
         ensures ended { self.new.ended ≡ self.old.ended }
         ensures limit { self.new.limit ≡ self.old.limit }
+        ensures names { self.new.names ≡ self.old.names }
     {
         self.texts = texts;
     }
@@ -95,6 +109,7 @@ impl Site {
         ensures texts { self.new.texts ≡ None }
         ensures ended { self.new.ended ≡ self.old.ended }
         ensures limit { self.new.limit ≡ self.old.limit }
+        ensures names { self.new.names ≡ self.old.names }
     {
         self.texts.take()
     }
@@ -104,6 +119,7 @@ impl Site {
         ensures ended { self.new.ended ≡ Some at }
         ensures texts { self.new.texts ≡ self.old.texts }
         ensures limit { self.new.limit ≡ self.old.limit }
+        ensures names { self.new.names ≡ self.old.names }
     {
         self.ended = Some(at);
     }

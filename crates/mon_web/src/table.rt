@@ -1,6 +1,9 @@
 //! The connections.
 
-ghost use Rattle.std.specs.Prelude.{◌≡◌, IfOk};
+ghost use Rattle.std.specs.Prelude.{◌≡◌, ◌↔◌, IfOk, IsTrue, Some, option_map, slice_get, slice_set};
+ghost use Rattle.std.specs.Duration.{as_nanos};
+ghost use Rattle.mon_web.specs.Seat.{IsLate, KeepsOthers, NoneLate, free_seat, is_free, longest_wait};
+ghost use Rattle.std.specs.List.{list_all};
 
 use crate::client::{Client, Turn};
 use crate::response::Moment;
@@ -105,7 +108,9 @@ impl Table {
         }
     }
 
-    fn is_ready(&self, place: usize) -> bool {
+    fn is_ready(&self, place: usize) -> bool
+        ensures { place ≡ 32 → result ≡ self.now.has_newcomer }
+    {
         if place == DOOR {
             return self.has_newcomer;
         }
@@ -161,7 +166,8 @@ impl Table {
     }
 
     fn set_seat(&mut self, place: usize, seat: Seat)
-        ensures { self.new.site ≡ self.old.site }
+        ensures site { self.new.site ≡ self.old.site }
+        ensures seats { self.new.seats.items ≡ slice_set self.old.seats.items place seat }
     {
         if let Some(kept) = self.seats.get_mut(place) {
             *kept = seat;
@@ -169,7 +175,8 @@ impl Table {
     }
 
     fn set_client(&mut self, place: usize, client: Option<Client>)
-        ensures { self.new.site ≡ self.old.site }
+        ensures site { self.new.site ≡ self.old.site }
+        ensures seats { self.new.seats.items ≡ self.old.seats.items }
     {
         if let Some(kept) = self.clients.get_mut(place) {
             *kept = client;
@@ -178,7 +185,8 @@ impl Table {
 
     /// Closes the connection of a place.
     fn clear(&mut self, place: usize)
-        ensures { self.new.site ≡ self.old.site }
+        ensures site { self.new.site ≡ self.old.site }
+        ensures seats { self.new.seats.items ≡ slice_set self.old.seats.items place free_seat }
     {
         self.set_client(place, None);
         self.set_seat(place, EMPTY);
@@ -216,16 +224,21 @@ impl Table {
 
     /// Closes the connections of clients that are late.
     pub(crate) fn close_late(&mut self, now: u64)
-        ensures { self.new.site ≡ self.old.site }
+        ensures site { self.new.site ≡ self.old.site }
+        ensures none { NoneLate now self.new.seats.items }
+        ensures others { KeepsOthers (IsLate now) self.old.seats.items self.new.seats.items }
     {
-        for place in 0..SEATS {
+        for place in 0..self.seats.len() {
             if self.is_late(place, now) {
                 self.clear(place);
             }
         }
     }
 
-    fn is_late(&self, place: usize, now: u64) -> bool {
+    fn is_late(&self, place: usize, now: u64) -> bool
+        ensures late { (seat : Seat) → slice_get self.now.seats.items place ≡ Some seat
+            → IsTrue result ↔ IsLate now seat }
+    {
         match self.seats.get(place) {
             Some(seat) => is_late(*seat, now),
             None => false,
@@ -234,13 +247,22 @@ impl Table {
 
     /// Returns how long a wait may last until it is looked again who is late or gives place to a
     /// newcomer.
-    pub(crate) fn longest_wait(&self) -> Option<Duration> {
+    pub(crate) fn longest_wait(&self) -> Option<Duration>
+        ensures { option_map as_nanos result ≡ longest_wait self.now.has_newcomer self.now.seats.items }
+    {
         if self.is_ready(DOOR) {
-            return Some(Duration::from_millis(SPARED_MS));
+            Some(Duration::from_millis(SPARED_MS))
+        } else if are_free(self.seats.as_slice()) {
+            None
+        } else {
+            Some(Duration::from_millis(TICK_MS))
         }
-        if self.seats.iter().all(|seat| seat.stage.is_free()) {
-            return None;
-        }
-        Some(Duration::from_millis(TICK_MS))
     }
+}
+
+/// Returns `true` if no place has a client.
+fn are_free(seats: &[Seat]) -> bool
+    ensures { result ≡ list_all (λ (seat : _). is_free seat.stage) seats.now }
+{
+    seats.iter().all(|seat| seat.stage.is_free())
 }

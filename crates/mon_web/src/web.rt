@@ -3,7 +3,7 @@
 ghost use Rattle.std.specs.Prelude.{◌≡◌, IfOk, None};
 ghost use Rattle.mon_web.specs.Site.{with_round, with_texts};
 
-use crate::door::Door;
+use crate::door::{Door, DoorBy};
 use crate::response::Moment;
 use crate::site::{Site, Texts};
 use crate::table::{DOOR, Table};
@@ -35,7 +35,7 @@ impl Web {
     pub fn new(alloc: Global, door: Door, site: Site) -> io::Result<Self>
         ensures { IfOk result (λ w. w.table.site ≡ site) }
     {
-        let Door { listener, poll } = door;
+        let DoorBy { listener, poll } = door;
         Ok(Web {
             poll,
             events: Events::with_capacity(alloc, EVENTS)?,

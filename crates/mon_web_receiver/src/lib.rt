@@ -10,4 +10,4 @@ mod socket;
 
 pub use receiver::WebReceiver;
 pub use shows::Shows;
-pub use socket::PolledSocket;
+pub use socket::{Looks, PolledSocket};

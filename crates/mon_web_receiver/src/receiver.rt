@@ -1,17 +1,19 @@
 //! Receives a station's datagrams, and serves HTTP while it waits for them.
 
-ghost use Rattle.std.specs.Prelude.{◌≡◌, ◌-◌, IfOk, OnOk};
-ghost use Rattle.std.specs.Duration.{as_nanos};
+ghost use Rattle.std.specs.Prelude.{◌≡◌, ◌<◌, ◌+◌, ◌-◌, IfOk, IfSome, OnOk, length};
 ghost use Rattle.std.specs.Time.{instant_nanos};
+ghost use Rattle.mon_rounds.specs.AtSocket.{IsGot};
 ghost use Rattle.mon_rounds.specs.Grid.{milliseconds_of};
-ghost use Rattle.mon_rounds.specs.Reception.{length_in};
+ghost use Rattle.mon_rounds.specs.Reception.{IsTimed};
+ghost use Rattle.mon_udp.specs.Wait.{begun};
+ghost use Rattle.mon_web_receiver.specs.Attempt.{IsAttempt, TakesTurns, no_silence};
 
 use crate::shows::Shows;
-use crate::socket::PolledSocket;
+use crate::socket::{Looks, PolledSocket};
 use httpdate::HttpDate;
 use mio::unix::SourceFd;
 use mon_rounds::{Arrival, Receiver, ReceiverFault, Wait, arrival_of, milliseconds};
-use mon_udp::{datagram_buffer, failed_after};
+use mon_udp::{Ticks, Timer, datagram_buffer, failed_after};
 use mon_web::{Moment, Texts, Web};
 use std::alloc::Global;
 use std::io;
@@ -24,107 +26,189 @@ use std::time::{Duration, Instant, SystemTime, UNIX_EPOCH};
 /// over long before.
 const TRIES: u32 = u32::MAX;
 
+/// How many datagrams are received at most before HTTP has a turn.
+const MOST_UNSERVED: u32 = 64;
+
 /// What an attempt to receive came to.
 #[derive(Clone, Copy)]
-enum Attempt {
+pub(crate) enum Attempt {
     /// A datagram of this length came from this address.
     Received(usize, SocketAddr),
     /// The wait is over.
     Over,
-    /// Nothing came, and HTTP was served or waited for.
+    /// Nothing came, or HTTP was due; HTTP was served or waited for.
     Served,
 }
 
 /// Receives a station's datagrams by its socket, and serves HTTP while it waits for them.
 #[derive(Drop)]
-pub struct WebReceiver<'a, R: Clock> {
+pub struct WebReceiver<'a, R: Clock, T: Ticks, S: Looks> {
     rt: &'a R,
+    ticks: &'a T,
     alloc: Global,
-    socket: &'a PolledSocket,
+    socket: &'a S,
     web: Web,
     origin: Instant,
-    began: Instant,
-    length: Duration,
+    timer: Timer,
     buffer: Vec<u8>,
+    /// How many datagrams were received since HTTP had a turn.
+    unserved: u32,
     failures: u64,
 }
 
-impl<'a, R: Clock + AllocGlobal> WebReceiver<'a, R> {
-    /// Returns a receiver by this socket, in no wait yet. The times of the site are since `origin`.
+impl<'a, R: Clock + AllocGlobal, T: Ticks> WebReceiver<'a, R, T, PolledSocket> {
+    /// Returns a receiver by this socket, in no wait yet. Waits are reckoned by `ticks`; the times of
+    /// the site are since `origin`.
     ///
     /// # Errors
     /// `OutOfMemory` if there is no memory for a datagram, else the system's fault.
-    pub fn new(rt: &'a R, socket: &'a PolledSocket, web: Web, origin: Instant) -> io::Result<Self>
+    pub fn new(
+        rt: &'a R,
+        ticks: &'a T,
+        socket: &'a PolledSocket,
+        web: Web,
+        origin: Instant,
+    ) -> io::Result<Self>
         ensures site { IfOk result (λ r. r.web.table.site ≡ web.table.site) }
         ensures origin { IfOk result (λ r. r.origin ≡ origin) }
-        ensures over { IfOk result (λ r. as_nanos r.length ≡ 0) }
+        ensures over { IfOk result (λ r. r.timer ≡ begun 0 origin) }
+        ensures room { IfOk result (λ r. length r.buffer.items ≡ 65507) }
+        ensures served { IfOk result (λ r. r.unserved ≡ 0) }
         ensures failures { IfOk result (λ r. r.failures ≡ 0) }
     {
         let alloc = rt.alloc();
         web.watch(&mut SourceFd(&socket.udp.as_raw_fd()))?;
         Ok(WebReceiver {
             rt,
+            ticks,
             alloc,
             socket,
             web,
             origin,
-            began: origin,
-            length: Duration::from_millis(0),
+            timer: Timer::begin(0, origin),
             buffer: datagram_buffer(alloc)?,
+            unserved: 0,
             failures: 0,
         })
     }
 }
 
-impl<R: Clock> WebReceiver<'_, R> {
-    /// Receives something in a wait that begins now, or in the rest of the last one.
-    fn receive_in(&mut self, wait: Wait) -> io::Result<Option<(usize, SocketAddr)>>
-        ensures length { OnOk result (as_nanos self.new.length ≡ length_in wait (as_nanos self.old.length)) }
-        ensures site { self.new.web.table.site ≡ self.old.web.table.site }
-        ensures origin { self.new.origin ≡ self.old.origin }
-    {
-        self.begin(wait)?;
-        for _ in 0..TRIES {
-            match self.attempt()? {
-                Attempt::Received(len, from) => return Ok(Some((len, from))),
-                Attempt::Over => return Ok(None),
-                Attempt::Served => {}
-            }
-        }
-        Ok(None)
-    }
-
-    /// Begins a wait, or goes on with the last one.
+impl<R: Clock, T: Ticks, S: Looks> WebReceiver<'_, R, T, S> {
+    /// Begins a wait, begins its quiet anew, or goes on with it.
     fn begin(&mut self, wait: Wait) -> io::Result<()>
-        ensures length { OnOk result (as_nanos self.new.length ≡ length_in wait (as_nanos self.old.length)) }
+        ensures wait { OnOk result (IsTimed (T.told self.old.ticks.now self.old.timer.quiet) wait self.old.timer self.new.timer) }
+        ensures by { (self.new.ticks ≡ self.old.ticks) × (self.new.socket ≡ self.old.socket) }
+        ensures room { self.new.buffer ≡ self.old.buffer }
         ensures site { self.new.web.table.site ≡ self.old.web.table.site }
         ensures origin { self.new.origin ≡ self.old.origin }
     {
-        if let Wait::Anew(milliseconds) = wait {
-            self.began = Instant::now(self.rt)?;
-            self.length = Duration::from_millis(u64::from(milliseconds));
+        match wait {
+            Wait::Begin(milliseconds) => {
+                self.timer = Timer::begin(milliseconds, self.ticks.after(self.timer.quiet())?);
+            }
+            Wait::Renew => self.timer = self.timer.renew(self.ticks.after(self.timer.quiet())?),
+            Wait::Rest => {}
         }
         Ok(())
     }
 
-    /// Looks for a datagram; if there is none, serves HTTP once in what is left of the wait.
-    fn attempt(&mut self) -> io::Result<Attempt>
-        ensures length { self.new.length ≡ self.old.length }
-        ensures began { self.new.began ≡ self.old.began }
+    /// Receives something in the rest of the wait.
+    fn receive_rest(&mut self) -> Result<Arrival, ReceiverFault>
+        ensures got { IfOk result (IsGot (T.told self.old.ticks.now self.old.timer.quiet) no_silence (S.found self.old.socket.now) self.new.buffer.items self.old.timer) }
+        ensures timer { self.new.timer ≡ self.old.timer }
+        ensures room { length self.new.buffer.items ≡ length self.old.buffer.items }
         ensures site { self.new.web.table.site ≡ self.old.web.table.site }
         ensures origin { self.new.origin ≡ self.old.origin }
     {
-        if let Some((len, from)) = self.socket.receive(self.buffer.as_mut_slice())? {
-            return Ok(Attempt::Received(len, from));
+        for _ in 0..TRIES {
+            match self.attempt() {
+                Ok(Attempt::Received(len, from)) => {
+                    return arrival_of(self.alloc, self.buffer.as_slice(), len, from);
+                }
+                Ok(Attempt::Over) => return Ok(Arrival::Quiet),
+                Ok(Attempt::Served) => {}
+                Err(_) => return Err(ReceiverFault),
+            }
         }
-        let now = Instant::now(self.rt)?;
-        let left = left_of(self.length, self.began, now);
+        Err(ReceiverFault)
+    }
+
+    /// Receives something in this wait.
+    fn receive_in(&mut self, wait: Wait) -> Result<Arrival, ReceiverFault>
+        ensures wait { OnOk result (IsTimed (T.told self.old.ticks.now self.old.timer.quiet) wait self.old.timer self.new.timer) }
+        ensures got { IfOk result (IsGot (T.told self.old.ticks.now self.new.timer.quiet) no_silence (S.found self.old.socket.now) self.new.buffer.items self.new.timer) }
+        ensures room { length self.new.buffer.items ≡ length self.old.buffer.items }
+        ensures site { self.new.web.table.site ≡ self.old.web.table.site }
+        ensures origin { self.new.origin ≡ self.old.origin }
+    {
+        match self.begin(wait) {
+            Ok(()) => self.receive_rest(),
+            Err(_) => Err(ReceiverFault),
+        }
+    }
+
+    /// Looks at the time; then for a datagram, and serves HTTP once in what is left of the wait if
+    /// there is none. After 64 datagrams HTTP is served first.
+    fn attempt(&mut self) -> io::Result<Attempt>
+        ensures attempt { IfOk result (IsAttempt (T.told self.old.ticks.now self.old.timer.quiet) (S.found self.old.socket.now self.new.buffer.items) self.old.timer) }
+        ensures turns { IfOk result (TakesTurns self.old.unserved self.new.unserved) }
+        ensures timer { self.new.timer ≡ self.old.timer }
+        ensures by { (self.new.ticks ≡ self.old.ticks) × (self.new.socket ≡ self.old.socket) }
+        ensures room { length self.new.buffer.items ≡ length self.old.buffer.items }
+        ensures site { self.new.web.table.site ≡ self.old.web.table.site }
+        ensures origin { self.new.origin ≡ self.old.origin }
+    {
+        let now = self.ticks.after(self.timer.quiet())?;
+        let left = self.timer.left(now);
         if left.is_zero() {
             return Ok(Attempt::Over);
         }
+        match self.look()? {
+            Some((len, from)) => Ok(Attempt::Received(len, from)),
+            None => {
+                self.serve(now, left)?;
+                Ok(Attempt::Served)
+            }
+        }
+    }
+
+    /// Looks for a datagram, if HTTP is not due.
+    fn look(&mut self) -> io::Result<Option<(usize, SocketAddr)>>
+        ensures found { IfOk result (λ found. IfSome found (λ r. S.found self.old.socket.now self.new.buffer.items r.0 r.1)) }
+        ensures turns { IfOk result (λ found. IfSome found (λ _. (self.old.unserved < 64) × (self.new.unserved ≡ self.old.unserved + 1))) }
+        ensures timer { self.new.timer ≡ self.old.timer }
+        ensures by { (self.new.ticks ≡ self.old.ticks) × (self.new.socket ≡ self.old.socket) }
+        ensures room { length self.new.buffer.items ≡ length self.old.buffer.items }
+        ensures web { self.new.web ≡ self.old.web }
+        ensures origin { self.new.origin ≡ self.old.origin }
+    {
+        if self.unserved >= MOST_UNSERVED {
+            return Ok(None);
+        }
+        let found = self.socket.look(self.buffer.as_mut_slice())?;
+        if found.is_some() {
+            self.unserved += 1;
+        }
+        Ok(found)
+    }
+
+    /// Serves HTTP once, in what is left of the wait; without a wait if datagrams had it wait.
+    fn serve(&mut self, now: Instant, left: Duration) -> io::Result<()>
+        ensures turns { self.new.unserved ≡ 0 }
+        ensures timer { self.new.timer ≡ self.old.timer }
+        ensures by { (self.new.ticks ≡ self.old.ticks) × (self.new.socket ≡ self.old.socket) }
+        ensures room { self.new.buffer ≡ self.old.buffer }
+        ensures site { self.new.web.table.site ≡ self.old.web.table.site }
+        ensures origin { self.new.origin ≡ self.old.origin }
+    {
+        let wait = if self.unserved < MOST_UNSERVED {
+            left
+        } else {
+            Duration::ZERO
+        };
+        self.unserved = 0;
         let at = self.moment(now);
-        self.web.turn(at, left)?;
-        Ok(Attempt::Served)
+        self.web.turn(at, wait)
     }
 
     /// Returns the time, as it is said to clients.
@@ -145,7 +229,7 @@ impl<R: Clock> WebReceiver<'_, R> {
     }
 }
 
-impl<R: Clock> Receiver for WebReceiver<'_, R> {
+impl<R: Clock, T: Ticks, S: Looks> Receiver for WebReceiver<'_, R, T, S> {
     ghost use Rattle.std.specs.Prelude.{None};
     ghost use Rattle.mon_udp.specs.Counts.{failed_after};
 
@@ -156,22 +240,22 @@ impl<R: Clock> Receiver for WebReceiver<'_, R> {
 
     fn receive(&mut self, wait: Wait) -> Result<Arrival, ReceiverFault>
         ensures failures { self.new.failures ≡ failed_after result self.old.failures }
-        ensures length { OnOk result (as_nanos self.new.length ≡ length_in wait (as_nanos self.old.length)) }
+        // The wait begins, or is quiet since, the time that the clock tells in this call.
+        ensures wait { OnOk result (IsTimed (T.told self.old.ticks.now self.old.timer.quiet) wait self.old.timer self.new.timer) }
+        // A datagram is the system's; there is none only if the wait is over by the clock.
+        ensures got { IfOk result (IsGot (T.told self.old.ticks.now self.new.timer.quiet) no_silence (S.found self.old.socket.now) self.new.buffer.items self.new.timer) }
+        ensures room { length self.new.buffer.items ≡ length self.old.buffer.items }
         ensures site { self.new.web.table.site ≡ self.old.web.table.site }
         ensures origin { self.new.origin ≡ self.old.origin }
     {
         let failures = self.failures;
-        let received = match self.receive_in(wait) {
-            Ok(Some((len, from))) => arrival_of(self.alloc, self.buffer.as_slice(), len, from),
-            Ok(None) => Ok(Arrival::Quiet),
-            Err(_) => Err(ReceiverFault),
-        };
+        let received = self.receive_in(wait);
         self.failures = failed_after(failures, &received);
         received
     }
 }
 
-impl<R: Clock> Shows for WebReceiver<'_, R> {
+impl<R: Clock, T: Ticks, S: Looks> Shows for WebReceiver<'_, R, T, S> {
     ghost use Rattle.std.specs.Prelude.{Some};
 
     ghost shown = { λ r. Some r.web.table.site };
@@ -191,11 +275,4 @@ impl<R: Clock> Shows for WebReceiver<'_, R> {
     fn note_round(&mut self, at: u64) {
         self.web.note_round(at);
     }
-}
-
-/// Returns what is left now of a wait that started then and lasts this long.
-fn left_of(length: Duration, began: Instant, now: Instant) -> Duration
-    ensures { as_nanos result ≡ as_nanos length - (instant_nanos now - instant_nanos began) }
-{
-    length.saturating_sub(now.duration_since(began))
 }

@@ -1,8 +1,8 @@
 //! What a station shows over HTTP, by its receiver.
 
 use mon_rounds::{Receiver, SocketReceiver};
+use mon_udp::{Receives, Ticks};
 use mon_web::Texts;
-use std::rt::Clock;
 
 /// What a station receives datagrams by, and may show its texts by.
 pub trait Shows: Receiver {
@@ -36,7 +36,7 @@ pub trait Shows: Receiver {
         ensures failures { Self.failures self.new ≡ Self.failures self.old };
 }
 
-impl<R: Clock> Shows for SocketReceiver<'_, R> {
+impl<R: Ticks, S: Receives> Shows for SocketReceiver<'_, R, S> {
     ghost use Rattle.std.specs.Prelude.{None};
 
     ghost shown = { λ _. None };

@@ -1,10 +1,8 @@
 //! A socket of UDP whose calls do not wait.
 
-ghost use Rattle.std.specs.Prelude.{◌≡◌, length};
-
 use mio::net::UdpSocket;
 use mon_rounds::Sends;
-use mon_udp::Addr;
+use mon_udp::{Addr, Binds, open_at};
 use std::io::{self, ErrorKind};
 use std::net::{Net, SocketAddr};
 
@@ -18,10 +16,9 @@ impl PolledSocket {
     /// Opens a socket at this address; port 0 takes a free one.
     ///
     /// # Errors
-    /// That of the system, if the address is not available.
+    /// That of the system, or `AddrNotAvailable` if the system bound it to another address.
     pub fn open<R: Net>(rt: &R, at: Addr) -> io::Result<Self> {
-        let udp = UdpSocket::bind(rt, at.socket())?;
-        Ok(PolledSocket { udp })
+        open_at(rt, at)
     }
 
     /// Returns the address that it is at.
@@ -31,15 +28,32 @@ impl PolledSocket {
     pub fn address(&self) -> io::Result<SocketAddr> {
         self.udp.local_addr()
     }
+}
 
-    /// Puts a datagram into the buffer, if one is there. Returns how many of its octets are there, and
-    /// where it came from.
+/// What is looked at for a datagram, as a socket of the system whose calls do not wait.
+pub trait Looks {
+    ghost use Rattle.std.specs.Prelude.{◌≡◌, IfOk, IfSome, List, ℕ, length};
+    ghost use Rattle.std.specs.declared.net.socket_addr.SocketAddr.{SocketAddr as AnySocketAddr};
+
+    // A call left this in a buffer, with this many octets of a datagram at its front, which came
+    // from this address. Code that is generic over what is looked at has this from a call alone.
+    ghost found: { Self → List ℕ → ℕ → AnySocketAddr → Type 0 };
+
+    /// Puts a datagram into the buffer, if one is there. Returns how many of its octets are there,
+    /// and where it came from.
     ///
     /// # Errors
     /// That of the system.
-    pub(crate) fn receive(&self, buffer: &mut [u8]) -> io::Result<Option<(usize, SocketAddr)>>
-        ensures { length buffer.new ≡ length buffer.old }
-    {
+    fn look(&self, buffer: &mut [u8]) -> io::Result<Option<(usize, SocketAddr)>>
+        ensures found { IfOk result (λ datagram. IfSome datagram (λ r. found self.now buffer.new r.0 r.1)) }
+        ensures length { length buffer.new ≡ length buffer.old };
+}
+
+impl Looks for PolledSocket {
+    // What happens at a socket is not known.
+    ghost found = { λ _ _ _ _. Unit {0} };
+
+    fn look(&self, buffer: &mut [u8]) -> io::Result<Option<(usize, SocketAddr)>> {
         match self.udp.recv_from(buffer) {
             Ok(received) => Ok(Some(received)),
             Err(error) => match error.kind() {
@@ -50,7 +64,26 @@ impl PolledSocket {
     }
 }
 
+impl Binds for PolledSocket {
+    // What happens at a socket is not known.
+    ghost bound = { λ _ _. Unit {0} };
+
+    ghost stands = { λ _ _. Unit {0} };
+
+    fn bind<R: Net>(rt: &R, at: Addr) -> io::Result<Self> {
+        let udp = UdpSocket::bind(rt, at.socket())?;
+        Ok(PolledSocket { udp })
+    }
+
+    fn bound_to(&self) -> io::Result<SocketAddr> {
+        self.udp.local_addr()
+    }
+}
+
 impl Sends for PolledSocket {
+    // What happens at a socket is not known.
+    ghost sent = { λ _ _ _. Unit {0} };
+
     /// Sends a datagram to this address. If the socket's buffer is full, that is an error: the
     /// datagram is lost.
     fn send(&self, octets: &[u8], to: Addr) -> io::Result<()> {

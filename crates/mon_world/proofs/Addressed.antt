@@ -127,6 +127,6 @@ pub delivery_cause : (stations datagrams place number k : ℕ) → place < stati
 delivery_cause stations datagrams place number k within same there world.OutOfMemory cause = tt
 delivery_cause stations datagrams place number k within same there world.NoSuchStation cause = absurd (not_there stations (place + 1) world.NoSuchStation refl (number_to stations place (place + 1) refl within) cause)
 delivery_cause stations datagrams place number k within same there world.NoSuchDatagram cause = absurd cause
-delivery_cause stations datagrams place number k within same there (world.Refused g) cause = number_to datagrams k number same there
+delivery_cause stations datagrams place number k within same there (world.Refused g) cause = (number_to datagrams k number same there, cause.1)
 delivery_cause stations datagrams place number k within same there world.BadCount cause = absurd cause
 delivery_cause stations datagrams place number k within same there world.BadStop cause = absurd cause

@@ -3,6 +3,7 @@ mod Agree
 mod Appended
 mod Begun
 mod Asked
+mod Causes
 mod First
 mod Heard
 mod Instances

@@ -28,6 +28,15 @@ number_at xs n t at = let next : suc n ≡ n + 1 = omega arith in subst (λ x. H
 pub get_at : {S : Type 0} (xs : List S) (n : ℕ) (t : S) → n < length xs → t ≡ get_or xs n t → slice_get xs n ≡ Some t
 get_at xs n t lt at = slice_get_read xs (length xs) n t refl lt at
 
+set_here : {S : Type 0} (xs : List S) (n : ℕ) (old new : S) → slice_get xs n ≡ Some old → slice_get (slice_set xs n new) n ≡ Some new
+set_here [] n old new is = cc
+set_here (x ∷ xs) zero old new is = refl
+set_here (x ∷ xs) (suc n) old new is = set_here xs n old new is
+
+-- the station that took the place of one
+pub number_here : {S : Type 0} (xs : List S) (n : ℕ) (old new : S) → slice_get xs n ≡ Some old → HasNumber (slice_set xs n new) (n + 1) new
+number_here xs n old new is = number_at (slice_set xs n new) n new (set_here xs n old new is)
+
 get_push : {S : Type 0} (xs : List S) (new t : S) (k : ℕ) → slice_get (xs ++ new ∷ []) k ≡ Some t → slice_get xs k ≡ Some t ⊎ ((k ≡ length xs) × (t ≡ new))
 get_push [] new t zero is = inr (refl, cc)
 get_push [] new t (suc k) is = cc

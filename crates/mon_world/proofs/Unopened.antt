@@ -8,6 +8,7 @@ use Rattle.mon_disk.specs.Keeper.{FindsBody, found_body, found_generation, saved
 use Rattle.mon_station.specs.declared.fault.StationFault.{StationFault}
 use Rattle.mon_station.specs.declared.fault.StationFault.TheVariants as station
 use Rattle.mon_station.specs.Saved.{IsFaultOfFile}
+use Rattle.mon_station.specs.Found.{in_memory}
 use Rattle.mon_world.specs.Fault.{IsFaultOfNew, station_refusal}
 use Rattle.mon_world.proofs.Lives.{not_some}
 
@@ -23,7 +24,7 @@ unfolding found_body
 no_generation file none most = none_generation (found SLOT_SIZE file) none.body_is most
 
 -- the faults of an opening of a file that was never saved, as the world's
-pub first_refused : (watch : Watch) (count : ℕ) (file : List ℕ) (f : StationFault) → FindsBody None file → IsFaultOfFile watch file f → IsFaultOfNew count (station_refusal f)
+pub first_refused : (watch : Watch) (count : ℕ) (file : List ℕ) (f : StationFault) → FindsBody None file → IsFaultOfFile watch file f → IsFaultOfNew count (station_refusal (in_memory f))
 first_refused watch count file station.OutOfMemory none is = tt
 first_refused watch count file (station.Poll f) none is = is
 first_refused watch count file (station.Response f) none is = is

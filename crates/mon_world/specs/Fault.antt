@@ -50,16 +50,10 @@ abbrev pub refusal_in : WorldFault → Option StationFault
 refusal_in (Refused f) = Some f
 refusal_in f = None
 
--- why a station was not opened on an empty disk in memory: the disk failed, as it does where memory is refused
-abbrev pub IsFaultOfFirst : StationFault → Type 0
-IsFaultOfFirst (station.Keeper keeper.DiskFault) = Unit {0}
-IsFaultOfFirst f = ⊥
-
 -- why a world of this many stations was not opened
 abbrev pub IsFaultOfNew : ℕ → WorldFault → Type 0
 IsFaultOfNew count OutOfMemory = Unit {0}
 IsFaultOfNew count BadCount = IsNoCount count
-IsFaultOfNew count (Refused f) = IsFaultOfFirst f
 IsFaultOfNew count f = ⊥
 
 -- what a step names is there, of this many stations and datagrams
@@ -74,25 +68,59 @@ IsThere n m (step.Restart s) = IsNumberTo n s
 IsThere n m (step.Forge s octets) = IsNumberTo n s
 IsThere n m (step.Stop s calls keep) = IsNumberTo n s × (calls ≤ 6)
 
+-- a station refused for another reason than memory
+abbrev pub IsRefusal : StationFault → Type 0
+IsRefusal station.OutOfMemory = ⊥
+IsRefusal f = Unit {0}
+
+-- a station refused a save: its disk failed, or there is no generation left
+abbrev pub IsSaveRefusal : StationFault → Type 0
+IsSaveRefusal (station.Keeper keeper.DiskFault) = Unit {0}
+IsSaveRefusal (station.Keeper keeper.NoMoreGenerations) = Unit {0}
+IsSaveRefusal f = ⊥
+
+-- A station was not opened from a disk in memory, or no save was begun on a copy of it. Such a disk
+-- only fails where memory is refused.
+abbrev pub IsOpeningRefusal : StationFault → Type 0
+IsOpeningRefusal (station.Keeper keeper.Damaged) = Unit {0}
+IsOpeningRefusal (station.Keeper keeper.NoMoreGenerations) = Unit {0}
+IsOpeningRefusal (station.Image f) = Unit {0}
+IsOpeningRefusal station.NoMoreIncarnations = Unit {0}
+IsOpeningRefusal f = ⊥
+
 -- why an event at the station of this number has a fault
 abbrev pub IsStationCause : ℕ → ℕ → WorldFault → Type 0
 IsStationCause n s OutOfMemory = Unit {0}
 IsStationCause n s NoSuchStation = IsNoNumberTo n s
-IsStationCause n s (Refused f) = IsNumberTo n s
+IsStationCause n s (Refused f) = IsNumberTo n s × IsRefusal f
 IsStationCause n s f = ⊥
+
+-- why a save of the station of this number has a fault
+abbrev pub IsSaveCause : ℕ → ℕ → WorldFault → Type 0
+IsSaveCause n s OutOfMemory = Unit {0}
+IsSaveCause n s NoSuchStation = IsNoNumberTo n s
+IsSaveCause n s (Refused f) = IsNumberTo n s × IsSaveRefusal f
+IsSaveCause n s f = ⊥
+
+-- why a restart of the station of this number has a fault
+abbrev pub IsRestartCause : ℕ → ℕ → WorldFault → Type 0
+IsRestartCause n s OutOfMemory = Unit {0}
+IsRestartCause n s NoSuchStation = IsNoNumberTo n s
+IsRestartCause n s (Refused f) = IsNumberTo n s × IsOpeningRefusal f
+IsRestartCause n s f = ⊥
 
 -- why the delivery of the datagram of this number has a fault
 abbrev pub IsDeliveryCause : ℕ → ℕ → WorldFault → Type 0
 IsDeliveryCause m d OutOfMemory = Unit {0}
 IsDeliveryCause m d NoSuchDatagram = IsNoNumberTo m d
-IsDeliveryCause m d (Refused f) = IsNumberTo m d
+IsDeliveryCause m d (Refused f) = IsNumberTo m d × IsRefusal f
 IsDeliveryCause m d f = ⊥
 
 -- why a stop of the station of this number has a fault
 abbrev pub IsStopCause : ℕ → ℕ → ℕ → WorldFault → Type 0
 IsStopCause n s calls OutOfMemory = Unit {0}
 IsStopCause n s calls NoSuchStation = IsNoNumberTo n s
-IsStopCause n s calls (Refused f) = IsNumberTo n s × (calls ≤ 6)
+IsStopCause n s calls (Refused f) = IsNumberTo n s × (calls ≤ 6) × IsOpeningRefusal f
 IsStopCause n s calls BadStop = IsNumberTo n s × (6 < calls)
 IsStopCause n s calls f = ⊥
 
@@ -103,7 +131,7 @@ IsCause n m (step.AgentSays s t octets) f = IsStationCause n s f
 IsCause n m (step.Timeout s id) f = IsStationCause n s f
 IsCause n m (step.Share s peer) f = IsStationCause n s f
 IsCause n m (step.Deliver d) f = IsDeliveryCause m d f
-IsCause n m (step.Save s) f = IsStationCause n s f
-IsCause n m (step.Restart s) f = IsStationCause n s f
+IsCause n m (step.Save s) f = IsSaveCause n s f
+IsCause n m (step.Restart s) f = IsRestartCause n s f
 IsCause n m (step.Forge s octets) f = IsStationCause n s f
 IsCause n m (step.Stop s calls keep) f = IsStopCause n s calls f

@@ -1,4 +1,5 @@
 pub mod Begun
+pub mod Cause
 pub mod Debts
 pub mod Fault
 pub mod Kept

@@ -3,14 +3,15 @@
 ghost use Rattle.std.specs.Prelude.{◌≡◌, ◌≤◌, ◌<◌, ◌++◌, ◌∷◌, [], ◌==◌, ℕ, if◌then◌else◌, IfOk, IfErr, OnOk, None, length};
 ghost use Rattle.mon_station.specs.Opened.{setting_in};
 ghost use Rattle.mon_world.specs.declared.fault.WorldFault.TheVariants.{BadCount};
-ghost use Rattle.mon_world.specs.Fault.{IsFaultOfNew};
+ghost use Rattle.mon_station.specs.Found.{in_memory};
+ghost use Rattle.mon_world.specs.Fault.{IsFaultOfNew, station_refusal};
 ghost use Rattle.mon_world.specs.Places.{setting_at};
 ghost use Rattle.mon_world.specs.Shows.{AreFirst, IsFirst};
 
 use crate::fault::WorldFault;
 use mon_core::Core;
-use mon_disk::MemoryDisk;
-use mon_station::Station;
+use mon_disk::{KeeperFault, MemoryDisk};
+use mon_station::{Station, StationFault};
 use std::alloc::{AllocError, Global};
 
 /// Opens each of this many stations on an empty disk.
@@ -51,7 +52,17 @@ fn open_first(
     let disk = MemoryDisk::new(alloc, &[])?;
     match Station::open(alloc, core, disk) {
         Ok(station) => Ok(station),
-        Err((fault, _)) => Err(WorldFault::from(fault)),
+        Err((fault, _)) => Err(opening_fault(fault)),
+    }
+}
+
+/// Returns the fault of an opening as the world's. A disk in memory only fails if memory runs out.
+pub(crate) fn opening_fault(fault: StationFault) -> WorldFault
+    ensures { result ≡ station_refusal (in_memory fault) }
+{
+    match fault {
+        StationFault::Keeper(KeeperFault::DiskFault) => WorldFault::OutOfMemory,
+        other => WorldFault::from(other),
     }
 }
 

@@ -6,12 +6,13 @@ ghost use Rattle.mon_disk.specs.Kept.{device_of};
 ghost use Rattle.mon_disk.specs.Memory.{memory_octets, memory_leaves};
 ghost use Rattle.mon_station.specs.declared.event.Event.TheVariants.{Save};
 ghost use Rattle.mon_station.specs.State.{IsHandled};
+ghost use Rattle.mon_world.specs.Cause.{IsFaultOfBeginning};
 ghost use Rattle.mon_world.specs.Fault.{copy_fault};
 ghost use Rattle.mon_world.specs.Outcome.{calls_of_save};
 ghost use Rattle.mon_world.specs.Shows.{FindsStopped, state_in};
 
 use mon_disk::{HEAD_ROOM, Keeper, KeeperFault, MemoryDisk, NotOpened};
-use mon_saved::write_image;
+use mon_saved::{image_size, write_image};
 use mon_station::{Station, StationFault};
 use std::alloc::{AllocError, Global};
 
@@ -30,8 +31,12 @@ pub(crate) fn stop_at(
     // An opening finds the save that was stopped, or, where that was too early, what an opening of the station's disk finds.
     ensures found { IfOk result (λ left. FindsStopped (nat_lt calls (calls_of_save keep)) (state_in station.now) (memory_octets (device_of station.now.keeper)) (memory_octets left)) }
     ensures crash { IfOk result (λ left. Only (memory_octets left) (memory_leaves left)) }
+    ensures fault { IfErr result (IsFaultOfBeginning (memory_octets (device_of station.now.keeper))) }
 {
-    let image = write_image(alloc, station.board(), station.incarnation())?;
+    let board = station.board();
+    // Proof: an image fits.
+    let _ = image_size(board);
+    let image = write_image(alloc, board, station.incarnation())?;
     let mut octets = behind_room(alloc, image.as_slice())?;
     let copy = station.disk().try_clone()?;
     let mut keeper = match Keeper::open(alloc, copy) {

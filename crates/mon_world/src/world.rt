@@ -5,7 +5,8 @@ ghost use Rattle.mon_disk.specs.Keeper.{found_body};
 ghost use Rattle.mon_disk.specs.Memory.{memory_octets};
 ghost use Rattle.mon_core.specs.StationCore.{Core as AnyCore};
 ghost use Rattle.mon_station.specs.ReadEvent.{owned};
-ghost use Rattle.mon_world.specs.Fault.{IsCause, IsDeliveryCause, IsFaultOfNew, IsStationCause, IsStopCause, IsThere, refusal_in};
+ghost use Rattle.mon_world.specs.Cause.{IsFaultOfReopening, IsFileReason, IsRestartReason, IsSaveReason, IsStopReason};
+ghost use Rattle.mon_world.specs.Fault.{IsCause, IsDeliveryCause, IsFaultOfNew, IsRestartCause, IsSaveCause, IsStationCause, IsStopCause, IsThere, refusal_in};
 ghost use Rattle.mon_world.specs.Kept.{AreKept};
 ghost use Rattle.mon_world.specs.Moves.{AreUnforged, Move};
 ghost use Rattle.mon_world.specs.Outcome.{AreStepOutcomes, Delivers, Does, Hands, Hears, IsStepOutcome, Opens, StopsAndOpens, first_lives, target_number};
@@ -15,7 +16,7 @@ ghost use Rattle.mon_world.specs.Shows.{AreShown, DebtsAreTrue, IsStationAsked, 
 
 use crate::fault::WorldFault;
 use crate::laws;
-use crate::opening::{core_at, open_all};
+use crate::opening::{core_at, open_all, opening_fault};
 use crate::sending::{Datagram, Sent, append, none_after};
 use crate::speaker::speaker;
 use crate::step::Step;
@@ -124,6 +125,8 @@ impl World {
             → LeadsTo self.new.core self.new.stations.items self.new.sent.items (λ now. Does (Hands (setting_at self.old.core (length self.old.stations.items) number) number (owned event.entry)) result past now) }
         ensures there { OnOk result (IsNumberTo (length self.old.stations.items) number) }
         ensures cause { IfErr result (IsStationCause (length self.old.stations.items) number) }
+        ensures saving { event.entry ≡ Event.Save → IfErr result (IsSaveCause (length self.old.stations.items) number) }
+        ensures reason { event.entry ≡ Event.Save → IfErr result (IsSaveReason number self.old.stations.items self.new.stations.items) }
         ensures first { IfOk result (λ sent. sent.first ≡ length self.old.sent.items + 1) }
         ensures count { IfOk result (λ sent. length self.old.sent.items + sent.count ≡ length self.new.sent.items) }
         ensures refused { OnErr result (self.new.sent.items ≡ self.old.sent.items) }
@@ -192,7 +195,7 @@ impl World {
     fn reopen(&mut self, place: usize, disk: MemoryDisk) -> Result<Sent, WorldFault>
         requires { place < length self.old.stations.items }
         ensures opened { OnOk result (IsReplaced self.old.core place (found_body (memory_octets disk)) self.old.stations.items self.new.stations.items) }
-        ensures cause { IfErr result (IsStationCause (length self.old.stations.items) (place + 1)) }
+        ensures cause { IfErr result (IsFaultOfReopening self.old.core.watch (memory_octets disk)) }
         ensures refused { OnErr result (self.new.stations.items ≡ self.old.stations.items) }
         ensures sent { self.new.sent.items ≡ self.old.sent.items }
         ensures core { self.new.core ≡ self.old.core }
@@ -207,7 +210,7 @@ impl World {
                 self.stations[place] = station;
                 Ok(none)
             }
-            Err((fault, _)) => Err(WorldFault::from(fault)),
+            Err((fault, _)) => Err(opening_fault(fault)),
         }
     }
 
@@ -216,7 +219,8 @@ impl World {
         ensures outcome { (past : List Move) → Shows self.old.core self.old.stations.items self.old.sent.items past
             → LeadsTo self.new.core self.new.stations.items self.new.sent.items (λ now. Does (Opens (setting_at self.old.core (length self.old.stations.items)) number) result past now) }
         ensures there { OnOk result (IsNumberTo (length self.old.stations.items) number) }
-        ensures cause { IfErr result (IsStationCause (length self.old.stations.items) number) }
+        ensures cause { IfErr result (IsRestartCause (length self.old.stations.items) number) }
+        ensures reason { IfErr result (IsRestartReason number self.old.core.watch self.old.stations.items) }
         ensures refused { OnErr result (self.new.stations.items ≡ self.old.stations.items) }
         ensures sent { self.new.sent.items ≡ self.old.sent.items }
         ensures core { self.new.core ≡ self.old.core }
@@ -235,6 +239,7 @@ impl World {
             → LeadsTo self.new.core self.new.stations.items self.new.sent.items (λ now. Does (StopsAndOpens (setting_at self.old.core (length self.old.stations.items)) number calls keep) result past now) }
         ensures there { OnOk result (IsNumberTo (length self.old.stations.items) number × (calls ≤ 6)) }
         ensures cause { IfErr result (IsStopCause (length self.old.stations.items) number calls) }
+        ensures reason { IfErr result (IsStopReason number calls keep self.old.core.watch self.old.stations.items) }
         ensures refused { OnErr result (self.new.stations.items ≡ self.old.stations.items) }
         ensures sent { self.new.sent.items ≡ self.old.sent.items }
         ensures core { self.new.core ≡ self.old.core }
@@ -264,6 +269,8 @@ impl World {
         // Each fault has its cause, and what a step names is there where it has none.
         ensures there { OnOk result (IsThere (length self.old.stations.items) (length self.old.sent.items) step.entry) }
         ensures cause { (past : List Move) → Shows self.old.core self.old.stations.items self.old.sent.items past → IfErr result (IsCause (length self.old.stations.items) (length self.old.sent.items) step.entry) }
+        // A station refuses a save, a restart or a stop for what its file is, or for what became of it.
+        ensures reason { IfErr result (IsFileReason self.old.core.watch self.old.stations.items self.new.stations.items step.entry) }
         // The numbers of what was sent: a refused step sends nothing.
         ensures first { IfOk result (λ sent. sent.first ≡ length self.old.sent.items + 1) }
         ensures count { IfOk result (λ sent. length self.old.sent.items + sent.count ≡ length self.new.sent.items) }
@@ -324,6 +331,8 @@ fn ask(
     ensures kept { IfErr result (AreKept stations.old.items stations.new.items) }
     ensures few { IfOk result (λ told. length told.sends.items ≤ 512) }
     ensures cause { IfErr result (IsStationCause (length stations.old.items) (place + 1)) }
+    ensures saving { event.entry ≡ Event.Save → IfErr result (IsSaveCause (length stations.old.items) (place + 1)) }
+    ensures reason { event.entry ≡ Event.Save → IfErr result (IsSaveReason (place + 1) stations.old.items stations.new.items) }
     ensures count { length stations.new.items ≡ length stations.old.items }
 {
     let told = stations[place].step(alloc, event)?;

@@ -10,4 +10,4 @@ returns-clause-fault c =
     let file = memory_octets c.in_ok-disk.disk in
     let empty : file ≡ [] = c.in_ok-disk.ensures.octets in
     let none : FindsBody None file = subst (FindsBody None) (sym empty) (c.never_saved.ensures [] (omega arith)) in
-    subst (IsFaultOfNew c.args.count) (sym c.from.ensures) (first_refused _ c.args.count file c.in-Err.fault none (c.in-Err.ensures.fault_of tt))
+    subst (IsFaultOfNew c.args.count) (sym c.opening_fault.ensures) (first_refused _ c.args.count file c.in-Err.fault none (c.in-Err.ensures.fault_of tt))

@@ -43,9 +43,9 @@ returns-then-not-take_turn-clause-ran g c =
     let O = g.O.Outbox in
     let first = seen c.args.self.now (S.view c.args.source.now) (O.handed c.args.outbox.now) in
     let last = seen c.take_turn.new.self (S.view c.take_turn.new.source) (O.handed c.take_turn.new.outbox) in
-    let more = so_far_more g.D.Disk S.gives first (seen c.loop-turn.self (S.view c.loop-turn.source) (O.handed c.loop-turn.outbox)) last c.loop-turn.run (with_turns c.loop-turn.run (c.loop-turn.turn + 1)) c.take_turn.new.run c.take_turn.result
+    let more = so_far_more g.D.Disk S.gives first (seen c.loop-turn.self (S.view c.loop-turn.source) (O.handed c.loop-turn.outbox)) last c.loop-turn.run (with_turns c.loop-turn.run (c.loop-turn.turn + 1)) c.take_turn.new.run c.loop-turn.last c.take_turn.new.last c.take_turn.result
     so_far.ran c.take_turn.ensures.called refl refl (ap (λ n. n + 1) (sym so_far.turns)) in
-    ran_of g.D.Disk S.gives first last c.args.turns c.take_turn.new.run c.take_turn.result more
+    ran_of g.D.Disk S.gives first last c.args.turns c.take_turn.new.run c.take_turn.new.last c.take_turn.result more
     (inr (omega (arith, so_far.ran.told.turns, so_far.turns, c.loop-turn-test.true), more.going_is ∙ c.if-not-take_turn.true))
 
 pub loop-turn-preserved : goal.loop-turn-preserved
@@ -62,12 +62,12 @@ loop-turn-preserved g c =
       source = c.take_turn.ensures.source _ so_far.source;
       outbox = c.take_turn.ensures.outbox _ so_far.outbox;
       refused = called.counted.refused so_far.refused;
-      ran = subst (RanSoFar S.gives first last c.take_turn.new.run) c.if-not-take_turn.false
-          (so_far_more g.D.Disk S.gives first (seen c.loop-turn.self (S.view c.loop-turn.source) (O.handed c.loop-turn.outbox)) last c.loop-turn.run (with_turns c.loop-turn.run (c.loop-turn.turn + 1)) c.take_turn.new.run c.take_turn.result
+      ran = subst (RanSoFar S.gives first last c.take_turn.new.run c.take_turn.new.last) c.if-not-take_turn.false
+          (so_far_more g.D.Disk S.gives first (seen c.loop-turn.self (S.view c.loop-turn.source) (O.handed c.loop-turn.outbox)) last c.loop-turn.run (with_turns c.loop-turn.run (c.loop-turn.turn + 1)) c.take_turn.new.run c.loop-turn.last c.take_turn.new.last c.take_turn.result
           so_far.ran called refl refl (ap (λ n. n + 1) (sym so_far.turns)));
     }
 
 pub returns-clause-ran : goal.returns-clause-ran
 returns-clause-ran g c =
     let so_far = c.loop-turn.invariant in
-    ran_of g.D.Disk g.S.Source.gives _ _ c.args.turns c.loop-turn.run _ so_far.ran (inl (omega (arith, so_far.ran.told.turns, so_far.turns, c.loop-turn.auto.turn-end, c.loop-turn-test.false)))
+    ran_of g.D.Disk g.S.Source.gives _ _ c.args.turns c.loop-turn.run c.loop-turn.last _ so_far.ran (inl (omega (arith, so_far.ran.told.turns, so_far.turns, c.loop-turn.auto.turn-end, c.loop-turn-test.false)))

@@ -1,9 +1,10 @@
-use Rattle.std.proofs.Common.{length, subst}
+use Rattle.std.proofs.Common.{length, refl, subst}
 use Rattle.mon_station.specs.declared.event.Event.TheVariants.{StartPoll}
 use Rattle.mon_world.specs.declared.step.Step.TheVariants as step
 use Rattle.mon_world.specs.Outcome.{Does, Hands}
 use Rattle.mon_world.specs.Places.{setting_at}
 use Rattle.mon_world.specs.Shows.{LeadsTo}
+use Rattle.mon_world.proofs.Causes.{no_reason, reason_of}
 use Rattle.mon_world.proofs.Kept.{kept_on}
 use Rattle.mon_world.proofs.Outcomes.{cause_of, none_sent, outcome_of, stay_on, there_of}
 use Rattle.mon_world.proofs.world.World.step.Goals as goal
@@ -22,6 +23,7 @@ returns-in-StartPoll c =
           (subst (λ t. LeadsTo new.core new.stations.items new.sent.items (λ now. Does (Hands (settings c.in-StartPoll.s) c.in-StartPoll.s (StartPoll t)) c.handle.result past now)) c.target_number.ensures (c.handle.ensures.outcome past was));
       there = there_of n m c.args.step this result c.in-StartPoll.is c.handle.ensures.there;
       cause = λ past was. cause_of n m c.args.step this result c.in-StartPoll.is c.handle.ensures.cause;
+      reason = reason_of self.core.watch self.stations.items new.stations.items c.args.step this result c.in-StartPoll.is (no_reason self.core.watch self.stations.items new.stations.items this result (λ f. tt));
       first = c.handle.ensures.first;
       count = c.handle.ensures.count;
       refused = c.handle.ensures.refused;
@@ -44,6 +46,7 @@ returns-in-AgentSays c =
           (c.hear.ensures.outcome past was);
       there = there_of n m c.args.step this result c.in-AgentSays.is c.hear.ensures.there;
       cause = λ past was. cause_of n m c.args.step this result c.in-AgentSays.is c.hear.ensures.cause;
+      reason = reason_of self.core.watch self.stations.items new.stations.items c.args.step this result c.in-AgentSays.is (no_reason self.core.watch self.stations.items new.stations.items this result (λ f. tt));
       first = c.hear.ensures.first;
       count = c.hear.ensures.count;
       refused = c.hear.ensures.refused;
@@ -66,6 +69,7 @@ returns-in-Timeout c =
           (c.handle-in-Timeout.ensures.outcome past was);
       there = there_of n m c.args.step this result c.in-Timeout.is c.handle-in-Timeout.ensures.there;
       cause = λ past was. cause_of n m c.args.step this result c.in-Timeout.is c.handle-in-Timeout.ensures.cause;
+      reason = reason_of self.core.watch self.stations.items new.stations.items c.args.step this result c.in-Timeout.is (no_reason self.core.watch self.stations.items new.stations.items this result (λ f. tt));
       first = c.handle-in-Timeout.ensures.first;
       count = c.handle-in-Timeout.ensures.count;
       refused = c.handle-in-Timeout.ensures.refused;
@@ -88,6 +92,7 @@ returns-in-Share c =
           (c.handle-in-Share.ensures.outcome past was);
       there = there_of n m c.args.step this result c.in-Share.is c.handle-in-Share.ensures.there;
       cause = λ past was. cause_of n m c.args.step this result c.in-Share.is c.handle-in-Share.ensures.cause;
+      reason = reason_of self.core.watch self.stations.items new.stations.items c.args.step this result c.in-Share.is (no_reason self.core.watch self.stations.items new.stations.items this result (λ f. tt));
       first = c.handle-in-Share.ensures.first;
       count = c.handle-in-Share.ensures.count;
       refused = c.handle-in-Share.ensures.refused;
@@ -110,6 +115,7 @@ returns-in-Deliver c =
           (c.deliver.ensures.outcome past was);
       there = there_of n m c.args.step this result c.in-Deliver.is c.deliver.ensures.there;
       cause = λ past was. cause_of n m c.args.step this result c.in-Deliver.is (c.deliver.ensures.cause past was);
+      reason = reason_of self.core.watch self.stations.items new.stations.items c.args.step this result c.in-Deliver.is (no_reason self.core.watch self.stations.items new.stations.items this result (λ f. tt));
       first = c.deliver.ensures.first;
       count = c.deliver.ensures.count;
       refused = c.deliver.ensures.refused;
@@ -131,7 +137,8 @@ returns-in-Save c =
       outcome = λ past was. outcome_of new.core new.stations.items new.sent.items settings c.args.step this result past c.in-Save.is
           (c.handle-in-Save.ensures.outcome past was);
       there = there_of n m c.args.step this result c.in-Save.is c.handle-in-Save.ensures.there;
-      cause = λ past was. cause_of n m c.args.step this result c.in-Save.is c.handle-in-Save.ensures.cause;
+      cause = λ past was. cause_of n m c.args.step this result c.in-Save.is (c.handle-in-Save.ensures.saving refl);
+      reason = reason_of self.core.watch self.stations.items new.stations.items c.args.step this result c.in-Save.is (c.handle-in-Save.ensures.reason refl);
       first = c.handle-in-Save.ensures.first;
       count = c.handle-in-Save.ensures.count;
       refused = c.handle-in-Save.ensures.refused;
@@ -154,6 +161,7 @@ returns-in-Restart c =
           (c.restart.ensures.outcome past was);
       there = there_of n m c.args.step this result c.in-Restart.is c.restart.ensures.there;
       cause = λ past was. cause_of n m c.args.step this result c.in-Restart.is c.restart.ensures.cause;
+      reason = reason_of self.core.watch self.stations.items new.stations.items c.args.step this result c.in-Restart.is (c.restart.ensures.reason);
       first = c.restart.ensures.first;
       count = none_sent self.sent.items new.sent.items result c.restart.ensures.sent c.restart.ensures.none;
       refused = stay_on self.sent.items new.sent.items result c.restart.ensures.sent;
@@ -176,6 +184,7 @@ returns-in-Forge c =
           (c.handle-in-Forge.ensures.outcome past was);
       there = there_of n m c.args.step this result c.in-Forge.is c.handle-in-Forge.ensures.there;
       cause = λ past was. cause_of n m c.args.step this result c.in-Forge.is c.handle-in-Forge.ensures.cause;
+      reason = reason_of self.core.watch self.stations.items new.stations.items c.args.step this result c.in-Forge.is (no_reason self.core.watch self.stations.items new.stations.items this result (λ f. tt));
       first = c.handle-in-Forge.ensures.first;
       count = c.handle-in-Forge.ensures.count;
       refused = c.handle-in-Forge.ensures.refused;
@@ -198,6 +207,7 @@ returns-in-Stop c =
           (c.stop.ensures.outcome past was);
       there = there_of n m c.args.step this result c.in-Stop.is c.stop.ensures.there;
       cause = λ past was. cause_of n m c.args.step this result c.in-Stop.is c.stop.ensures.cause;
+      reason = reason_of self.core.watch self.stations.items new.stations.items c.args.step this result c.in-Stop.is (c.stop.ensures.reason);
       first = c.stop.ensures.first;
       count = none_sent self.sent.items new.sent.items result c.stop.ensures.sent c.stop.ensures.none;
       refused = stay_on self.sent.items new.sent.items result c.stop.ensures.sent;

@@ -1,0 +1,44 @@
+//! The times that waits are reckoned by.
+
+use std::io;
+use std::rt::Clock;
+use std::time::Instant;
+
+/// What tells the time to waits.
+pub trait Ticks {
+    ghost use Rattle.std.specs.Prelude.{◌≤◌, IfOk};
+    ghost use Rattle.std.specs.Time.{instant_nanos};
+    ghost use Rattle.std.specs.declared.time.Instant.{Instant as AnyInstant};
+
+    // It told the second of these times when it was asked for one after the first. Code that is
+    // generic over what tells the time has this from a call of `after` alone.
+    ghost told: { Self → AnyInstant → AnyInstant → Type 0 };
+
+    /// Returns the time now.
+    ///
+    /// # Errors
+    /// That of the system, if the clock fails.
+    fn first(&self) -> io::Result<Instant>;
+
+    /// Returns the time now. If the clock says an earlier time than this one, it is this one.
+    ///
+    /// # Errors
+    /// That of the system, if the clock fails.
+    fn after(&self, earlier: Instant) -> io::Result<Instant>
+        ensures told { IfOk result (told self.now earlier) }
+        ensures onward { IfOk result (λ now. instant_nanos earlier ≤ instant_nanos now) };
+}
+
+impl<R: Clock> Ticks for R {
+    // What a clock says is not known.
+    ghost told = { λ _ _ _. Unit {0} };
+
+    fn first(&self) -> io::Result<Instant> {
+        Instant::now(self)
+    }
+
+    fn after(&self, earlier: Instant) -> io::Result<Instant> {
+        let now = Instant::now(self)?;
+        Ok(if now < earlier { earlier } else { now })
+    }
+}
