@@ -1,4 +1,4 @@
-/* The system calls of a station's rounds over one agent and nothing else, for bench/pollers: in each round it sends all polls, receives until a wait was
+/* The system calls of a station's rounds over one agent and nothing else, for bench/exporters: in each round it sends all polls, receives until a wait was
    quiet, and saves by the six calls of a save, from octets that stand ready. The file of polls has each after its length in two octets.
    usage: calls HOST PORT WAIT_MS POLLS FILE OCTETS ROUNDS */
 #include <arpa/inet.h>

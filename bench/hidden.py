@@ -6,8 +6,8 @@ import random
 import sys
 from pathlib import Path
 
-sys.path.insert(0, str(Path(__file__).resolve().parent.parent / "tests" / "attack"))
-from messages import GET, GET_BULK, GET_NEXT, SET, message, spelled  # noqa: E402
+sys.path.insert(0, str(Path(__file__).resolve().parent.parent / "tests"))
+from models.messages import GET, GET_BULK, GET_NEXT, SET, message, spelled  # noqa: E402
 
 COUNT = 256
 MOST = 65_507

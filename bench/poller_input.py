@@ -7,8 +7,8 @@ usage: poller_input.py KIND FILE       KIND is `samples`, 16 objects and marks, 
 import sys
 from pathlib import Path
 
-sys.path.insert(0, str(Path(__file__).resolve().parent.parent / "tests/attack"))
-from messages import OCTETS, RESPONSE, message, spelled, spelled_number  # noqa: E402
+sys.path.insert(0, str(Path(__file__).resolve().parent.parent / "tests"))
+from models.messages import OCTETS, RESPONSE, message, spelled, spelled_number  # noqa: E402
 
 COUNTER64, TICKS = 0x46, 0x43
 IDENTIFIER = 0x01020304

@@ -1,0 +1,144 @@
+"""How a script tries its cases: its command line, one case or all of them, side by side, and its last line.
+
+A script gives a list of `Case`, each a name and a function. The function is passed a `Checks`, counts what it
+finds there, and takes nothing for granted that another case did.
+
+    tests/SCRIPT [--program FILE] [--list] [--jobs N] [CASE | WORD]..
+
+A CASE is a case's whole name. A WORD is a part of names: all cases that have it are tried. A word that no name
+has ends the script with status 2, and says what there is.
+"""
+import argparse
+import os
+import sys
+import threading
+import time
+import traceback
+from concurrent.futures import ThreadPoolExecutor
+from dataclasses import dataclass
+from pathlib import Path
+from typing import Callable
+
+from library.crates import TOP
+
+PROGRAM = TOP / "crates/snmpmon/out/snmpmon"
+ROWS_PROGRAM = TOP / "crates/mon_rows/out/mon_rows"
+LISTED = 40
+
+
+@dataclass
+class Case:
+    """A case: its name, and what tries it, which is passed its checks and the words of the command line."""
+
+    name: str
+    run: Callable
+    # A case that measures time is tried when no other one runs.
+    alone: bool = False
+
+
+class Checks:
+    """What a case found."""
+
+    def __init__(self, name):
+        self.name, self.passed, self.failed = name, 0, 0
+
+    def that(self, what, well, found=None):
+        """Counts one thing that must hold; says what was found if it does not."""
+        if well:
+            self.passed += 1
+        else:
+            self.fail(what, found)
+        return bool(well)
+
+    def fail(self, what, found=None):
+        """Counts one thing that does not hold, and says so."""
+        self.failed += 1
+        say(f"failed: {self.name}: {what}" + (f": {found!r:.1500}" if found is not None else ""))
+
+    def count(self, passed, failed):
+        """Counts many at once."""
+        self.passed += passed
+        self.failed += failed
+
+
+SAYING = threading.Lock()
+
+
+def say(text):
+    with SAYING:
+        print(text, flush=True)
+
+
+def arguments(doc, program=PROGRAM, more=()):
+    """The arguments of a script; `more` are functions that add options of its own."""
+    parser = argparse.ArgumentParser(description=doc, formatter_class=argparse.RawDescriptionHelpFormatter)
+    parser.add_argument("--program", type=Path, default=program, metavar="FILE", help="the program; what the gate left if not given")
+    parser.add_argument("--list", action="store_true", help="prints the names of the cases")
+    parser.add_argument("--jobs", type=int, default=os.cpu_count() or 1, metavar="N", help="how many cases run side by side")
+    for add in more:
+        add(parser)
+    parser.add_argument("cases", nargs="*", metavar="CASE|WORD", help="a case's name, or a part of names; all if none is given")
+    words = parser.parse_args()
+    words.program, words.crate = words.program.resolve(), program.name
+    return words
+
+
+def chosen(cases, words):
+    """The cases that the words name: by its whole name, by a group before a slash, or by a part of it."""
+    found = []
+    for word in words:
+        some = [it for it in cases if it.name == word] or [it for it in cases if it.name.startswith(f"{word}/")] or [it for it in cases if word in it.name]
+        if not some:
+            names = sorted({it.name.split("/")[0] for it in cases})
+            print(f"no case has '{word}' in its name. There are: {', '.join(names[:LISTED])}" + (" .." if len(names) > LISTED else ""), file=sys.stderr)
+            sys.exit(2)
+        found += [it for it in some if it not in found]
+    return found if words else cases
+
+
+def need(words):
+    """Ends the script if its program is not there, and says how it is built."""
+    if not words.program.is_file():
+        print(f"there is no program {words.program}: (cd crates/{words.crate} && rt run) proves and builds {words.crate}, and tests/quick builds it without a proof", file=sys.stderr)
+        print("0 passed, 1 failed")
+        sys.exit(2)
+
+
+def show(names):
+    """Prints names, a line each, to a reader that may go away."""
+    try:
+        print("\n".join(names), flush=True)
+    except BrokenPipeError:
+        os._exit(0)
+
+
+def tried(case, words):
+    """What a case found; an error in it is a failure of it."""
+    checks = Checks(case.name)
+    try:
+        case.run(checks, words)
+    except Exception:
+        checks.fail("it ended with an error", None)
+        say(traceback.format_exc())
+    if checks.failed:
+        # (a fault of the command itself is shown above)
+        program = f" --program {words.program}" if words.program not in (PROGRAM, ROWS_PROGRAM) else ""
+        say(f"alone: tests/{Path(sys.argv[0]).name}{program} '{case.name}'")
+    return checks
+
+
+def run(words, cases):
+    """Tries the chosen cases and ends the script: the last line counts what was found."""
+    if words.list:
+        show(it.name for it in cases)
+        sys.exit(0)
+    cases = chosen(cases, words.cases)
+    need(words)
+    started = time.monotonic()
+    with ThreadPoolExecutor(max(words.jobs, 1)) as pool:
+        found = list(pool.map(lambda it: tried(it, words), [it for it in cases if not it.alone]))
+    found += [tried(it, words) for it in cases if it.alone]
+    passed, failed = sum(it.passed for it in found), sum(it.failed for it in found)
+    print(f"{len(cases)} cases, {time.monotonic() - started:.1f} s")
+    print(f"{passed} passed, {failed} failed")
+    sys.exit(0 if passed and not failed else 1)

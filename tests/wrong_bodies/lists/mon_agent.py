@@ -1,0 +1,294 @@
+"""Bugs of mon_agent for tests/wrong_bodies/planted: by name the file, what stands there once, and the bug in its place."""
+
+BUGS = {
+    "bulk_repeats_once_too_few": (
+        "src/bulk.rt",
+        "    for _ in 0..rounds {",
+        "    for _ in 1..rounds {",
+    ),
+    "bulk_takes_negative_counts": (
+        "src/bulk.rt",
+        "    number.max(0) as usize",
+        "    number.max(1) as usize",
+    ),
+    "commit_failed_is_gen_err": (
+        "src/assigning.rt",
+        "const COMMIT_FAILED: i32 = 14;",
+        "const COMMIT_FAILED: i32 = 5;",
+    ),
+    "counts_before_nothing": (
+        "src/agent.rt",
+        "        self.mib.count(Counter::InPackets);",
+        "        self.mib.count(Counter::SilentDrops);",
+    ),
+    "denies_with_gen_err": (
+        "src/agent.rt",
+        "const AUTHORIZATION_ERROR: i32 = 16;",
+        "const AUTHORIZATION_ERROR: i32 = 5;",
+    ),
+    "fault_by_another_name": (
+        "src/fault.rt",
+        '            AgentFault::OutOfMemory => "OutOfMemory",',
+        '            AgentFault::OutOfMemory => "NoMemory",',
+    ),
+    "fault_by_number_2": (
+        "src/fault.rt",
+        "            AgentFault::OutOfMemory => 1,",
+        "            AgentFault::OutOfMemory => 2,",
+    ),
+    "refusal_names_none": (
+        "src/assigning.rt",
+        "            let response = make_return(response, status.number(), index_of(index));",
+        "            let response = make_return(response, status.number(), index_of(index.min(0)));",
+    ),
+    "set_is_no_request": (
+        "src/agent.rt",
+        "        Body::Pdu(pdu) => matches!(pdu.kind, PduKind::Get | PduKind::GetNext | PduKind::Set),",
+        "        Body::Pdu(pdu) => matches!(pdu.kind, PduKind::Get | PduKind::GetNext),",
+    ),
+    "set_needs_to_read": (
+        "src/agent.rt",
+        "        Body::Pdu(pdu) if pdu.kind == PduKind::Set => Need::Write,",
+        "        Body::Pdu(pdu) if pdu.kind == PduKind::Trap => Need::Write,",
+    ),
+    "silence_by_another_name": (
+        "src/reply.rt",
+        '            Silence::BadVersion => "BadVersion",',
+        '            Silence::BadVersion => "BadMessage",',
+    ),
+    "silence_by_another_number": (
+        "src/reply.rt",
+        "    TooBigTwice = 5,",
+        "    TooBigTwice = 6,",
+    ),
+    "starts_with_other_counters": (
+        "src/agent.rt",
+        "            mib: Mib::new(settings, device),",
+        "            mib: { let mut mib = Mib::new(settings, device); mib.count(Counter::InPackets); mib },",
+    ),
+    "too_big_is_no_error": (
+        "src/sending.rt",
+        "const TOO_BIG: i32 = 1;",
+        "const TOO_BIG: i32 = 0;",
+    ),
+    "undo_failed_names_one": (
+        "src/assigning.rt",
+        "        Commit::UndoFailed { .. } => (UNDO_FAILED, 0),",
+        "        Commit::UndoFailed { failed, .. } => (UNDO_FAILED, *failed),",
+    ),
+    "version_is_a_bad_message": (
+        "src/agent.rt",
+        "        PduFault::BadVersion(_) => Some(Silence::BadVersion),",
+        "        PduFault::BadVersion(_) => Some(Silence::BadMessage),",
+    ),
+    "refuses_a_reply_of_the_limit": (
+        "src/growing.rt",
+        "    size <= limit.max(0) as usize",
+        "    size < limit.max(0) as usize",
+    ),
+    "forgets_the_size_of_the_list": (
+        "src/growing.rt",
+        "        self.list = list;\n",
+        "",
+    ),
+    "goes_on_when_full": (
+        "src/growing.rt",
+        "            return false;",
+        "            return true;",
+    ),
+    "stops_a_round_early": (
+        "src/bulk.rt",
+        "    if rounds == 0 {",
+        "    if rounds == 1 {",
+    ),
+    "repeats_as_many_as_once_asked": (
+        "src/bulk.rt",
+        "    let width = repeated.len();",
+        "    let width = once.len();",
+    ),
+    "sends_too_big_at_any_size": (
+        "src/sending.rt",
+        "    match size_within(reply, limit) {",
+        "    match size_within(reply, i32::MAX) {",
+    ),
+    "calls_too_big_no_request": (
+        "src/sending.rt",
+        "        None => Ok(Reply::Silent(Silence::TooBigTwice)),",
+        "        None => Ok(Reply::Silent(Silence::NotARequest)),",
+    ),
+    "puts_the_status_for_the_index": (
+        "src/sending.rt",
+        "        error_index,\n        bindings,\n    })",
+        "        error_index: error_status,\n        bindings,\n    })",
+    ),
+    "answers_undo_failed_by_14": (
+        "src/assigning.rt",
+        "const UNDO_FAILED: i32 = 15;",
+        "const UNDO_FAILED: i32 = 14;",
+    ),
+    "silences_a_set_above_the_limit": (
+        "src/assigning.rt",
+        "            return make_answer(send_too_big(alloc, response, limit));",
+        "            return Ok(Ready::Answer(Reply::Silent(crate::reply::Silence::TooBigTwice)));",
+    ),
+    "returns_one_binding_of_a_set": (
+        "src/assigning.rt",
+        "        let bindings = response.body.bindings();",
+        "        let bindings = &response.body.bindings()[..response.body.bindings().len().min(1)];",
+    ),
+    "calls_a_trap_a_bad_community": (
+        "src/agent.rt",
+        "    if !is_request(body) {\n        return Some(Silence::NotARequest);",
+        "    if !is_request(body) {\n        return Some(Silence::BadCommunity);",
+    ),
+    "denies_with_index_1": (
+        "src/agent.rt",
+        "                let denied = make_return(message, AUTHORIZATION_ERROR, 0);",
+        "                let denied = make_return(message, AUTHORIZATION_ERROR, 1);",
+    ),
+    "calls_no_instance_no_object": (
+        "src/reading.rt",
+        "        Got::NoInstance => Value::NoSuchInstance,",
+        "        Got::NoInstance => Value::NoSuchObject,",
+    ),
+    "ends_a_view_as_no_object": (
+        "src/reading.rt",
+        "            value: Value::EndOfMibView,",
+        "            value: Value::NoSuchObject,",
+    ),
+    "counts_no_bad_version": (
+        "src/agent.rt",
+        "        Reply::Silent(Silence::BadVersion) => mib.count(Counter::BadVersions),",
+        "        Reply::Silent(Silence::BadVersion) => {}",
+    ),
+    "has_room_by_its_bindings_alone": (
+        "src/growing.rt",
+        "    if is_within(size_bound(head, list), limit) {",
+        "    if is_within(list, limit) {",
+    ),
+    "sends_within_any_limit": (
+        "src/growing.rt",
+        "        send_measured(alloc, self.into_message(), list, limit)",
+        "        send_measured(alloc, self.into_message(), list, limit.max(484))",
+    ),
+    "sends_what_was_cut": (
+        "src/reading.rt",
+        "        send_too_big(alloc, reply.into_message(), limit)\n    }",
+        "        reply.send(alloc)\n    }",
+    ),
+    "counts_nothing_of_what_it_tells": (
+        "src/agent.rt",
+        "        self.mib.counters()\n    }",
+        "        Counters::new()\n    }",
+    ),
+    "sends_too_big_without_a_cut": (
+        "src/reading.rt",
+        "    if all {\n        reply.send(",
+        "    if false && all {\n        reply.send(",
+    ),
+    "answers_get_as_next": (
+        "src/reading.rt",
+        "    if pdu.kind == PduKind::Get {",
+        "    if pdu.kind == PduKind::GetNext {",
+    ),
+    "bulk_repeats_the_first_names": (
+        "src/bulk.rt",
+        "        let found = step(alloc, search, reply.name_before(width))?;",
+        "        let found = step(alloc, search, reply.name_before(1))?;",
+    ),
+    "set_is_measured_without_index": (
+        "src/assigning.rt",
+        "        let response = make_return(message, NO_ERROR, count);",
+        "        let response = make_return(message, NO_ERROR, count.min(0));",
+    ),
+    "commit_failed_names_none": (
+        "src/assigning.rt",
+        "        Commit::CommitFailed(failed) => (COMMIT_FAILED, *failed),",
+        "        Commit::CommitFailed(_) => (COMMIT_FAILED, 0),",
+    ),
+    "sends_above_the_limit": (
+        "src/growing.rt",
+        "    size <= limit.max(0) as usize",
+        "    size <= limit.max(0) as usize + 1",
+    ),
+    "silent_drop_is_not_counted": (
+        "src/agent.rt",
+        "        Reply::Silent(Silence::TooBigTwice) => mib.count(Counter::SilentDrops),",
+        "        Reply::Silent(Silence::TooBigTwice) => mib.count(Counter::ParseErrors),",
+    ),
+    "keeps_count_after_a_fault": (
+        "src/agent.rt",
+        "                self.mib.recount(before);",
+        "                let _ = before;",
+    ),
+    "bulk_cuts_at_whole_rounds": (
+        "src/growing.rt",
+        "            return Ok(false);",
+        "            { self.bindings.truncate(self.bindings.len() / 2 * 2); return Ok(false); }",
+    ),
+    "answers_before_it_counts": (
+        "src/agent.rt",
+        "        self.mib.count(Counter::InPackets);\n        match self.prepare(alloc, datagram, moment) {",
+        "        let ready = self.prepare(alloc, datagram, moment);\n        self.mib.count(Counter::InPackets);\n        match ready {",
+    ),
+    "takes_a_want_of_memory_for_a_bad_message": (
+        "src/agent.rt",
+        "                None => Err(AgentFault::OutOfMemory),",
+        "                None => Ok(Ready::Answer(Reply::Silent(Silence::BadMessage))),",
+    ),
+    "tests_the_request_before_the_community": (
+        "src/agent.rt",
+        "    if is_unknown(access) {\n        return Some(Silence::BadCommunity);\n    }\n    if !is_request(body) {\n        return Some(Silence::NotARequest);\n    }\n",
+        "    if !is_request(body) {\n        return Some(Silence::NotARequest);\n    }\n    if is_unknown(access) {\n        return Some(Silence::BadCommunity);\n    }\n",
+    ),
+    "reads_as_of_the_start": (
+        "src/agent.rt",
+        "        let mut search = Search::new(alloc, &self.mib, &self.policy, access, moment);",
+        "        let start = Moment::new(0).unwrap_or(moment);\n        let mut search = Search::new(alloc, &self.mib, &self.policy, access, start);",
+    ),
+    "drops_a_set_that_is_ready": (
+        "src/agent.rt",
+        "            Ready::Assign(set) => Reply::Send(self.assign(set)),",
+        "            Ready::Assign(set) => {\n                drop(set);\n                Reply::Silent(Silence::TooBigTwice)\n            }",
+    ),
+    "is_silent_to_every_denial": (
+        "src/agent.rt",
+        "    matches!(access, Err(Denied::NoCommunity))",
+        "    access.is_err()",
+    ),
+    "counts_up_to_255_bindings": (
+        "src/assigning.rt",
+        "    i32::try_from(body.bindings().len()).ok()",
+        "    match u8::try_from(body.bindings().len()) {\n        Ok(count) => Some(i32::from(count)),\n        Err(_) => None,\n    }",
+    ),
+    "tells_of_no_failed_commit": (
+        "src/assigning.rt",
+        "        let response = make_return(response, error_status, index_of(place));",
+        "        let _ = (error_status, place);\n        let response = make_return(response, NO_ERROR, 0);",
+    ),
+    "answers_a_want_of_memory_by_a_status": (
+        "src/assigning.rt",
+        "        SetFault::OutOfMemory => Err(AllocError),",
+        "        SetFault::OutOfMemory => {\n            let response = make_return(response, 13, 0);\n            write(alloc, &response, size)\n        }",
+    ),
+    "answers_the_repeated_names_first": (
+        "src/bulk.rt",
+        "once)? {\n        return Ok(());\n    }\n    if rounds == 0 {\n        return Ok(());\n    }\n    if !extend(alloc, search, reply, repeated)? {",
+        "repeated)? {\n        return Ok(());\n    }\n    if rounds == 0 {\n        return Ok(());\n    }\n    if !extend(alloc, search, reply, once)? {",
+    ),
+    "answers_the_first_name_of_a_get": (
+        "src/reading.rt",
+        "        binding.value = got_value(got);\n",
+        "        binding.value = got_value(got);\n        break;\n",
+    ),
+    "takes_half_the_room_for_a_response": (
+        "src/ready.rt",
+        "    let room = Vec::with_capacity(alloc, size)?;",
+        "    let room = Vec::with_capacity(alloc, size / 2)?;",
+    ),
+}
+
+# Those that break a promise as a whole, each with its function: tests/bodies tries them in the gate.
+PROMISES = {
+    "bulk_cuts_at_whole_rounds": "growing::Growing::push",
+}

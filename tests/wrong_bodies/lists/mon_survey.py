@@ -1,0 +1,337 @@
+"""Bugs of mon_survey for tests/wrong_bodies/planted: by name the file, what stands there once, and the bug in its place."""
+
+BUGS = {
+    "an_empty_alias_is_shown": (
+        "src/writing.rt",
+        "    if alias.is_empty() {\n        return Ok(());\n    }\n    text.push_str",
+        "    text.push_str",
+    ),
+    "no_alias_is_shown": (
+        "src/writing.rt",
+        "    if alias.is_empty() {",
+        "    if !alias.is_empty() {",
+    ),
+    "takes_a_name_again": (
+        "src/answers.rt",
+        "        Some(last) => last.key < key,",
+        "        Some(last) => last.key <= key,",
+    ),
+    "skips_a_ragged_index": (
+        "src/answers.rt",
+        "            Spot::Ragged => Err(SurveyFault::BadIndex),",
+        "            Spot::Ragged => Ok(()),",
+    ),
+    "calls_an_engine_short": (
+        "src/engine.rt",
+        "engine.len() < 5 ||",
+        "engine.len() < 6 ||",
+    ),
+    "polls_32_bits_first": (
+        "src/planning.rt",
+        "    if answers.is_counter64(column_of(counter, true), index) {\n        return Some(true);",
+        "    if answers.is_counter64(column_of(counter, true), index) && !answers.is_counter32(column_of(counter, false), index) {\n        return Some(true);",
+    ),
+    "polls_interfaces_that_are_down": (
+        "src/choice.rt",
+        "if self.up && !answers.is_up(index) {",
+        "if self.up && answers.is_up(index) {",
+    ),
+    "matches_names_alone": (
+        "src/choice.rt",
+        "has_part(answers.name(index), self.part) || has_part(answers.alias(index), self.part)",
+        "has_part(answers.name(index), self.part) || has_part(answers.name(index), self.part)",
+    ),
+    "plans_a_counter_too_many": (
+        "src/planning.rt",
+        "    if counters.len() > MOST_INSTANCES {\n        return Err",
+        "    if counters.len() > MOST_INSTANCES + 1 {\n        return Err",
+    ),
+    "polls_a_counter_in_two_groups": (
+        "src/planning.rt",
+        "            let from = MOST_INSTANCES * number as usize;",
+        "            let from = (MOST_INSTANCES - 1) * number as usize;",
+    ),
+    "asks_for_no_mark": (
+        "src/column.rt",
+        "        Column::IfX(18),\n        Column::IfX(19),\n",
+        "        Column::IfX(18),\n        Column::IfX(18),\n",
+    ),
+    "plans_nothing_for_no_counter": (
+        "src/planning.rt",
+        "        return Err(SurveyFault::NoCounter);",
+        "        return Ok(());",
+    ),
+    "has_thresholds_of_bits": (
+        "src/planning.rt",
+        "        rising: part * 1250000,",
+        "        rising: part * 10000000,",
+    ),
+    "shows_control_characters": (
+        "src/writing.rt",
+        "    if 32 <= octet && octet <= 126 && octet != 34 {",
+        "    if octet <= 126 && octet != 34 {",
+    ),
+    "shows_quotes": (
+        "src/writing.rt",
+        "    if 32 <= octet && octet <= 126 && octet != 34 {",
+        "    if 32 <= octet && octet <= 126 {",
+    ),
+    "writes_no_marks": (
+        "src/writing.rt",
+        "    if shown.answers.is_marked(index) {",
+        "    if shown.answers.is_marked(index) && index == 0 {",
+    ),
+    "fills_targets_with_17": (
+        "src/drafting.rt",
+        "const MOST_OBJECTS: usize = 16;",
+        "const MOST_OBJECTS: usize = 17;",
+    ),
+    "writes_texts_as_they_are": (
+        "src/drafting.rt",
+        "    if !plan.options.are_plain() {\n        return Err(SurveyFault::BadText);\n    }\n    match settings_of(shown, plan) {",
+        "    if !plan.options.are_plain() && plan.options.percent == 0 {\n        return Err(SurveyFault::BadText);\n    }\n    match settings_of(shown, plan) {",
+    ),
+    "writes_no_alarms": (
+        "src/drafting.rt",
+        "    put_peers(text, plan.options.peers)?;\n    put_alarms(text, shown, plan.options.percent, engine, plan.planned)",
+        "    put_peers(text, plan.options.peers)?;\n    put_alarms(text, shown, 0, engine, plan.planned)",
+    ),
+    "adds_no_alarms": (
+        "src/drafting.rt",
+        "    put_targets(text, shown, plan, engine)?;\n    put_alarms(text, shown, plan.options.percent, engine, plan.planned)\n}\n\n/// The text of the settings",
+        "    put_targets(text, shown, plan, engine)\n}\n\n/// The text of the settings",
+    ),
+    "forgets_the_old_text": (
+        "src/drafting.rt",
+        "    let mut text = String::from_str(shown.alloc, settings)?;",
+        "    let mut text = String::new(shown.alloc);",
+    ),
+    "shows_numbers_for_names": (
+        "src/appending.rt",
+        "    if existing.station.modules.is_empty() {",
+        "    if existing.station.modules.len() < 2 {",
+    ),
+    "adds_an_agent_twice": (
+        "src/appending.rt",
+        "    if polls_any(engine, station.core.targets()) {\n        return Err(SurveyFault::SameEngine);",
+        "    if polls_any(engine, station.core.targets()) && planned.len() > 16 {\n        return Err(SurveyFault::SameEngine);",
+    ),
+    "calls_every_engine_the_same": (
+        "src/appending.rt",
+        "    if polls_any(engine, station.core.targets()) {",
+        "    if !station.core.targets().is_empty() {",
+    ),
+    "adds_a_target_too_many": (
+        "src/appending.rt",
+        "    if targets > MOST_TARGETS {",
+        "    if targets > MOST_TARGETS + 1 {",
+    ),
+    "refuses_what_is_appended": (
+        "src/appending.rt",
+        "    if is_appended(alloc, wanted, old, new)? {\n        Ok(())",
+        "    if is_appended(alloc, wanted, old, new)? {\n        Err(SurveyFault::Misread)",
+    ),
+    "finds_no_old_targets_kept": (
+        "src/kept.rt",
+        "    is_same_target(one, other) && are_kept_targets(old, new)",
+        "    is_same_target(one, other) && old.is_empty() && are_kept_targets(old, new)",
+    ),
+    "compares_no_old_targets": (
+        "src/kept.rt",
+        "    if !are_kept_targets(old.core.targets(), new.core.targets()) {\n        return false;\n    }\n",
+        "",
+    ),
+    "compares_no_old_rules": (
+        "src/kept.rt",
+        "\n        && are_kept_rules(watches, old.core.watch().rules(), new.core.watch().rules())\n",
+        "\n",
+    ),
+    "compares_rules_by_number": (
+        "src/kept.rt",
+        "    instance_at(watches.old, one.instance()) == instance_at(watches.new, other.instance())",
+        "    one.instance() == other.instance()",
+    ),
+    "labels_each_counter": (
+        "src/tables.rt",
+        "    if before == Some(index) {",
+        "    if before == Some(index) && index == 0 {",
+    ),
+    "escapes_no_backslash": (
+        "src/tables.rt",
+        "    if octet == b'\"' || octet == b'\\\\' {",
+        "    if octet == b'\"' {",
+    ),
+    "labels_by_ifdescr": (
+        "src/tables.rt",
+        "self.answers.octets(Column::IfX(1), index)",
+        "self.answers.octets(Column::If(2), index)",
+    ),
+    "reads_no_labels_back": (
+        "src/labelled.rt",
+        "    if reads_on(source, before, indexes, text.as_str())? {",
+        "    if reads_on(source, before, indexes, text.as_str())? || !before.is_empty() {",
+    ),
+    "confirms_no_labels": (
+        "src/labelled.rt",
+        "        Ok(text) => confirm(source, before, indexes, text),",
+        "        Ok(text) => Ok(text),",
+    ),
+    "finds_other_labels_read": (
+        "src/labelled.rt",
+        "    if !is_interface(source, *index, value)? {",
+        "    if !is_interface(source, *index, value)? && values.is_empty() {",
+    ),
+    "calls_every_file_bad": (
+        "src/labelled.rt",
+        "    let Some(before) = before else {\n        return Err(SurveyFault::BadLabels);",
+        "    let Some(before) = before else {\n        return Err(SurveyFault::Misread);",
+    ),
+    "compares_no_marks": (
+        "src/comparing.rt",
+        "        None => !answers.is_marked(index),",
+        "        None => true,",
+    ),
+    "compares_no_communities": (
+        "src/comparing.rt",
+        "        && target.community.as_slice() == options.community.as_bytes()\n",
+        "",
+    ),
+    "compares_no_epochs": (
+        "src/comparing.rt",
+        "    watched.window == window && watched.epoch == window",
+        "    watched.window == window",
+    ),
+    "compares_the_first_alarms": (
+        "src/comparing.rt",
+        "    if rules.len() != alarms.len() {",
+        "    if rules.len() < alarms.len() {",
+    ),
+    "finds_every_text_misread": (
+        "src/comparing.rt",
+        "        are_scalars(options, station)\n            && targets",
+        "        options.percent > 100\n            && targets",
+    ),
+    "reads_nothing_back": (
+        "src/surveying.rt",
+        "    given!(read_back(alloc, names, wanted, text.as_str()));\n    Ok(text)",
+        "    let _ = read_back(alloc, names, wanted, text.as_str());\n    Ok(text)",
+    ),
+    "confirms_no_settings": (
+        "src/surveying.rt",
+        "    let text = given!(confirm(shown.alloc, names, &wanted, text));\n    Ok(text)",
+        "    Ok(text)",
+    ),
+    "returns_another_text": (
+        "src/surveying.rt",
+        "    given!(read_back(alloc, names, wanted, text.as_str()));\n    Ok(text)",
+        "    given!(read_back(alloc, names, wanted, text.as_str()));\n    let mut text = text;\n    text.push_str(\"#\")?;\n    Ok(text)",
+    ),
+    "refuses_what_is_read": (
+        "src/surveying.rt",
+        "    if is_meant(alloc, wanted, station)? {\n        Ok(())",
+        "    if is_meant(alloc, wanted, station)? {\n        Err(SurveyFault::Misread)",
+    ),
+    "misreads_what_is_refused": (
+        "src/surveying.rt",
+        "        Err(fault) => Err(SurveyFault::Refused(fault)),",
+        "        Err(_) => Err(SurveyFault::Misread),",
+    ),
+    "labels_an_engine_again": (
+        "src/labelled.rt",
+        "    if has_engine(source.engine, before) {",
+        "    if has_engine(source.engine, before) && indexes.len() > 1 {",
+    ),
+    "labels_whatever_is_there": (
+        "src/labelled.rt",
+        "    given!(require_room(source, old, before, indexes));",
+        "    let _ = require_room(source, old, before, indexes);",
+    ),
+    "labels_the_first_table_s_engine_alone": (
+        "src/labelled.rt",
+        "    if has_engine(source.engine, before) {",
+        "    let first = before.len().min(1);\n    if has_engine(source.engine, &before[..first]) {",
+    ),
+    "counts_no_old_interfaces": (
+        "src/labelled.rt",
+        "    let count = before.len() + indexes.len();",
+        "    let count = indexes.len();",
+    ),
+    "labels_an_interface_too_many": (
+        "src/labelled.rt",
+        "    if count > MOST_INTERFACES {",
+        "    if count > MOST_INTERFACES + 1 {",
+    ),
+    "knows_no_engine_that_just_began": (
+        "src/engine.rt",
+        "        Value::Integer(number) => *number >= 0,",
+        "        Value::Integer(number) => *number > 0,",
+    ),
+    "passes_over_what_does_not_rise": (
+        "src/answers.rt",
+        "            return Err(SurveyFault::NotRising);",
+        "            return Ok(());",
+    ),
+    "finds_each_interface_up": (
+        "src/answers.rt",
+        "Some(Value::Integer(1)))",
+        "Some(Value::Integer(_)))",
+    ),
+    "names_by_ifdescr": (
+        "src/answers.rt",
+        "        match self.value(Column::IfX(1), index) {",
+        "        match self.value(Column::If(2), index) {",
+    ),
+    "walks_each_column": (
+        "src/choice.rt",
+        "            .all(|counter| !self.spares(*counter, column))",
+        "            .any(|counter| !self.spares(*counter, column))",
+    ),
+    "raises_alarms_on_packets": (
+        "src/planning.rt",
+        "        Kind::Octets => thresholds_at(answers, percent, index),\n        Kind::Packets | Kind::Errors",
+        "        Kind::Octets | Kind::Packets => thresholds_at(answers, percent, index),\n        Kind::Errors",
+    ),
+    "refuses_for_memory": (
+        "src/appending.rt",
+        "        Err(SettingsFault::OutOfMemory) => Err(SurveyFault::OutOfMemory),\n",
+        "",
+    ),
+    "appends_what_was_not_read_back": (
+        "src/appending.rt",
+        "    given!(read_appended(alloc, existing, &wanted, text.as_str()));\n",
+        "",
+    ),
+    "compares_no_old_peers": (
+        "src/kept.rt",
+        "    if !are_same_numbers(old.core.peers(), new.core.peers()) {\n        return false;\n    }\n",
+        "",
+    ),
+    "compares_no_old_aliases": (
+        "src/labelled.rt",
+        '\n        && are_alike(text_at(one, "ifAlias"), text_at(other, "ifAlias"))',
+        "",
+    ),
+    "writes_a_module_with_a_quote": (
+        "src/options.rt",
+        "\n            && are_plain_paths(self.modules)",
+        "",
+    ),
+    "forgets_the_old_labels": (
+        "src/tables.rt",
+        "    if old.is_empty() { FIRST } else { old }",
+        "    let _ = old;\n    FIRST",
+    ),
+}
+
+# what the gate tries: the function that each is in
+PROMISES = {
+    "polls_32_bits_first": "planning::width_of",
+    "polls_interfaces_that_are_down": "choice::Choice::takes",
+    "plans_nothing_for_no_counter": "planning::require_few",
+    "shows_control_characters": "writing::shown",
+    "reads_nothing_back": "surveying::confirm",
+    "calls_every_engine_the_same": "appending::require_room",
+    "refuses_what_is_appended": "appending::require_appended",
+    "reads_no_labels_back": "labelled::confirm",
+    "refuses_what_is_read": "surveying::require_meant",
+}

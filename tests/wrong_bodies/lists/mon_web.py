@@ -1,0 +1,395 @@
+"""Bugs of mon_web for tests/wrong_bodies/planted: by name the file, what stands there once, and the bug in its place."""
+
+BUGS = {
+    "never_late": (
+        "src/seat.rt",
+        "        Some(limit) => now.saturating_sub(seat.since) >= limit,\n        None => false,",
+        "        Some(limit) => now.saturating_sub(seat.since) >= limit && limit == 0,\n        None => false,",
+    ),
+    "late_too_early": (
+        "src/seat.rt",
+        "        Some(limit) => now.saturating_sub(seat.since) >= limit,",
+        "        Some(limit) => now.saturating_sub(seat.since) >= limit - 1,",
+    ),
+    "closing_takes_as_long_as_asking": (
+        "src/seat.rt",
+        "            Stage::Closing => Some(CLOSING_MS),",
+        "            Stage::Closing => Some(ASKING_MS),",
+    ),
+    "lets_nobody_in": (
+        "src/seat.rt",
+        "        Some(place) => Some(place),\n        None => oldest(seats, now),",
+        "        Some(_) => None,\n        None => oldest(seats, now),",
+    ),
+    "closes_one_though_a_place_is_free": (
+        "src/seat.rt",
+        "    match free_seat(seats) {\n",
+        "    match oldest(seats, now) {\n",
+    ),
+    "closes_the_newest": (
+        "src/seat.rt",
+        "seat.since < since)",
+        "seat.since > since)",
+    ),
+    "closes_one_that_takes_its_response": (
+        "src/seat.rt",
+        "        Stage::Free | Stage::Sending => false,",
+        "        Stage::Free => false,\n        Stage::Sending => true,",
+    ),
+    "spares_nobody": (
+        "src/seat.rt",
+        "        Stage::Asking | Stage::Closing => now.saturating_sub(seat.since) >= SPARED_MS,",
+        "        Stage::Asking | Stage::Closing => now >= seat.since,",
+    ),
+    "always_healthy": (
+        "src/site.rt",
+        "            Some(ended) => now.saturating_sub(ended) <= self.limit,\n            None => false,",
+        "            Some(ended) => now.saturating_sub(ended) <= self.limit,\n            None => true,",
+    ),
+    "health_ends_too_early": (
+        "src/site.rt",
+        "now.saturating_sub(ended) <= self.limit",
+        "now.saturating_sub(ended) < self.limit",
+    ),
+    "answers_no_text": (
+        "src/site.rt",
+        "            Some(texts) => Answer::Metrics(texts.metrics.as_slice()),",
+        "            Some(_) => Answer::OutOfMemory,",
+    ),
+    "answers_another_text": (
+        "src/site.rt",
+        "            Some(texts) => Answer::Page(texts.page.as_slice()),",
+        "            Some(texts) => Answer::Page(texts.report.as_slice()),",
+    ),
+    "forgets_the_texts": (
+        "src/site.rt",
+        "        self.texts = texts;",
+        "        let _ = texts;\n        self.texts = None;",
+    ),
+    "forgets_the_round": (
+        "src/site.rt",
+        "        self.ended = Some(at);",
+        "        let _ = at;",
+    ),
+    "never_answers": (
+        "src/response.rt",
+        "        Step::Wait => Ok(false),\n        Step::Refused => Ok(true),",
+        "        Step::Wait => Ok(false),\n        Step::Refused => Ok(false),",
+    ),
+    "says_that_it_answered": (
+        "src/response.rt",
+        "        Step::Wait => Ok(false),",
+        "        Step::Wait => Ok(true),",
+    ),
+    "shows_nothing": (
+        "src/web.rt",
+        "        self.table.site.show(texts);",
+        "        let _ = texts;",
+    ),
+    "an_idle_client_stays_for_ever": (
+        "src/seat.rt",
+        "            Stage::Free => None,\n            Stage::Asking | Stage::Idle | Stage::Sending => Some(ASKING_MS),",
+        "            Stage::Free | Stage::Idle => None,\n            Stage::Asking | Stage::Sending => Some(ASKING_MS),",
+    ),
+    "a_closing_client_has_no_place": (
+        "src/seat.rt",
+        "            Stage::Free => true,\n            _ => false,",
+        "            Stage::Free | Stage::Closing => true,\n            _ => false,",
+    ),
+    "a_newcomer_waits_until_a_place_is_free": (
+        "src/seat.rt",
+        "        None => oldest(seats, now),",
+        "        None => {\n            let _ = now;\n            None\n        }",
+    ),
+    "finds_a_place_with_a_client": (
+        "src/seat.rt",
+        "position(|seat| seat.stage.is_free())",
+        "position(|seat| !seat.stage.is_free())",
+    ),
+    "closes_the_last_that_may_be_closed": (
+        "src/seat.rt",
+        "(found.is_none() || seat.since < since)",
+        "(found.is_none() || seat.since <= u64::MAX)",
+    ),
+    "closes_who_has_sent_a_request": (
+        "src/seat.rt",
+        "    if seat.is_ready {\n        return false;\n    }\n",
+        "",
+    ),
+    "spares_idle_clients_too": (
+        "src/seat.rt",
+        "        Stage::Idle => true,\n        Stage::Asking | Stage::Closing => now",
+        "        Stage::Idle | Stage::Asking | Stage::Closing => now",
+    ),
+    "a_new_site_is_healthy": (
+        "src/site.rt",
+        "            texts: None,\n            ended: None,\n            limit,",
+        "            texts: None,\n            ended: Some(0),\n            limit,",
+    ),
+    "a_site_is_healthy_for_ever": (
+        "src/site.rt",
+        "            ended: None,\n            limit,",
+        "            ended: None,\n            limit: limit.max(u64::MAX),",
+    ),
+    "shows_old_texts_when_memory_ends": (
+        "src/site.rt",
+        "        self.texts = texts;",
+        "        if texts.is_some() {\n            self.texts = texts;\n        }",
+    ),
+    "notes_the_first_round_alone": (
+        "src/site.rt",
+        "        self.ended = Some(at);",
+        "        if self.ended.is_none() {\n            self.ended = Some(at);\n        }",
+    ),
+    "a_round_ends_the_texts": (
+        "src/site.rt",
+        "        self.ended = Some(at);",
+        "        self.ended = Some(at);\n        self.texts = None;",
+    ),
+    "healthy_before_the_round": (
+        "src/site.rt",
+        "now.saturating_sub(ended) <= self.limit",
+        "ended.saturating_sub(now) <= self.limit",
+    ),
+    "every_route_is_healthy": (
+        "src/site.rt",
+        "            Route::Report => self.report(),",
+        "            Route::Report => self.health(now),",
+    ),
+    "the_figures_for_the_report": (
+        "src/site.rt",
+        "Answer::Report(texts.report.as_slice())",
+        "Answer::Report(texts.metrics.as_slice())",
+    ),
+    "healthy_means_unhealthy": (
+        "src/site.rt",
+        "            Answer::Healthy\n        } else {\n            Answer::Unhealthy\n",
+        "            Answer::Unhealthy\n        } else {\n            Answer::Healthy\n",
+    ),
+    "answers_as_at_the_start": (
+        "src/response.rt",
+        "site.answer(request.route, at.now)",
+        "site.answer(request.route, 0)",
+    ),
+    "asks_and_does_not_answer": (
+        "src/response.rt",
+        "            answer_or_tell(connection, alloc, at, request, said)?;\n            Ok(true)",
+        "            let _ = (request, said);\n            Ok(true)",
+    ),
+    "answers_without_a_date": (
+        "src/response.rt",
+        "        Err(_) => connection.answer(alloc, at.date, request, Answer::OutOfMemory),",
+        "        Err(_) => connection.answer(alloc, None, request, Answer::OutOfMemory),",
+    ),
+    "a_round_ended_at_the_start": (
+        "src/web.rt",
+        "        self.table.site.note_round(at);",
+        "        let _ = at;\n        self.table.site.note_round(0);",
+    ),
+    "shows_that_there_is_no_memory": (
+        "src/web.rt",
+        "        self.table.site.show(texts);",
+        "        let _ = texts;\n        self.table.site.show(None);",
+    ),
+    "a_turn_ends_the_texts": (
+        "src/web.rt",
+        "        self.table.close_late(at.now);\n",
+        "        self.table.close_late(at.now);\n        self.table.site.show(None);\n",
+    ),
+    "a_wait_is_a_round": (
+        "src/web.rt",
+        "        if self.events.is_empty() {\n",
+        "        if self.events.is_empty() {\n            self.table.site.note_round(0);\n",
+    ),
+    "serves_another_site": (
+        "src/web.rt",
+        "            table: Table::new(alloc, listener, site)?,",
+        "            table: Table::new(alloc, listener, Site::new(site.limit))?,",
+    ),
+    "a_late_client_is_a_round": (
+        "src/table.rt",
+        "            if self.is_late(place, now) {\n",
+        "            if self.is_late(place, now) {\n                self.site.note_round(now);\n",
+    ),
+    "the_texts_go_with_a_client": (
+        "src/table.rt",
+        "        self.set_client(place, None);\n        self.set_seat(place, EMPTY);\n",
+        "        self.set_client(place, None);\n        self.set_seat(place, EMPTY);\n        self.site.show(None);\n",
+    ),
+    "a_newcomer_is_a_round": (
+        "src/table.rt",
+        "                self.seat(registry, place, stream, now);\n                true",
+        "                self.seat(registry, place, stream, now);\n                self.site.note_round(now);\n                true",
+    ),
+    "takes_no_texts_away": ("src/site.rt", "        self.texts.take()", "        None"),
+    "takes_texts_and_returns_none": ("src/site.rt", "        self.texts.take()", "        let _ = self.texts.take();\n        None"),
+    "forgets_the_round_with_the_texts": ("src/site.rt", "        self.texts.take()", "        self.ended = None;\n        self.texts.take()"),
+    "an_hour_more_with_the_texts": ("src/site.rt", "        self.texts.take()", "        self.limit = self.limit.saturating_add(3_600_000);\n        self.texts.take()"),
+    "takes_no_texts_of_the_site": ("src/web.rt", "        self.table.site.take_texts()", "        None"),
+    "shows_nothing_and_returns_nothing": ("src/web.rt", "        self.table.site.take_texts()", "        self.table.site.show(None);\n        None"),
+    "takes_texts_in_a_round": ("src/web.rt", "        self.table.site.take_texts()", "        self.table.site.note_round(0);\n        self.table.site.take_texts()"),
+    "takes_texts_and_shows_them_again": ("src/web.rt", "        self.table.site.take_texts()", "        let texts = self.table.site.take_texts();\n        self.table.site.show(texts);\n        None"),
+    "counts_a_short_write_as_whole": (
+        "src/stream.rt",
+        "        Ok(n) => {\n            connection.sent(n);\n            Ok(())",
+        "        Ok(_) => {\n            connection.sent(len);\n            Ok(())",
+    ),
+    "forgets_what_was_sent": (
+        "src/stream.rt",
+        "        Ok(n) => {\n            connection.sent(n);\n            Ok(())",
+        "        Ok(n) => {\n            connection.sent(n.min(0));\n            Ok(())",
+    ),
+    "offers_all_that_is_pending": (
+        "src/stream.rt",
+        "stream.put(&pending[..len])",
+        "stream.put(pending)",
+    ),
+    "sends_nothing": (
+        "src/stream.rt",
+        "    let pending = connection.pending();\n",
+        "    let pending = connection.pending();\n    if pending.len() > 7 {\n        return Ok(());\n    }\n",
+    ),
+    "sends_twice": (
+        "src/stream.rt",
+        "    match stream.put(&pending[..len]) {",
+        "    let _ = stream.put(&pending[..len]);\n    match stream.put(&pending[..len]) {",
+    ),
+    "an_error_loses_the_rest": (
+        "src/stream.rt",
+        "        Err(error) => Err(error),",
+        "        Err(error) => {\n            connection.sent(len);\n            Err(error)\n        }",
+    ),
+    "a_failed_write_is_none": (
+        "src/stream.rt",
+        "        Err(error) => Err(error),",
+        "        Err(_) => Ok(()),",
+    ),
+    "reads_one_octet_more": (
+        "src/stream.rt",
+        "            connection.receive(&buffer[..n]);",
+        "            connection.receive(&buffer[..if n < room { n + 1 } else { n }]);",
+    ),
+    "loses_an_octet": (
+        "src/stream.rt",
+        "            connection.receive(&buffer[..n]);",
+        "            connection.receive(&buffer[..n - 1]);",
+    ),
+    "loses_the_first_octet": (
+        "src/stream.rt",
+        "            connection.receive(&buffer[..n]);",
+        "            connection.receive(&buffer[1..n]);",
+    ),
+    "drops_what_came": (
+        "src/stream.rt",
+        "            connection.receive(&buffer[..n]);\n",
+        "",
+    ),
+    "takes_what_came_twice": (
+        "src/stream.rt",
+        "    match stream.get(&mut buffer[..room])? {",
+        "    stream.get(&mut buffer[..room])?;\n    match stream.get(&mut buffer[..room])? {",
+    ),
+    "reads_nothing_of_a_stream": (
+        "src/stream.rt",
+        "    let room = connection.room().min(buffer.len());\n",
+        "    let room = connection.room().min(buffer.len());\n    if room > 7 {\n        return Ok(0);\n    }\n",
+    ),
+    "a_failed_read_is_an_end": (
+        "src/stream.rt",
+        "    match stream.get(&mut buffer[..room])? {",
+        "    match stream.get(&mut buffer[..room]).unwrap_or(0) {",
+    ),
+    "clears_the_buffer": (
+        "src/stream.rt",
+        "            connection.receive(&buffer[..n]);",
+        "            buffer.fill(0);\n            connection.receive(&buffer[..n]);",
+    ),
+    "what_is_drained_counts": (
+        "src/client.rt",
+        "        match self.stream.get(buffer) {\n            Ok(0) => Turn::Ends,\n            Ok(_) => Turn::GoesOn,",
+        "        match receive_part(&mut self.stream, &mut self.connection, buffer) {\n            Ok(0) => Turn::Ends,\n            Ok(_) => Turn::GoesOn,",
+    ),
+    "a_client_never_gets_an_answer": (
+        "src/client.rt",
+        "        match respond(&mut self.connection, alloc, site, at) {",
+        "        if at.now > 7 {\n            return Turn::Waits;\n        }\n        match respond(&mut self.connection, alloc, site, at) {",
+    ),
+    "answers_and_sends_nothing": (
+        "src/client.rt",
+        "            Ok(true) => Turn::Begins(Stage::Sending),",
+        "            Ok(true) => {\n                let len = self.connection.pending().len();\n                self.connection.sent(len);\n                Turn::GoesOn\n            }",
+    ),
+    "a_late_first_client_stays": (
+        "src/table.rt",
+        "        for place in 0..self.seats.len() {",
+        "        for place in 1..self.seats.len() {",
+    ),
+    "closes_nobody_who_is_late": (
+        "src/table.rt",
+        "            if self.is_late(place, now) {\n                self.clear(place);",
+        "            if self.is_late(place, now) {\n                self.clear(SEATS);",
+    ),
+    "closes_everybody": (
+        "src/table.rt",
+        "            if self.is_late(place, now) {",
+        "            if self.is_late(place, u64::MAX) {",
+    ),
+    "closes_the_place_before": (
+        "src/table.rt",
+        "            if self.is_late(place, now) {\n                self.clear(place);",
+        "            if self.is_late(place, now) {\n                self.clear(place.saturating_sub(1));",
+    ),
+    "late_a_second_ago": (
+        "src/table.rt",
+        "Some(seat) => is_late(*seat, now),",
+        "Some(seat) => is_late(*seat, now.saturating_sub(1000)),",
+    ),
+    "waits_for_ever_with_clients": (
+        "src/table.rt",
+        "        } else if are_free(self.seats.as_slice()) {\n            None",
+        "        } else if !are_free(self.seats.as_slice()) {\n            None",
+    ),
+    "a_newcomer_waits_a_second": (
+        "src/table.rt",
+        "Some(Duration::from_millis(SPARED_MS))",
+        "Some(Duration::from_millis(TICK_MS))",
+    ),
+    "never_waits": (
+        "src/table.rt",
+        "            Some(Duration::from_millis(TICK_MS))\n",
+        "            Some(Duration::from_millis(0))\n",
+    ),
+    "is_open_at_any_port": (
+        "src/door.rt",
+        "L::listen(rt, at)?",
+        "L::listen(rt, SocketAddr::new(at.ip(), 0))?",
+    ),
+    "lets_no_newcomer_in": (
+        "src/door.rt",
+        "        listener.watch(poll.registry())?;\n",
+        "",
+    ),
+    "a_site_without_its_names": (
+        "src/response.rt",
+        "site.names())?",
+        "&[])?",
+    ),
+    "texts_take_the_names": (
+        "src/site.rt",
+        "        self.texts = texts;",
+        "        self.names.clear();\n        self.texts = texts;",
+    ),
+}
+
+# Those that break a promise as a whole, each with its function: tests/bodies tries them in the gate.
+PROMISES = {
+    "never_late": "seat::is_late",
+    "closes_the_newest": "seat::oldest",
+    "answers_no_text": "site::Site::metrics",
+    "never_answers": "response::respond",
+    "shows_nothing": "web::Web::show",
+    "counts_a_short_write_as_whole": "stream::send_part",
+    "reads_one_octet_more": "stream::receive_part",
+    "a_client_never_gets_an_answer": "client::Client::turn",
+    "closes_nobody_who_is_late": "table::Table::close_late",
+}

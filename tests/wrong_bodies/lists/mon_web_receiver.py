@@ -1,0 +1,272 @@
+"""Bugs of mon_web_receiver for tests/wrong_bodies/planted: by name the file, what stands there once, and the bug in its place."""
+
+BUGS = {
+    "shows_nothing": (
+        "src/receiver.rt",
+        "        self.web.show(texts);",
+        "        let _ = texts;",
+    ),
+    "forgets_the_round": (
+        "src/receiver.rt",
+        "        self.web.note_round(at);",
+        "        let _ = at;",
+    ),
+    "says_that_nothing_is_shown": (
+        "src/receiver.rt",
+        "    fn is_shown(&self) -> bool {\n        true\n",
+        "    fn is_shown(&self) -> bool {\n        false\n",
+    ),
+    "a_failure_is_not_counted": (
+        "src/receiver.rt",
+        "        self.failures = failed_after(failures, &received);",
+        "        self.failures = failures;",
+    ),
+    "counts_each_reception": (
+        "src/receiver.rt",
+        "        self.failures = failed_after(failures, &received);",
+        "        self.failures = failures.saturating_add(1);",
+    ),
+    "counts_a_failure_twice": (
+        "src/receiver.rt",
+        "        self.failures = failed_after(failures, &received);",
+        "        self.failures = failed_after(failed_after(failures, &received), &received);",
+    ),
+    "counts_the_last_failure_alone": (
+        "src/receiver.rt",
+        "        self.failures = failed_after(failures, &received);",
+        "        self.failures = failed_after(0, &received);",
+    ),
+    "shows_that_there_is_no_memory": (
+        "src/receiver.rt",
+        "        self.web.show(texts);",
+        "        let _ = texts;\n        self.web.show(None);",
+    ),
+    "texts_are_a_round": (
+        "src/receiver.rt",
+        "        self.web.show(texts);",
+        "        self.web.show(texts);\n        self.web.note_round(0);",
+    ),
+    "a_round_ends_the_texts": (
+        "src/receiver.rt",
+        "        self.web.note_round(at);",
+        "        self.web.note_round(at);\n        self.web.show(None);",
+    ),
+    "every_round_ended_at_the_start": (
+        "src/receiver.rt",
+        "        self.web.note_round(at);",
+        "        let _ = at;\n        self.web.note_round(0);",
+    ),
+    "notes_a_round_in_seconds": (
+        "src/receiver.rt",
+        "        self.web.note_round(at);",
+        "        self.web.note_round(at / 1000);",
+    ),
+    "a_bare_socket_shows_texts": (
+        "src/shows.rt",
+        "    fn is_shown(&self) -> bool {\n        false\n",
+        "    fn is_shown(&self) -> bool {\n        true\n",
+    ),
+    "a_reception_ends_the_texts": (
+        "src/receiver.rt",
+        "        let failures = self.failures;\n",
+        "        let failures = self.failures;\n        self.web.show(None);\n",
+    ),
+    "says_that_no_time_passed": (
+        "src/receiver.rt",
+        "milliseconds(now.duration_since(self.origin))",
+        "milliseconds(now.duration_since(now))",
+    ),
+    "begins_with_a_failure": (
+        "src/receiver.rt",
+        "            failures: 0,",
+        "            failures: 1,",
+    ),
+    "a_new_receiver_shows_nothing": (
+        "src/receiver.rt",
+        "            socket,\n            web,\n            origin,",
+        "            socket,\n            web: {\n                let mut web = web;\n                web.show(None);\n                web\n            },\n            origin,",
+    ),
+    "takes_no_texts_away": ("src/receiver.rt", "        self.web.take_texts()", "        None"),
+    "shows_nothing_and_takes_nothing": ("src/receiver.rt", "        self.web.take_texts()", "        self.web.show(None);\n        None"),
+    "takes_texts_in_a_round": ("src/receiver.rt", "        self.web.take_texts()", "        self.web.note_round(0);\n        self.web.take_texts()"),
+    "takes_texts_and_counts_a_failure": ("src/receiver.rt", "        self.web.take_texts()", "        self.failures = 1;\n        self.web.take_texts()"),
+    "begins_in_a_wait_of_a_second": (
+        "src/receiver.rt",
+        "            timer: Timer::begin(0, origin),",
+        "            timer: Timer::begin(1000, origin),",
+    ),
+    "begins_no_wait": (
+        "src/receiver.rt",
+        "                self.timer = Timer::begin(milliseconds, self.ticks.after(self.timer.quiet())?);",
+        "                let _ = milliseconds;",
+    ),
+    "begins_a_wait_of_half_the_length": (
+        "src/receiver.rt",
+        "                self.timer = Timer::begin(milliseconds, self.ticks",
+        "                self.timer = Timer::begin(milliseconds / 2, self.ticks",
+    ),
+    "begins_a_wait_when_the_last_one_began": (
+        "src/receiver.rt",
+        "Timer::begin(milliseconds, self.ticks.after(self.timer.quiet())?);",
+        "Timer::begin(milliseconds, self.timer.quiet());",
+    ),
+    "begins_a_wait_at_the_start": (
+        "src/receiver.rt",
+        "Timer::begin(milliseconds, self.ticks.after(self.timer.quiet())?);",
+        "Timer::begin(milliseconds, self.origin);",
+    ),
+    "renews_no_wait": (
+        "src/receiver.rt",
+        "            Wait::Renew => self.timer = self.timer.renew(self.ticks.after(self.timer.quiet())?),\n            Wait::Rest => {}",
+        "            Wait::Renew | Wait::Rest => {}",
+    ),
+    "renews_by_no_clock": (
+        "src/receiver.rt",
+        "self.timer.renew(self.ticks.after(self.timer.quiet())?)",
+        "self.timer.renew(self.timer.quiet())",
+    ),
+    "the_rest_of_a_wait_is_renewed": (
+        "src/receiver.rt",
+        "            Wait::Rest => {}",
+        "            Wait::Rest => self.timer = self.timer.renew(self.ticks.after(self.timer.quiet())?),",
+    ),
+    "the_rest_of_a_wait_is_none": (
+        "src/receiver.rt",
+        "            Wait::Rest => {}",
+        "            Wait::Rest => self.timer = Timer::begin(0, self.origin),",
+    ),
+    "a_renewed_wait_begins": (
+        "src/receiver.rt",
+        "self.timer = self.timer.renew(self.ticks.after(self.timer.quiet())?),",
+        "self.timer = Timer::begin(1000, self.ticks.after(self.timer.quiet())?),",
+    ),
+    "looks_for_a_datagram_before_the_time": (
+        "src/receiver.rt",
+        "        if left.is_zero() {\n            return Ok(Attempt::Over);\n        }\n        match self.look()? {\n            Some((len, from)) => Ok(Attempt::Received(len, from)),\n            None => {",
+        "        match self.look()? {\n            Some((len, from)) => Ok(Attempt::Received(len, from)),\n            None if left.is_zero() => Ok(Attempt::Over),\n            None => {",
+    ),
+    "a_wait_is_never_over": (
+        "src/receiver.rt",
+        "        if left.is_zero() {\n            return Ok(Attempt::Over);\n        }\n",
+        "",
+    ),
+    "a_wait_is_over_at_once": (
+        "src/receiver.rt",
+        "        if left.is_zero() {",
+        "        if left.is_zero() || self.failures < u64::MAX {",
+    ),
+    "a_wait_is_over_when_nothing_came": (
+        "src/receiver.rt",
+        "            None => {\n                self.serve(now, left)?;\n                Ok(Attempt::Served)\n            }",
+        "            None => {\n                self.serve(now, left)?;\n                Ok(Attempt::Over)\n            }",
+    ),
+    "reckons_by_the_time_of_the_wait": (
+        "src/receiver.rt",
+        "        let left = self.timer.left(now);",
+        "        let left = self.timer.left(self.timer.quiet());",
+    ),
+    "says_an_octet_less_than_came": (
+        "src/receiver.rt",
+        "            Some((len, from)) => Ok(Attempt::Received(len, from)),",
+        "            Some((len, from)) => Ok(Attempt::Received(len.saturating_sub(1), from)),",
+    ),
+    "says_the_buffer_is_a_datagram": (
+        "src/receiver.rt",
+        "            Some((len, from)) => Ok(Attempt::Received(len, from)),",
+        "            Some((_, from)) => Ok(Attempt::Received(self.buffer.len(), from)),",
+    ),
+    "lets_go_of_a_datagram": (
+        "src/receiver.rt",
+        "            Some((len, from)) => Ok(Attempt::Received(len, from)),",
+        "            Some(_) => Ok(Attempt::Over),",
+    ),
+    "datagrams_have_http_wait": (
+        "src/receiver.rt",
+        "        if self.unserved >= MOST_UNSERVED {\n            return Ok(None);\n        }\n",
+        "",
+    ),
+    "counts_no_datagram": (
+        "src/receiver.rt",
+        "            self.unserved += 1;",
+        "            self.unserved += 0;",
+    ),
+    "http_waits_for_a_thousand_datagrams": (
+        "src/receiver.rt",
+        "const MOST_UNSERVED: u32 = 64;",
+        "const MOST_UNSERVED: u32 = 1000;",
+    ),
+    "a_turn_counts_as_none": (
+        "src/receiver.rt",
+        "        self.unserved = 0;\n",
+        "",
+    ),
+    "forgets_datagrams_at_an_attempt": (
+        "src/receiver.rt",
+        "        let left = self.timer.left(now);",
+        "        let left = self.timer.left(now);\n        self.unserved = 0;",
+    ),
+    "an_attempt_renews_the_wait": (
+        "src/receiver.rt",
+        "        let at = self.moment(now);\n        self.web.turn",
+        "        let at = self.moment(now);\n        self.timer = self.timer.renew(now);\n        self.web.turn",
+    ),
+    "an_attempt_begins_the_wait_again": (
+        "src/receiver.rt",
+        "        let at = self.moment(now);\n        self.web.turn",
+        "        let at = self.moment(now);\n        self.timer = Timer::begin(1000, now);\n        self.web.turn",
+    ),
+    "a_failure_is_the_end_of_a_wait": (
+        "src/receiver.rt",
+        "                Err(_) => return Err(ReceiverFault),\n            }",
+        "                Err(_) => return Ok(Arrival::Quiet),\n            }",
+    ),
+    "many_attempts_are_the_end_of_a_wait": (
+        "src/receiver.rt",
+        "        Err(ReceiverFault)\n    }\n\n    /// Receives something in this wait.",
+        "        Ok(Arrival::Quiet)\n    }\n\n    /// Receives something in this wait.",
+    ),
+    "receives_half_a_datagram": (
+        "src/receiver.rt",
+        "arrival_of(self.alloc, self.buffer.as_slice(), len, from)",
+        "arrival_of(self.alloc, self.buffer.as_slice(), len / 2, from)",
+    ),
+    "a_clock_that_fails_ends_a_wait": (
+        "src/receiver.rt",
+        "            Err(_) => Err(ReceiverFault),\n        }",
+        "            Err(_) => Ok(Arrival::Quiet),\n        }",
+    ),
+    "a_failure_is_a_round": (
+        "src/receiver.rt",
+        "            Err(_) => Err(ReceiverFault),\n        }",
+        "            Err(_) => {\n                self.web.note_round(0);\n                Err(ReceiverFault)\n            }\n        }",
+    ),
+    "times_are_since_the_last_wait": (
+        "src/receiver.rt",
+        "        let at = self.moment(now);\n        self.web.turn",
+        "        self.origin = now;\n        let at = self.moment(now);\n        self.web.turn",
+    ),
+    "says_the_time_since_the_wait_was_quiet": (
+        "src/receiver.rt",
+        "milliseconds(now.duration_since(self.origin))",
+        "milliseconds(now.duration_since(self.timer.quiet()))",
+    ),
+    "a_socket_of_another_receiver": (
+        "src/receiver.rt",
+        "            buffer: datagram_buffer(alloc)?,\n            unserved: 0,",
+        "            buffer: vec![in alloc; 0u8; 1500]?,\n            unserved: 0,",
+    ),
+    "begins_with_datagrams": (
+        "src/receiver.rt",
+        "            unserved: 0,\n            failures: 0,",
+        "            unserved: 64,\n            failures: 0,",
+    ),
+}
+
+# Those that break a promise as a whole, each with its function: tests/bodies tries them in the gate.
+PROMISES = {
+    "looks_for_a_datagram_before_the_time": "receiver::WebReceiver::attempt",
+    "datagrams_have_http_wait": "receiver::WebReceiver::look",
+    "renews_by_no_clock": "receiver::WebReceiver::begin",
+    "a_failure_is_the_end_of_a_wait": "receiver::WebReceiver::receive_rest",
+    "shows_nothing": "receiver::WebReceiverShows::show",
+}
