@@ -21,7 +21,7 @@ use std::{mem, slice};
 /// How many rounds a GetBulk asks for.
 const REPETITIONS: i32 = 32;
 
-/// How many variables a walk takes at most, of all its columns.
+/// How many variables a walk takes of a column at most.
 const MAX_CELLS: u32 = 65_536;
 
 /// snmpEngineID.0, snmpEngineBoots.0 and snmpEngineTime.0 (RFC 3411 section 5).
@@ -76,8 +76,6 @@ struct Asker<'a, W> {
     community: &'a [u8],
     /// How many questions there were, the last one's request-id.
     asked: u32,
-    /// How many variables were taken, of all columns.
-    taken: u32,
 }
 
 impl<'a, R: Clock + Net> Asker<'a, SocketWire<'a, R>> {
@@ -92,7 +90,6 @@ impl<'a, R: Clock + Net> Asker<'a, SocketWire<'a, R>> {
                 agent: asked.agent.word,
                 community: asked.community,
                 asked: 0,
-                taken: 0,
             }),
             Err(fault) => Err(answer_failure(rt.alloc(), asked.agent.word, fault)),
         }
@@ -217,7 +214,7 @@ impl<W: Wire> Asker<'_, W> {
 
     /// Takes the cells of a reply. Returns `false` at the end of the column.
     fn take(
-        &mut self,
+        &self,
         alloc: Global,
         place: &mut Place,
         bindings: &mut [Binding],
@@ -239,7 +236,7 @@ impl<W: Wire> Asker<'_, W> {
     /// # Errors
     /// That of a walk without an end, if there were as many as a walk takes at most.
     fn put(
-        &mut self,
+        &self,
         alloc: Global,
         place: &mut Place,
         binding: &mut Binding,
@@ -251,10 +248,10 @@ impl<W: Wire> Asker<'_, W> {
         if !place.last.compare(&binding.name).is_lt() {
             return Err(answer_failure(alloc, self.agent, AppFault::NotIncreasing));
         }
-        if self.taken >= MAX_CELLS {
+        if place.taken >= MAX_CELLS {
             return Err(self.unending(alloc, place));
         }
-        self.taken += 1;
+        place.taken += 1;
         let value = mem::replace(&mut binding.value, Value::Null);
         match answers.take(&binding.name, value) {
             Ok(()) => {
@@ -279,7 +276,7 @@ impl<W: Wire> Asker<'_, W> {
 /// Returns what is said of a column that has no end.
 fn unending_text(alloc: Global, agent: &str, column: &Oid) -> Result<String, AllocError> {
     let name = column.text(alloc)?;
-    format!(in alloc; "{agent}: no end of {name} after {MAX_CELLS} variables of all columns")
+    format!(in alloc; "{agent}: no end of {name} after {MAX_CELLS} variables")
 }
 
 /// Where a walk is in its column.
@@ -289,6 +286,8 @@ struct Place {
     start: Oid,
     /// The name of the last cell that was taken, or the start.
     last: Oid,
+    /// How many cells were taken.
+    taken: u32,
 }
 
 impl Place {
@@ -296,7 +295,11 @@ impl Place {
     fn at(alloc: Global, column: Column) -> Result<Self, Failure> {
         let start = column_name(alloc, column)?;
         let last = start.try_clone(alloc)?;
-        Ok(Place { start, last })
+        Ok(Place {
+            start,
+            last,
+            taken: 0,
+        })
     }
 }
 
