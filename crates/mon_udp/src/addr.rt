@@ -52,9 +52,13 @@ impl Addr {
 }
 
 impl fmt::Display for Addr {
+    ghost use Rattle.mon_udp.specs.Addr.{addr_text};
+
+    ghost output = { λ a. Some (addr_text a) };
+
     /// Writes `a.b.c.d:port`.
     fn fmt<W: fmt::Write>(&self, f: &mut fmt::Formatter<W>) -> fmt::Result {
-        let address = self.socket();
-        write!(f, "{address}")
+        let (ip, port) = (Ipv4Addr::from(self.octets), self.port);
+        write!(f, "{ip}:{port}")
     }
 }
