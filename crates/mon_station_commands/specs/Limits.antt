@@ -1,5 +1,5 @@
 -- How long a round waits.
-use Rattle.std.specs.Prelude.{Bool, true, false, ℕ, ◌+◌, ◌*◌, List, [], ◌∷◌, if◌then◌else◌, max, ◌==◌}
+use Rattle.std.specs.Prelude.{Bool, true, false, ℕ, ◌+◌, ◌*◌, ◌/◌, List, [], ◌∷◌, if◌then◌else◌, max, ◌==◌}
 use Rattle.std.specs.List.{fold}
 use Rattle.mon_poller.specs.declared.target.Target.{Target}
 
@@ -21,3 +21,8 @@ has_some (x ∷ xs) = true
 -- intervals of this many seconds, or half a minute if rounds follow one another at once.
 abbrev pub longest_gap : ℕ → ℕ
 longest_gap interval = if interval == 0 then 30000 else interval * 3000
+
+-- how many milliseconds of an interval, in seconds, each of so many stations has to itself if they
+-- poll one after another
+abbrev pub turn_of : (interval stations : ℕ) → ℕ
+turn_of interval stations = interval * 1000 / stations

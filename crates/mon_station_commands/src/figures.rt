@@ -1,9 +1,8 @@
 //! What a running station says of itself.
 
-ghost use Rattle.std.specs.Prelude.{◌≡◌, ◌+◌, IfOk, map};
-ghost use Rattle.mon_rounds.specs.Course.{debts_to};
-ghost use Rattle.mon_rounds.specs.Freshness.{seconds_since};
+ghost use Rattle.std.specs.Prelude.{◌≡◌, IfOk, is_some, length, map};
 ghost use Rattle.mon_station.specs.State.{state_of};
+ghost use Rattle.mon_station_commands.specs.Figures.{AreFigures, engine_at, engine_in, engines_for, said_in, said_of};
 
 use crate::live::Live;
 use mon_formats::{Figures, TargetFigures};
@@ -16,17 +15,7 @@ pub(crate) fn make_figures<S: Receiver + Drop, O: Outbox + Drop>(
     alloc: Global,
     live: &Live<S, O>,
 ) -> Result<Figures, AllocError>
-    ensures incarnation { IfOk result (λ figures. figures.incarnation ≡ (state_of live.now.station.life).incarnation) }
-    ensures taken { IfOk result (λ figures. figures.taken ≡ live.now.course.taken) }
-    ensures given_up { IfOk result (λ figures. figures.given_up ≡ live.now.course.given_up) }
-    ensures debts { IfOk result (λ figures. figures.debts.items ≡ debts_to (state_of live.now.station.life) live.now.transport.peers.items) }
-    ensures failed_saves { IfOk result (λ figures. figures.failed_saves ≡ live.now.freshness.failed_saves) }
-    ensures strangers { IfOk result (λ figures. figures.strangers ≡ live.now.freshness.strangers) }
-    ensures round_ms { IfOk result (λ figures. figures.round_ms ≡ live.now.freshness.round_ms) }
-    ensures targets { IfOk result (λ figures. map (λ (f : TargetFigures). f.up) figures.targets.items ≡ map (λ (t : TargetAge). t.up) live.now.freshness.targets.items) }
-    ensures ages { IfOk result (λ figures. figures.ages.items ≡ map (λ (i : InstanceAge). i.rounds) live.now.freshness.instances.items) }
-    ensures stale_after { IfOk result (λ figures. figures.stale_after ≡ live.now.reports.stale_after) }
-    ensures interval { IfOk result (λ figures. figures.interval ≡ live.now.reports.interval) }
+    ensures { IfOk result (AreFigures (state_of live.now.station.life) live.now.course live.now.freshness live.now.transport.peers.items live.now.transport.engines.items live.now.ended live.now.reports) }
 {
     let fresh = &live.freshness;
     let engines = live.transport.engines.as_slice();
@@ -52,18 +41,25 @@ fn target_figures(
     engines: &[Vec<u8>],
     now: u64,
 ) -> Result<Vec<TargetFigures>, AllocError>
-    ensures up { IfOk result (λ v. map (λ (f : TargetFigures). f.up) v.items ≡ map (λ (t : TargetAge). t.up) targets.now) }
-    ensures numbers { IfOk result (λ v. map (λ (f : TargetFigures). f.number) v.items ≡ map (λ (t : TargetAge). t.number + 1) targets.now) }
+    ensures said { IfOk result (λ v. map said_in v.items ≡ map (said_of now) targets.now) }
+    ensures engines { IfOk result (λ v. map engine_in v.items ≡ engines_for (length targets.now) engines.now) }
 {
     let mut figures = Vec::with_capacity(alloc, targets.len())?;
-    for (place, target) in targets.iter().enumerate() {
-        let engine: &[u8] = match engines.get(place) {
-            Some(engine) => engine.as_slice(),
-            None => &[],
-        };
-        figures.push(one_target(alloc, target, engine, now)?)?;
+    for place in 0..targets.len() {
+        let engine = engine_at(engines, place);
+        figures.push(one_target(alloc, &targets[place], engine, now)?)?;
     }
     Ok(figures)
+}
+
+/// The engine id at this place; none where there is no such place.
+fn engine_at(engines: &[Vec<u8>], place: usize) -> &[u8]
+    ensures { result.now ≡ engine_at engines.now place }
+{
+    match engines.get(place) {
+        Some(engine) => engine.as_slice(),
+        None => &[],
+    }
 }
 
 /// What is said of a target.
@@ -73,12 +69,8 @@ fn one_target(
     engine: &[u8],
     now: u64,
 ) -> Result<TargetFigures, AllocError>
-    ensures number { IfOk result (λ t. t.number ≡ target.now.number + 1) }
+    ensures said { IfOk result (λ t. said_in t ≡ said_of now target.now) }
     ensures engine { IfOk result (λ t. t.engine.items ≡ engine.now) }
-    ensures up { IfOk result (λ t. t.up ≡ target.now.up) }
-    ensures rounds { IfOk result (λ t. t.rounds ≡ target.now.rounds) }
-    ensures seconds { IfOk result (λ t. t.seconds ≡ seconds_since now target.now) }
-    ensures given_up { IfOk result (λ t. t.given_up ≡ target.now.given_up) }
 {
     Ok(TargetFigures {
         number: u32::from(target.number) + 1,
@@ -96,7 +88,9 @@ fn one_target(
 fn refusal_text(
     alloc: Global,
     refusal: Option<StationFault>,
-) -> Result<Option<String>, AllocError> {
+) -> Result<Option<String>, AllocError>
+    ensures { IfOk result (λ text. is_some text ≡ is_some refusal) }
+{
     match refusal {
         Some(fault) => Ok(Some(format!(in alloc; "{fault}")?)),
         None => Ok(None),

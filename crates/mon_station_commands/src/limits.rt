@@ -1,7 +1,7 @@
 //! What limits a station of some settings.
 
-ghost use Rattle.std.specs.Prelude.{◌≡◌, ◌*◌};
-ghost use Rattle.mon_station_commands.specs.Limits.{greatest_tries, has_some, waits};
+ghost use Rattle.std.specs.Prelude.{◌≡◌, ◌<◌, ◌+◌, ◌*◌, ◌/◌, length};
+ghost use Rattle.mon_station_commands.specs.Limits.{greatest_tries, has_some, turn_of, waits};
 
 use mon_console::{Failure, print};
 use mon_disk::SLOT_SIZE;
@@ -38,6 +38,7 @@ pub fn print_limits<R: Print + AllocGlobal>(
 fn limits(alloc: Global, settings: &StationSettings, interval: u32) -> Result<String, AllocError> {
     let mut text = String::new(alloc);
     put_round(&mut text, settings, interval)?;
+    put_turns(&mut text, settings, interval)?;
     put_targets(&mut text, settings.core.targets())?;
     put_windows(&mut text, settings)?;
     Ok(text)
@@ -63,6 +64,39 @@ fn put_round(
         text,
         "interval: {interval} s are less than the longest round; fewer tries, a smaller wait_ms or a longer --interval keep rounds on time\n"
     )
+}
+
+/// Adds how long a station's turn is where several poll one after another, and what to change if a
+/// round in which no target answers outlasts it.
+fn put_turns(
+    text: &mut String,
+    settings: &StationSettings,
+    interval: u32,
+) -> Result<(), AllocError> {
+    let stations = settings.core.peers().len() + 1;
+    if interval == 0 || stations == 1 {
+        return Ok(());
+    }
+    let (turn, silent) = (turn_of(interval, stations), round_time(settings).silent);
+    write!(
+        text,
+        "turns: {stations} stations poll one after another, each in {turn} ms of the interval\n"
+    )?;
+    if silent <= turn {
+        return Ok(());
+    }
+    write!(
+        text,
+        "turns: a round of {silent} ms outlasts its turn; a longer --interval, fewer tries or a smaller wait_ms keep stations apart\n"
+    )
+}
+
+/// Returns how many milliseconds of the interval, in seconds, each of so many stations has to itself.
+fn turn_of(interval: u32, stations: usize) -> u64
+    requires { 0 < stations }
+    ensures { result ≡ turn_of interval stations }
+{
+    u64::from(interval) * 1000 / stations as u64
 }
 
 /// Returns how long a round may take.

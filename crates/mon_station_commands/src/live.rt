@@ -1,7 +1,8 @@
 //! A running station: what it works with, and a round of it.
 
-ghost use Rattle.std.specs.Prelude.{◌≡◌, ◌≤◌, IfOk, length};
+ghost use Rattle.std.specs.Prelude.{◌≡◌, ◌≤◌, IfOk, IfSome, is_some, length};
 ghost use Rattle.mon_disk.specs.Fault.{number_of};
+ghost use Rattle.mon_station_commands.specs.Opening.{last_of, unsaved_in};
 
 use crate::limits::greatest_tries;
 use crate::opening::{or_socket_failure, unopened};
@@ -347,7 +348,10 @@ fn report_troubles<R: Eprint + AllocGlobal, S: Receiver + Drop, O: Outbox + Drop
 }
 
 /// Returns why the save of a report's round failed, if it did.
-fn save_fault(report: &RoundReport) -> Option<KeeperFault> {
+fn save_fault(report: &RoundReport) -> Option<KeeperFault>
+    ensures some { is_some result ≡ is_some (unsaved_in (last_of report.now.notices.items)) }
+    ensures which { IfSome result (λ fault. IfSome (unsaved_in (last_of report.now.notices.items)) (λ number. 1 ≤ number → number ≤ 6 → number_of fault ≡ number)) }
+{
     match report.notices.as_slice().last() {
         Some(Notice::NotSaved(number)) => Some(keeper_fault(*number)),
         _ => None,

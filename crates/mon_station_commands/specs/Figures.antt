@@ -1,0 +1,69 @@
+-- What a running station says of itself.
+use Rattle.std.specs.Prelude.{◌≡◌, ℕ, zero, suc, ◌+◌, Bool, List, [], ◌∷◌, ◌++◌, Option, Some, None, Vec, is_some, map, length, slice_get, string_bytes}
+use Rattle.mon_page.specs.declared.figures.Figures.{Figures}
+use Rattle.mon_page.specs.declared.figures.TargetFigures.{TargetFigures}
+use Rattle.mon_rounds.specs.Course.{debts_to}
+use Rattle.mon_rounds.specs.Freshness.{seconds_since}
+use Rattle.mon_rounds.specs.declared.course.Course.{Course}
+use Rattle.mon_rounds.specs.declared.freshness.Freshness.{Freshness}
+use Rattle.mon_rounds.specs.declared.freshness.InstanceAge.{InstanceAge}
+use Rattle.mon_rounds.specs.declared.freshness.TargetAge.{TargetAge}
+use Rattle.mon_station.specs.State.{State}
+use Rattle.mon_station_commands.specs.declared.live.Reports.{Reports}
+use Rattle.mon_udp.specs.Addr.{addr_text}
+
+-- what is said of a target, but for its engine id; `refused` says whether a reason is given
+pub record Said : Type 0 where
+  pub number : ℕ
+  pub address : List ℕ
+  pub up : Bool
+  pub rounds : ℕ
+  pub seconds : ℕ
+  pub given_up : ℕ
+  pub refused : Bool
+
+-- what is to be said of a target at a time, in milliseconds since the station's start
+abbrev pub said_of : ℕ → TargetAge → Said
+said_of now t = record {
+    number = t.number + 1; address = addr_text t.address; up = t.up; rounds = t.rounds;
+    seconds = seconds_since now t; given_up = t.given_up; refused = is_some t.refusal }
+
+-- what the figures of a target say of it
+abbrev pub said_in : TargetFigures → Said
+said_in f = record {
+    number = f.number; address = string_bytes f.address; up = f.up; rounds = f.rounds;
+    seconds = f.seconds; given_up = f.given_up; refused = is_some f.refusal }
+
+-- the engine id in the figures of a target
+abbrev pub engine_in : TargetFigures → List ℕ
+engine_in f = f.engine.items
+
+-- the octets of an engine id that may be there
+abbrev pub engine_or_none : Option (Vec ℕ) → List ℕ
+engine_or_none None = []
+engine_or_none (Some engine) = engine.items
+
+-- the engine id at a place, none where there is no such place
+abbrev pub engine_at : List (Vec ℕ) → ℕ → List ℕ
+engine_at engines place = engine_or_none (slice_get engines place)
+
+-- the engine ids of so many targets
+abbrev pub engines_for : ℕ → List (Vec ℕ) → List (List ℕ)
+engines_for zero engines = []
+engines_for (suc n) engines = engines_for n engines ++ (engine_at engines n ∷ [])
+
+-- The figures are those of a station with this state, of what it did and was told since its start,
+-- with these peers and engine ids of targets, at this time in milliseconds since its start.
+pub record AreFigures (state : State) (course : Course) (fresh : Freshness) (peers : List ℕ) (engines : List (Vec ℕ)) (now : ℕ) (reports : Reports) (f : Figures) : Type 0 where
+  pub incarnation : f.incarnation ≡ state.incarnation
+  pub taken : f.taken ≡ course.taken
+  pub given_up : f.given_up ≡ course.given_up
+  pub debts : f.debts.items ≡ debts_to state peers
+  pub failed_saves : f.failed_saves ≡ fresh.failed_saves
+  pub strangers : f.strangers ≡ fresh.strangers
+  pub round_ms : f.round_ms ≡ fresh.round_ms
+  pub targets : map said_in f.targets.items ≡ map (said_of now) fresh.targets.items
+  pub engines : map engine_in f.targets.items ≡ engines_for (length fresh.targets.items) engines
+  pub ages : f.ages.items ≡ map (λ (i : InstanceAge). i.rounds) fresh.instances.items
+  pub stale_after : f.stale_after ≡ reports.stale_after
+  pub interval : f.interval ≡ reports.interval
