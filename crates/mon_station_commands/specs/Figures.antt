@@ -1,5 +1,6 @@
 -- What a running station says of itself.
-use Rattle.std.specs.Prelude.{◌≡◌, ℕ, zero, suc, ◌+◌, Bool, List, [], ◌∷◌, ◌++◌, Option, Some, None, Vec, is_some, map, length, slice_get, string_bytes}
+use Rattle.std.specs.Prelude.{◌≡◌, ℕ, zero, suc, ◌+◌, Bool, List, [], ◌∷◌, ◌++◌, Option, Some, None, is_some, map, length, slice_get, string_bytes}
+use Rattle.std.specs.Global.{Vec}
 use Rattle.mon_page.specs.declared.figures.Figures.{Figures}
 use Rattle.mon_page.specs.declared.figures.TargetFigures.{TargetFigures}
 use Rattle.mon_rounds.specs.Course.{debts_to}

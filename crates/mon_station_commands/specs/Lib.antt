@@ -1,3 +1,4 @@
 pub mod Figures
 pub mod Limits
 pub mod Opening
+pub mod Showing

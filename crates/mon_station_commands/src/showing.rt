@@ -1,8 +1,13 @@
 //! What a running station shows over HTTP.
 
-ghost use Rattle.std.specs.Prelude.{◌≡◌, OnOk, Some};
+ghost use Rattle.std.specs.Prelude.{◌≡◌, IfOk, OnOk, Some};
+ghost use Rattle.mon_board.specs.Board.{window_of};
 ghost use Rattle.mon_console.specs.Shown.{shown_by};
 ghost use Rattle.mon_formats.specs.Formats.{formatted};
+ghost use Rattle.mon_report.specs.Report.{entries_from};
+ghost use Rattle.mon_station.specs.State.{state_of};
+ghost use Rattle.mon_station_commands.specs.Figures.{AreFigures};
+ghost use Rattle.mon_station_commands.specs.Showing.{AreTexts};
 
 use crate::figures::make_figures;
 use crate::live::Live;
@@ -49,7 +54,14 @@ fn make_texts<S: Receiver + Drop, O: Outbox + Drop>(
     alloc: Global,
     live: &Live<S, O>,
     before: Option<Texts>,
-) -> Result<Texts, AllocError> {
+) -> Result<Texts, AllocError>
+    // The texts are those of the board and of what the station says of itself, as they are now.
+    ensures { IfOk result (AreTexts
+        (AreFigures (state_of live.now.station.life) live.now.course live.now.freshness live.now.transport.peers.items live.now.transport.engines.items live.now.ended live.now.reports)
+        (shown_by live.now.reports.printing.names)
+        (entries_from (state_of live.now.station.life).board.watch.rules (window_of (state_of live.now.station.life).board) 0 (state_of live.now.station.life).board.watch.instances)
+        live.now.reports.printing.labels.items) }
+{
     let figures = make_figures(alloc, live)?;
     let entries = entries_of(alloc, live.station.board())?;
     let entries = entries.as_slice();
