@@ -9,8 +9,8 @@ BUGS = {
     "ages_of_the_first_instance": ("src/figures.rt", "        ages.push(instance.rounds)?;", "        ages.push(instances[0].rounds)?;"),
     "the_first_target_vanishes": (
         "src/figures.rt",
-        "        figures.push(one_target(alloc, target, engine, now)?)?;",
-        "        if place > 0 {\n            figures.push(one_target(alloc, target, engine, now)?)?;\n        }",
+        "        figures.push(one_target(alloc, &targets[place], engine, now)?)?;",
+        "        if place > 0 {\n            figures.push(one_target(alloc, &targets[place], engine, now)?)?;\n        }",
     ),
     "targets_from_0": ("src/figures.rt", "u32::from(target.number) + 1", "u32::from(target.number)"),
     "each_target_is_up": ("src/figures.rt", "        up: target.up,", "        up: true,"),
@@ -126,4 +126,37 @@ BUGS = {
     "a_text_without_its_station": ("src/showing.rt", "    *text = printing.text_in(buffer, format, entries, Some(figures))?;\n", "    *text = printing.text_in(buffer, format, entries, None)?;\n"),
     "each_text_is_a_page": ("src/showing.rt", "    *text = printing.text_in(buffer, format, entries, Some(figures))?;\n", "    *text = printing.text_in(buffer, PAGE, entries, Some(figures))?;\n"),
     "a_text_of_no_instances": ("src/showing.rt", "    *text = printing.text_in(buffer, format, entries, Some(figures))?;\n", "    *text = printing.text_in(buffer, format, &[], Some(figures))?;\n"),
+    "metrics_as_json": ("src/showing.rt", "        Format::Prometheus,\n", "        Format::Json,\n"),
+    "the_page_stays_as_it_was": (
+        "src/showing.rt",
+        "    make_text(&mut texts.page, printing, PAGE, entries, &figures)?;\n",
+        "",
+    ),
+    "the_report_of_no_instance": (
+        "src/showing.rt",
+        "    make_text(&mut texts.report, printing, Format::Json, entries, &figures)?;",
+        "    make_text(&mut texts.report, printing, Format::Json, &[], &figures)?;",
+    ),
+    "texts_of_a_round_before": (
+        "src/showing.rt",
+        "    let mut texts = before.unwrap_or(Texts::empty(alloc));\n",
+        "    if let Some(texts) = before {\n        return Ok(texts);\n    }\n    let mut texts = Texts::empty(alloc);\n",
+    ),
+    "the_engine_of_the_first_target": ("src/figures.rt", "engine_at(engines, place)", "engine_at(engines, 0)"),
+    "an_address_that_is_not_said": ("src/figures.rt", "format!(in alloc; \"{}\", target.address)?", "String::new(alloc)"),
+    "no_refusal_is_said": ("src/figures.rt", "refusal: refusal_text(alloc, target.refusal)?", "refusal: refusal_text(alloc, None)?"),
+    "answered_just_now": ("src/figures.rt", "seconds: target.seconds(now)", "seconds: target.seconds(0)"),
+    "no_poll_was_given_up": ("src/figures.rt", "        given_up: target.given_up,", "        given_up: 0,"),
+    "one_station_has_all_turns": ("src/limits.rt", "    u64::from(interval) * 1000 / stations as u64", "    u64::from(interval) * 1000"),
+    "no_save_failed": (
+        "src/live.rt",
+        "        Some(Notice::NotSaved(number)) => Some(keeper_fault(*number)),",
+        "        Some(Notice::NotSaved(_)) => None,",
+    ),
+    "each_save_failed_for_memory": (
+        "src/live.rt",
+        "        Some(Notice::NotSaved(number)) => Some(keeper_fault(*number)),",
+        "        Some(Notice::NotSaved(_)) => Some(keeper_fault(1)),",
+    ),
+    "each_last_notice_is_of_a_save": ("src/live.rt", "        _ => None,\n    }\n}\n\n/// Returns the keeper", "        _ => Some(KeeperFault::DiskFault),\n    }\n}\n\n/// Returns the keeper"),
 }
