@@ -1,5 +1,7 @@
 mod Answered
+mod Few
 mod InPlace
+mod Lent
 mod Onward
 mod Notices
 mod Becoming
