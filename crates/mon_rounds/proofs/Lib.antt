@@ -6,5 +6,6 @@ mod Onward
 mod Notices
 mod Becoming
 mod Pushed
+mod Seldom
 mod Wholly
 mod Waited
