@@ -3,10 +3,10 @@
 A script gives a list of `Case`, each a name and a function. The function is passed a `Checks`, counts what it
 finds there, and takes nothing for granted that another case did.
 
-    tests/SCRIPT [--program FILE] [--list] [--jobs N] [CASE | WORD]..
+    tests/SCRIPT [--program FILE] [--list] [--jobs N] [--leave-out WORD].. [CASE | WORD]..
 
-A CASE is a case's whole name. A WORD is a part of names: all cases that have it are tried. A word that no name
-has ends the script with status 2, and says what there is.
+A CASE is a case's whole name. A WORD is a part of names: all cases that have it are tried, or left out, and then
+said to be. A word that no name has ends the script with status 2, and says what there is.
 """
 import argparse
 import os
@@ -75,6 +75,7 @@ def arguments(doc, program=PROGRAM, more=()):
     parser.add_argument("--program", type=Path, default=program, metavar="FILE", help="the program; what the gate left if not given")
     parser.add_argument("--list", action="store_true", help="prints the names of the cases")
     parser.add_argument("--jobs", type=int, default=os.cpu_count() or 1, metavar="N", help="how many cases run side by side")
+    parser.add_argument("--leave-out", action="append", default=[], metavar="WORD", help="a part of names that are not tried")
     for add in more:
         add(parser)
     parser.add_argument("cases", nargs="*", metavar="CASE|WORD", help="a case's name, or a part of names; all if none is given")
@@ -83,17 +84,23 @@ def arguments(doc, program=PROGRAM, more=()):
     return words
 
 
+def named(cases, word):
+    """The cases that a word names: by its whole name, by a group before a slash, or by a part of it."""
+    some = [it for it in cases if it.name == word] or [it for it in cases if it.name.startswith(f"{word}/")] or [it for it in cases if word in it.name]
+    if not some:
+        names = sorted({it.name.split("/")[0] for it in cases})
+        print(f"no case has '{word}' in its name. There are: {', '.join(names[:LISTED])}" + (" .." if len(names) > LISTED else ""), file=sys.stderr)
+        sys.exit(2)
+    return some
+
+
 def chosen(cases, words):
-    """The cases that the words name: by its whole name, by a group before a slash, or by a part of it."""
-    found = []
-    for word in words:
-        some = [it for it in cases if it.name == word] or [it for it in cases if it.name.startswith(f"{word}/")] or [it for it in cases if word in it.name]
-        if not some:
-            names = sorted({it.name.split("/")[0] for it in cases})
-            print(f"no case has '{word}' in its name. There are: {', '.join(names[:LISTED])}" + (" .." if len(names) > LISTED else ""), file=sys.stderr)
-            sys.exit(2)
-        found += [it for it in some if it not in found]
-    return found if words else cases
+    """The cases that the words name, all if they name none, but for those that are left out."""
+    names = {it.name for word in words.cases for it in named(cases, word)}
+    left_out = {it.name for word in words.leave_out for it in named(cases, word)}
+    if left_out:
+        print(f"left out: {len(left_out)} cases, of {', '.join(words.leave_out)}")
+    return [it for it in cases if (it.name in names or not words.cases) and it.name not in left_out]
 
 
 def need(words):
@@ -132,7 +139,7 @@ def run(words, cases):
     if words.list:
         show(it.name for it in cases)
         sys.exit(0)
-    cases = chosen(cases, words.cases)
+    cases = chosen(cases, words)
     need(words)
     started = time.monotonic()
     with ThreadPoolExecutor(max(words.jobs, 1)) as pool:

@@ -1,16 +1,19 @@
 //! A wire over UDP and IPv4.
 
-ghost use Rattle.std.specs.Prelude.{◌≡◌, IfOk, length};
+ghost use Rattle.std.specs.Prelude.{◌≡◌, IfOk, OnOk, length};
 ghost use Rattle.std.specs.IoError.{error_kind};
 ghost use Rattle.mon_udp.specs.Addr.{addr_in};
+ghost use Rattle.mon_udp.specs.Bound.{IsBound};
+ghost use Rattle.mon_udp.specs.Wait.{Begins};
 ghost use Rattle.mon_app.specs.AppFault.{of_socket, reason_of};
-ghost use Rattle.mon_app.specs.AtSocket.{IsHeardFrom};
+ghost use Rattle.mon_app.specs.AtSocket.{IsHeardFrom, IsHeardIn, free_port};
 ghost use Rattle.mon_app.specs.AtWire.{FitsRoom};
 
 use crate::fault::{AppFault, SocketFault};
 use crate::reason::SocketReason;
+use crate::sends::Sends;
 use crate::wire::{Heard, Wire};
-use mon_udp::{Addr, Socket, Waiting, failed_after};
+use mon_udp::{Addr, Binds, Receives, Socket, Ticks, Waiting, failed_after, open_at};
 use std::io;
 use std::net::{Net, SocketAddr};
 use std::rt::Clock;
@@ -27,14 +30,17 @@ const FREE: Addr = Addr {
 /// A wire to the agent at an address. Its socket is at a free port of any address and not
 /// connected, so if nobody listens at the agent's port the wait is over, and nothing failed.
 #[derive(Drop)]
-pub struct SocketWire<'a, R: Clock> {
+pub struct WireBy<'a, R: Ticks, S: Receives + Sends> {
     waiting: Waiting<'a, R>,
-    socket: Socket,
+    socket: S,
     agent: Addr,
     failures: u64,
 }
 
-impl<'a, R: Clock + Net> SocketWire<'a, R> {
+/// A wire by a socket of the operating system's.
+pub type SocketWire<'a, R> = WireBy<'a, R, Socket>;
+
+impl<'a, R: Clock + Net> WireBy<'a, R, Socket> {
     /// Opens a wire to the agent at this address.
     ///
     /// # Errors
@@ -43,9 +49,23 @@ impl<'a, R: Clock + Net> SocketWire<'a, R> {
         ensures agent { IfOk result (λ w. w.agent ≡ agent) }
         ensures failures { IfOk result (λ w. w.failures ≡ 0) }
     {
-        let socket = Socket::open(rt, FREE).map_err(socket_fault)?;
+        Self::open_by(rt, agent)
+    }
+}
+
+impl<'a, R: Ticks + Net, S: Binds + Receives + Sends> WireBy<'a, R, S> {
+    /// Opens a wire to the agent at this address, by a socket at a free port.
+    ///
+    /// # Errors
+    /// `SocketFault` if the system gives no socket, `OutOfMemory`.
+    pub fn open_by(rt: &'a R, agent: Addr) -> Result<Self, AppFault>
+        ensures bound { IfOk result (λ w. IsBound (S.bound w.socket) (S.stands w.socket) free_port) }
+        ensures agent { IfOk result (λ w. w.agent ≡ agent) }
+        ensures failures { IfOk result (λ w. w.failures ≡ 0) }
+    {
+        let socket = open_at(rt, FREE).map_err(socket_fault)?;
         let waiting = Waiting::new(rt).map_err(socket_fault)?;
-        Ok(SocketWire {
+        Ok(WireBy {
             waiting,
             socket,
             agent,
@@ -54,19 +74,28 @@ impl<'a, R: Clock + Net> SocketWire<'a, R> {
     }
 }
 
-impl<R: Clock> SocketWire<'_, R> {
+impl<R: Ticks, S: Receives + Sends> WireBy<'_, R, S> {
     /// Begins a wait, and sends.
     fn begin(&mut self, octets: &[u8]) -> Result<(), SocketFault>
-        ensures { self.new.failures ≡ self.old.failures }
+        ensures wait { OnOk result (Begins
+            (R.told self.old.waiting.rt.now self.old.waiting.timer.quiet) 2000 self.new.waiting.timer) }
+        ensures sent { OnOk result (S.sent self.old.socket octets.now self.old.agent) }
+        ensures rt { self.new.waiting.rt ≡ self.old.waiting.rt }
+        ensures socket { self.new.socket ≡ self.old.socket }
+        ensures agent { self.new.agent ≡ self.old.agent }
+        ensures failures { self.new.failures ≡ self.old.failures }
     {
         self.waiting.begin(WAIT).map_err(socket_failure)?;
         self.socket.send(octets, self.agent).map_err(socket_failure)
     }
 
     /// Receives something in the rest of the wait.
-    fn receive_in_wait(&mut self, room: &mut [u8]) -> Result<Heard, SocketFault>
-        ensures failures { self.new.failures ≡ self.old.failures }
+    fn receive_in_wait(&self, room: &mut [u8]) -> Result<Heard, SocketFault>
+        ensures heard { IfOk result (IsHeardIn
+            (R.told self.now.waiting.rt.now self.now.waiting.timer.quiet) (S.quiet self.now.socket)
+            (S.received self.now.socket) self.now.agent room.new self.now.waiting.timer) }
         ensures within { IfOk result (FitsRoom (length room.new)) }
+        ensures room { length room.new ≡ length room.old }
     {
         match self.waiting.receive(&self.socket, room) {
             Ok(Some((len, from))) => Ok(heard_from(self.agent, from, len, room.len())),
@@ -76,21 +105,43 @@ impl<R: Clock> SocketWire<'_, R> {
     }
 }
 
-impl<R: Clock> Wire for SocketWire<'_, R> {
+impl<R: Ticks, S: Receives + Sends> Wire for WireBy<'_, R, S> {
     ghost use Rattle.std.specs.Prelude.{None};
+    ghost use Rattle.mon_udp.specs.Counts.{failed_after};
 
     // What happens at a socket is not known.
     ghost told = { λ _. None };
 
     ghost failures = { λ w. w.failures };
 
-    fn send(&mut self, octets: &[u8]) -> Result<(), SocketFault> {
+    fn send(&mut self, octets: &[u8]) -> Result<(), SocketFault>
+        ensures failures { self.new.failures ≡ failed_after result self.old.failures }
+        // A wait of 2,000 ms begins at the time that the clock tells in this call.
+        ensures wait { OnOk result (Begins
+            (R.told self.old.waiting.rt.now self.old.waiting.timer.quiet) 2000 self.new.waiting.timer) }
+        // What is answered as sent was sent: these octets, to the agent's address.
+        ensures sent { OnOk result (S.sent self.old.socket octets.now self.old.agent) }
+        ensures rt { self.new.waiting.rt ≡ self.old.waiting.rt }
+        ensures socket { self.new.socket ≡ self.old.socket }
+        ensures agent { self.new.agent ≡ self.old.agent }
+    {
         let sent = self.begin(octets);
         self.failures = failed_after(self.failures, &sent);
         sent
     }
 
-    fn receive(&mut self, room: &mut [u8]) -> Result<Heard, SocketFault> {
+    fn receive(&mut self, room: &mut [u8]) -> Result<Heard, SocketFault>
+        ensures failures { self.new.failures ≡ failed_after result self.old.failures }
+        // A datagram is the system's and the agent's; the wire is quiet only if the wait is over.
+        ensures heard { IfOk result (IsHeardIn
+            (R.told self.old.waiting.rt.now self.old.waiting.timer.quiet) (S.quiet self.old.socket)
+            (S.received self.old.socket) self.old.agent room.new self.old.waiting.timer) }
+        ensures within { IfOk result (FitsRoom (length room.new)) }
+        ensures room { length room.new ≡ length room.old }
+        ensures waiting { self.new.waiting ≡ self.old.waiting }
+        ensures socket { self.new.socket ≡ self.old.socket }
+        ensures agent { self.new.agent ≡ self.old.agent }
+    {
         let heard = self.receive_in_wait(room);
         self.failures = failed_after(self.failures, &heard);
         heard

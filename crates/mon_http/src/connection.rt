@@ -26,6 +26,8 @@ const HEAD_CAPACITY: usize = 512;
 /// A connection.
 #[derive(Drop)]
 pub struct Connection {
+    /// What responses are allocated by.
+    alloc: Global,
     input: Vec<u8>,
     /// The number of octets within which no head ends.
     scanned: usize,
@@ -131,6 +133,7 @@ impl Connection {
         ensures { IfOk result (λ c. c ≡ start) }
     {
         Ok(Connection {
+            alloc,
             input: Vec::with_capacity(alloc, MAX_OCTETS)?,
             scanned: 0,
             is_blank: false,
@@ -193,12 +196,7 @@ impl Connection {
     ///
     /// # Errors
     /// `AllocError` if there is no memory for a refusal; nothing changes then.
-    pub fn step(
-        &mut self,
-        alloc: Global,
-        date: Option<HttpDate>,
-        names: &[String],
-    ) -> Result<Step, AllocError>
+    pub fn step(&mut self, date: Option<HttpDate>, names: &[String]) -> Result<Step, AllocError>
         requires open { self.old.closing ≡ false }
         requires sent { self.old.unsent ≡ [] }
         ensures done { IfOk result (λ step. IsStep (map string_bytes names.now) date self.old step self.new) }
@@ -209,32 +207,35 @@ impl Connection {
             None => Ok(Step::Wait),
             Some(Verdict::Asked(request)) => Ok(Step::Asked(request)),
             Some(Verdict::Refused(refusal)) => {
-                let text = refusal_response(alloc, date, refusal)?;
+                let text = refusal_response(self.alloc, date, refusal)?;
                 self.put(refusal.len, refusal.keep_alive, text);
                 Ok(Step::Refused)
             }
         }
     }
 
-    /// Answers the request at the front, with what its route is for.
+    /// Answers the request at the front, with what its route is for. It must be one that
+    /// [`Connection::step`] handed out by these names: one for another host is never answered.
     ///
     /// # Errors
     /// `AllocError` if there is no memory for the response; nothing changes then.
     pub fn answer(
         &mut self,
-        alloc: Global,
         date: Option<HttpDate>,
+        names: &[String],
         request: Request,
         answer: Answer<'_>,
     ) -> Result<(), AllocError>
         requires open { self.old.closing ≡ false }
         requires sent { self.old.unsent ≡ [] }
-        requires asked { (names : List (List ℕ)) × IsJudged names self.old.unread (Verdicts.Asked request) }
+        requires asked { IsJudged (map string_bytes names.now) self.old.unread (Verdicts.Asked request) }
         requires fits { IsTrue (fits request.route answer) }
         ensures answered { OnOk result (self.new ≡ with_reply date request (reply_of answer.entry) self.old) }
         ensures kept { OnErr result (self.new ≡ self.old) }
     {
-        let text = response(alloc, date, request, answer)?;
+        // They are only what the request was judged by: nothing is looked up in them again.
+        let _ = names;
+        let text = response(self.alloc, date, request, answer)?;
         self.put(request.len, request.keep_alive, text);
         Ok(())
     }

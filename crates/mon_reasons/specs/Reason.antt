@@ -62,7 +62,8 @@ abbrev pub or_else : Option Reason → Option Reason → Option Reason
 or_else (Some reason) other = Some reason
 or_else None other = other
 
--- why bindings give an instance no sample newer than this one: the first of its value, its indicator and the clock that says so
+-- why bindings give an instance no sample newer than this one: the first of its value, its
+-- indicator and the clock that says so
 abbrev pub reason_in : Watched → Option ℕ → List Binding → Option Reason
 reason_in watched newest bindings = option_and_then (λ v. or_else (value_reason v) (or_else (discontinuity_reason watched.discontinuity bindings) (clock_reason newest bindings)))
     (value_under watched.instance.name bindings)

@@ -1,7 +1,8 @@
 //! The newest datagrams of targets.
 
-ghost use Rattle.std.specs.Prelude.{◌≡◌, ◌∷◌, [], IfOk, OnErr, OnOk, option_map, take};
-ghost use Rattle.mon_reasons.specs.Latest.{message_in, message_with, other_engine, other_engine_in, reads_as};
+ghost use Rattle.std.specs.Prelude.{◌≡◌, ◌∷◌, [], IfOk, OnErr, OnOk, option_map};
+ghost use Rattle.mon_reasons.specs.Latest.{message_in, message_with, newest_of, other_engine, other_engine_in, reads_as};
+ghost use Rattle.mon_udp.specs.Counts.{failed_after};
 ghost use Rattle.mon_reasons.specs.Reason.{reason_of};
 
 use crate::reason::{Reason, has_value, other_than, reason_of};
@@ -9,12 +10,8 @@ use mon_ber::Octets;
 use mon_board::Watched;
 use mon_pdu::{Message, PduFault, read_message};
 use mon_sample::Sample;
-use mon_udp::Addr;
+use mon_udp::{Addr, failed_after};
 use std::alloc::{AllocError, Global};
-
-/// How many datagrams are kept: as many as a station has targets at most, each of which answers once
-/// in a round.
-const MOST: usize = 64;
 
 /// A datagram, and the address that it came from.
 #[derive(Drop)]
@@ -23,34 +20,51 @@ pub(crate) struct Datagram {
     pub(crate) octets: Octets,
 }
 
-/// The newest datagrams of targets, at most 64, the newest first.
+/// The newest datagrams of targets, the newest first.
 #[derive(Drop)]
 pub struct Latest {
     datagrams: Vec<Datagram>,
+    unkept: u64,
 }
 
 impl Latest {
     /// Returns no datagrams.
     pub fn new(alloc: Global) -> Self
-        ensures { result.datagrams.items ≡ [] }
+        ensures datagrams { result.datagrams.items ≡ [] }
+        ensures unkept { result.unkept ≡ 0 }
     {
         Latest {
             datagrams: Vec::new(alloc),
+            unkept: 0,
         }
     }
 
-    /// Keeps a datagram from this address as the newest one; of 64 the oldest is let go.
+    /// Returns how many datagrams were not kept since memory was refused, at most 2^64 - 1.
+    pub fn unkept(&self) -> u64
+        ensures { result ≡ self.now.unkept }
+    {
+        self.unkept
+    }
+
+    /// Keeps a datagram from this address as the newest one. Of this address at most `most` are
+    /// kept, and the older ones are let go; those of other addresses stay.
     ///
     /// # Errors
-    /// `AllocError` if memory is refused: then it is not kept.
-    pub fn keep(&mut self, alloc: Global, from: Addr, octets: &[u8]) -> Result<(), AllocError>
-        ensures kept { OnOk result (self.new.datagrams.items ≡ take 64 (record { from = from; octets = octets.now } ∷ self.old.datagrams.items)) }
+    /// `AllocError` if memory is refused: then it is not kept, which is counted.
+    pub fn keep(
+        &mut self,
+        alloc: Global,
+        from: Addr,
+        octets: &[u8],
+        most: usize,
+    ) -> Result<(), AllocError>
+        ensures kept { OnOk result (self.new.datagrams.items ≡ newest_of from most (record { from = from; octets = octets.now } ∷ self.old.datagrams.items)) }
         ensures refused { OnErr result (self.new.datagrams.items ≡ self.old.datagrams.items) }
+        ensures unkept { self.new.unkept ≡ failed_after result self.old.unkept }
     {
-        let octets = Octets::from_slice(alloc, octets)?;
-        self.datagrams.insert(0, Datagram { from, octets })?;
-        self.datagrams.truncate(MOST);
-        Ok(())
+        let kept = keep_newest(&mut self.datagrams, alloc, from, octets, most);
+        self.unkept = failed_after(self.unkept, &kept);
+        kept
     }
 
     /// Returns why the newest message from this address that has a value of the instance gave it no
@@ -72,7 +86,8 @@ impl Latest {
         Ok(reason_of(&message, watched, newest))
     }
 
-    /// Returns the engine id in the newest message from this address that has another one than this.
+    /// Returns the engine id in the newest message from this address that has another one than
+    /// this.
     ///
     /// # Errors
     /// `AllocError` if memory is refused.
@@ -85,6 +100,41 @@ impl Latest {
         ensures { IfOk result (λ r. r ≡ other_engine from engine.now self.now.datagrams.items) }
     {
         other_engine(alloc, self.datagrams.as_slice(), from, engine)
+    }
+}
+
+/// Keeps a datagram from this address as the first one, and of this address at most `most`.
+fn keep_newest(
+    datagrams: &mut Vec<Datagram>,
+    alloc: Global,
+    from: Addr,
+    octets: &[u8],
+    most: usize,
+) -> Result<(), AllocError>
+    ensures kept { OnOk result (datagrams.new.items ≡ newest_of from most (record { from = from; octets = octets.now } ∷ datagrams.old.items)) }
+    ensures refused { OnErr result (datagrams.new.items ≡ datagrams.old.items) }
+{
+    let octets = Octets::from_slice(alloc, octets)?;
+    datagrams.insert(0, Datagram { from, octets })?;
+    limit(datagrams, from, most);
+    Ok(())
+}
+
+/// Keeps of the datagrams from this address the first N, and all others.
+fn limit(datagrams: &mut Vec<Datagram>, from: Addr, most: usize)
+    ensures { datagrams.new.items ≡ newest_of from most datagrams.old.items }
+{
+    let mut left = most;
+    let mut place = 0;
+    while place < datagrams.len() {
+        if datagrams[place].from != from {
+            place += 1;
+        } else if left > 0 {
+            left -= 1;
+            place += 1;
+        } else {
+            let _ = datagrams.remove(place);
+        }
     }
 }
 
@@ -106,7 +156,8 @@ fn other_engine(
     }
 }
 
-/// Returns the engine id in the message of a datagram from this address, if it is another than this.
+/// Returns the engine id in the message of a datagram from this address, if it is another than
+/// this.
 fn other_engine_in(
     alloc: Global,
     datagram: &Datagram,

@@ -4,6 +4,7 @@
 #![tactic(auto)]
 
 mod latest;
+pub mod laws;
 mod reason;
 
 pub use latest::Latest;

@@ -26,7 +26,7 @@ module _ {X : Type 0} (f : X → X) (old : List X) where
         back = λ j d le. let ne : j ≢ i = (λ e. absurd (omega (arith, e))) in get_or-set_other new i j y d ne ∙ are.back j d (omega arith);
       }
 
-  -- the same of the element at i with any other default
+  -- one more is mapped, where the element at i is read with any default
   pub one_mapped_at : (new : List X) (i : ℕ) (d y : X) → AreMappedTo f old new i → i < length new → y ≡ f (get_or new i d) → AreMappedTo f old (set new i y) (i + 1)
   one_mapped_at new i d y are lt is = one_mapped new i (get_or new i d) y are lt (sym (get_or_default new i (get_or new i d) d lt)) is
 
@@ -47,7 +47,7 @@ numbered_more f xs i d lt =
 pub numbered_all : {X Y : Type 0} (f : ℕ → X → Y) (xs : List X) (n : ℕ) → length xs ≤ n → numbered f 0 (take n xs) ≡ numbered f 0 xs
 numbered_all f xs n le = ap (numbered f 0) (take_all n xs le)
 
--- the same of a function of the numbers alone
+-- one more element, of a function of the numbers only
 pub numbers_more : {X Y : Type 0} (g : ℕ → Y) (xs : List X) (i : ℕ) → i < length xs
     → numbered (λ n x. g n) 0 (take (i + 1) xs) ≡ numbered (λ n x. g n) 0 (take i xs) ++ g i ∷ []
 numbers_more g [] i lt = absurd (omega arith)

@@ -1,8 +1,11 @@
 mod Answered
+mod Few
 mod InPlace
+mod Lent
 mod Onward
 mod Notices
 mod Becoming
 mod Pushed
+mod Seldom
 mod Wholly
 mod Waited

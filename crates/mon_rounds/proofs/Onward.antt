@@ -318,7 +318,7 @@ settles room r more orderly = record {
     left_alike Resting more = refl
     left_alike Rested more = refl
 
--- the same, by the phase that was chosen
+-- a settled round is orderly, if its phase is equal to the settled one
 pub settles_as : (room : ℕ) (r : RoundState) (next : Phase) (more : Bool) → next ≡ settled_phase r.phase more → IsOrderly room r → IsOrderly room (record r { phase = next })
 settles_as room r next more is orderly = subst (λ p. IsOrderly room (record r { phase = p })) (sym is) (settles room r more orderly)
 
@@ -461,7 +461,7 @@ slot_next Over slot at = elim at [ ]
 slot_next Resting slot at = elim at [ ]
 slot_next Rested slot at = elim at [ ]
 
--- ---- the same, by the phase that was chosen
+-- ---- events after which the phase is equal to one that was chosen
 pub polled_then : (room now : ℕ) (r : RoundState) (t : ℕ) (w : Wait) (es : List RoundEvent) (next : Phase) → IsOrderly room r → r.phase ≡ Polling t → next ≡ Polling (t + 1)
     → t + 1 < length r.targets → es ≡ r.events ++ StartPoll t ∷ [] → now ≡ room → IsOrderly now (record r { phase = next; wait = w; events = es })
 polled_then room now r t w es next orderly at is lt more same =

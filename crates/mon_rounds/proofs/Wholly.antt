@@ -25,6 +25,7 @@ use Rattle.mon_rounds.proofs.Onward.{round_within}
 use Rattle.mon_rounds.specs.Reception.{EachLasts, HasWaits, Lasts, Reception, begins_in, begins_of}
 use Rattle.mon_udp.proofs.Promised.{extended_by_none, extended_on}
 use Rattle.mon_udp.specs.Told.{GoesOnBy, extended}
+use Rattle.mon_rounds.specs.Kept.{Kept}
 use Rattle.mon_rounds.specs.Whole.{GivesOn, HasRun, HasSame, IsWhole, IsWholeRest, IsWholeRound, RoundsView, view_of}
 use Rattle.mon_station.specs.declared.running.Run.{Run}
 use Rattle.mon_station.specs.declared.running.SourceFault.{SourceFault}
@@ -278,8 +279,8 @@ begins_round : (targets : List Addr) → is_rest (first_phase Round targets) ≡
 begins_round [] = refl
 begins_round (t ∷ targets) = refl
 
-module _ {X : Type 0} {G : Ghosts X} (old new : RoundState) (begins : RoundState) (heard now : Option (List Reception)) (before after : Seen RoundsView G) (run : Run)
-    (ran : Ran GivesOn before after 5000 run) (from : before.view ≡ view_of begins heard) (to : after.view ≡ view_of new now)
+module _ {X : Type 0} {G : Ghosts X} (old new : RoundState) (begins : RoundState) (heard now : Option (List Reception)) (first_kept last_kept : Kept) (before after : Seen RoundsView G) (run : Run)
+    (ran : Ran GivesOn before after 5000 run) (from : before.view ≡ view_of begins heard first_kept) (to : after.view ≡ view_of new now last_kept)
     (none : begins.events ≡ []) (few : turns_left begins ≤ 4704) (still : HasSame old begins) (order : AreSoFar (length new.targets) (new.tries - new.quiets) new.peers new.phase new.events) where
   abbrev given : List OwnedEvent
   given = events_of (turns_of ran.calls)

@@ -13,7 +13,8 @@ use Rattle.mon_rounds.specs.declared.receiver.Arrival.{Arrival}
 use Rattle.mon_rounds.specs.declared.receiver.Arrival.TheVariants.{Datagram, Quiet}
 use Rattle.mon_rounds.specs.Reached.{peer_address}
 
--- where what is sent to a target or a peer goes: the target's address by its number, the peer's by its station's
+-- where what is sent to a target or a peer goes: the target's address by its number, the peer's by
+-- its station's
 abbrev pub goes_to : Addresses → To → Option Addr
 goes_to a (Target number) = slice_get a.targets.items number
 goes_to a (Peer station) = peer_address a.peers.items a.peer_addresses.items station
@@ -28,8 +29,8 @@ abbrev pub IsArrival : List ℕ → ℕ → SocketAddr → Arrival → Type 0
 IsArrival room len from (Datagram address octets) = (addr_in from ≡ Some address) × (octets ≡ take len room)
 IsArrival room len from Quiet = ⊥
 
--- What is received in a wait: a datagram that the system put into this room while the wait was on, or
--- nothing if the wait is over.
+-- What is received in a wait: a datagram that the system put into this room while the wait was on,
+-- or nothing if the wait is over.
 abbrev pub IsGot : (Told : Instant → Type 0) (Silent : ℕ → Type 0) (Received : List ℕ → ℕ → SocketAddr → Type 0) → List ℕ → Timer → Arrival → Type 0
 IsGot Told Silent Received room t (Datagram address octets) =
     IsOn Told t × (len : ℕ) × (from : SocketAddr) × Received room len from × IsArrival room len from (Datagram address octets)

@@ -1,11 +1,12 @@
--- What is wrong with targets, peers and instances, and what changed in that: each change is said once.
+-- What is wrong with targets, peers and instances, and what changed in that: each change is said
+-- once.
 use Rattle.std.specs.Prelude.{ℕ, ◌+◌, ◌==◌, Bool, true, false, ◌||◌, nat_le, nat_lt, if◌then◌else◌, List, [], ◌∷◌, ◌++◌, Option, Some, None, get_or, map, slice_get}
 use Rattle.mon_poller.specs.declared.fault.ResponseFault.TheVariants as response
 use Rattle.mon_station.specs.declared.fault.StationFault.{StationFault}
 use Rattle.mon_station.specs.declared.fault.StationFault.TheVariants as fault
 use Rattle.mon_rounds.specs.declared.changes.Change.{Change}
 use Rattle.mon_rounds.specs.declared.changes.Trouble.{Trouble}
-use Rattle.mon_rounds.specs.declared.changes.Trouble.TheVariants.{SilentTarget, OtherEngine, SilentPeer, StaleInstance}
+use Rattle.mon_rounds.specs.declared.changes.Trouble.TheVariants.{SilentTarget, OtherEngine, SilentPeer, OffersOften, StaleInstance}
 use Rattle.mon_rounds.specs.declared.changes.Troubles.{Troubles}
 use Rattle.mon_rounds.specs.declared.freshness.Freshness.{Freshness}
 use Rattle.mon_rounds.specs.declared.freshness.InstanceAge.{InstanceAge}
@@ -17,15 +18,22 @@ pub record Told : Type 0 where
   pub silent_targets : List Bool
   pub other_engines : List Bool
   pub silent_peers : List Bool
+  pub often_peers : List Bool
   pub stale_instances : List Bool
 
 -- nothing is wrong
 abbrev pub no_troubles : Told
-no_troubles = record { silent_targets = []; other_engines = []; silent_peers = []; stale_instances = [] }
+no_troubles = record { silent_targets = []; other_engines = []; silent_peers = []; often_peers = []; stale_instances = [] }
 
 -- what was said
 abbrev pub told_by : Troubles → Told
-told_by t = record { silent_targets = t.silent_targets.items; other_engines = t.other_engines.items; silent_peers = t.silent_peers.items; stale_instances = t.stale_instances.items }
+told_by t = record {
+  silent_targets = t.silent_targets.items;
+  other_engines = t.other_engines.items;
+  silent_peers = t.silent_peers.items;
+  often_peers = t.often_peers.items;
+  stale_instances = t.stale_instances.items;
+}
 
 -- ---- what is wrong
 -- whether a target is silent: it did not answer in the last round
@@ -45,6 +53,11 @@ is_other t = is_of_another t.refusal
 abbrev pub is_lost : ℕ → PeerAge → Bool
 is_lost limit p = nat_le limit p.rounds
 
+-- whether a peer offers more often than once an interval: it did in the last three, one after
+-- another
+abbrev pub offers_often : PeerAge → Bool
+offers_often p = nat_le 3 p.often
+
 -- whether a target answered in the last round
 abbrev pub is_up : Option TargetAge → Bool
 is_up None = false
@@ -55,8 +68,9 @@ abbrev pub answers : List TargetAge → Option ℕ → Bool
 answers targets None = false
 answers targets (Some number) = is_up (slice_get targets number)
 
--- Whether an instance is stale, where this was said of instances before: not if it had a new sample in the last rounds, as many as the limit;
--- else from when the target that is polled for it answers.
+-- Whether an instance is stale, where this was said of instances before: not if it had a new sample
+-- in the last rounds, as many as the limit; else from when the target that is polled for it
+-- answers.
 abbrev pub is_stale : ℕ → List Bool → List TargetAge → InstanceAge → Bool
 is_stale limit said targets i = if nat_lt i.rounds limit then false else get_or said i.number false || answers targets i.target
 
@@ -66,6 +80,7 @@ troubles_after limit told f = record {
   silent_targets = map is_silent f.targets.items;
   other_engines = map is_other f.targets.items;
   silent_peers = map (is_lost limit) f.peers.items;
+  often_peers = map offers_often f.peers.items;
   stale_instances = map (is_stale limit told.stale_instances f.targets.items) f.instances.items;
 }
 
@@ -88,4 +103,5 @@ changes_between was is =
     changes_from SilentTarget 0 was.silent_targets is.silent_targets
     ++ changes_from OtherEngine 0 was.other_engines is.other_engines
     ++ changes_from SilentPeer 0 was.silent_peers is.silent_peers
+    ++ changes_from OffersOften 0 was.often_peers is.often_peers
     ++ changes_from StaleInstance 0 was.stale_instances is.stale_instances

@@ -1,5 +1,5 @@
 -- How long ago targets answered, peers sent something and instances had a new sample.
-use Rattle.std.specs.Prelude.{ℕ, ◌+◌, ◌-◌, ◌/◌, ◌^◌, ◌==◌, min, nat_lt, Bool, true, false, not, ◌||◌, if◌then◌else◌, List, [], ◌∷◌, Option, Some, None, filter, get_or, length, option_map, slice_get}
+use Rattle.std.specs.Prelude.{ℕ, ◌≤◌, ◌+◌, ◌-◌, ◌/◌, ◌^◌, ◌==◌, ◌&&◌, min, nat_lt, Bool, true, false, not, ◌||◌, if◌then◌else◌, List, [], ◌∷◌, Option, Some, None, filter, get_or, length, option_map, slice_get}
 use Rattle.std.specs.List.{fold}
 use Rattle.std.specs.Str.{bytes_eq}
 use Rattle.mon_sample.specs.Record.{octets_of}
@@ -39,7 +39,8 @@ age_after span false age = older span age
 abbrev pub new_target : ℕ → Addr → TargetAge
 new_target number address = record { number = number; address = address; up = false; rounds = 0; answered = 0; given_up = 0; refusal = None }
 
--- whether the last poll was answered: after a round, whether it was in that round; an answer may come later, in the time after it
+-- whether the last poll was answered: after a round, whether it was in that round; an answer may
+-- come later, in the time after it
 abbrev pub up_after : Span → Bool → Bool → Bool
 up_after Round answered up = answered
 up_after (Between milliseconds) answered up = answered || up
@@ -74,13 +75,15 @@ refusal_with address before (notice.NoMemory event) = before
 abbrev pub last_refusal : Addr → List Notice → Option StationFault
 last_refusal address notices = fold (refusal_with address) None notices
 
--- why a target's last response was refused: by the last refusal of this round; where that has none, an answer clears it
+-- why a target's last response was refused: by the last refusal of this round; where that has none,
+-- an answer clears it
 abbrev pub refusal_after : Bool → Option StationFault → Option StationFault → Option StationFault
 refusal_after answered (Some fault) before = Some fault
 refusal_after true None before = None
 refusal_after false None before = before
 
--- a target that answered or did not, after a round, or the time after it, that has these notices and ended at this time
+-- a target that answered or did not, after a round, or the time after it, that has these notices
+-- and ended at this time
 abbrev pub target_with : Span → Bool → List Notice → ℕ → TargetAge → TargetAge
 target_with span answered notices now t = record {
   number = t.number;
@@ -92,7 +95,8 @@ target_with span answered notices now t = record {
   refusal = refusal_after answered (last_refusal t.address notices) t.refusal;
 }
 
--- a target after a round, or the time after it, of which this is reported and that ended at this time
+-- a target after a round, or the time after it, of which this is reported and that ended at this
+-- time
 abbrev pub target_after : Span → RoundReport → ℕ → TargetAge → TargetAge
 target_after span report now t = target_with span (get_or report.answered.items t.number false) report.notices.items now t
 
@@ -103,11 +107,53 @@ seconds_since now t = (now - t.answered) / 1000
 -- ---- peers
 -- at the station's start: nothing came from the peer of this slot and station number
 abbrev pub new_peer : ℕ → ℕ → PeerAge
-new_peer slot station = record { slot = slot; station = station; rounds = 0 }
+new_peer slot station = record { slot = slot; station = station; rounds = 0; offers = 0; counted = false; often = 0 }
+
+-- a count after one more, at most 2^32 - 1; it stays where that is not counted
+abbrev pub count_on : ℕ → Bool → ℕ
+count_on count true = min (count + 1) (2 ^ 32 - 1)
+count_on count false = count
+
+-- how many times between two rounds, one after another, a peer sent more often than once, after one
+-- in which it sent in this many spells: one that has fewer than two begins the row anew
+abbrev pub row_after : ℕ → ℕ → ℕ
+row_after offers row = if nat_lt offers 2 then 0 else min (row + 1) (2 ^ 32 - 1)
+
+-- A peer from which something came or did not, after a round, or a spell of the time after it. A
+-- spell in which something came is counted, except directly after a counted one: what a peer offers
+-- at once may come in two. A round ends the time in which they are counted.
+abbrev pub peer_with : Span → Bool → PeerAge → PeerAge
+peer_with Round heard p = record {
+  slot = p.slot;
+  station = p.station;
+  rounds = age_after Round heard p.rounds;
+  offers = 0;
+  counted = false;
+  often = row_after p.offers p.often;
+}
+peer_with (Between milliseconds) heard p = record {
+  slot = p.slot;
+  station = p.station;
+  rounds = age_after (Between milliseconds) heard p.rounds;
+  offers = count_on p.offers (heard && not p.counted);
+  counted = heard && not p.counted;
+  often = p.often;
+}
 
 -- a peer after a round, or the time after it, of which this is reported
 abbrev pub peer_after : Span → RoundReport → PeerAge → PeerAge
-peer_after span report p = record { slot = p.slot; station = p.station; rounds = age_after span (get_or report.heard.items p.slot false) p.rounds }
+peer_after span report p = peer_with span (get_or report.heard.items p.slot false) p
+
+-- a peer after rounds and spells between them, in their order, in each of which something came from
+-- it or did not
+abbrev pub peer_over : List (Span × Bool) → PeerAge → PeerAge
+peer_over [] p = p
+peer_over ((span, heard) ∷ spells) p = peer_over spells (peer_with span heard p)
+
+-- in each time between two rounds at most one spell is counted of a peer
+abbrev pub IsSeldom : List (Span × Bool) → PeerAge → Type 0
+IsSeldom [] p = p.offers ≤ 1
+IsSeldom ((span, heard) ∷ spells) p = (p.offers ≤ 1) × IsSeldom spells (peer_with span heard p)
 
 -- ---- instances
 -- the newest of samples, the oldest of which is first
@@ -125,7 +171,8 @@ is_same None (Some t) = false
 is_same (Some s) None = false
 is_same (Some s) (Some t) = bytes_eq s t
 
--- at the station's start: the newest sample of the instance of this number is known, and no round went by without one
+-- at the station's start: the newest sample of the instance of this number is known, and no round
+-- went by without one
 abbrev pub new_instance : Board → ℕ → Option ℕ → InstanceAge
 new_instance b number target = record { number = number; target = target; newest = newest_on b number; rounds = 0 }
 

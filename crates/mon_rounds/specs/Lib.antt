@@ -6,6 +6,7 @@ pub mod Explained
 pub mod Freshness
 pub mod Given
 pub mod Grid
+pub mod Kept
 pub mod Next
 pub mod Noted
 pub mod Order

@@ -24,8 +24,8 @@ use Rattle.mon_station.specs.declared.running.SourceFault.{SourceFault}
 
 -- What is known of a round: where targets and peers are reached, how long a wait is and how often a
 -- poll is tried at most; its phase and the next wait, which is renewed if the last datagram was
--- taken; how many datagrams, quiet waits with timeouts, timeouts and failures it may still have; and
--- its events so far.
+-- taken; how many datagrams, quiet waits with timeouts, timeouts and failures it may still have;
+-- and its events so far.
 pub record RoundState : Type 0 where
   pub targets : List Addr
   pub peers : List ℕ
@@ -92,13 +92,7 @@ next_wait r last = cond (must_receive r) (Some (wait_due r.wait last)) None
 -- the wait after a datagram: between two rounds none is renewed
 abbrev pub wait_in : Phase → Wait
 wait_in Resting = Rest
-wait_in (Polling target) = Renew
-wait_in Hearing = Renew
-wait_in (TimingOut last) = Renew
-wait_in (Sharing slot) = Renew
-wait_in Listening = Renew
-wait_in Over = Renew
-wait_in Rested = Renew
+wait_in phase = Renew
 
 -- the event of a datagram from this address
 abbrev pub event_from : RoundState → Addr → RoundEvent
@@ -123,42 +117,26 @@ share_at (p ∷ peers) (suc slot) = share_at peers slot
 -- the request-id after which the next poll is timed out
 abbrev pub timed_out : Phase → ℕ
 timed_out (TimingOut last) = last
-timed_out (Polling target) = 0
-timed_out Hearing = 0
-timed_out (Sharing slot) = 0
-timed_out Listening = 0
-timed_out Over = 0
-timed_out Resting = 0
-timed_out Rested = 0
+timed_out phase = 0
 
--- whether there may be a timeout: after a quiet wait only if it may still have any, and then of each
--- open poll
+-- whether there may be a timeout: after a quiet wait only if it may still have any, and then of
+-- each open poll
 abbrev pub may_time_out : Phase → RoundState → Bool
 may_time_out (TimingOut last) r = nat_lt 0 r.timeouts
-may_time_out (Polling target) r = nat_lt 0 r.timeouts && nat_lt 0 r.quiets
-may_time_out Hearing r = nat_lt 0 r.timeouts && nat_lt 0 r.quiets
-may_time_out (Sharing slot) r = nat_lt 0 r.timeouts && nat_lt 0 r.quiets
-may_time_out Listening r = nat_lt 0 r.timeouts && nat_lt 0 r.quiets
-may_time_out Over r = nat_lt 0 r.timeouts && nat_lt 0 r.quiets
-may_time_out Resting r = nat_lt 0 r.timeouts && nat_lt 0 r.quiets
-may_time_out Rested r = nat_lt 0 r.timeouts && nat_lt 0 r.quiets
+may_time_out phase r = nat_lt 0 r.timeouts && nat_lt 0 r.quiets
 
 -- the phase, if a further poll is to be timed out; else the next wait follows
 abbrev pub settled_phase : Phase → Bool → Phase
 settled_phase (TimingOut last) more = cond more (TimingOut last) Hearing
-settled_phase (Polling target) more = Polling target
-settled_phase Hearing more = Hearing
-settled_phase (Sharing slot) more = Sharing slot
-settled_phase Listening more = Listening
-settled_phase Over more = Over
-settled_phase Resting more = Resting
-settled_phase Rested more = Rested
+settled_phase phase more = phase
 
--- a round that knows which open poll is timed out next, if one is: where none is, the next wait follows
+-- a round that knows which open poll is timed out next, if one is: where none is, the next wait
+-- follows
 abbrev pub settled : RoundState → Option ℕ → RoundState
 settled r more = record r { phase = settled_phase r.phase (is_some more && nat_lt 0 r.timeouts) }
 
--- a timeout of the next open poll, where one is open and there may be a timeout; else the first share
+-- a timeout of the next open poll, where one is open and there may be a timeout; else the first
+-- share
 abbrev pub after_polls : RoundState → Option ℕ → RoundEvent
 after_polls r None = share_at r.peers 0
 after_polls r (Some id) = cond (may_time_out r.phase r) (Timeout id) (share_at r.peers 0)
@@ -197,16 +175,11 @@ abbrev pub timeouts_after : ℕ → RoundEvent → ℕ
 timeouts_after n (Timeout id) = n - 1
 timeouts_after n e = n
 
--- how many quiet waits with timeouts there may be after an event: the first timeout after one uses it up
+-- how many quiet waits with timeouts there may be after an event: the first timeout after one uses
+-- it up
 abbrev pub quiets_left : Phase → ℕ → ℕ
 quiets_left (TimingOut last) n = n
-quiets_left (Polling target) n = n - 1
-quiets_left Hearing n = n - 1
-quiets_left (Sharing slot) n = n - 1
-quiets_left Listening n = n - 1
-quiets_left Over n = n - 1
-quiets_left Resting n = n - 1
-quiets_left Rested n = n - 1
+quiets_left phase n = n - 1
 
 -- how many waits that are quiet with open polls may still come after an event
 abbrev pub quiets_after : RoundState → RoundEvent → ℕ
@@ -245,7 +218,8 @@ LeadsTo r oldest None result new = Misses r result new
 LeadsTo r oldest (Some Quiet) result new = Proceeds r oldest result new
 LeadsTo r oldest (Some (Datagram from octets)) result new = HandsOn r from octets result new
 
--- A call for the next event, with these receptions: one in the wait that was due, or none where none was due.
+-- A call for the next event, with these receptions: one in the wait that was due, or none where
+-- none was due.
 abbrev pub Receives : RoundState → Option ℕ → Option Answer → List Reception → Result (Option OwnedEvent) SourceFault → RoundState → Type 0
 Receives r oldest last [] result new = (next_wait r last ≡ None) × Proceeds r oldest result new
 Receives r oldest last (one ∷ []) result new = (next_wait r last ≡ Some one.wait) × LeadsTo r oldest one.arrival result new

@@ -14,7 +14,8 @@ use Rattle.mon_station.specs.declared.running.Answer.{Answer}
 use Rattle.mon_station.specs.declared.running.Answer.TheVariants as answer
 use Rattle.mon_station.specs.declared.event.Event.TheVariants.{StartPoll, Timeout, FromAgent, FromPeer, Share, Save}
 
--- whether an event is a stranger's datagram: from an address that is no peer's and none of these targets'
+-- whether an event is a stranger's datagram: from an address that is no peer's and none of these
+-- targets'
 abbrev pub is_stranger : List Addr → RoundEvent → Bool
 is_stranger targets (FromAgent from none) = not (stands_in targets from)
 is_stranger targets (FromPeer from) = false

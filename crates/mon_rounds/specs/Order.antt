@@ -80,7 +80,8 @@ pub record HasPolled (targets most : ℕ) (events : List RoundEvent) : Type 0 wh
   pub each : AreHeardIn quiet heard
   pub are : events ≡ polls_of targets ++ heard
 
--- the same, where after the last of the quiet waits polls up to this one are timed out so far
+-- all targets are polled; then datagrams came, and timeouts after some quiet waits, after the last of
+-- which polls up to this one are timed out so far
 pub record HasTimedOut (targets most last : ℕ) (events : List RoundEvent) : Type 0 where
   pub quiet : ℕ
   pub few_quiet : quiet < most
@@ -102,8 +103,8 @@ pub record HasListened (targets most : ℕ) (peers : List ℕ) (events : List Ro
   pub each : All IsDatagram heard
   pub are : events ≡ before ++ heard
 
--- The events of a whole round: after that all was saved, and at most 4096 datagrams came. Polls were
--- timed out after at most so many quiet waits, each at most once after each of them.
+-- The events of a whole round: after that all was saved, and at most 4096 datagrams came. Polls
+-- were timed out after at most so many quiet waits, each at most once after each of them.
 pub record IsRound (targets most : ℕ) (peers : List ℕ) (events : List RoundEvent) : Type 0 where
   pub before : List RoundEvent
   pub listened : HasListened targets most peers before

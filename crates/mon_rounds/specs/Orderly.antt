@@ -37,8 +37,8 @@ abbrev pub first_wait : Span → ℕ → ℕ
 first_wait Round wait_ms = wait_ms
 first_wait (Between milliseconds) wait_ms = milliseconds
 
--- a round that begins, or the time between two: of 4096 datagrams, as many quiet waits with timeouts
--- as polls are tried, 512 timeouts and 16 failures at most
+-- a round that begins, or the time between two: of 4096 datagrams, as many quiet waits with
+-- timeouts as polls are tried, 512 timeouts and 16 failures at most
 abbrev pub begun : Span → RoundState → RoundState
 begun span r = record r { phase = first_phase span r.targets; wait = Begin (first_wait span r.wait_ms); datagrams = 4096; quiets = r.tries; timeouts = 512; failures = 16; events = [] }
 
@@ -49,8 +49,8 @@ most_waits Round r = 1 + (r.tries + listens_to r.peers)
 most_waits (Between milliseconds) r = 1
 
 -- what every round has, with capacity for this many events: its events are in the order of a round,
--- with as many quiet waits as are used up; it has at most 4096 datagrams and knows how many are left, and there is capacity for all events
--- that are still to come
+-- with as many quiet waits as are used up; it has at most 4096 datagrams and knows how many are
+-- left, and there is capacity for all events that are still to come
 pub record IsOrderly (room : ℕ) (r : RoundState) : Type 0 where
   pub order : AreSoFar (length r.targets) (r.tries - r.quiets) r.peers r.phase r.events
   pub quiets : r.quiets ≤ r.tries

@@ -9,7 +9,8 @@ use Rattle.mon_rounds.specs.Freshness.{numbered}
 abbrev pub polls : ℕ → Target → Bool
 polls instance t = list_any (λ o. o.instance == instance) t.objects
 
--- the number of the first target that is polled for the instance of this number, of targets with numbers from this one on
+-- the number of the first target that is polled for the instance of this number, of targets with
+-- numbers from this one on
 abbrev pub target_from : ℕ → ℕ → List Target → Option ℕ
 target_from instance n [] = None
 target_from instance n (t ∷ targets) = if polls instance t then Some n else target_from instance (n + 1) targets

@@ -7,7 +7,8 @@ use Rattle.mon_rounds.specs.declared.receiver.Arrival.{Arrival}
 use Rattle.mon_rounds.specs.declared.receiver.Wait.{Wait}
 use Rattle.mon_rounds.specs.declared.receiver.Wait.TheVariants.{Begin, Renew, Rest}
 
--- a call for the next datagram: the wait that it is part of, and what came; nothing where the call failed
+-- a call for the next datagram: the wait that it is part of, and what came; nothing where the call
+-- failed
 pub record Reception : Type 0 where
   pub wait : Wait
   pub arrival : Option Arrival
@@ -56,8 +57,8 @@ pub record Timed : Type 0 where
   pub from : ℕ
   pub to : ℕ
 
--- at what time a wait is over at the latest: four times its length after it began, where it began at
--- this time, or else as before
+-- at what time a wait is over at the latest: four times its length after it began, where it began
+-- at this time, or else as before
 abbrev pub end_of : Wait → (from end : ℕ) → ℕ
 end_of (Begin milliseconds) from end = from + 4 * (milliseconds * 1_000_000)
 end_of Renew from end = end

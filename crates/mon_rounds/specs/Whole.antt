@@ -9,6 +9,7 @@ use Rattle.mon_rounds.specs.declared.round.Phase.TheVariants.{Over, Rested}
 use Rattle.mon_rounds.specs.declared.round.Span.{Span}
 use Rattle.mon_rounds.specs.declared.round.Span.TheVariants.{Round, Between}
 use Rattle.mon_rounds.specs.Given.{AreGiven}
+use Rattle.mon_rounds.specs.Kept.{Kept, KeepsGiven}
 use Rattle.mon_rounds.specs.Next.{GivesNext, IsEnded, RoundState, TakesTurn, turns_left}
 use Rattle.mon_rounds.specs.Order.{IsDatagram, IsRound}
 use Rattle.mon_rounds.specs.Reception.{Reception}
@@ -17,21 +18,23 @@ use Rattle.mon_station.specs.declared.running.SourceFault.{SourceFault}
 use Rattle.mon_station.specs.Ran.{Ran, events_of, turns_of}
 use Rattle.mon_station.specs.Seen.{Seen}
 
--- what can be said of a station's rounds: the round, or the time between two, and what the receiver
--- got, if it states that
+-- what can be said of a station's rounds: the round, or the time between two; what the receiver
+-- got, if it states that; and the newest datagrams of targets
 pub record RoundsView : Type 0 where
   pub round : RoundState
   pub heard : Option (List Reception)
+  pub kept : Kept
 
--- rounds in this state, over a receiver that got this
-abbrev pub view_of : RoundState → Option (List Reception) → RoundsView
-view_of r heard = record { round = r; heard = heard }
+-- rounds in this state, over a receiver that got this, with these newest datagrams
+abbrev pub view_of : RoundState → Option (List Reception) → Kept → RoundsView
+view_of r heard kept = record { round = r; heard = heard; kept = kept }
 
--- A call for the next event returns what the round has next, by what the receiver got in it. Each
--- call but the last leaves fewer of them, and where nothing is given the round, or the time between
--- two, is over.
+-- A call for the next event returns what the round has next, by what the receiver got in it, and a
+-- target's datagram that it returns is kept. Each call but the last leaves fewer of them, and where
+-- nothing is given the round, or the time between two, is over.
 pub record GivesOn (before : RoundsView) (open_polls : Open) (last : Option Answer) (result : Result (Option OwnedEvent) SourceFault) (after : RoundsView) : Type 0 where
   pub step : GoesOnBy (λ log. GivesNext before.round open_polls last log result after.round) before.heard after.heard
+  pub kept : KeepsGiven before.round result before.kept after.kept
   pub turns : TakesTurn result (turns_left before.round) (turns_left after.round)
   pub ended : result ≡ Ok None → IsEnded after.round.phase
 
@@ -64,7 +67,8 @@ abbrev pub IsWhole : Span → RoundState → RoundState → List OwnedEvent → 
 IsWhole Round = IsWholeRound
 IsWhole (Between milliseconds) = IsWholeRest
 
--- a station was run, in at most 5000 calls for an event, and this holds of the events that it was given
+-- a station was run, in at most 5000 calls for an event, and this holds of the events that it was
+-- given
 pub record HasRun {X : Type 0} {G : Ghosts X} (Are : List OwnedEvent → Type 0) (before after : Seen RoundsView G) (run : Run) : Type 0 where
   pub ran : Ran GivesOn before after 5000 run
   pub are : Are (events_of (turns_of ran.calls))

@@ -3,6 +3,7 @@
 ghost use Rattle.std.specs.Prelude.{◌≡◌, ◌≤◌, ◌==◌, IfOk, length, map, slice_get};
 ghost use Rattle.std.specs.List.{position};
 ghost use Rattle.mon_rounds.specs.Reached.{peer_address};
+ghost use Rattle.mon_rounds.specs.Kept.{count_at};
 ghost use Rattle.mon_rounds.specs.Next.{stands_in};
 
 use mon_core::Core;
@@ -10,7 +11,8 @@ use mon_poller::Target;
 use mon_udp::Addr;
 use std::alloc::{AllocError, Global};
 
-/// Where a station's targets and peers are reached. Two targets, or two peers, may have one address.
+/// Where a station's targets and peers are reached. Two targets, or two peers, may have one
+/// address.
 pub struct Addresses {
     /// The targets' addresses. A target's number is its place.
     pub(crate) targets: Vec<Addr>,
@@ -34,7 +36,8 @@ impl Drop for Addresses {
 }
 
 impl Addresses {
-    /// Returns the addresses of a core's targets and, in the order of its peers, those of the peers.
+    /// Returns the addresses of a core's targets and, in the order of its peers, those of the
+    /// peers.
     pub fn of(alloc: Global, core: &Core, peers: &[Addr]) -> Result<Self, AllocError>
         ensures targets { IfOk result (λ a. a.targets.items ≡ map (λ t. t.address) core.now.targets) }
         ensures peers { IfOk result (λ a. a.peers.items ≡ core.now.peers) }
@@ -77,6 +80,17 @@ impl Addresses {
         ensures { result ≡ stands_in self.now.targets.items from }
     {
         stands_in(self.targets.as_slice(), from)
+    }
+
+    /// Returns how many targets have this address.
+    pub fn targets_at(&self, from: Addr) -> usize
+        ensures { result ≡ count_at self.now.targets.items from }
+    {
+        self.targets
+            .as_slice()
+            .iter()
+            .filter(|address| **address == from)
+            .count()
     }
 
     /// Returns `true` if a peer has this address.

@@ -1,12 +1,17 @@
-//! What is wrong with targets, peers and instances, and what changed in that, each change said once.
+//! What is wrong with targets, peers and instances, and what changed in that, each change said
+//! once.
 
 ghost use Rattle.std.specs.Prelude.{◌≡◌, ◌++◌, IfOk, OnErr, OnOk, [], false, get_or, map};
-ghost use Rattle.mon_rounds.specs.Changes.{answers, change_at, changes_between, changes_from, is_lost, is_other, is_silent, is_stale, no_troubles, told_by, troubles_after};
+ghost use Rattle.mon_rounds.specs.Changes.{answers, change_at, changes_between, changes_from, is_lost, is_other, is_silent, is_stale, no_troubles, offers_often, told_by, troubles_after};
 
 use crate::freshness::{Freshness, InstanceAge, PeerAge, TargetAge};
 use mon_poller::ResponseFault;
 use mon_station::StationFault;
 use std::alloc::{AllocError, Global};
+
+/// After how many times between two rounds, one after another, it is said that a peer offers more
+/// often than once in each.
+const IN_A_ROW: u32 = 3;
 
 /// What may be wrong.
 #[derive(Clone, Copy, Debug, PartialEq, Eq)]
@@ -17,7 +22,10 @@ pub enum Trouble {
     OtherEngine,
     /// Nothing came from a peer for some rounds.
     SilentPeer,
-    /// An instance had no new sample for some rounds, though the target that is polled for it answers.
+    /// A peer offered more often than once in each of the last three times between two rounds.
+    OffersOften,
+    /// An instance had no new sample for some rounds, though the target that is polled for it
+    /// answers.
     StaleInstance,
 }
 
@@ -36,6 +44,7 @@ pub struct Troubles {
     silent_targets: Vec<bool>,
     other_engines: Vec<bool>,
     silent_peers: Vec<bool>,
+    often_peers: Vec<bool>,
     stale_instances: Vec<bool>,
 }
 
@@ -46,6 +55,7 @@ impl Drop for Troubles {
             silent_targets: _,
             other_engines: _,
             silent_peers: _,
+            often_peers: _,
             stale_instances: _,
         } = self;
     }
@@ -60,12 +70,13 @@ impl Troubles {
             silent_targets: Vec::new(alloc),
             other_engines: Vec::new(alloc),
             silent_peers: Vec::new(alloc),
+            often_peers: Vec::new(alloc),
             stale_instances: Vec::new(alloc),
         }
     }
 
-    /// Returns what changed since the last call. A peer is silent, and an instance stale, after this
-    /// many rounds without a datagram or a new sample.
+    /// Returns what changed since the last call. A peer is silent, and an instance stale, after
+    /// this many rounds without a datagram or a new sample.
     ///
     /// # Errors
     /// `AllocError`: then the next call returns these changes too.
@@ -95,6 +106,7 @@ impl Troubles {
             silent_targets: silent_targets(alloc, targets)?,
             other_engines: other_engines(alloc, targets)?,
             silent_peers: silent_peers(alloc, peers, limit)?,
+            often_peers: often_peers(alloc, peers)?,
             stale_instances: stale_instances(alloc, freshness, said, limit)?,
         })
     }
@@ -113,6 +125,8 @@ impl Troubles {
         put_changes(&mut changes, Trouble::OtherEngine, was, is)?;
         let (was, is) = (self.silent_peers.as_slice(), now.silent_peers.as_slice());
         put_changes(&mut changes, Trouble::SilentPeer, was, is)?;
+        let (was, is) = (self.often_peers.as_slice(), now.often_peers.as_slice());
+        put_changes(&mut changes, Trouble::OffersOften, was, is)?;
         let (was, is) = (
             self.stale_instances.as_slice(),
             now.stale_instances.as_slice(),
@@ -208,6 +222,17 @@ fn silent_peers(alloc: Global, peers: &[PeerAge], limit: u32) -> Result<Vec<bool
         silent.push(peer.rounds >= limit)?;
     }
     Ok(silent)
+}
+
+/// Of each peer, whether it offers more often than once an interval.
+fn often_peers(alloc: Global, peers: &[PeerAge]) -> Result<Vec<bool>, AllocError>
+    ensures { IfOk result (λ v. v.items ≡ map offers_often peers.now) }
+{
+    let mut often = Vec::with_capacity(alloc, peers.len())?;
+    for peer in peers {
+        often.push(peer.often >= IN_A_ROW)?;
+    }
+    Ok(often)
 }
 
 /// Of each instance, whether it is stale, where this was said of them before.

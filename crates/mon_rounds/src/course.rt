@@ -66,8 +66,9 @@ impl Course {
         self.given_up = self.given_up.saturating_add(report.given_up);
     }
 
-    /// Returns what became of the board's alarms since the last call: each time that a sample raised or
-    /// cleared one, also a sample that is older than others, and the state now if these do not lead to it.
+    /// Returns what became of the board's alarms since the last call: each time that a sample
+    /// raised or cleared one, also a sample that is older than others, and the state now if these
+    /// do not lead to it.
     ///
     /// # Errors
     /// `AllocError`: then the next call returns these changes too.
@@ -111,7 +112,8 @@ pub fn is_due(round: u32, every: u32) -> bool
     every != 0 && round % every == 0
 }
 
-/// How many milliseconds are left of an interval of which this has passed, at most a minute of them.
+/// How many milliseconds are left of an interval of which this has passed, at most a minute of
+/// them.
 pub fn left_of(interval: Duration, passed: Duration) -> u32
     ensures { result ≡ milliseconds_left (as_nanos interval) (as_nanos passed) }
 {

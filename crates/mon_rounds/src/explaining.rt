@@ -9,8 +9,9 @@ use mon_reasons::{Latest, Reason};
 use mon_udp::Addr;
 use std::alloc::{AllocError, Global};
 
-/// Returns why the newest message of its target gave the instance of this number no sample newer than
-/// the one that the board has. Returns `None` if no such message is known, or no reason is in it.
+/// Returns why the newest message of its target gave the instance of this number no sample newer
+/// than the one that the board has. Returns `None` if no such message is known, or no reason is in
+/// it.
 ///
 /// # Errors
 /// `AllocError` if memory is refused.
@@ -34,7 +35,8 @@ pub fn explain_stale(
     latest.reason(alloc, from, watched, newest)
 }
 
-/// Returns the address of the target that is polled for the instance of this number, if there is one.
+/// Returns the address of the target that is polled for the instance of this number, if there is
+/// one.
 fn address_for(targets: &[TargetAge], instances: &[InstanceAge], number: usize) -> Option<Addr>
     ensures { result ≡ address_for targets.now (slice_get instances.now number) }
 {

@@ -2,7 +2,7 @@
 
 ghost use Rattle.std.specs.Prelude.{◌≡◌, ◌≤◌, IfOk, None, get_or, false, length, map};
 ghost use Rattle.mon_rounds.specs.Course.{counted_on};
-ghost use Rattle.mon_rounds.specs.Freshness.{age_after, gave_up_by, instance_after, instance_with, is_given_up_by, is_same, last_refusal, length_after, new_instance, new_instances, new_peer, new_target, newest_on, numbered, older, peer_after, refusal_after, refusal_with, seconds_since, target_after, target_with, up_after};
+ghost use Rattle.mon_rounds.specs.Freshness.{age_after, count_on, gave_up_by, instance_after, instance_with, is_given_up_by, is_same, last_refusal, length_after, new_instance, new_instances, new_peer, new_target, newest_on, numbered, older, peer_after, refusal_after, refusal_with, row_after, seconds_since, target_after, target_with, up_after};
 
 use crate::addresses::Addresses;
 use crate::reporting::{Notice, RoundReport};
@@ -11,6 +11,9 @@ use mon_board::Board;
 use mon_station::StationFault;
 use mon_udp::Addr;
 use std::alloc::{AllocError, Global};
+
+/// In how many spells between two rounds a peer sends at least if it offers more often than once.
+const OFTEN: u32 = 2;
 
 /// How long ago a target answered, and what became of its polls.
 #[derive(Clone, Copy, Debug)]
@@ -54,6 +57,14 @@ pub struct PeerAge {
     /// How many whole rounds went by since a datagram came from its address, or since the station's
     /// start; at most 2^32 - 1.
     pub rounds: u32,
+    /// In how many spells since the last round a datagram came from its address, without those that
+    /// directly follow one that is counted; at most 2^32 - 1.
+    pub offers: u32,
+    /// `true` if the last spell is counted in `offers`.
+    pub counted: bool,
+    /// How many of the last times between two rounds, one after another, had two or more such
+    /// spells; at most 2^32 - 1.
+    pub often: u32,
 }
 
 /// How long ago an instance had a new sample.
@@ -81,8 +92,8 @@ pub struct Spell {
     pub took: u64,
 }
 
-/// How long ago targets answered, peers sent something and instances had a new sample, and what went
-/// wrong.
+/// How long ago targets answered, peers sent something and instances had a new sample, and what
+/// went wrong.
 pub struct Freshness {
     targets: Vec<TargetAge>,
     peers: Vec<PeerAge>,
@@ -242,6 +253,9 @@ fn new_peer(slot: u16, station: u32) -> PeerAge
         slot,
         station,
         rounds: 0,
+        offers: 0,
+        counted: false,
+        often: 0,
     }
 }
 
@@ -455,10 +469,46 @@ fn peer_after(peer: PeerAge, span: Span, report: &RoundReport) -> PeerAge
     ensures { result ≡ peer_after span report.now peer }
 {
     let heard = is_heard(report, peer.slot);
-    PeerAge {
-        rounds: age_after(span, heard, peer.rounds),
-        ..peer
+    let rounds = age_after(span, heard, peer.rounds);
+    match span {
+        Span::Round => PeerAge {
+            rounds,
+            offers: 0,
+            counted: false,
+            often: row_after(peer.offers, peer.often),
+            ..peer
+        },
+        Span::Between(_) => {
+            let counted = heard && !peer.counted;
+            PeerAge {
+                rounds,
+                offers: count_on(peer.offers, counted),
+                counted,
+                ..peer
+            }
+        }
     }
+}
+
+/// Returns how many times between two rounds, one after another, a peer sent more often than once,
+/// after one in which it sent in this many spells.
+fn row_after(offers: u32, row: u32) -> u32
+    ensures { result ≡ row_after offers row }
+{
+    if offers < OFTEN {
+        return 0;
+    }
+    row.saturating_add(1)
+}
+
+/// Returns a count, of one more if that is counted.
+fn count_on(count: u32, counted: bool) -> u32
+    ensures { result ≡ count_on count counted }
+{
+    if counted {
+        return count.saturating_add(1);
+    }
+    count
 }
 
 /// Returns `true` if a datagram came from the peer of this slot.

@@ -1,5 +1,5 @@
-//! When a station's rounds begin: at a phase and whole intervals after it. So they do not drift, and
-//! stations whose clocks agree poll one after another.
+//! When a station's rounds begin: at a phase and whole intervals after it. So they do not drift,
+//! and stations whose clocks agree poll one after another.
 
 ghost use Rattle.std.specs.Prelude.{◌≡◌, ◌≤◌, ◌<◌, ◌+◌, ◌^◌, length};
 ghost use Rattle.std.specs.Duration.{as_nanos};

@@ -8,8 +8,8 @@ use mon_core::Core;
 use mon_poller::Target;
 use std::alloc::{AllocError, Global};
 
-/// Returns of each instance of the watch, in their order, the number of the target that is polled for
-/// it, from 0.
+/// Returns of each instance of the watch, in their order, the number of the target that is polled
+/// for it, from 0.
 pub fn polled_targets(alloc: Global, core: &Core) -> Result<Vec<Option<u16>>, AllocError>
     ensures { IfOk result (λ v. v.items ≡ polled_targets core.now) }
 {

@@ -88,8 +88,8 @@ fn refused(round: &Round, event: RoundEvent, fault: StationFault) -> Option<Noti
     }
 }
 
-/// Returns the notice of a refused datagram from this address, if it is a target's or responds to an
-/// open poll.
+/// Returns the notice of a refused datagram from this address, if it is a target's or responds to
+/// an open poll.
 fn bad_response(round: &Round, from: Addr, fault: StationFault) -> Option<Notice>
     ensures { result ≡ response_notice round.now.targets from fault }
 {

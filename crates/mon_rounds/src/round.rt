@@ -2,6 +2,7 @@
 
 ghost use Rattle.std.specs.Prelude.{◌≡◌, ◌≤◌, ◌<◌, ◌+◌, ◌-◌, [], None, Some, IfOk, IfSome, OnSome, length, option_map, slice_get, true};
 ghost use Rattle.mon_rounds.specs.Given.{with_octets};
+ghost use Rattle.mon_rounds.specs.Kept.{most_kept};
 ghost use Rattle.mon_rounds.specs.Orderly.{IsSaving, IsSharing, IsTiming, begun, unbegun};
 ghost use Rattle.mon_rounds.specs.Next.{after_datagram, after_event, after_failure, after_polls, event_from, is_hearing, is_taken, may_time_out, must_receive, next_event, next_wait, quiets_left, settled, settled_phase, share_at, slot_after, stands_in, timed_out, turns_left, wait_due, wait_in};
 ghost use Rattle.mon_rounds.specs.Order.{AreSoFar, datagrams_in};
@@ -134,8 +135,8 @@ impl Model for Round {
 }
 
 impl Round {
-    /// Between two rounds. A wait is over when it was quiet for this many milliseconds, and a poll is
-    /// tried at most so often.
+    /// Between two rounds. A wait is over when it was quiet for this many milliseconds, and a poll
+    /// is tried at most so often.
     pub(crate) fn new(
         alloc: Global,
         addresses: Addresses,
@@ -221,6 +222,18 @@ impl Round {
         self.addresses.is_target(from)
     }
 
+    /// Returns how many datagrams from this address are kept: as many as targets have it, and none
+    /// if a peer has it.
+    pub(crate) fn most_kept(&self, from: Addr) -> usize
+        ensures { result ≡ most_kept self.now from }
+    {
+        if self.addresses.is_peer(from) {
+            0
+        } else {
+            self.addresses.targets_at(from)
+        }
+    }
+
     /// Returns the request-id after which the next poll is timed out.
     pub(crate) fn timed_out(&self) -> u32
         ensures { result ≡ timed_out self.now.phase }
@@ -231,8 +244,8 @@ impl Round {
         }
     }
 
-    /// Ends the timeouts after a quiet wait if no further poll is open. It is given the request-id of
-    /// the next open poll.
+    /// Ends the timeouts after a quiet wait if no further poll is open. It is given the request-id
+    /// of the next open poll.
     pub(crate) fn settle(&mut self, more: Option<u32>)
         ensures state { self.new ≡ settled self.old more }
         ensures turns { turns_left self.new ≡ turns_left self.old }
@@ -434,7 +447,8 @@ fn is_hearing(phase: Phase) -> bool
     }
 }
 
-/// Returns the phase, by whether a further poll is to be timed out; if none is, the next wait follows.
+/// Returns the phase, by whether a further poll is to be timed out; if none is, the next wait
+/// follows.
 fn settled_phase(phase: Phase, more: bool) -> Phase
     ensures { result ≡ settled_phase phase more }
 {

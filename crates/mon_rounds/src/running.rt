@@ -1,6 +1,7 @@
 //! Running a station through a round, or the time between two.
 
 ghost use Rattle.std.specs.Prelude.{◌≡◌, ◌≤◌, IfErr, IsOk, OnErr, OnOk, vec_capacity};
+ghost use Rattle.mon_rounds.specs.Kept.{kept_in};
 ghost use Rattle.mon_rounds.specs.Orderly.{begun, first_wait, most_waits};
 ghost use Rattle.mon_rounds.specs.Reception.{HasWaits};
 ghost use Rattle.mon_udp.specs.Told.{GoesOnBy};
@@ -19,9 +20,9 @@ use std::alloc::Global;
 const TURNS: u64 = 5000;
 
 impl<R: Receiver + Drop> Rounds<R> {
-    /// Runs a station through a round or the time between two, and puts into `run` what was done, in
-    /// place of what it held. What was refused or failed is counted, and the run goes on. The time
-    /// between two rounds is cut short after 4096 datagrams or 16 receptions that failed.
+    /// Runs a station through a round or the time between two, and puts into `run` what was done,
+    /// in place of what it held. What was refused or failed is counted, and the run goes on. The
+    /// time between two rounds is cut short after 4096 datagrams or 16 receptions that failed.
     ///
     /// # Errors
     /// `OutOfMemory` if there is no memory for the answers, before anything is asked.
@@ -33,9 +34,10 @@ impl<R: Receiver + Drop> Rounds<R> {
         span: Span,
         run: &mut Run,
     ) -> Result<(), StationFault>
-        // The station was given the events of a whole round, or what came between two, and answered them so.
-        ensures ran { OnOk result (HasRun (IsWhole span self.old.round self.new.round) (seen station.old (view_of (begun span self.old.round) (R.heard self.old.receiver)) (O.handed outbox.old))
-            (seen station.new (view_of self.new.round (R.heard self.new.receiver)) (O.handed outbox.new)) run.new) }
+        // The station was given the events of a whole round, or what came between two, and answered
+        // them so.
+        ensures ran { OnOk result (HasRun (IsWhole span self.old.round self.new.round) (seen station.old (view_of (begun span self.old.round) (R.heard self.old.receiver) (kept_in self.old.latest)) (O.handed outbox.old))
+            (seen station.new (view_of self.new.round (R.heard self.new.receiver) (kept_in self.new.latest)) (O.handed outbox.new)) run.new) }
         // At most so many waits begin, each as long as a wait is, whatever comes.
         ensures waits { OnOk result (GoesOnBy (HasWaits (most_waits span self.old.round) (first_wait span self.old.round.wait_ms)) (R.heard self.old.receiver) (R.heard self.new.receiver)) }
         ensures refused { OnOk result (run.new.refused ≡ faults_in run.new.answers.items) }

@@ -1,8 +1,10 @@
 //! A station's events, from its rounds and a receiver.
 
-ghost use Rattle.std.specs.Prelude.{◌≡◌, ◌≤◌, ◌<◌, ◌-◌, IfOk, IfSome, Ok, None, Some, length, true};
+ghost use Rattle.std.specs.Prelude.{◌≡◌, ◌≤◌, ◌<◌, ◌-◌, [], IfOk, IfSome, Ok, None, Some, length, true};
+ghost use Rattle.std.specs.Borrow.{Lends, sem};
 ghost use Rattle.mon_udp.specs.Counts.{failed_after};
 ghost use Rattle.mon_udp.specs.Told.{GoesOnBy};
+ghost use Rattle.mon_rounds.specs.Kept.{AreFew, KeepsGiven, KeepsNewest, kept_in, most_kept};
 ghost use Rattle.mon_rounds.specs.Order.{AreSoFar};
 ghost use Rattle.mon_rounds.specs.Whole.{GivesOn, RoundsView, view_of};
 ghost use Rattle.mon_rounds.specs.Orderly.{begun, unbegun};
@@ -13,17 +15,19 @@ use crate::receiver::{Arrival, Receiver, Wait};
 use crate::round::{Round, Span};
 use mon_ber::Octets;
 use mon_poller::Poller;
-use mon_reasons::Latest;
+use mon_reasons::{Latest, laws};
 use mon_station::{Answer, OwnedEvent, Source, SourceFault};
 use mon_udp::Addr;
 use std::alloc::{AllocError, Global};
 
-/// A station's events: what a round has in its order, and what is received. Each call for the next event receives at most once.
+/// A station's events: what a round has in its order, and what is received. Each call for the next
+/// event receives at most once.
 pub struct Rounds<R: Receiver + Drop> {
     pub(crate) round: Round,
     pub(crate) receiver: R,
     alloc: Global,
     latest: Latest,
+    ghost few: { AreFew latest.datagrams.items round.targets },
 }
 
 // By hand: where one is let go, a proof has one call and not a drop of each field.
@@ -39,6 +43,8 @@ impl<R: Receiver + Drop> Drop for Rounds<R> {
 }
 
 impl<R: Receiver + Drop> Rounds<R> {
+    ghost use Rattle.mon_rounds.specs.contracts.source.Rounds.{the_row};
+
     /// Between two rounds: there is no event until one begins. A wait is over when it was quiet for
     /// this many milliseconds; `tries` is how often a poll is sent at most, over all targets.
     pub fn new(
@@ -50,6 +56,7 @@ impl<R: Receiver + Drop> Rounds<R> {
     ) -> Result<Self, AllocError>
         ensures round { IfOk result (λ r. r.round ≡ unbegun addresses.targets.items addresses.peers.items addresses.peer_addresses.items wait_ms tries) }
         ensures receiver { IfOk result (λ r. r.receiver ≡ receiver) }
+        ensures latest { IfOk result (λ r. r.latest.datagrams.items ≡ []) }
     {
         Ok(Rounds {
             round: Round::new(alloc, addresses, wait_ms, tries)?,
@@ -74,9 +81,11 @@ impl<R: Receiver + Drop> Rounds<R> {
         let _ = self.round.events();
     }
 
-    /// Returns the newest datagrams of targets. One for which memory was refused is not among them.
+    /// Returns the newest datagrams of targets: of each address as many as there are targets at it.
+    /// One for which memory was refused is not among them.
     pub fn latest(&self) -> &Latest
-        ensures { result.now ≡ self.now.latest }
+        ensures latest { result.now ≡ self.now.latest }
+        ensures few { length result.now.datagrams.items ≤ length self.now.round.targets }
     {
         &self.latest
     }
@@ -91,6 +100,8 @@ impl<R: Receiver + Drop> Rounds<R> {
     /// The receiver, to be changed between two receptions.
     pub fn receiver_mut(&mut self) -> &mut R
         ensures value { result.now ≡ self.old.receiver }
+        // All else stays, and the receiver is then what was left behind the result.
+        ensures* writes_back { sem 𝓛 (Lends (the_row R.row R.Receiver) R.row self.entry result (λ w. record self.old { receiver = w })) }
     {
         &mut self.receiver
     }
@@ -99,6 +110,7 @@ impl<R: Receiver + Drop> Rounds<R> {
     pub fn begin(&mut self, span: Span)
         ensures round { self.new.round ≡ begun span self.old.round }
         ensures receiver { self.new.receiver ≡ self.old.receiver }
+        ensures latest { self.new.latest ≡ self.old.latest }
         // It is over after at most this many calls for an event.
         ensures turns { turns_left self.new.round ≤ 4704 }
     {
@@ -113,6 +125,7 @@ impl<R: Receiver + Drop> Rounds<R> {
     ) -> Result<Option<OwnedEvent>, SourceFault>
         ensures step { GoesOnBy (λ log. GivesNext self.old.round polls.now.polls.open_polls last log result self.new.round) (R.heard self.old.receiver) (R.heard self.new.receiver) }
         ensures failures { R.failures self.new.receiver ≡ failed_after result (R.failures self.old.receiver) }
+        ensures latest { KeepsGiven self.old.round result (kept_in self.old.latest) (kept_in self.new.latest) }
         ensures ended { result ≡ Ok None → IsEnded self.new.round.phase }
         ensures turns { TakesTurn result (turns_left self.old.round) (turns_left self.new.round) }
     {
@@ -131,6 +144,7 @@ impl<R: Receiver + Drop> Rounds<R> {
         requires later { IfSome oldest (λ id. timed_out self.old.round.phase < id) }
         ensures step { GoesOnBy (λ log. Receives self.old.round oldest last log result self.new.round) (R.heard self.old.receiver) (R.heard self.new.receiver) }
         ensures failures { R.failures self.new.receiver ≡ failed_after result (R.failures self.old.receiver) }
+        ensures latest { KeepsGiven self.old.round result (kept_in self.old.latest) (kept_in self.new.latest) }
         ensures ended { result ≡ Ok None → IsEnded self.new.round.phase }
         ensures turns { TakesTurn result (turns_left self.old.round) (turns_left self.new.round) }
     {
@@ -152,6 +166,7 @@ impl<R: Receiver + Drop> Rounds<R> {
         requires later { IfSome oldest (λ id. timed_out self.old.round.phase < id) }
         ensures step { GoesOnBy (λ log. Receives self.old.round oldest last log result self.new.round) (R.heard self.old.receiver) (R.heard self.new.receiver) }
         ensures failures { R.failures self.new.receiver ≡ failed_after result (R.failures self.old.receiver) }
+        ensures latest { KeepsGiven self.old.round result (kept_in self.old.latest) (kept_in self.new.latest) }
         ensures ended { result ≡ Ok None → IsEnded self.new.round.phase }
         ensures turns { TakesTurn result (turns_left self.old.round) (turns_left self.new.round) }
     {
@@ -170,22 +185,27 @@ impl<R: Receiver + Drop> Rounds<R> {
 }
 
 impl<R: Receiver + Drop> Rounds<R> {
-    /// Keeps a datagram if it comes from a target. If memory is refused it is not kept.
+    /// Keeps a datagram as the newest one if targets have its address and no peer has: of its
+    /// address as many are kept as there are targets at it. If memory is refused it is not kept,
+    /// which is counted.
     fn keep_latest(&mut self, from: Addr, octets: &Octets)
         ensures round { self.new.round ≡ self.old.round }
         ensures receiver { self.new.receiver ≡ self.old.receiver }
+        ensures latest { KeepsNewest (most_kept self.old.round from) (record { from = from; octets = octets.now }) (kept_in self.old.latest) (kept_in self.new.latest) }
     {
-        if self.round.is_target(from) {
-            let _ = self.latest.keep(self.alloc, from, octets.as_slice());
+        laws::newest_stay();
+        let most = self.round.most_kept(from);
+        if most > 0 {
+            let _ = self.latest.keep(self.alloc, from, octets.as_slice(), most);
         }
     }
 }
 
 impl<R: Receiver + Drop> Source for Rounds<R> {
-    // The round, and what its receiver got, if it states that.
+    // The round, what its receiver got, if it states that, and the newest datagrams of targets.
     ghost View = { RoundsView };
 
-    ghost view = { λ s. view_of s.round (R.heard s.receiver) };
+    ghost view = { λ s. view_of s.round (R.heard s.receiver) (kept_in s.latest) };
 
     ghost gives = { GivesOn };
 

@@ -19,9 +19,9 @@ abbrev pub column_name : Column → List ℕ
 column_name (If c) = if_entry ++ c ∷ []
 column_name (IfX c) = if_x_entry ++ c ∷ []
 
--- ifDescr, ifType, ifOperStatus, the counters of ifTable; ifName, those of ifXTable, ifHighSpeed, ifAlias and ifCounterDiscontinuityTime
+-- ifDescr, ifType, ifSpeed, ifOperStatus, the counters of ifTable; ifName, those of ifXTable, ifHighSpeed, ifAlias and ifCounterDiscontinuityTime
 abbrev pub columns : List Column
-columns = If 2 ∷ If 3 ∷ If 8 ∷ If 10 ∷ If 11 ∷ If 13 ∷ If 14 ∷ If 16 ∷ If 17 ∷ If 19 ∷ If 20
+columns = If 2 ∷ If 3 ∷ If 5 ∷ If 8 ∷ If 10 ∷ If 11 ∷ If 13 ∷ If 14 ∷ If 16 ∷ If 17 ∷ If 19 ∷ If 20
     ∷ IfX 1 ∷ IfX 2 ∷ IfX 3 ∷ IfX 4 ∷ IfX 5 ∷ IfX 6 ∷ IfX 7 ∷ IfX 8 ∷ IfX 9 ∷ IfX 10 ∷ IfX 11 ∷ IfX 12 ∷ IfX 13 ∷ IfX 15 ∷ IfX 18 ∷ IfX 19 ∷ []
 
 -- the name of a cell: its entry, its column and its index

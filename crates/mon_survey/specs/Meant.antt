@@ -28,7 +28,7 @@ use Rattle.mon_survey.specs.declared.fault.SurveyFault.TheVariants as fault
 use Rattle.mon_survey.specs.declared.options.Options.{Options}
 use Rattle.mon_survey.specs.declared.options.Peer.{Peer}
 use Rattle.mon_survey.specs.declared.planning.Thresholds.{Thresholds}
-use Rattle.mon_survey.specs.Answers.{is_marked, number_in, value_at}
+use Rattle.mon_survey.specs.Answers.{is_marked, speed_in}
 use Rattle.mon_survey.specs.Column.{cell_name, spot_of}
 use Rattle.mon_survey.specs.Counter.{column_of}
 use Rattle.mon_survey.specs.Plan.{planned_of, thresholds_at}
@@ -61,7 +61,7 @@ is_own engine w = bytes_eq w.instance.engine engine
 
 -- the thresholds of a cell
 abbrev pub at_cell : List Cell → ℕ → Spot → Option Thresholds
-at_cell cells percent (spot.Cell column index) = if is_octets column then thresholds_at (number_in (value_at cells (IfX 15) index) * percent) else None
+at_cell cells percent (spot.Cell column index) = if is_octets column then thresholds_at (speed_in cells index * percent) else None
 at_cell cells percent spot.Ragged = None
 at_cell cells percent spot.Elsewhere = None
 

@@ -1,5 +1,5 @@
 -- Which counters of an agent a station polls.
-use Rattle.std.specs.Prelude.{ℕ, ◌*◌, ◌==◌, nat_eq, nat_le, Bool, true, false, not, ◌&&◌, ◌||◌, List, [], ◌∷◌, length, take, drop, Option, Some, None, option_map, Result, Ok, Err, if◌then◌else◌}
+use Rattle.std.specs.Prelude.{ℕ, ◌*◌, ◌/◌, ◌==◌, nat_eq, nat_le, nat_lt, Bool, true, false, not, ◌&&◌, ◌||◌, List, [], ◌∷◌, length, take, drop, Option, Some, None, option_map, Result, Ok, Err, if◌then◌else◌}
 use Rattle.std.specs.List.{flat_map, list_all, starts_with}
 use Rattle.std.specs.Option.{option_to_list}
 use Rattle.mon_survey.specs.declared.answers.Cell.{Cell}
@@ -14,7 +14,7 @@ use Rattle.mon_survey.specs.declared.counter.Planned.{Planned}
 use Rattle.mon_survey.specs.declared.fault.SurveyFault.{SurveyFault}
 use Rattle.mon_survey.specs.declared.fault.SurveyFault.TheVariants.{NoCounter, TooMany}
 use Rattle.mon_survey.specs.declared.planning.Thresholds.{Thresholds}
-use Rattle.mon_survey.specs.Answers.{is_counter32, is_counter64, is_descr, is_up, name_in, number_in, octets_of, value_at}
+use Rattle.mon_survey.specs.Answers.{is_counter32, is_counter64, is_descr, is_up, name_in, octets_of, speed_in, value_at}
 use Rattle.mon_survey.specs.Counter.{column_of, every, kind_of}
 
 -- whether counters of a kind are polled
@@ -86,12 +86,13 @@ group_of (Some g) ps = take 256 (drop (256 * g) ps)
 abbrev pub planned_of : Choice → List Cell → Result (List Planned) SurveyFault
 planned_of choice cells = limited (group_of choice.group (counters_of choice cells))
 
--- The thresholds at N times 10,000 bits a second, none at 0. They are in
--- thousandths of an octet a second: 10,000 bits are 1,250 octets, and the falling one is nine tenths of the rising one.
+-- The thresholds at N hundredths of a bit a second. They are in thousandths of an octet a second: 100
+-- hundredths of a bit are 125 of them, and the falling one is nine tenths of the rising one. Below 4
+-- there are none, since the two would be equal.
 abbrev pub thresholds_at : ℕ → Option Thresholds
-thresholds_at part = if part == 0 then None else Some (record { rising = part * 1250000; falling = part * 1125000 })
+thresholds_at part = if nat_lt part 4 then None else Some (record { rising = part * 5 / 4; falling = part * 9 / 8 })
 
--- the thresholds at a percentage of an interface's ifHighSpeed, for a counter of octets
+-- the thresholds at a percentage of an interface's speed, for a counter of octets
 abbrev pub for_kind : Kind → ℕ → Option Thresholds
 for_kind Octets part = thresholds_at part
 for_kind Packets part = None
@@ -100,4 +101,4 @@ for_kind Discards part = None
 
 -- the thresholds of a counter of an interface
 abbrev pub thresholds_of : List Cell → ℕ → Counter → ℕ → Option Thresholds
-thresholds_of cells percent counter index = for_kind (kind_of counter) (number_in (value_at cells (IfX 15) index) * percent)
+thresholds_of cells percent counter index = for_kind (kind_of counter) (speed_in cells index * percent)

@@ -1,7 +1,7 @@
 //! What an agent answered of its interfaces.
 
-ghost use Rattle.std.specs.Prelude.{◌≡◌, ◌⊎◌, ◌<◌, ◌↔◌, [], Err, Ok, IfErr, IfOk, IfSome, IfNone, IsTrue, OnErr, option_copied, Contains};
-ghost use Rattle.mon_survey.specs.Answers.{IsPlaceOf, IsRising, cell_at, count_of, is_after, is_counter32, is_counter64, is_marked, is_up, keys_of, name_in, number_in, octets_of, taken, type_in, value_at, with_cell};
+ghost use Rattle.std.specs.Prelude.{◌≡◌, ◌⊎◌, ◌≤◌, ◌<◌, ◌↔◌, [], Err, Ok, IfErr, IfOk, IfSome, IfNone, IsTrue, OnErr, option_copied, Contains};
+ghost use Rattle.mon_survey.specs.Answers.{IsPlaceOf, IsRising, cell_at, count_of, is_after, is_counter32, is_counter64, is_marked, is_up, keys_of, name_in, number_in, octets_of, speed_in, speed_of, taken, type_in, value_at, with_cell};
 ghost use Rattle.mon_survey.specs.Column.{key_of};
 
 use crate::column::{Column, Spot};
@@ -147,12 +147,28 @@ impl Answers {
         matches!(self.value(Column::If(8), index), Some(Value::Integer(1)))
     }
 
-    /// The interface's ifHighSpeed, in units of 1,000,000 bits a second; 0 if it is absent.
-    pub fn speed(&self, index: u32) -> u32
+    /// Returns the interface's ifHighSpeed, in units of 1,000,000 bits a second; 0 if it is absent.
+    pub fn high_speed(&self, index: u32) -> u32
         ensures { result ≡ number_in (value_at self.now (Column.IfX 15) index) }
     {
-        match self.value(Column::IfX(15), index) {
-            Some(Value::Gauge32(speed)) => *speed,
+        self.gauge(Column::IfX(15), index)
+    }
+
+    /// Returns the interface's speed in bits a second: by ifHighSpeed, or by ifSpeed if ifHighSpeed
+    /// is 0 or absent. 0 if neither says it: an ifSpeed of 4,294,967,295 says nothing.
+    pub fn speed(&self, index: u32) -> u64
+        ensures speed { result ≡ speed_in self.now index }
+        ensures range { result ≤ 4_294_967_295_000_000 }
+    {
+        speed_of(self.high_speed(index), self.gauge(Column::If(5), index))
+    }
+
+    /// Returns the number of a cell that holds a gauge; 0 if it holds none.
+    fn gauge(&self, column: Column, index: u32) -> u32
+        ensures { result ≡ number_in (value_at self.now column index) }
+    {
+        match self.value(column, index) {
+            Some(Value::Gauge32(number)) => *number,
             _ => 0,
         }
     }
@@ -202,6 +218,20 @@ impl Answers {
             Some(Value::Octets(octets)) => octets.as_slice(),
             _ => &[],
         }
+    }
+}
+
+/// Returns the speed in bits a second that an ifHighSpeed and an ifSpeed say; 0 if they say none.
+fn speed_of(millions: u32, plain: u32) -> u64
+    ensures speed { result ≡ speed_of millions plain }
+    ensures range { result ≤ 4_294_967_295_000_000 }
+{
+    if millions > 0 {
+        u64::from(millions) * 1_000_000
+    } else if plain < u32::MAX {
+        u64::from(plain)
+    } else {
+        0
     }
 }
 

@@ -68,12 +68,13 @@ impl Column {
 }
 
 /// Returns the columns that a plan looks at, in the order of their names.
-pub fn columns() -> [Column; 27]
+pub fn columns() -> [Column; 28]
     ensures { result ≡ columns }
 {
     [
         Column::If(2),
         Column::If(3),
+        Column::If(5),
         Column::If(8),
         Column::If(10),
         Column::If(11),

@@ -1,10 +1,10 @@
 //! Which counters of an agent a station polls.
 
-ghost use Rattle.std.specs.Prelude.{◌≡◌, ◌⊎◌, ◌≤◌, ◌*◌, ◌++◌, Err, Ok, IfErr, IfOk, OnOk, drop, take};
+ghost use Rattle.std.specs.Prelude.{◌≡◌, ◌⊎◌, ◌≤◌, ◌<◌, ◌*◌, ◌++◌, Err, Ok, IfErr, IfOk, IfSome, OnOk, drop, take};
 ghost use Rattle.std.specs.List.{flat_map};
 ghost use Rattle.std.specs.Option.{option_to_list};
 ghost use Rattle.mon_survey.specs.Plan.{counters_from, counters_of, interface_counters, limited, planned_by, group_of, planned_of, thresholds_at, thresholds_of, width_of};
-ghost use Rattle.mon_survey.specs.Answers.{number_in, value_at};
+ghost use Rattle.mon_survey.specs.Answers.{speed_in};
 
 use crate::answers::{Answers, Cell};
 use crate::choice::Choice;
@@ -205,23 +205,25 @@ pub struct Thresholds {
     pub falling: u64,
 }
 
-/// The thresholds at this percentage of an interface's speed; none where one of the two is 0.
+/// The thresholds at this percentage of an interface's speed; none where the speed is unknown, one of
+/// the two is 0, or they are so small that the falling threshold would not be below the rising one.
 pub(crate) fn thresholds_at(answers: &Answers, percent: u8, index: u32) -> Option<Thresholds>
     requires { percent ≤ 100 }
-    ensures { result ≡ thresholds_at (number_in (value_at answers.now (Column.IfX 15) index) * percent) }
+    ensures value { result ≡ thresholds_at (speed_in answers.now index * percent) }
+    ensures apart { IfSome result (λ at. at.falling < at.rising) }
 {
-    let part = u64::from(answers.speed(index)) * u64::from(percent);
-    if part == 0 {
+    let part = answers.speed(index) * u64::from(percent);
+    if part < 4 {
         return None;
     }
     Some(Thresholds {
-        rising: part * 1250000,
-        falling: part * 1125000,
+        rising: part * 5 / 4,
+        falling: part * 9 / 8,
     })
 }
 
 /// Returns the thresholds at this percentage of the interface's speed; none for a counter that is
-/// not of octets, and none where the speed or the percentage is 0.
+/// not of octets, and none where the speed is unknown or the percentage is 0.
 pub fn thresholds_of(
     answers: &Answers,
     percent: u8,

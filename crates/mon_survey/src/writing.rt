@@ -143,7 +143,7 @@ fn put_comment(text: &mut String, answers: &Answers, one: Planned) -> Result<(),
 {
     let label = one.label();
     let index = one.index;
-    let speed = answers.speed(index);
+    let speed = answers.high_speed(index);
     write!(text, " # {label}.{index}: ")?;
     put_names(text, answers, index)?;
     put_type(text, answers, index)?;

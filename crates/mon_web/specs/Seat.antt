@@ -1,9 +1,11 @@
 -- The places for connections: who is late, and whose place a newcomer gets.
-use Rattle.std.specs.Prelude.{◌≡◌, ℕ, ◌+◌, ◌-◌, ◌≤◌, ◌⊎◌, Bool, true, false, List, Option, Some, None, All, length, slice_get, nat_le, if◌then◌else◌}
+use Rattle.std.specs.Prelude.{◌≡◌, ℕ, ◌+◌, ◌-◌, ◌≤◌, ◌⊎◌, Bool, true, false, List, Option, Some, None, All, length, slice_get, slice_set, ◌==◌, nat_le, if◌then◌else◌}
 use Rattle.std.specs.List.{list_all, position}
 use Rattle.mon_web.specs.declared.seat.Seat.{Seat}
 use Rattle.mon_web.specs.declared.seat.Stage.{Stage}
 use Rattle.mon_web.specs.declared.seat.Stage.TheVariants.{Free, Asking, Idle, Sending, Closing}
+use Rattle.mon_web.specs.declared.client.Turn.{Turn}
+use Rattle.mon_web.specs.declared.client.Turn.TheVariants.{Waits, GoesOn, Begins, Ends}
 
 -- how long a client may stay in a stage, in milliseconds
 abbrev pub limit_of : Stage → Option ℕ
@@ -60,6 +62,55 @@ NoneFits now seats = (position (λ seat. is_free seat.stage) seats ≡ None) × 
 -- a place without a client
 abbrev pub free_seat : Seat
 free_seat = record { stage = Free; since = 0; is_ready = false }
+
+-- the place of a client whose stage begins now
+abbrev pub seat_in : Stage → ℕ → Seat
+seat_in stage now = record { stage = stage; since = now; is_ready = true }
+
+-- the places where this one is marked, if it is there: something may be done for its client at
+-- once, or not
+abbrev pub mark_at : Option Seat → ℕ → Bool → List Seat → List Seat
+mark_at None place ready seats = seats
+mark_at (Some seat) place ready seats = slice_set seats place (record seat { is_ready = ready })
+
+-- the places where this one is marked
+abbrev pub marked : ℕ → Bool → List Seat → List Seat
+marked place ready seats = mark_at (slice_get seats place) place ready seats
+
+-- the places after a mark by the number of an event: 32 is the listener's
+abbrev pub marked_by : ℕ → Bool → List Seat → List Seat
+marked_by number ready seats = if number == 32 then seats else marked number ready seats
+
+-- whether a newcomer may be let in, after a mark by the number of an event
+abbrev pub has_newcomer_by : ℕ → Bool → Bool → Bool
+has_newcomer_by number ready had = if number == 32 then ready else had
+
+-- What a client's turn does to the places: its own is marked as not ready, begins a stage now, or
+-- is freed. The others stay.
+abbrev pub settled : Turn → ℕ → ℕ → List Seat → List Seat
+settled Waits place now seats = marked place false seats
+settled GoesOn place now seats = seats
+settled (Begins stage) place now seats = slice_set seats place (seat_in stage now)
+settled Ends place now seats = slice_set seats place free_seat
+
+-- something was done in a turn
+abbrev pub has_done : Turn → Bool
+has_done Waits = false
+has_done _ = true
+
+-- A newcomer got this place and asks since now; or there was no memory for it, and the place is
+-- free. The others stay.
+abbrev pub IsSeated : ℕ → ℕ → List Seat → List Seat → Type 0
+IsSeated place now old new =
+    (new ≡ slice_set old place (seat_in Asking now)) ⊎ (new ≡ slice_set old place free_seat)
+
+-- A newcomer was let in, to the place that was chosen. Or none was: no place fits, or there is no
+-- newcomer any more.
+abbrev pub IsAdmission : Bool → ℕ → (had has : Bool) → List Seat → List Seat → Type 0
+IsAdmission true now had has old new =
+    (has ≡ had) × (place : ℕ) × IsChosen now old place × IsSeated place now old new
+IsAdmission false now had has old new =
+    (new ≡ old) × ((has ≡ false) ⊎ ((has ≡ had) × NoneFits now old))
 
 -- no client has been in its stage for as long as it may
 abbrev pub NoneLate : ℕ → List Seat → Type 0

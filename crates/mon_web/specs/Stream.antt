@@ -12,13 +12,13 @@ abbrev pub read_into : Conversation → List ℕ → List ℕ
 read_into c buffer = take (8192 - length c.unread) buffer
 
 -- After the stream took n octets, just these are not pending any more. After an error all still are.
-abbrev pub IsSent : Result ℕ Error → Conversation → Conversation → Result Unit Error → Type 0
-IsSent (Ok n) old new result = (n ≤ length (part_of old.unsent)) × (new ≡ with_sent n old) × (result ≡ Ok tt)
-IsSent (Err error) old new result = (new ≡ old) × (result ≡ Err error)
+abbrev pub IsSent : Result ℕ Error → Conversation → Conversation → Type 0
+IsSent (Ok n) old new = (n ≤ length (part_of old.unsent)) × (new ≡ with_sent n old)
+IsSent (Err error) old new = new ≡ old
 
 -- After the stream gave n octets, just these came. At the stream's end and after an error none did.
-abbrev pub IsReceived : Result ℕ Error → List ℕ → Conversation → Conversation → Result ℕ Error → Type 0
-IsReceived (Ok zero) buffer old new result = (new ≡ old) × (result ≡ Ok 0)
-IsReceived (Ok (suc n)) buffer old new result =
-    (suc n ≤ length (read_into old buffer)) × (new ≡ with_octets (take (suc n) buffer) old) × (result ≡ Ok (suc n))
-IsReceived (Err error) buffer old new result = (new ≡ old) × (result ≡ Err error)
+abbrev pub IsReceived : Result ℕ Error → List ℕ → Conversation → Conversation → Type 0
+IsReceived (Ok zero) buffer old new = new ≡ old
+IsReceived (Ok (suc n)) buffer old new =
+    (suc n ≤ length (read_into old buffer)) × (new ≡ with_octets (take (suc n) buffer) old)
+IsReceived (Err error) buffer old new = new ≡ old

@@ -1,7 +1,8 @@
 //! A client: its stream, and what came and goes on it.
 
-ghost use Rattle.std.specs.Prelude.{◌≡◌, ◌≢◌, [], false, true};
-ghost use Rattle.mon_web.specs.Client.{IsAnswering, IsReceiving, IsSending};
+ghost use Rattle.std.specs.Prelude.{◌≡◌};
+ghost use Rattle.std.specs.IoError.{error_kind};
+ghost use Rattle.mon_web.specs.Client.{IsAfterSending, IsDraining, IsReading, IsSending, IsTurn, after_error, after_reading};
 
 use crate::response::{Moment, respond};
 use crate::seat::Stage;
@@ -12,12 +13,11 @@ use mio::{Interest, Registry, Token};
 use mon_http::Connection;
 use std::alloc::Global;
 use std::io::{self, ErrorKind};
-use std::net::Shutdown;
 
 /// A client.
 #[derive(Drop)]
-pub(crate) struct Client {
-    stream: TcpStream,
+pub(crate) struct Client<S> {
+    stream: S,
     connection: Connection,
 }
 
@@ -34,7 +34,7 @@ pub(crate) enum Turn {
     Ends,
 }
 
-impl Client {
+impl Client<TcpStream> {
     /// A client that nothing came from yet. Its stream is registered under this token.
     pub(crate) fn new(
         alloc: Global,
@@ -50,16 +50,14 @@ impl Client {
             connection: Connection::new(alloc)?,
         })
     }
+}
 
-    /// Does one thing for the client: sends a part of its response, or answers it, or reads once. Octets
-    /// are read into the buffer.
-    pub(crate) fn turn(&mut self, alloc: Global, site: &Site, buffer: &mut [u8], at: Moment) -> Turn
-        ensures sends { self.old.connection.unsent ≢ []
-            → IsSending self.old.connection self.new.connection }
-        ensures drains { self.old.connection.unsent ≡ [] → self.old.connection.closing ≡ true
-            → self.new.connection ≡ self.old.connection }
-        ensures answers { self.old.connection.unsent ≡ [] → self.old.connection.closing ≡ false
-            → IsAnswering site.now at self.old.connection self.new.connection result }
+impl<S: Stream> Client<S> {
+    /// Does one thing for the client: sends a part of its response, or answers it, or reads once.
+    /// Octets are read into the buffer.
+    pub(crate) fn turn(&mut self, site: &Site, buffer: &mut [u8], at: Moment) -> Turn
+        ensures { IsTurn S.asked_write S.asked_read S.asked_end site.now at buffer.new
+            self.old self.new result }
     {
         if !self.connection.pending().is_empty() {
             return self.send();
@@ -67,7 +65,7 @@ impl Client {
         if self.connection.is_closing() {
             return self.drain(buffer);
         }
-        match respond(&mut self.connection, alloc, site, at) {
+        match respond(&mut self.connection, site, at) {
             Ok(true) => Turn::Begins(Stage::Sending),
             Ok(false) => self.read(buffer),
             Err(_) => Turn::Ends,
@@ -76,17 +74,19 @@ impl Client {
 
     /// Sends a part of what is pending.
     fn send(&mut self) -> Turn
-        ensures { IsSending self.old.connection self.new.connection }
+        ensures { IsSending S.asked_write S.asked_end self.old self.new result }
     {
         match send_part(&mut self.stream, &mut self.connection) {
-            Ok(()) => self.after_sending(),
+            Ok(_) => self.after_sending(),
             Err(error) => after_error(error),
         }
     }
 
     /// Returns what comes after a part was sent.
     fn after_sending(&mut self) -> Turn
-        ensures { self.new.connection ≡ self.old.connection }
+        ensures connection { self.new.connection ≡ self.old.connection }
+        ensures after { IsAfterSending S.asked_end self.old.connection.unsent
+            self.old.connection.closing self.old.stream self.new.stream result }
     {
         if !self.connection.pending().is_empty() {
             return Turn::GoesOn;
@@ -94,7 +94,7 @@ impl Client {
         if !self.connection.is_closing() {
             return Turn::Begins(Stage::Idle);
         }
-        match self.stream.shutdown(Shutdown::Write) {
+        match self.stream.end() {
             Ok(()) => Turn::Begins(Stage::Closing),
             Err(_) => Turn::Ends,
         }
@@ -102,29 +102,36 @@ impl Client {
 
     /// Reads as much as the connection has capacity for.
     fn read(&mut self, buffer: &mut [u8]) -> Turn
-        ensures { IsReceiving self.old.connection self.new.connection }
+        ensures { IsReading S.asked_read buffer.new self.old self.new result }
     {
-        match receive_part(&mut self.stream, &mut self.connection, buffer) {
-            Ok(0) => Turn::Ends,
-            Ok(_) => Turn::GoesOn,
-            Err(error) => after_error(error),
-        }
+        let given = receive_part(&mut self.stream, &mut self.connection, buffer);
+        after_reading(given)
     }
 
     /// Reads what still comes after the last response, which is not looked at.
     fn drain(&mut self, buffer: &mut [u8]) -> Turn
-        ensures { self.new.connection ≡ self.old.connection }
+        ensures { IsDraining S.asked_read buffer.new self.old self.new result }
     {
-        match self.stream.get(buffer) {
-            Ok(0) => Turn::Ends,
-            Ok(_) => Turn::GoesOn,
-            Err(error) => after_error(error),
-        }
+        let given = self.stream.get(buffer);
+        after_reading(given)
     }
 }
 
-/// What a turn comes to if a call failed so.
-fn after_error(error: io::Error) -> Turn {
+/// Returns what a turn comes to after a read.
+fn after_reading(given: io::Result<usize>) -> Turn
+    ensures { result ≡ after_reading given }
+{
+    match given {
+        Ok(0) => Turn::Ends,
+        Ok(_) => Turn::GoesOn,
+        Err(error) => after_error(error),
+    }
+}
+
+/// Returns what a turn comes to if a call failed so.
+fn after_error(error: io::Error) -> Turn
+    ensures { result ≡ after_error (error_kind error) }
+{
     match error.kind() {
         ErrorKind::WouldBlock => Turn::Waits,
         ErrorKind::Interrupted => Turn::GoesOn,

@@ -1,17 +1,17 @@
 //! What is answered on a connection.
 
-ghost use Rattle.std.specs.Prelude.{◌≡◌, ◌⊎◌, [], false, List, ℕ, IfOk, IsTrue, OnErr, OnOk};
+ghost use Rattle.std.specs.Prelude.{◌≡◌, ◌⊎◌, [], false, IfOk, OnErr, OnOk};
 ghost use Rattle.mon_http.specs.Conversation.{with_reply};
 ghost use Rattle.mon_http.specs.Request.{IsJudged};
-ghost use Rattle.mon_http.specs.Response.{fits, reply_of};
+ghost use Rattle.mon_http.specs.declared.request.Verdict.{Verdict};
 ghost use Rattle.mon_http.specs.declared.request.Verdict.TheVariants as Verdicts;
 ghost use Rattle.mon_web.specs.Response.{IsResponse};
-ghost use Rattle.mon_web.specs.Site.{out_of_memory};
+ghost use Rattle.mon_web.specs.Site.{names_of, out_of_memory, reply_for};
 
 use crate::site::Site;
 use httpdate::HttpDate;
 use mon_http::{Answer, Connection, Request, Step};
-use std::alloc::{AllocError, Global};
+use std::alloc::AllocError;
 
 /// A time.
 #[derive(Clone, Copy)]
@@ -29,7 +29,6 @@ pub struct Moment {
 /// `AllocError` if there is no memory for a response; nothing changes then.
 pub(crate) fn respond(
     connection: &mut Connection,
-    alloc: Global,
     site: &Site,
     at: Moment,
 ) -> Result<bool, AllocError>
@@ -37,36 +36,39 @@ pub(crate) fn respond(
     requires sent { connection.old.unsent ≡ [] }
     ensures answered { IfOk result (λ done. IsResponse site.now at connection.old done connection.new) }
     ensures kept { OnErr result (connection.new ≡ connection.old) }
+    ensures cause { OnErr result (
+        (v : Verdict) × IsJudged (names_of site.now) connection.old.unread v) }
 {
-    match connection.step(alloc, at.date, site.names())? {
+    match connection.step(at.date, site.names())? {
         Step::Wait => Ok(false),
         Step::Refused => Ok(true),
         Step::Asked(request) => {
-            let said = site.answer(request.route, at.now);
-            answer_or_tell(connection, alloc, at, request, said)?;
+            answer_or_tell(connection, site, at, request)?;
             Ok(true)
         }
     }
 }
 
-/// Answers a request so, or that there is no memory for that.
+/// Answers a request for a host of the site's by what the site shows, or that there is no memory
+/// for that.
 fn answer_or_tell(
     connection: &mut Connection,
-    alloc: Global,
+    site: &Site,
     at: Moment,
     request: Request,
-    said: Answer<'_>,
 ) -> Result<(), AllocError>
     requires open { connection.old.closing ≡ false }
     requires sent { connection.old.unsent ≡ [] }
-    requires asked { (names : List (List ℕ)) × IsJudged names connection.old.unread (Verdicts.Asked request) }
-    requires fits { IsTrue (fits request.route said) }
-    ensures answered { OnOk result ((connection.new ≡ with_reply at.date request (reply_of said.entry) connection.old)
+    requires asked { IsJudged (names_of site.now) connection.old.unread (Verdicts.Asked request) }
+    ensures answered { OnOk result (
+        (connection.new ≡
+        with_reply at.date request (reply_for site.now at.now request.route) connection.old)
         ⊎ (connection.new ≡ with_reply at.date request out_of_memory connection.old)) }
     ensures kept { OnErr result (connection.new ≡ connection.old) }
 {
-    match connection.answer(alloc, at.date, request, said) {
+    let said = site.answer(request.route, at.now);
+    match connection.answer(at.date, site.names(), request, said) {
         Ok(()) => Ok(()),
-        Err(_) => connection.answer(alloc, at.date, request, Answer::OutOfMemory),
+        Err(_) => connection.answer(at.date, site.names(), request, Answer::OutOfMemory),
     }
 }

@@ -1,8 +1,9 @@
 //! The connections.
 
-ghost use Rattle.std.specs.Prelude.{◌≡◌, ◌↔◌, IfOk, IsTrue, Some, option_map, slice_get, slice_set};
+ghost use Rattle.std.specs.Prelude.{◌≡◌, ◌≢◌, ◌↔◌, IfOk, IsTrue, Some, true, option_map, slice_get, slice_set};
 ghost use Rattle.std.specs.Duration.{as_nanos};
-ghost use Rattle.mon_web.specs.Seat.{IsLate, KeepsOthers, NoneLate, free_seat, is_free, longest_wait};
+ghost use Rattle.mon_web.specs.Seat.{IsAdmission, IsLate, IsSeated, KeepsOthers, NoneLate, free_seat, has_done, has_newcomer_by, is_free, longest_wait, marked, marked_by, seat_in, settled};
+ghost use Rattle.mon_web.specs.declared.client.Turn.{Turn as TurnData};
 ghost use Rattle.std.specs.List.{list_all};
 
 use crate::client::{Client, Turn};
@@ -32,7 +33,9 @@ const EMPTY: Seat = Seat {
 };
 
 /// The place of a client whose stage starts now.
-fn seat_in(stage: Stage, now: u64) -> Seat {
+fn seat_in(stage: Stage, now: u64) -> Seat
+    ensures { result ≡ seat_in stage now }
+{
     Seat {
         stage,
         since: now,
@@ -45,7 +48,7 @@ pub(crate) struct Table {
     alloc: Global,
     listener: TcpListener,
     seats: Vec<Seat>,
-    clients: Vec<Option<Client>>,
+    clients: Vec<Option<Client<TcpStream>>>,
     /// A newcomer may be let in.
     has_newcomer: bool,
     /// Whose turn is next.
@@ -93,17 +96,24 @@ impl Table {
 
     /// Takes note that something may be done for the one of this token.
     pub(crate) fn mark(&mut self, token: Token)
-        ensures { self.new.site ≡ self.old.site }
+        ensures site { self.new.site ≡ self.old.site }
+        ensures seats { self.new.seats.items ≡ marked_by token.0 true self.old.seats.items }
+        ensures door { self.new.has_newcomer ≡ has_newcomer_by token.0 true self.old.has_newcomer }
     {
-        self.set_ready(token.0, true);
+        if token.0 == DOOR {
+            self.has_newcomer = true;
+        } else {
+            self.set_ready(token.0, true);
+        }
     }
 
+    /// Notes whether something may be done at once for the client of a place.
     fn set_ready(&mut self, place: usize, ready: bool)
-        ensures { self.new.site ≡ self.old.site }
+        ensures site { self.new.site ≡ self.old.site }
+        ensures seats { self.new.seats.items ≡ marked place ready self.old.seats.items }
+        ensures door { self.new.has_newcomer ≡ self.old.has_newcomer }
     {
-        if place == DOOR {
-            self.has_newcomer = ready;
-        } else if let Some(seat) = self.seats.get_mut(place) {
+        if let Some(seat) = self.seats.get_mut(place) {
             seat.is_ready = ready;
         }
     }
@@ -120,7 +130,8 @@ impl Table {
         }
     }
 
-    /// Does one thing for one client, or lets a newcomer in. Returns `false` if there was nothing to do.
+    /// Does one thing for one client, or lets a newcomer in. Returns `false` if there was nothing to
+    /// do.
     pub(crate) fn turn(&mut self, registry: &Registry, at: Moment) -> bool
         ensures { self.new.site ≡ self.old.site }
     {
@@ -134,19 +145,22 @@ impl Table {
         false
     }
 
+    /// Does one thing for the client of a place, or at the door. Returns `false` if nothing was done.
     fn give_turn(&mut self, registry: &Registry, place: usize, at: Moment) -> bool
-        ensures { self.new.site ≡ self.old.site }
+        ensures site { self.new.site ≡ self.old.site }
+        ensures door { place ≡ 32
+            → IsAdmission result at.now self.old.has_newcomer self.new.has_newcomer
+            self.old.seats.items self.new.seats.items }
+        ensures client { place ≢ 32
+            → (turn : TurnData) × (result ≡ has_done turn)
+            × (self.new.seats.items ≡ settled turn place at.now self.old.seats.items) }
+        ensures newcomer { place ≢ 32 → self.new.has_newcomer ≡ self.old.has_newcomer }
     {
         if place == DOOR {
             return self.admit(registry, at.now);
         }
         let turn = match self.clients.get_mut(place) {
-            Some(Some(client)) => client.turn(
-                self.alloc,
-                &self.site,
-                self.buffer.as_mut_slice(),
-                at,
-            ),
+            Some(Some(client)) => client.turn(&self.site, self.buffer.as_mut_slice(), at),
             _ => Turn::Waits,
         };
         self.settle(place, turn, at.now);
@@ -155,7 +169,9 @@ impl Table {
 
     /// Does what a client's turn came to.
     fn settle(&mut self, place: usize, turn: Turn, now: u64)
-        ensures { self.new.site ≡ self.old.site }
+        ensures site { self.new.site ≡ self.old.site }
+        ensures seats { self.new.seats.items ≡ settled turn place now self.old.seats.items }
+        ensures door { self.new.has_newcomer ≡ self.old.has_newcomer }
     {
         match turn {
             Turn::Waits => self.set_ready(place, false),
@@ -167,6 +183,7 @@ impl Table {
 
     fn set_seat(&mut self, place: usize, seat: Seat)
         ensures site { self.new.site ≡ self.old.site }
+        ensures door { self.new.has_newcomer ≡ self.old.has_newcomer }
         ensures seats { self.new.seats.items ≡ slice_set self.old.seats.items place seat }
     {
         if let Some(kept) = self.seats.get_mut(place) {
@@ -174,8 +191,9 @@ impl Table {
         }
     }
 
-    fn set_client(&mut self, place: usize, client: Option<Client>)
+    fn set_client(&mut self, place: usize, client: Option<Client<TcpStream>>)
         ensures site { self.new.site ≡ self.old.site }
+        ensures door { self.new.has_newcomer ≡ self.old.has_newcomer }
         ensures seats { self.new.seats.items ≡ self.old.seats.items }
     {
         if let Some(kept) = self.clients.get_mut(place) {
@@ -186,6 +204,7 @@ impl Table {
     /// Closes the connection of a place.
     fn clear(&mut self, place: usize)
         ensures site { self.new.site ≡ self.old.site }
+        ensures door { self.new.has_newcomer ≡ self.old.has_newcomer }
         ensures seats { self.new.seats.items ≡ slice_set self.old.seats.items place free_seat }
     {
         self.set_client(place, None);
@@ -194,7 +213,9 @@ impl Table {
 
     /// Lets a newcomer in, if there is one and a place for it. Returns `true` if one came.
     fn admit(&mut self, registry: &Registry, now: u64) -> bool
-        ensures { self.new.site ≡ self.old.site }
+        ensures site { self.new.site ≡ self.old.site }
+        ensures seats { IsAdmission result now self.old.has_newcomer self.new.has_newcomer
+            self.old.seats.items self.new.seats.items }
     {
         let Some(place) = choose_seat(self.seats.as_slice(), now) else {
             return false;
@@ -205,7 +226,7 @@ impl Table {
                 true
             }
             Err(_) => {
-                self.set_ready(DOOR, false);
+                self.has_newcomer = false;
                 false
             }
         }
@@ -213,7 +234,9 @@ impl Table {
 
     /// Seats a newcomer. If memory is refused for it, it is closed.
     fn seat(&mut self, registry: &Registry, place: usize, stream: TcpStream, now: u64)
-        ensures { self.new.site ≡ self.old.site }
+        ensures site { self.new.site ≡ self.old.site }
+        ensures seats { IsSeated place now self.old.seats.items self.new.seats.items }
+        ensures door { self.new.has_newcomer ≡ self.old.has_newcomer }
     {
         self.clear(place);
         if let Ok(client) = Client::new(self.alloc, registry, stream, Token(place)) {

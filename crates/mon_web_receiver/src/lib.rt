@@ -5,9 +5,11 @@
 #![tactic(auto)]
 
 mod receiver;
+mod serves;
 mod shows;
 mod socket;
 
 pub use receiver::WebReceiver;
+pub use serves::{Dates, Serves};
 pub use shows::Shows;
 pub use socket::{Looks, PolledSocket};

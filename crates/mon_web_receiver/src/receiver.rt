@@ -1,16 +1,15 @@
 //! Receives a station's datagrams, and serves HTTP while it waits for them.
 
-ghost use Rattle.std.specs.Prelude.{◌≡◌, ◌<◌, ◌+◌, ◌-◌, IfOk, IfSome, OnOk, length};
-ghost use Rattle.std.specs.Time.{instant_nanos};
+ghost use Rattle.std.specs.Prelude.{◌≡◌, ◌<◌, ◌+◌, IfNone, IfOk, IfSome, OnOk, length};
+ghost use Rattle.std.specs.Duration.{as_nanos};
 ghost use Rattle.mon_rounds.specs.AtSocket.{IsGot};
-ghost use Rattle.mon_rounds.specs.Grid.{milliseconds_of};
 ghost use Rattle.mon_rounds.specs.Reception.{IsTimed};
 ghost use Rattle.mon_udp.specs.Wait.{begun};
-ghost use Rattle.mon_web_receiver.specs.Attempt.{IsAttempt, TakesTurns, no_silence};
+ghost use Rattle.mon_web_receiver.specs.Attempt.{HadTurn, HadTurns, IsAttempt, IsTurnIn, TakesTurns, moment_at, no_silence, wait_after};
 
+use crate::serves::{Dates, Serves};
 use crate::shows::Shows;
 use crate::socket::{Looks, PolledSocket};
-use httpdate::HttpDate;
 use mio::unix::SourceFd;
 use mon_rounds::{Arrival, Receiver, ReceiverFault, Wait, arrival_of, milliseconds};
 use mon_udp::{Ticks, Timer, datagram_buffer, failed_after};
@@ -19,8 +18,7 @@ use std::alloc::Global;
 use std::io;
 use std::net::SocketAddr;
 use std::os::fd::AsRawFd;
-use std::rt::Clock;
-use std::time::{Duration, Instant, SystemTime, UNIX_EPOCH};
+use std::time::{Duration, Instant};
 
 /// How often a wait looks for a datagram at most, after each thing that it does for HTTP. A wait is
 /// over long before.
@@ -36,18 +34,18 @@ pub(crate) enum Attempt {
     Received(usize, SocketAddr),
     /// The wait is over.
     Over,
-    /// Nothing came, or HTTP was due; HTTP was served or waited for.
+    /// Nothing came, or HTTP was due; HTTP had a turn.
     Served,
 }
 
 /// Receives a station's datagrams by its socket, and serves HTTP while it waits for them.
 #[derive(Drop)]
-pub struct WebReceiver<'a, R: Clock, T: Ticks, S: Looks> {
+pub struct WebReceiver<'a, R: Dates, T: Ticks, S: Looks, W: Serves> {
     rt: &'a R,
     ticks: &'a T,
     alloc: Global,
     socket: &'a S,
-    web: Web,
+    web: W,
     origin: Instant,
     timer: Timer,
     buffer: Vec<u8>,
@@ -56,7 +54,7 @@ pub struct WebReceiver<'a, R: Clock, T: Ticks, S: Looks> {
     failures: u64,
 }
 
-impl<'a, R: Clock + AllocGlobal, T: Ticks> WebReceiver<'a, R, T, PolledSocket> {
+impl<'a, R: Dates + AllocGlobal, T: Ticks> WebReceiver<'a, R, T, PolledSocket, Web> {
     /// Returns a receiver by this socket, in no wait yet. Waits are reckoned by `ticks`; the times of
     /// the site are since `origin`.
     ///
@@ -93,13 +91,14 @@ impl<'a, R: Clock + AllocGlobal, T: Ticks> WebReceiver<'a, R, T, PolledSocket> {
     }
 }
 
-impl<R: Clock, T: Ticks, S: Looks> WebReceiver<'_, R, T, S> {
+impl<R: Dates, T: Ticks, S: Looks, W: Serves> WebReceiver<'_, R, T, S, W> {
     /// Begins a wait, begins its quiet anew, or goes on with it.
     fn begin(&mut self, wait: Wait) -> io::Result<()>
         ensures wait { OnOk result (IsTimed (T.told self.old.ticks.now self.old.timer.quiet) wait self.old.timer self.new.timer) }
-        ensures by { (self.new.ticks ≡ self.old.ticks) × (self.new.socket ≡ self.old.socket) }
+        ensures by { (self.new.ticks ≡ self.old.ticks) × (self.new.socket ≡ self.old.socket)
+            × (self.new.rt ≡ self.old.rt) }
         ensures room { self.new.buffer ≡ self.old.buffer }
-        ensures site { self.new.web.table.site ≡ self.old.web.table.site }
+        ensures web { (self.new.web ≡ self.old.web) × (self.new.unserved ≡ self.old.unserved) }
         ensures origin { self.new.origin ≡ self.old.origin }
     {
         match wait {
@@ -115,9 +114,13 @@ impl<R: Clock, T: Ticks, S: Looks> WebReceiver<'_, R, T, S> {
     /// Receives something in the rest of the wait.
     fn receive_rest(&mut self) -> Result<Arrival, ReceiverFault>
         ensures got { IfOk result (IsGot (T.told self.old.ticks.now self.old.timer.quiet) no_silence (S.found self.old.socket.now) self.new.buffer.items self.old.timer) }
+        ensures turns { IfOk result (HadTurns
+            (IsTurnIn (T.told self.old.ticks.now self.old.timer.quiet) (R.dated self.old.rt.now)
+            W.served self.old.origin self.old.timer)
+            self.old.unserved self.new.unserved self.old.web self.new.web) }
         ensures timer { self.new.timer ≡ self.old.timer }
         ensures room { length self.new.buffer.items ≡ length self.old.buffer.items }
-        ensures site { self.new.web.table.site ≡ self.old.web.table.site }
+        ensures site { W.site self.new.web ≡ W.site self.old.web }
         ensures origin { self.new.origin ≡ self.old.origin }
     {
         for _ in 0..TRIES {
@@ -137,8 +140,12 @@ impl<R: Clock, T: Ticks, S: Looks> WebReceiver<'_, R, T, S> {
     fn receive_in(&mut self, wait: Wait) -> Result<Arrival, ReceiverFault>
         ensures wait { OnOk result (IsTimed (T.told self.old.ticks.now self.old.timer.quiet) wait self.old.timer self.new.timer) }
         ensures got { IfOk result (IsGot (T.told self.old.ticks.now self.new.timer.quiet) no_silence (S.found self.old.socket.now) self.new.buffer.items self.new.timer) }
+        ensures turns { IfOk result (HadTurns
+            (IsTurnIn (T.told self.old.ticks.now self.new.timer.quiet) (R.dated self.old.rt.now)
+            W.served self.old.origin self.new.timer)
+            self.old.unserved self.new.unserved self.old.web self.new.web) }
         ensures room { length self.new.buffer.items ≡ length self.old.buffer.items }
-        ensures site { self.new.web.table.site ≡ self.old.web.table.site }
+        ensures site { W.site self.new.web ≡ W.site self.old.web }
         ensures origin { self.new.origin ≡ self.old.origin }
     {
         match self.begin(wait) {
@@ -147,15 +154,21 @@ impl<R: Clock, T: Ticks, S: Looks> WebReceiver<'_, R, T, S> {
         }
     }
 
-    /// Looks at the time; then for a datagram, and serves HTTP once in what is left of the wait if
-    /// there is none. After 64 datagrams HTTP is served first.
+    /// Looks at the time; then for a datagram, and gives HTTP a turn in what is left of the wait if
+    /// there is none. After 64 datagrams HTTP has its turn first.
     fn attempt(&mut self) -> io::Result<Attempt>
-        ensures attempt { IfOk result (IsAttempt (T.told self.old.ticks.now self.old.timer.quiet) (S.found self.old.socket.now self.new.buffer.items) self.old.timer) }
-        ensures turns { IfOk result (TakesTurns self.old.unserved self.new.unserved) }
+        ensures attempt { IfOk result (IsAttempt
+            (T.told self.old.ticks.now self.old.timer.quiet)
+            (S.found self.old.socket.now self.new.buffer.items)
+            (HadTurn (R.dated self.old.rt.now) W.served self.old.origin self.old.web self.new.web)
+            self.old.unserved self.old.timer) }
+        ensures turns { IfOk result (TakesTurns self.old.unserved self.new.unserved
+            self.old.web self.new.web) }
         ensures timer { self.new.timer ≡ self.old.timer }
-        ensures by { (self.new.ticks ≡ self.old.ticks) × (self.new.socket ≡ self.old.socket) }
+        ensures by { (self.new.ticks ≡ self.old.ticks) × (self.new.socket ≡ self.old.socket)
+            × (self.new.rt ≡ self.old.rt) }
         ensures room { length self.new.buffer.items ≡ length self.old.buffer.items }
-        ensures site { self.new.web.table.site ≡ self.old.web.table.site }
+        ensures site { W.site self.new.web ≡ W.site self.old.web }
         ensures origin { self.new.origin ≡ self.old.origin }
     {
         let now = self.ticks.after(self.timer.quiet())?;
@@ -175,9 +188,12 @@ impl<R: Clock, T: Ticks, S: Looks> WebReceiver<'_, R, T, S> {
     /// Looks for a datagram, if HTTP is not due.
     fn look(&mut self) -> io::Result<Option<(usize, SocketAddr)>>
         ensures found { IfOk result (λ found. IfSome found (λ r. S.found self.old.socket.now self.new.buffer.items r.0 r.1)) }
-        ensures turns { IfOk result (λ found. IfSome found (λ _. (self.old.unserved < 64) × (self.new.unserved ≡ self.old.unserved + 1))) }
+        ensures turns { IfOk result (λ found. IfSome found (λ _.
+            (self.old.unserved < 64) × (self.new.unserved ≡ self.old.unserved + 1))) }
+        ensures none { IfOk result (λ found. IfNone found (self.new.unserved ≡ self.old.unserved)) }
         ensures timer { self.new.timer ≡ self.old.timer }
-        ensures by { (self.new.ticks ≡ self.old.ticks) × (self.new.socket ≡ self.old.socket) }
+        ensures by { (self.new.ticks ≡ self.old.ticks) × (self.new.socket ≡ self.old.socket)
+            × (self.new.rt ≡ self.old.rt) }
         ensures room { length self.new.buffer.items ≡ length self.old.buffer.items }
         ensures web { self.new.web ≡ self.old.web }
         ensures origin { self.new.origin ≡ self.old.origin }
@@ -192,13 +208,16 @@ impl<R: Clock, T: Ticks, S: Looks> WebReceiver<'_, R, T, S> {
         Ok(found)
     }
 
-    /// Serves HTTP once, in what is left of the wait; without a wait if datagrams had it wait.
+    /// Gives HTTP a turn, in what is left of the wait; without a wait if datagrams had it wait.
     fn serve(&mut self, now: Instant, left: Duration) -> io::Result<()>
+        ensures served { OnOk result (HadTurn (R.dated self.old.rt.now) W.served self.old.origin
+            self.old.web self.new.web now (wait_after self.old.unserved (as_nanos left))) }
         ensures turns { self.new.unserved ≡ 0 }
         ensures timer { self.new.timer ≡ self.old.timer }
-        ensures by { (self.new.ticks ≡ self.old.ticks) × (self.new.socket ≡ self.old.socket) }
+        ensures by { (self.new.ticks ≡ self.old.ticks) × (self.new.socket ≡ self.old.socket)
+            × (self.new.rt ≡ self.old.rt) }
         ensures room { self.new.buffer ≡ self.old.buffer }
-        ensures site { self.new.web.table.site ≡ self.old.web.table.site }
+        ensures site { W.site self.new.web ≡ W.site self.old.web }
         ensures origin { self.new.origin ≡ self.old.origin }
     {
         let wait = if self.unserved < MOST_UNSERVED {
@@ -208,28 +227,22 @@ impl<R: Clock, T: Ticks, S: Looks> WebReceiver<'_, R, T, S> {
         };
         self.unserved = 0;
         let at = self.moment(now);
-        self.web.turn(at, wait)
+        self.web.serve(at, wait)
     }
 
     /// Returns the time, as it is said to clients.
     fn moment(&self, now: Instant) -> Moment
-        ensures { result.now ≡ milliseconds_of (instant_nanos now - instant_nanos self.now.origin) }
+        ensures moment { result ≡ moment_at self.now.origin now result.date }
+        ensures date { R.dated self.now.rt.now result.date }
     {
         Moment {
             now: milliseconds(now.duration_since(self.origin)),
-            date: self.date(),
+            date: self.rt.date(),
         }
-    }
-
-    /// Returns the date.
-    fn date(&self) -> Option<HttpDate> {
-        let now = SystemTime::now(self.rt).ok()?;
-        let since = now.duration_since(UNIX_EPOCH).ok()?;
-        HttpDate::from_unix_secs(since.as_secs()).ok()
     }
 }
 
-impl<R: Clock, T: Ticks, S: Looks> Receiver for WebReceiver<'_, R, T, S> {
+impl<R: Dates, T: Ticks, S: Looks, W: Serves> Receiver for WebReceiver<'_, R, T, S, W> {
     ghost use Rattle.std.specs.Prelude.{None};
     ghost use Rattle.mon_udp.specs.Counts.{failed_after};
 
@@ -244,8 +257,13 @@ impl<R: Clock, T: Ticks, S: Looks> Receiver for WebReceiver<'_, R, T, S> {
         ensures wait { OnOk result (IsTimed (T.told self.old.ticks.now self.old.timer.quiet) wait self.old.timer self.new.timer) }
         // A datagram is the system's; there is none only if the wait is over by the clock.
         ensures got { IfOk result (IsGot (T.told self.old.ticks.now self.new.timer.quiet) no_silence (S.found self.old.socket.now) self.new.buffer.items self.new.timer) }
+        // HTTP has its turns, and one at the latest after each 64 datagrams.
+        ensures turns { IfOk result (HadTurns
+            (IsTurnIn (T.told self.old.ticks.now self.new.timer.quiet) (R.dated self.old.rt.now)
+            W.served self.old.origin self.new.timer)
+            self.old.unserved self.new.unserved self.old.web self.new.web) }
         ensures room { length self.new.buffer.items ≡ length self.old.buffer.items }
-        ensures site { self.new.web.table.site ≡ self.old.web.table.site }
+        ensures site { W.site self.new.web ≡ W.site self.old.web }
         ensures origin { self.new.origin ≡ self.old.origin }
     {
         let failures = self.failures;
@@ -255,7 +273,7 @@ impl<R: Clock, T: Ticks, S: Looks> Receiver for WebReceiver<'_, R, T, S> {
     }
 }
 
-impl<R: Clock, T: Ticks, S: Looks> Shows for WebReceiver<'_, R, T, S> {
+impl<R: Dates, T: Ticks, S: Looks> Shows for WebReceiver<'_, R, T, S, Web> {
     ghost use Rattle.std.specs.Prelude.{Some};
 
     ghost shown = { λ r. Some r.web.table.site };

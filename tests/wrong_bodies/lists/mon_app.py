@@ -703,13 +703,13 @@ BUGS = {
     ),
     "replies_to_another_port": (
         "src/socket_port.rt",
-        "        self.from = Addr::of(from).ok_or(OTHER)?;\n",
-        "        let sender = Addr::of(from).ok_or(OTHER)?;\n        self.from = Addr { octets: sender.octets, port: 161 };\n",
+        "        self.from = from;\n",
+        "        self.from = Addr { port: 161, ..from };\n",
     ),
     "replies_to_the_first_sender": (
         "src/socket_port.rt",
-        "        self.from = Addr::of(from).ok_or(OTHER)?;\n",
-        "        let sender = Addr::of(from).ok_or(OTHER)?;\n        if self.from.port == 0 {\n            self.from = sender;\n        }\n",
+        "        self.from = from;\n",
+        "        if self.from.port == 0 {\n            self.from = from;\n        }\n",
     ),
     "stands_still": (
         "src/socket_port.rt",
@@ -731,4 +731,226 @@ BUGS = {
         "    let passed = now.duration_since(began);\n",
         "    let passed = began.duration_since(now);\n",
     ),
+    "waits_2_milliseconds": (
+        "src/socket.rt",
+        "const WAIT: u32 = 2000;",
+        "const WAIT: u32 = 2;",
+    ),
+    "begins_no_wait": (
+        "src/socket.rt",
+        "        self.waiting.begin(WAIT).map_err(socket_failure)?;\n",
+        "",
+    ),
+    "sends_nothing": (
+        "src/socket.rt",
+        "        self.socket.send(octets, self.agent).map_err(socket_failure)\n",
+        "        let _ = octets;\n        Ok(())\n",
+    ),
+    "sends_the_front_half": (
+        "src/socket.rt",
+        "        self.socket.send(octets, self.agent)",
+        "        self.socket.send(&octets[..octets.len() / 2], self.agent)",
+    ),
+    "sends_to_another_port": (
+        "src/socket.rt",
+        "        self.socket.send(octets, self.agent)",
+        "        self.socket.send(octets, Addr { port: 161, ..self.agent })",
+    ),
+    "is_quiet_at_once": (
+        "src/socket.rt",
+        "        match self.waiting.receive(&self.socket, room) {",
+        "        if self.agent.port == 161 {\n            return Ok(Heard::Quiet);\n        }\n        match self.waiting.receive(&self.socket, room) {",
+    ),
+    "is_quiet_where_the_socket_fails": (
+        "src/socket.rt",
+        "            Err(error) => Err(socket_failure(error)),",
+        "            Err(_) => Ok(Heard::Quiet),",
+    ),
+    "hears_on_after_a_quiet_wait": (
+        "src/socket.rt",
+        "            Ok(None) => Ok(Heard::Quiet),",
+        "            Ok(None) => Ok(Heard::Other),",
+    ),
+    "hears_a_datagram_where_it_is_quiet": (
+        "src/socket.rt",
+        "            Ok(None) => Ok(Heard::Quiet),",
+        "            Ok(None) => Ok(Heard::Datagram(0)),",
+    ),
+    "hears_strangers": (
+        "src/socket.rt",
+        "            Ok(Some((len, from))) => Ok(heard_from(self.agent, from, len, room.len())),",
+        "            Ok(Some((len, _))) => Ok(Heard::Datagram(len)),",
+    ),
+    "asks_from_the_agents_port": (
+        "src/socket.rt",
+        "        let socket = open_at(rt, FREE)",
+        "        let socket = open_at(rt, Addr { port: agent.port, ..FREE })",
+    ),
+    "listens_at_another_port": (
+        "src/socket_port.rt",
+        "        let socket = open_at(rt, listen)",
+        "        let socket = open_at(rt, Addr { port: 0, ..listen })",
+    ),
+    "gives_the_address_that_was_asked_for": (
+        "src/socket_port.rt",
+        "        self.socket.bound_to().map_err(socket_fault)",
+        "        Ok(self.from.socket())",
+    ),
+    "receives_without_a_call": (
+        "src/socket_port.rt",
+        "        let (len, sender) = receive_from(&self.socket, room).map_err(socket_failure)?;",
+        "        let (len, sender) = (room.len(), self.from.socket());",
+    ),
+    "makes_up_the_time": (
+        "src/socket_port.rt",
+        "        let at = self.rt.after(self.began).map_err(socket_failure)?;",
+        "        let at = self.began;",
+    ),
+    "forgets_the_sender": (
+        "src/socket_port.rt",
+        "        self.from = from;\n",
+        "        let _ = from;\n",
+    ),
+    "keeps_the_sender_of_a_failed_wait": (
+        "src/socket_port.rt",
+        "        let from = Addr::of(sender).ok_or(OTHER)?;\n",
+        "        let from = Addr::of(sender).ok_or(OTHER)?;\n        self.from = from;\n",
+    ),
+    "begins_its_life_at_no_time_that_was_told": (
+        "src/socket_port.rt",
+        "        let began = rt.after(first).map_err(socket_fault)?;",
+        "        let began = first;",
+    ),
+    "gives_up_where_a_signal_interrupts": (
+        "src/socket_port.rt",
+        "            Err(error) if error.kind() == io::ErrorKind::Interrupted => {}",
+        "            Err(error) if error.kind() == io::ErrorKind::Interrupted => return Ok((0, Addr { octets: [0; 4], port: 0 }.socket())),",
+    ),
+    "replies_with_nothing": (
+        "src/socket_port.rt",
+        "        let sent = self.socket.send(octets, self.from);",
+        "        let sent = self.socket.send(&octets[..0], self.from);",
+    ),
+    "replies_to_port_161": (
+        "src/socket_port.rt",
+        "        let sent = self.socket.send(octets, self.from);",
+        "        let sent = self.socket.send(octets, Addr { port: 161, ..self.from });",
+    ),
+    "replies_without_a_call": (
+        "src/socket_port.rt",
+        "        let sent = self.socket.send(octets, self.from);",
+        "        let _ = octets;\n        let sent: Result<(), SocketFault> = Ok(());",
+    ),
+    "calls_a_reply_lost_without_a_call": (
+        "src/socket_port.rt",
+        "        let sent = self.socket.send(octets, self.from);",
+        "        let _ = octets;\n        let sent: Result<(), SocketFault> = Err(OTHER);",
+    ),
+    "asks_at_the_usual_port": (
+        "src/socket.rt",
+        "        Self::open_by(rt, agent)",
+        "        Self::open_by(rt, Addr { port: 161, ..agent })",
+    ),
+    "listens_at_any_port": (
+        "src/socket_port.rt",
+        "        Self::open_by(rt, listen)",
+        "        Self::open_by(rt, Addr { port: 0, ..listen })",
+    ),
+    "asks_for_the_first_name_alone": (
+        "src/question.rt",
+        "        bindings.push(asked_binding(alloc, asking, name)?)?;",
+        "        if bindings.is_empty() {\n            bindings.push(asked_binding(alloc, asking, name)?)?;\n        }",
+    ),
+    "asks_under_the_next_request_id": (
+        "src/question.rt",
+        "        body: question.asking.body(question.request_id, bindings),",
+        "        body: question\n            .asking\n            .body(question.request_id.wrapping_add(1), bindings),",
+    ),
+    "asks_in_no_community": (
+        "src/question.rt",
+        "Octets::from_slice(alloc, question.community)?",
+        "Octets::from_slice(alloc, &question.community[..0])?",
+    ),
+    "takes_any_kind_for_a_response": (
+        "src/question.rt",
+        "    pdu.kind == PduKind::Response\n",
+        "    pdu.kind != PduKind::Get\n",
+    ),
+    "takes_no_refusal_for_a_reply": (
+        "src/question.rt",
+        "(pdu.error_status != 0 || are_answers",
+        "(pdu.error_status == 0 && are_answers",
+    ),
+    "takes_no_empty_answer_to_a_bulk": (
+        "src/question.rt",
+        "        Asking::GetBulk(_) => true,",
+        "        Asking::GetBulk(_) => !bindings.is_empty(),",
+    ),
+    "takes_more_names_than_it_asked_for": (
+        "src/question.rt",
+        "        return bindings.is_empty();",
+        "        return true;",
+    ),
+    "walks_in_another_community": (
+        "src/walking.rt",
+        "        community: turn.asked.community,",
+        '        community: b"public",',
+    ),
+    "walks_in_a_circle": (
+        "src/walking.rt",
+        "    if last.compare(&found.name).is_lt() {",
+        "    if last.compare(&found.name).is_le() {",
+    ),
+    "walks_past_the_end_of_a_view": (
+        "src/walking.rt",
+        "    matches!(value, Value::EndOfMibView)",
+        "    matches!(value, Value::NoSuchInstance)",
+    ),
+    "walks_without_repetitions": (
+        "src/walking.rt",
+        "                non_repeaters: 0,",
+        "                non_repeaters: 1,",
+    ),
+    "prints_an_integer_without_its_sign": (
+        "src/printed.rt",
+        '    write!(text, "Integer: {number}")',
+        '    let number = number.unsigned_abs();\n    write!(text, "Integer: {number}")',
+    ),
+    "prints_no_instance_as_no_object": (
+        "src/printed.rt",
+        'put_word(text, "noSuchInstance")',
+        'put_word(text, "noSuchObject")',
+    ),
+    "prints_ticks_as_a_gauge": (
+        "src/printed.rt",
+        'put_number(text, "TimeTicks",',
+        'put_number(text, "Gauge32",',
+    ),
+    "prints_an_address_backwards": (
+        "src/printed.rt",
+        "quad_text(alloc, *a, *b, *c, *d)",
+        "quad_text(alloc, *d, *c, *b, *a)",
+    ),
+    "answers_without_the_last_octet": (
+        "src/serving.rt",
+        "    match agent.answer(alloc, &room[..received.len], received.moment) {",
+        "    match agent.answer(alloc, &room[..received.len.saturating_sub(1)], received.moment) {",
+    ),
+    "serves_the_first_alone": (
+        "src/serving.rt",
+        "        serve_one(alloc, port, agent, room.as_mut_slice(), untaken)?;",
+        "        serve_one(alloc, port, agent, room.as_mut_slice(), untaken)?;\n        return Ok(());",
+    ),
+    "ends_where_memory_runs_out": (
+        "src/serving.rt",
+        "            untaken.tell();\n            Ok(())",
+        "            untaken.tell();\n            Err(SocketFault {\n                reason: crate::reason::SocketReason::Other,\n            })",
+    ),
+}
+
+# what the gate tries: the function that each is in
+PROMISES = {
+    "sends_nothing": "socket::WireBy::begin",
+    "is_quiet_at_once": "socket::WireBy::receive_in_wait",
+    "receives_without_a_call": "socket_port::PortBy::receive_next",
 }

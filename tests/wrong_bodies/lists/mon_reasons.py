@@ -3,21 +3,58 @@
 BUGS = {
     "keeps_no_datagram": (
         "src/latest.rt",
-        "        self.datagrams.insert(0, Datagram { from, octets })?;\n",
-        "        let _ = Datagram { from, octets };\n",
+        "    datagrams.insert(0, Datagram { from, octets })?;\n",
+        "    let _ = Datagram { from, octets };\n",
     ),
     "keeps_the_newest_last": (
         "src/latest.rt",
-        "        self.datagrams.insert(0, Datagram { from, octets })?;\n",
-        "        self.datagrams.push(Datagram { from, octets })?;\n",
+        "    datagrams.insert(0, Datagram { from, octets })?;\n",
+        "    datagrams.push(Datagram { from, octets })?;\n",
     ),
-    "keeps_only_one": ("src/latest.rt", "const MOST: usize = 64;", "const MOST: usize = 1;"),
-    "keeps_all": ("src/latest.rt", "        self.datagrams.truncate(MOST);\n", ""),
+    "keeps_only_one": (
+        "src/latest.rt",
+        "    limit(datagrams, from, most);\n",
+        "    limit(datagrams, from, most.min(1));\n",
+    ),
+    "keeps_all": ("src/latest.rt", "    limit(datagrams, from, most);\n", "    let _ = most;\n"),
+    "keeps_64_of_all": (
+        "src/latest.rt",
+        "    limit(datagrams, from, most);\n",
+        "    let _ = most;\n    datagrams.truncate(64);\n",
+    ),
     "keeps_half_a_datagram": (
         "src/latest.rt",
-        "        let octets = Octets::from_slice(alloc, octets)?;\n        self",
-        "        let octets = Octets::from_slice(alloc, &octets[..octets.len() / 2])?;\n        self",
+        "    let octets = Octets::from_slice(alloc, octets)?;\n    datagrams",
+        "    let octets = Octets::from_slice(alloc, &octets[..octets.len() / 2])?;\n    datagrams",
     ),
+    "lets_go_of_other_addresses": (
+        "src/latest.rt",
+        "        if datagrams[place].from != from {\n",
+        "        if left > 0 && datagrams[place].from != from {\n",
+    ),
+    "counts_all_ports_of_a_host": (
+        "src/latest.rt",
+        "        if datagrams[place].from != from {\n",
+        "        if datagrams[place].from.octets != from.octets {\n",
+    ),
+    "counts_datagrams_of_other_addresses": (
+        "src/latest.rt",
+        "            place += 1;\n        } else if left > 0 {",
+        "            place += 1;\n            left = left.saturating_sub(1);\n        } else if left > 0 {",
+    ),
+    "keeps_one_less": ("src/latest.rt", "    let mut left = most;\n", "    let mut left = most.saturating_sub(1);\n"),
+    "counts_no_refusal": (
+        "src/latest.rt",
+        "        self.unkept = failed_after(self.unkept, &kept);\n",
+        "",
+    ),
+    "counts_what_it_kept": (
+        "src/latest.rt",
+        "        self.unkept = failed_after(self.unkept, &kept);\n",
+        "        self.unkept = self.unkept.saturating_add(1);\n",
+    ),
+    "says_that_all_were_kept": ("src/latest.rt", "        self.unkept\n    }", "        self.unkept.min(0)\n    }"),
+    "begins_with_one_unkept": ("src/latest.rt", "            unkept: 0,\n", "            unkept: 1,\n"),
     "looks_at_the_newest_only": (
         "src/latest.rt",
         "        None => message_with(alloc, others, from, name),",
@@ -62,18 +99,18 @@ BUGS = {
     "the_clock_for_the_boots": ("src/reason.rt", "Some(Reason::Clock(stamp.boots, stamp.time))", "Some(Reason::Clock(stamp.time, stamp.boots))"),
     "keeps_the_first_datagram_alone": (
         "src/latest.rt",
-        "        self.datagrams.insert(0, Datagram { from, octets })?;\n",
-        "        if self.datagrams.is_empty() {\n            self.datagrams.insert(0, Datagram { from, octets })?;\n        }\n",
+        "    datagrams.insert(0, Datagram { from, octets })?;\n",
+        "    if datagrams.is_empty() {\n        datagrams.insert(0, Datagram { from, octets })?;\n    }\n",
     ),
     "keeps_the_newest_datagram_twice": (
         "src/latest.rt",
-        "        let octets = Octets::from_slice(alloc, octets)?;\n        self",
-        "        let again = Octets::from_slice(alloc, octets)?;\n        let octets = Octets::from_slice(alloc, octets)?;\n        self.datagrams.insert(0, Datagram { from, octets: again })?;\n        self",
+        "    let octets = Octets::from_slice(alloc, octets)?;\n    datagrams",
+        "    let again = Octets::from_slice(alloc, octets)?;\n    let octets = Octets::from_slice(alloc, octets)?;\n    datagrams.insert(0, Datagram { from, octets: again })?;\n    datagrams",
     ),
     "forgets_what_it_kept": (
         "src/latest.rt",
-        "        self.datagrams.insert(0, Datagram { from, octets })?;\n",
-        "        self.datagrams.clear();\n        self.datagrams.insert(0, Datagram { from, octets })?;\n",
+        "    datagrams.insert(0, Datagram { from, octets })?;\n",
+        "    datagrams.clear();\n    datagrams.insert(0, Datagram { from, octets })?;\n",
     ),
     "ignores_the_newest_sample": (
         "src/latest.rt",
@@ -164,7 +201,7 @@ BUGS = {
 
 # Those that break a promise as a whole, each with its function: the gate tries them.
 PROMISES = {
-    "keeps_no_datagram": "latest::Latest::keep",
+    "keeps_no_datagram": "latest::keep_newest",
     "gives_no_reason": "latest::Latest::reason",
     "knows_no_other_engine": "latest::Latest::other_engine",
 }

@@ -78,8 +78,8 @@ BUGS = {
     ),
     "takes_a_peers_datagram_for_an_agents": (
         "src/round.rt",
-        "        if self.addresses.is_peer(from) {",
-        "        if self.addresses.is_target(from) {",
+        "        if self.addresses.is_peer(from) {\n            self.events",
+        "        if self.addresses.is_target(from) {\n            self.events",
     ),
     "counts_every_datagram_as_a_strangers": (
         "src/reporting.rt",
@@ -158,8 +158,8 @@ BUGS = {
     ),
     "a_peer_grows_no_older": (
         "src/freshness.rt",
-        "        rounds: age_after(span, heard, peer.rounds),",
-        "        rounds: age_after(span, true, peer.rounds),",
+        "    let rounds = age_after(span, heard, peer.rounds);",
+        "    let rounds = age_after(span, true, peer.rounds);",
     ),
     "the_first_peers_age_for_all": (
         "src/freshness.rt",
@@ -678,8 +678,8 @@ BUGS = {
     ),
     "forgets_the_second_hearing": (
         "src/round.rt",
-        "        Phase::Hearing | Phase::Listening | Phase::Resting => true,\n        Phase::Polling(_) | Phase::TimingOut(_) | Phase::Sharing(_) | Phase::Over | Phase::Rested =>\n            false,\n    }\n}\n\n/// Returns the phase, by whether a further poll is to be timed out; if none is, the next wait follows.\nfn settled_phase(phase: Phase, more: bool) -> Phase\n    ensures { result ≡ settled_phase phase more }\n{\n    match phase {\n        Phase::TimingOut(_) if !more => Phase::Hearing,\n        phase => phase,\n    }\n}\n\n/// Returns the wait after a datagram: between two rounds none is renewed.\nfn wait_in(phase: Phase) -> Wait\n    ensures { result ≡ wait_in phase }\n{\n    match phase {\n        Phase::Resting => Wait::Rest,\n        _ => Wait::Renew,\n    }\n}\n\n/// Returns how many quiet waits with timeouts there may be after a timeout in this phase.\nfn quiets_left(phase: Phase, quiets: u32) -> u32\n    ensures { result ≡ quiets_left phase quiets }\n{\n    match phase {\n        Phase::TimingOut(_) => quiets,\n        _ => quiets.saturating_sub(1),\n    }\n}\n\n/// Returns the wait after a last event with this answer: only a datagram that was taken renews it.\nfn wait_due(wait: Wait, last: Option<Answer>) -> Wait\n    ensures { result ≡ wait_due wait last }\n{\n    match wait {\n        Wait::Renew if !is_taken(last) => Wait::Rest,\n        wait => wait,\n    }\n}\n\n/// Returns `true` if a datagram with this answer was taken: it was handled, or ended its poll.\nfn is_taken(last: Option<Answer>) -> bool\n    ensures { result ≡ is_taken last }\n{\n    match last {\n        Some(Answer::Handled(_)) => true,\n        Some(Answer::Refused(StationFault::Response(fault))) => fault.number() > LAST_STRAY,\n        _ => false,",
-        "        Phase::Hearing | Phase::Resting => true,\n        Phase::Listening | Phase::Polling(_) | Phase::TimingOut(_) | Phase::Sharing(_) | Phase::Over | Phase::Rested =>\n            false,\n    }\n}\n\n/// Returns the phase, by whether a further poll is to be timed out; if none is, the next wait follows.\nfn settled_phase(phase: Phase, more: bool) -> Phase\n    ensures { result ≡ settled_phase phase more }\n{\n    match phase {\n        Phase::TimingOut(_) if !more => Phase::Hearing,\n        phase => phase,\n    }\n}\n\n/// Returns the wait after a datagram: between two rounds none is renewed.\nfn wait_in(phase: Phase) -> Wait\n    ensures { result ≡ wait_in phase }\n{\n    match phase {\n        Phase::Resting => Wait::Rest,\n        _ => Wait::Renew,\n    }\n}\n\n/// Returns how many quiet waits with timeouts there may be after a timeout in this phase.\nfn quiets_left(phase: Phase, quiets: u32) -> u32\n    ensures { result ≡ quiets_left phase quiets }\n{\n    match phase {\n        Phase::TimingOut(_) => quiets,\n        _ => quiets.saturating_sub(1),\n    }\n}\n\n/// Returns the wait after a last event with this answer: only a datagram that was taken renews it.\nfn wait_due(wait: Wait, last: Option<Answer>) -> Wait\n    ensures { result ≡ wait_due wait last }\n{\n    match wait {\n        Wait::Renew if !is_taken(last) => Wait::Rest,\n        wait => wait,\n    }\n}\n\n/// Returns `true` if a datagram with this answer was taken: it was handled, or ended its poll.\nfn is_taken(last: Option<Answer>) -> bool\n    ensures { result ≡ is_taken last }\n{\n    match last {\n        Some(Answer::Handled(_)) => true,\n        Some(Answer::Refused(StationFault::Response(fault))) => fault.number() > LAST_STRAY,\n        _ => false,",
+        "        Phase::Hearing | Phase::Listening | Phase::Resting => true,\n        Phase::Polling(_) | ",
+        "        Phase::Hearing | Phase::Resting => true,\n        Phase::Listening | Phase::Polling(_) | ",
     ),
     "a_wait_goes_on_after_a_timeout": (
         "src/round.rt",
@@ -876,6 +876,113 @@ BUGS = {
         "        self.socket\n            .send(out.octets.as_slice(), to)\n            .map_err(|_| OutboxFault)",
         "        let _ = (to, out);\n        Ok(())",
     ),
+    "keeps_no_datagram_of_a_target": (
+        "src/source.rt",
+        "            let _ = self.latest.keep(self.alloc, from, octets.as_slice(), most);\n",
+        "            let _ = octets;\n",
+    ),
+    "keeps_one_datagram_of_each_address": (
+        "src/source.rt",
+        "octets.as_slice(), most);",
+        "octets.as_slice(), most.min(1));",
+    ),
+    "keeps_datagrams_of_strangers": (
+        "src/source.rt",
+        "        let most = self.round.most_kept(from);\n",
+        "        let most = self.round.most_kept(from).max(1);\n",
+    ),
+    "keeps_datagrams_of_peers": (
+        "src/round.rt",
+        "        if self.addresses.is_peer(from) {\n            0\n",
+        "        if self.addresses.is_peer(from) {\n            1\n",
+    ),
+    "keeps_as_many_as_there_are_targets": (
+        "src/round.rt",
+        "            self.addresses.targets_at(from)\n",
+        "            let _ = from;\n            self.addresses.targets.len()\n",
+    ),
+    "hands_on_a_datagram_without_keeping_it": (
+        "src/source.rt",
+        "                self.keep_latest(from, &octets);\n",
+        "",
+    ),
+    "counts_all_targets_of_a_host": (
+        "src/addresses.rt",
+        "            .filter(|address| **address == from)",
+        "            .filter(|address| address.octets == from.octets)",
+    ),
+    "begins_a_round_before_it_lends_the_receiver": (
+        "src/source.rt",
+        "        &mut self.receiver\n",
+        "        self.round.begin(Span::Round);\n        &mut self.receiver\n",
+    ),
+    "forgets_the_datagrams_before_it_lends_the_receiver": (
+        "src/source.rt",
+        "        &mut self.receiver\n",
+        "        self.latest = Latest::new(self.alloc);\n        &mut self.receiver\n",
+    ),
+    "counts_each_spell_of_a_peer": (
+        "src/freshness.rt",
+        "            let counted = heard && !peer.counted;\n",
+        "            let counted = heard;\n",
+    ),
+    "counts_a_peers_spells_over_rounds": (
+        "src/freshness.rt",
+        "            offers: 0,\n            counted: false,\n            often: row_after",
+        "            offers: peer.offers,\n            counted: false,\n            often: row_after",
+    ),
+    "counts_no_spell_of_a_peer": (
+        "src/freshness.rt",
+        "                offers: count_on(peer.offers, counted),\n",
+        "",
+    ),
+    "once_an_interval_is_often": ("src/freshness.rt", "const OFTEN: u32 = 2;", "const OFTEN: u32 = 1;"),
+    "a_row_goes_on_after_a_gap": (
+        "src/freshness.rt",
+        "    if offers < OFTEN {\n        return 0;",
+        "    if offers < OFTEN {\n        return row;",
+    ),
+    "names_a_peer_at_once": ("src/changes.rt", "const IN_A_ROW: u32 = 3;", "const IN_A_ROW: u32 = 1;"),
+    "names_no_peer_that_offers_often": (
+        "src/changes.rt",
+        "        often.push(peer.often >= IN_A_ROW)?;",
+        "        often.push(peer.often >= IN_A_ROW && peer.rounds > 0)?;",
+    ),
+    "a_peer_that_offers_often_is_silent": (
+        "src/changes.rt",
+        "        put_changes(&mut changes, Trouble::OffersOften, was, is)?;",
+        "        put_changes(&mut changes, Trouble::SilentPeer, was, is)?;",
+    ),
+    "forgets_the_strangers_before": (
+        "src/freshness.rt",
+        "        self.strangers = self.strangers.saturating_add(u64::from(report.strangers));",
+        "        self.strangers = u64::from(report.strangers);",
+    ),
+    "shortens_its_buffer_at_each_reception": (
+        "src/socket.rt",
+        "        let received = self.receive_in(wait);\n",
+        "        self.buffer.truncate(1500);\n        let received = self.receive_in(wait);\n",
+    ),
+    "runs_a_round_that_is_over": (
+        "src/running.rt",
+        "        station.run(alloc, self, outbox, TURNS, run)?;\n",
+        "        station.run(alloc, self, outbox, TURNS, run)?;\n        station.run(alloc, self, outbox, TURNS, run)?;\n",
+    ),
+    "begins_no_wait_after_the_polls": (
+        "src/round.rt",
+        "        self.wait = Wait::Begin(self.wait_ms);\n        self.phase = if usize::from(target)",
+        "        self.wait = Wait::Rest;\n        self.phase = if usize::from(target)",
+    ),
+    "begins_no_wait_after_the_shares": (
+        "src/round.rt",
+        "        self.wait = Wait::Begin(self.wait_ms);\n        self.phase = if usize::from(slot)",
+        "        self.wait = Wait::Rest;\n        self.phase = if usize::from(slot)",
+    ),
+    "a_round_without_targets_is_over": (
+        "src/round.rt",
+        "                (Phase::Hearing, Wait::Begin(self.wait_ms))\n",
+        "                (Phase::Over, Wait::Begin(self.wait_ms))\n",
+    ),
     "sends_no_octets": (
         "src/socket.rt",
         "            .send(out.octets.as_slice(), to)",
@@ -885,6 +992,9 @@ BUGS = {
 
 # Those that break a promise as a whole, each with its function: tests/bodies tries them in the gate.
 PROMISES = {
+    "keeps_no_datagram_of_a_target": "source::Rounds::keep_latest",
+    "begins_a_round_before_it_lends_the_receiver": "source::Rounds::receiver_mut",
+    "counts_each_spell_of_a_peer": "freshness::peer_after",
     "every_datagram_renews_a_wait": "round::wait_due",
     "a_refused_response_renews_a_wait": "round::is_taken",
     "times_out_the_oldest_poll_alone": "round::Round::settle",

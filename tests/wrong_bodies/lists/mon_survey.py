@@ -63,8 +63,8 @@ BUGS = {
     ),
     "has_thresholds_of_bits": (
         "src/planning.rt",
-        "        rising: part * 1250000,",
-        "        rising: part * 10000000,",
+        "        rising: part * 5 / 4,",
+        "        rising: part * 10,",
     ),
     "shows_control_characters": (
         "src/writing.rt",
@@ -321,10 +321,61 @@ BUGS = {
         "    if old.is_empty() { FIRST } else { old }",
         "    let _ = old;\n    FIRST",
     ),
+    "takes_ifspeed_always": (
+        "src/answers.rt",
+        "    if millions > 0 {\n        u64::from(millions) * 1_000_000\n    } else if plain < u32::MAX {",
+        "    let _ = millions;\n    if plain < u32::MAX {",
+    ),
+    "takes_ifspeed_at_its_greatest": (
+        "src/answers.rt",
+        "    } else if plain < u32::MAX {\n        u64::from(plain)\n    } else {\n        0\n    }",
+        "    } else {\n        u64::from(plain)\n    }",
+    ),
+    "takes_ifspeed_for_millions": (
+        "src/answers.rt",
+        "        u64::from(plain)\n",
+        "        u64::from(plain) * 1_000_000\n",
+    ),
+    "takes_ifhighspeed_for_bits": (
+        "src/answers.rt",
+        "        u64::from(millions) * 1_000_000\n",
+        "        u64::from(millions)\n",
+    ),
+    "takes_no_ifspeed": (
+        "src/answers.rt",
+        "        u64::from(plain)\n",
+        "        0\n",
+    ),
+    "takes_the_greater_of_both_speeds": (
+        "src/answers.rt",
+        "    if millions > 0 {\n",
+        "    if u64::from(millions) * 1_000_000 >= u64::from(plain) {\n",
+    ),
+    "takes_ifmtu_for_ifspeed": (
+        "src/answers.rt",
+        "self.gauge(Column::If(5), index)",
+        "self.gauge(Column::If(4), index)",
+    ),
+    "walks_no_ifspeed": (
+        "src/column.rt",
+        "        Column::If(5),\n",
+        "        Column::If(4),\n",
+    ),
+    "has_equal_thresholds": (
+        "src/planning.rt",
+        "    if part < 4 {",
+        "    if part == 0 {",
+    ),
+    "clears_at_eight_tenths": (
+        "src/planning.rt",
+        "        falling: part * 9 / 8,",
+        "        falling: part,",
+    ),
 }
 
 # what the gate tries: the function that each is in
 PROMISES = {
+    "takes_ifspeed_at_its_greatest": "answers::speed_of",
     "polls_32_bits_first": "planning::width_of",
     "polls_interfaces_that_are_down": "choice::Choice::takes",
     "plans_nothing_for_no_counter": "planning::require_few",

@@ -53,9 +53,11 @@ BUGS = {
     ),
     "sends_to_the_own_machine": (
         "src/addr.rt",
-        "Ipv4Addr::from(self.octets), self.port)",
-        "Ipv4Addr::from([127, 0, 0, 1]), self.port)",
+        "SocketAddrV4::new(Ipv4Addr::from(self.octets), self.port)",
+        "SocketAddrV4::new(Ipv4Addr::from([127, 0, 0, 1]), self.port)",
     ),
+    "prints_the_port_alone": ("src/addr.rt", 'write!(f, "{ip}:{port}")', 'let _ = ip;\n        write!(f, "0.0.0.0:{port}")'),
+    "prints_another_port": ("src/addr.rt", 'write!(f, "{ip}:{port}")', 'let port = port & 0;\n        write!(f, "{ip}:{port}")'),
     "counts_what_did_not_fail": (
         "src/failures.rt",
         "        Ok(_) => count,\n        Err(_) => count.saturating_add(1),",

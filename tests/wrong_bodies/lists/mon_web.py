@@ -173,13 +173,13 @@ BUGS = {
     ),
     "asks_and_does_not_answer": (
         "src/response.rt",
-        "            answer_or_tell(connection, alloc, at, request, said)?;\n            Ok(true)",
-        "            let _ = (request, said);\n            Ok(true)",
+        "            answer_or_tell(connection, site, at, request)?;\n            Ok(true)",
+        "            let _ = request;\n            Ok(true)",
     ),
     "answers_without_a_date": (
         "src/response.rt",
-        "        Err(_) => connection.answer(alloc, at.date, request, Answer::OutOfMemory),",
-        "        Err(_) => connection.answer(alloc, None, request, Answer::OutOfMemory),",
+        "        Err(_) => connection.answer(at.date, site.names(), request, Answer::OutOfMemory),",
+        "        Err(_) => connection.answer(None, site.names(), request, Answer::OutOfMemory),",
     ),
     "a_round_ended_at_the_start": (
         "src/web.rt",
@@ -204,7 +204,7 @@ BUGS = {
     "serves_another_site": (
         "src/web.rt",
         "            table: Table::new(alloc, listener, site)?,",
-        "            table: Table::new(alloc, listener, Site::new(site.limit))?,",
+        "            table: Table::new(alloc, listener, Site::new(site.limit, Vec::new(alloc)))?,",
     ),
     "a_late_client_is_a_round": (
         "src/table.rt",
@@ -231,13 +231,13 @@ BUGS = {
     "takes_texts_and_shows_them_again": ("src/web.rt", "        self.table.site.take_texts()", "        let texts = self.table.site.take_texts();\n        self.table.site.show(texts);\n        None"),
     "counts_a_short_write_as_whole": (
         "src/stream.rt",
-        "        Ok(n) => {\n            connection.sent(n);\n            Ok(())",
-        "        Ok(_) => {\n            connection.sent(len);\n            Ok(())",
+        "        Ok(n) => {\n            connection.sent(n);\n            Ok(n)",
+        "        Ok(n) => {\n            connection.sent(len);\n            Ok(n)",
     ),
     "forgets_what_was_sent": (
         "src/stream.rt",
-        "        Ok(n) => {\n            connection.sent(n);\n            Ok(())",
-        "        Ok(n) => {\n            connection.sent(n.min(0));\n            Ok(())",
+        "        Ok(n) => {\n            connection.sent(n);\n            Ok(n)",
+        "        Ok(n) => {\n            connection.sent(n.min(0));\n            Ok(n)",
     ),
     "offers_all_that_is_pending": (
         "src/stream.rt",
@@ -247,7 +247,7 @@ BUGS = {
     "sends_nothing": (
         "src/stream.rt",
         "    let pending = connection.pending();\n",
-        "    let pending = connection.pending();\n    if pending.len() > 7 {\n        return Ok(());\n    }\n",
+        "    let pending = connection.pending();\n    if pending.len() > 7 {\n        return Ok(0);\n    }\n",
     ),
     "sends_twice": (
         "src/stream.rt",
@@ -262,7 +262,7 @@ BUGS = {
     "a_failed_write_is_none": (
         "src/stream.rt",
         "        Err(error) => Err(error),",
-        "        Err(_) => Ok(()),",
+        "        Err(_) => Ok(0),",
     ),
     "reads_one_octet_more": (
         "src/stream.rt",
@@ -306,13 +306,13 @@ BUGS = {
     ),
     "what_is_drained_counts": (
         "src/client.rt",
-        "        match self.stream.get(buffer) {\n            Ok(0) => Turn::Ends,\n            Ok(_) => Turn::GoesOn,",
-        "        match receive_part(&mut self.stream, &mut self.connection, buffer) {\n            Ok(0) => Turn::Ends,\n            Ok(_) => Turn::GoesOn,",
+        "        let given = self.stream.get(buffer);",
+        "        let given = receive_part(&mut self.stream, &mut self.connection, buffer);",
     ),
     "a_client_never_gets_an_answer": (
         "src/client.rt",
-        "        match respond(&mut self.connection, alloc, site, at) {",
-        "        if at.now > 7 {\n            return Turn::Waits;\n        }\n        match respond(&mut self.connection, alloc, site, at) {",
+        "        match respond(&mut self.connection, site, at) {",
+        "        if at.now > 7 {\n            return Turn::Waits;\n        }\n        match respond(&mut self.connection, site, at) {",
     ),
     "answers_and_sends_nothing": (
         "src/client.rt",
@@ -378,6 +378,156 @@ BUGS = {
         "src/site.rt",
         "        self.texts = texts;",
         "        self.names.clear();\n        self.texts = texts;",
+    ),
+    "a_response_waits_for_ever": (
+        "src/client.rt",
+        "            return self.send();",
+        "            return Turn::Waits;",
+    ),
+    "drains_twice": (
+        "src/client.rt",
+        "            return self.drain(buffer);",
+        "            let _ = self.drain(buffer);\n            return self.drain(buffer);",
+    ),
+    "drains_nothing": (
+        "src/client.rt",
+        "            return self.drain(buffer);",
+        "            return Turn::Waits;",
+    ),
+    "answers_a_client_that_closes": (
+        "src/client.rt",
+        "        if self.connection.is_closing() {\n            return self.drain(buffer);",
+        "        if self.connection.is_closing() && at.now < 7 {\n            return self.drain(buffer);",
+    ),
+    "reads_once_more_after_an_answer": (
+        "src/client.rt",
+        "            Ok(true) => Turn::Begins(Stage::Sending),",
+        "            Ok(true) => self.read(buffer),",
+    ),
+    "who_has_not_asked_is_gone": (
+        "src/client.rt",
+        "            Ok(false) => self.read(buffer),",
+        "            Ok(false) => Turn::Ends,",
+    ),
+    "waits_without_a_look": (
+        "src/client.rt",
+        "            Ok(false) => self.read(buffer),",
+        "            Ok(false) => Turn::Waits,",
+    ),
+    "no_memory_is_waited_for": (
+        "src/client.rt",
+        "            Ok(false) => self.read(buffer),\n            Err(_) => Turn::Ends,",
+        "            Ok(false) => self.read(buffer),\n            Err(_) => Turn::GoesOn,",
+    ),
+    "a_response_ends_the_client": (
+        "src/client.rt",
+        "            return Turn::Begins(Stage::Idle);",
+        "            return Turn::Ends;",
+    ),
+    "is_idle_with_a_part_unsent": (
+        "src/client.rt",
+        "            return Turn::GoesOn;",
+        "            return Turn::Begins(Stage::Idle);",
+    ),
+    "closes_and_tells_nobody": (
+        "src/client.rt",
+        "        match self.stream.end() {",
+        "        match Ok::<(), io::Error>(()) {",
+    ),
+    "ends_a_stream_twice": (
+        "src/client.rt",
+        "        match self.stream.end() {",
+        "        let _ = self.stream.end();\n        match self.stream.end() {",
+    ),
+    "ends_a_stream_that_stays_open": (
+        "src/client.rt",
+        "            return Turn::Begins(Stage::Idle);",
+        "            let _ = self.stream.end();\n            return Turn::Begins(Stage::Idle);",
+    ),
+    "an_end_that_failed_is_one": (
+        "src/client.rt",
+        "            Ok(()) => Turn::Begins(Stage::Closing),\n            Err(_) => Turn::Ends,",
+        "            Ok(()) | Err(_) => Turn::Begins(Stage::Closing),",
+    ),
+    "who_is_not_ready_is_gone": (
+        "src/client.rt",
+        "        ErrorKind::WouldBlock => Turn::Waits,\n",
+        "        ErrorKind::WouldBlock => Turn::Ends,\n",
+    ),
+    "an_interrupted_call_is_waited_for": (
+        "src/client.rt",
+        "        ErrorKind::Interrupted => Turn::GoesOn,\n",
+        "        ErrorKind::Interrupted => Turn::Waits,\n",
+    ),
+    "who_is_gone_is_waited_for": (
+        "src/client.rt",
+        "        ErrorKind::Interrupted => Turn::GoesOn,\n        _ => Turn::Ends,",
+        "        ErrorKind::Interrupted => Turn::GoesOn,\n        _ => Turn::Waits,",
+    ),
+    "the_end_of_a_stream_is_read_for_ever": (
+        "src/client.rt",
+        "        Ok(0) => Turn::Ends,",
+        "        Ok(0) => Turn::GoesOn,",
+    ),
+    "no_memory_for_nothing": (
+        "src/response.rt",
+        "        Step::Wait => Ok(false),",
+        "        Step::Wait => Err(AllocError),",
+    ),
+    "says_ok_to_each_request": (
+        "src/response.rt",
+        "site.answer(request.route, at.now)",
+        "site.answer(mon_http::Route::Health, at.now)",
+    ),
+    "who_waits_is_asked_for_ever": (
+        "src/table.rt",
+        "            Turn::Waits => self.set_ready(place, false),",
+        "            Turn::Waits => self.set_ready(place, true),",
+    ),
+    "who_waits_leaves_its_place": (
+        "src/table.rt",
+        "            Turn::Waits => self.set_ready(place, false),",
+        "            Turn::Waits => self.clear(place),",
+    ),
+    "each_stage_began_at_the_start": (
+        "src/table.rt",
+        "            Turn::Begins(stage) => self.set_seat(place, seat_in(stage, now)),",
+        "            Turn::Begins(stage) => {\n                let _ = now;\n                self.set_seat(place, seat_in(stage, 0));\n            }",
+    ),
+    "a_stage_begins_for_another": (
+        "src/table.rt",
+        "            Turn::Begins(stage) => self.set_seat(place, seat_in(stage, now)),",
+        "            Turn::Begins(stage) => self.set_seat(0, seat_in(stage, now)),",
+    ),
+    "who_is_gone_keeps_its_place": (
+        "src/table.rt",
+        "            Turn::Ends => self.clear(place),",
+        "            Turn::Ends => {}",
+    ),
+    "a_newcomer_gets_the_first_place": (
+        "src/table.rt",
+        "                self.seat(registry, place, stream, now);\n",
+        "                self.seat(registry, place.min(0), stream, now);\n",
+    ),
+    "a_newcomer_gets_no_place": (
+        "src/table.rt",
+        "                self.seat(registry, place, stream, now);\n",
+        "                let _ = (place, stream);\n",
+    ),
+    "a_newcomer_asks_since_the_start": (
+        "src/table.rt",
+        "            self.set_seat(place, seat_in(Stage::Asking, now));",
+        "            let _ = now;\n            self.set_seat(place, seat_in(Stage::Asking, 0));",
+    ),
+    "each_event_is_a_newcomer": (
+        "src/table.rt",
+        "        if token.0 == DOOR {",
+        "        if token.0 <= DOOR {",
+    ),
+    "an_event_marks_nobody": (
+        "src/table.rt",
+        "            self.set_ready(token.0, true);",
+        "            self.set_ready(token.0, false);",
     ),
 }
 

@@ -207,13 +207,13 @@ BUGS = {
     ),
     "an_attempt_renews_the_wait": (
         "src/receiver.rt",
-        "        let at = self.moment(now);\n        self.web.turn",
-        "        let at = self.moment(now);\n        self.timer = self.timer.renew(now);\n        self.web.turn",
+        "        let at = self.moment(now);\n        self.web.serve",
+        "        let at = self.moment(now);\n        self.timer = self.timer.renew(now);\n        self.web.serve",
     ),
     "an_attempt_begins_the_wait_again": (
         "src/receiver.rt",
-        "        let at = self.moment(now);\n        self.web.turn",
-        "        let at = self.moment(now);\n        self.timer = Timer::begin(1000, now);\n        self.web.turn",
+        "        let at = self.moment(now);\n        self.web.serve",
+        "        let at = self.moment(now);\n        self.timer = Timer::begin(1000, now);\n        self.web.serve",
     ),
     "a_failure_is_the_end_of_a_wait": (
         "src/receiver.rt",
@@ -242,8 +242,8 @@ BUGS = {
     ),
     "times_are_since_the_last_wait": (
         "src/receiver.rt",
-        "        let at = self.moment(now);\n        self.web.turn",
-        "        self.origin = now;\n        let at = self.moment(now);\n        self.web.turn",
+        "        let at = self.moment(now);\n        self.web.serve",
+        "        self.origin = now;\n        let at = self.moment(now);\n        self.web.serve",
     ),
     "says_the_time_since_the_wait_was_quiet": (
         "src/receiver.rt",
@@ -259,6 +259,126 @@ BUGS = {
         "src/receiver.rt",
         "            unserved: 0,\n            failures: 0,",
         "            unserved: 64,\n            failures: 0,",
+    ),
+    "http_never_has_a_turn": (
+        "src/receiver.rt",
+        "        self.web.serve(at, wait)",
+        "        let _ = (at, wait);\n        Ok(())",
+    ),
+    "http_has_two_turns": (
+        "src/receiver.rt",
+        "        self.web.serve(at, wait)",
+        "        self.web.serve(at, wait)?;\n        self.web.serve(at, wait)",
+    ),
+    "a_turn_that_failed_is_one": (
+        "src/receiver.rt",
+        "        self.web.serve(at, wait)",
+        "        let _ = self.web.serve(at, wait);\n        Ok(())",
+    ),
+    "http_waits_while_datagrams_come": (
+        "src/receiver.rt",
+        "            Duration::ZERO\n",
+        "            left\n",
+    ),
+    "http_never_waits": (
+        "src/receiver.rt",
+        "            left\n        } else {",
+        "            Duration::ZERO\n        } else {",
+    ),
+    "http_waits_for_a_minute": (
+        "src/receiver.rt",
+        "        self.web.serve(at, wait)",
+        "        let _ = wait;\n        self.web.serve(at, Duration::from_secs(60))",
+    ),
+    "a_turn_at_the_start": (
+        "src/receiver.rt",
+        "        let at = self.moment(now);",
+        "        let _ = now;\n        let at = self.moment(self.origin);",
+    ),
+    "a_turn_at_the_time_of_the_wait": (
+        "src/receiver.rt",
+        "        let at = self.moment(now);",
+        "        let _ = now;\n        let at = self.moment(self.timer.quiet());",
+    ),
+    "says_no_date": (
+        "src/receiver.rt",
+        "            date: self.rt.date(),",
+        "            date: None,",
+    ),
+    "says_a_date_of_1970": (
+        "src/receiver.rt",
+        "            date: self.rt.date(),",
+        "            date: httpdate::HttpDate::from_unix_secs(0).ok(),",
+    ),
+    "a_turn_before_each_datagram": (
+        "src/receiver.rt",
+        "            Some((len, from)) => Ok(Attempt::Received(len, from)),",
+        "            Some((len, from)) => {\n                self.serve(now, left)?;\n                Ok(Attempt::Received(len, from))\n            }",
+    ),
+    "a_turn_in_a_wait_that_is_over": (
+        "src/receiver.rt",
+        "            return Ok(Attempt::Over);",
+        "            self.serve(now, left)?;\n            return Ok(Attempt::Over);",
+    ),
+    "says_that_http_had_a_turn": (
+        "src/receiver.rt",
+        "                self.serve(now, left)?;\n                Ok(Attempt::Served)",
+        "                self.unserved = 0;\n                Ok(Attempt::Served)",
+    ),
+    "a_turn_for_as_long_as_the_whole_wait": (
+        "src/receiver.rt",
+        "                self.serve(now, left)?;\n                Ok(Attempt::Served)",
+        "                let whole = self.timer.left(self.timer.quiet());\n                self.serve(now, whole)?;\n                Ok(Attempt::Served)",
+    ),
+    "counts_each_datagram_as_the_first": (
+        "src/receiver.rt",
+        "            self.unserved += 1;",
+        "            self.unserved = 1;",
+    ),
+    "http_is_due_after_each_datagram": (
+        "src/receiver.rt",
+        "            self.unserved += 1;",
+        "            self.unserved = MOST_UNSERVED;",
+    ),
+    "a_datagram_from_the_sender_of_the_last": (
+        "src/receiver.rt",
+        "        if found.is_some() {\n",
+        "        let _ = self.socket.look(self.buffer.as_mut_slice())?;\n        if found.is_some() {\n",
+    ),
+    "clears_what_was_received": (
+        "src/receiver.rt",
+        "        if found.is_some() {\n",
+        "        if found.is_some() {\n            self.buffer.fill(0);\n",
+    ),
+    "a_buffer_of_a_packet": (
+        "src/receiver.rt",
+        "        if found.is_some() {\n",
+        "        if found.is_none() {\n            self.buffer.truncate(1500);\n        }\n        if found.is_some() {\n",
+    ),
+    "a_turn_is_the_end_of_a_wait": (
+        "src/receiver.rt",
+        "                Ok(Attempt::Served) => {}",
+        "                Ok(Attempt::Served) => return Ok(Arrival::Quiet),",
+    ),
+    "looks_at_no_clock": (
+        "src/receiver.rt",
+        "        let now = self.ticks.after(self.timer.quiet())?;\n        let left",
+        "        let now = self.timer.quiet();\n        let left",
+    ),
+    "a_wait_of_four_times_the_length": (
+        "src/receiver.rt",
+        "                self.timer = Timer::begin(milliseconds, self.ticks",
+        "                self.timer = Timer::begin(milliseconds.saturating_mul(4), self.ticks",
+    ),
+    "a_turn_ends_the_texts": (
+        "src/serves.rt",
+        "        self.turn(at, left)",
+        "        self.show(None);\n        self.turn(at, left)",
+    ),
+    "a_failed_look_is_no_datagram": (
+        "src/receiver.rt",
+        "self.socket.look(self.buffer.as_mut_slice())?;",
+        "self.socket.look(self.buffer.as_mut_slice()).unwrap_or(None);",
     ),
 }
 
