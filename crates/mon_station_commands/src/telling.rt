@@ -143,6 +143,7 @@ pub(crate) fn tell_change<R: Eprint + AllocGlobal, S: Receiver + Drop, O: Outbox
         Trouble::SilentTarget => silent_target(rt, live, change)?,
         Trouble::OtherEngine => other_engine(rt, live, change)?,
         Trouble::SilentPeer => silent_peer(rt, live, change)?,
+        Trouble::OffersOften => frequent_peer(rt, live, change)?,
         Trouble::StaleInstance => stale_instance(rt, live, change)?,
     };
     if !text.is_empty() {
@@ -220,6 +221,23 @@ fn silent_peer<R: AllocGlobal, S: Receiver + Drop, O: Outbox + Drop>(
         format!(in rt.alloc(); "nothing came from station {station} for {rounds} rounds")
     } else {
         format!(in rt.alloc(); "station {station} sends again")
+    }
+}
+
+/// Says that a peer offers more often than once an interval, or that it no longer does.
+fn frequent_peer<R: AllocGlobal, S: Receiver + Drop, O: Outbox + Drop>(
+    rt: &R,
+    live: &Live<S, O>,
+    change: Change,
+) -> Result<String, AllocError> {
+    let Some(peer) = live.freshness.peers().get(change.number) else {
+        return Ok(String::new(rt.alloc()));
+    };
+    let station = peer.station;
+    if change.begins {
+        format!(in rt.alloc(); "station {station} offers more often than once an interval")
+    } else {
+        format!(in rt.alloc(); "station {station} offers once an interval again")
     }
 }
 
