@@ -1,13 +1,10 @@
 //! What a running station shows over HTTP.
 
 ghost use Rattle.std.specs.Prelude.{◌≡◌, IfOk, OnOk, Some};
-ghost use Rattle.mon_board.specs.Board.{window_of};
 ghost use Rattle.mon_console.specs.Shown.{shown_by};
 ghost use Rattle.mon_formats.specs.Formats.{formatted};
-ghost use Rattle.mon_report.specs.Report.{entries_from};
 ghost use Rattle.mon_station.specs.State.{state_of};
-ghost use Rattle.mon_station_commands.specs.Figures.{AreFigures};
-ghost use Rattle.mon_station_commands.specs.Showing.{AreTexts};
+ghost use Rattle.mon_station_commands.specs.Showing.{AreTextsOf, IsShown};
 
 use crate::figures::make_figures;
 use crate::live::Live;
@@ -41,7 +38,10 @@ pub(crate) fn show_span<S: Shows + Drop, O: Outbox + Drop>(
 }
 
 /// Shows what is known, by texts in the buffers of the texts so far.
-pub(crate) fn show<S: Shows + Drop, O: Outbox + Drop>(alloc: Global, live: &mut Live<S, O>) {
+pub(crate) fn show<S: Shows + Drop, O: Outbox + Drop>(alloc: Global, live: &mut Live<S, O>)
+    ensures { IsShown (AreTextsOf (state_of live.old.station.life) live.old.course live.old.freshness live.old.transport.peers.items live.old.transport.engines.items live.old.ended live.old.reports)
+        (S.shown live.old.transport.rounds.receiver) (S.shown live.new.transport.rounds.receiver) }
+{
     if live.transport.rounds.receiver().is_shown() {
         let before = live.transport.rounds.receiver_mut().take_texts();
         let texts = make_texts(alloc, live, before).ok();
@@ -56,11 +56,7 @@ fn make_texts<S: Receiver + Drop, O: Outbox + Drop>(
     before: Option<Texts>,
 ) -> Result<Texts, AllocError>
     // The texts are those of the board and of what the station says of itself, as they are now.
-    ensures { IfOk result (AreTexts
-        (AreFigures (state_of live.now.station.life) live.now.course live.now.freshness live.now.transport.peers.items live.now.transport.engines.items live.now.ended live.now.reports)
-        (shown_by live.now.reports.printing.names)
-        (entries_from (state_of live.now.station.life).board.watch.rules (window_of (state_of live.now.station.life).board) 0 (state_of live.now.station.life).board.watch.instances)
-        live.now.reports.printing.labels.items) }
+    ensures { IfOk result (AreTextsOf (state_of live.now.station.life) live.now.course live.now.freshness live.now.transport.peers.items live.now.transport.engines.items live.now.ended live.now.reports) }
 {
     let figures = make_figures(alloc, live)?;
     let entries = entries_of(alloc, live.station.board())?;
