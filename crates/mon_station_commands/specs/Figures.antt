@@ -26,14 +26,26 @@ pub record Said : Type 0 where
 -- what is to be said of a target at a time, in milliseconds since the station's start
 abbrev pub said_of : ℕ → TargetAge → Said
 said_of now t = record {
-    number = t.number + 1; address = addr_text t.address; up = t.up; rounds = t.rounds;
-    seconds = seconds_since now t; given_up = t.given_up; refused = is_some t.refusal }
+  number = t.number + 1;
+  address = addr_text t.address;
+  up = t.up;
+  rounds = t.rounds;
+  seconds = seconds_since now t;
+  given_up = t.given_up;
+  refused = is_some t.refusal;
+}
 
 -- what the figures of a target say of it
 abbrev pub said_in : TargetFigures → Said
 said_in f = record {
-    number = f.number; address = string_bytes f.address; up = f.up; rounds = f.rounds;
-    seconds = f.seconds; given_up = f.given_up; refused = is_some f.refusal }
+  number = f.number;
+  address = string_bytes f.address;
+  up = f.up;
+  rounds = f.rounds;
+  seconds = f.seconds;
+  given_up = f.given_up;
+  refused = is_some f.refusal;
+}
 
 -- the engine id in the figures of a target
 abbrev pub engine_in : TargetFigures → List ℕ

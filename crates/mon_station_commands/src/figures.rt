@@ -85,10 +85,7 @@ fn one_target(
 }
 
 /// Why a response was refused, in words.
-fn refusal_text(
-    alloc: Global,
-    refusal: Option<StationFault>,
-) -> Result<Option<String>, AllocError>
+fn refusal_text(alloc: Global, refusal: Option<StationFault>) -> Result<Option<String>, AllocError>
     ensures { IfOk result (λ text. is_some text ≡ is_some refusal) }
 {
     match refusal {
