@@ -13,7 +13,7 @@ use Rattle.mon_station.specs.State.{State}
 use Rattle.mon_station_commands.specs.declared.live.Reports.{Reports}
 use Rattle.mon_udp.specs.Addr.{addr_text}
 
--- what is said of a target, but for its engine id; `refused` says whether a reason is given
+-- what is said of a target, except its engine id; `refused` says whether a reason is given
 pub record Said : Type 0 where
   pub number : ℕ
   pub address : List ℕ
@@ -23,7 +23,7 @@ pub record Said : Type 0 where
   pub given_up : ℕ
   pub refused : Bool
 
--- what is to be said of a target at a time, in milliseconds since the station's start
+-- what must be said of a target at a time, in milliseconds since the station's start
 abbrev pub said_of : ℕ → TargetAge → Said
 said_of now t = record {
   number = t.number + 1;
@@ -56,16 +56,16 @@ abbrev pub engine_or_none : Option (Vec ℕ) → List ℕ
 engine_or_none None = []
 engine_or_none (Some engine) = engine.items
 
--- the engine id at a place, none where there is no such place
+-- the engine id at a place, none if the list is shorter
 abbrev pub engine_at : List (Vec ℕ) → ℕ → List ℕ
 engine_at engines place = engine_or_none (slice_get engines place)
 
--- the engine ids of so many targets
+-- the engine ids of the first n targets
 abbrev pub engines_for : ℕ → List (Vec ℕ) → List (List ℕ)
 engines_for zero engines = []
 engines_for (suc n) engines = engines_for n engines ++ (engine_at engines n ∷ [])
 
--- The figures are those of a station with this state, of what it did and was told since its start,
+-- The figures are those of a station with this state, of what it did and received since its start,
 -- with these peers and engine ids of targets, at this time in milliseconds since its start.
 pub record AreFigures (state : State) (course : Course) (fresh : Freshness) (peers : List ℕ) (engines : List (Vec ℕ)) (now : ℕ) (reports : Reports) (f : Figures) : Type 0 where
   pub incarnation : f.incarnation ≡ state.incarnation
@@ -76,7 +76,7 @@ pub record AreFigures (state : State) (course : Course) (fresh : Freshness) (pee
   pub strangers : f.strangers ≡ fresh.strangers
   pub round_ms : f.round_ms ≡ fresh.round_ms
   pub targets : map said_in f.targets.items ≡ map (said_of now) fresh.targets.items
-  pub engines : map engine_in f.targets.items ≡ engines_for (length fresh.targets.items) engines
+  pub named : map engine_in f.targets.items ≡ engines_for (length fresh.targets.items) engines
   pub ages : f.ages.items ≡ map (λ (i : InstanceAge). i.rounds) fresh.instances.items
   pub stale_after : f.stale_after ≡ reports.stale_after
   pub interval : f.interval ≡ reports.interval

@@ -22,7 +22,7 @@ has_some (x ∷ xs) = true
 abbrev pub longest_gap : ℕ → ℕ
 longest_gap interval = if interval == 0 then 30000 else interval * 3000
 
--- how many milliseconds of an interval, in seconds, each of so many stations has to itself if they
+-- how many milliseconds of an interval, in seconds, each of these stations has to itself if they
 -- poll one after another
 abbrev pub turn_of : (interval stations : ℕ) → ℕ
 turn_of interval stations = interval * 1000 / stations

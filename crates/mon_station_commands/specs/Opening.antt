@@ -22,7 +22,7 @@ IsFaultOf (System error) fault = fault ≡ App (of_stream (error_kind error))
 abbrev pub last_of : List Notice → Option Notice
 last_of notices = slice_get notices (length notices - 1)
 
--- the number of the keeper's fault that a notice tells, if it tells of a save
+-- the number of the keeper's fault that a notice gives, if it is that of a save
 abbrev pub unsaved_in : Option Notice → Option ℕ
 unsaved_in (Some (NotSaved number)) = Some number
 unsaved_in _ = None

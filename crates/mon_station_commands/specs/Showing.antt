@@ -33,7 +33,7 @@ AreTextsOf state course fresh peers engines now reports =
     (entries_from state.board.watch.rules (window_of state.board) 0 state.board.watch.instances)
     reports.printing.labels.items
 
--- A site, if there is one, shows texts for which this holds; or none, where there was no memory for
+-- A site, if there is one, shows texts for which this holds; or none, if there was no memory for
 -- them.
 pub record IsShown (Holds : Texts → Type 0) (old new : Option Site) : Type 0 where
   pub texts : Option Texts

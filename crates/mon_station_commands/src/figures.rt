@@ -52,7 +52,7 @@ fn target_figures(
     Ok(figures)
 }
 
-/// The engine id at this place; none where there is no such place.
+/// The engine id at this place; none if the list is shorter.
 fn engine_at(engines: &[Vec<u8>], place: usize) -> &[u8]
     ensures { result.now ≡ engine_at engines.now place }
 {

@@ -91,7 +91,7 @@ fn put_turns(
     )
 }
 
-/// Returns how many milliseconds of the interval, in seconds, each of so many stations has to itself.
+/// Returns how many milliseconds of the interval, in seconds, each of these stations has to itself.
 fn turn_of(interval: u32, stations: usize) -> u64
     requires { 0 < stations }
     ensures { result ≡ turn_of interval stations }
