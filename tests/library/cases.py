@@ -5,8 +5,9 @@ finds there, and takes nothing for granted that another case did.
 
     tests/SCRIPT [--program FILE] [--list] [--jobs N] [--leave-out WORD].. [CASE | WORD]..
 
-A CASE is a case's whole name. A WORD is a part of names: all cases that have it are tried, or left out, and then
-said to be. A word that no name has ends the script with status 2, and says what there is.
+A CASE is a case's whole name. A WORD is a group, as `help` of `help/settings`, or else a part of names: all cases that
+have it are tried, or left out, and then said to be. A word that no name has ends the script with status 2, and says what
+there is. Without --program it is what the gate left, or else what tests/quick built of these sources.
 """
 import argparse
 import os
@@ -19,6 +20,7 @@ from dataclasses import dataclass
 from pathlib import Path
 from typing import Callable
 
+from library import trial
 from library.crates import TOP
 
 PROGRAM = TOP / "crates/snmpmon/out/snmpmon"
@@ -72,7 +74,7 @@ def say(text):
 def arguments(doc, program=PROGRAM, more=()):
     """The arguments of a script; `more` are functions that add options of its own."""
     parser = argparse.ArgumentParser(description=doc, formatter_class=argparse.RawDescriptionHelpFormatter)
-    parser.add_argument("--program", type=Path, default=program, metavar="FILE", help="the program; what the gate left if not given")
+    parser.add_argument("--program", type=Path, metavar="FILE", help="the program; what the gate left, or else tests/quick, if not given")
     parser.add_argument("--list", action="store_true", help="prints the names of the cases")
     parser.add_argument("--jobs", type=int, default=os.cpu_count() or 1, metavar="N", help="how many cases run side by side")
     parser.add_argument("--leave-out", action="append", default=[], metavar="WORD", help="a part of names that are not tried")
@@ -80,15 +82,21 @@ def arguments(doc, program=PROGRAM, more=()):
         add(parser)
     parser.add_argument("cases", nargs="*", metavar="CASE|WORD", help="a case's name, or a part of names; all if none is given")
     words = parser.parse_args()
-    words.program, words.crate = words.program.resolve(), program.name
+    words.program, words.crate = (words.program or there(program)).resolve(), program.name
     return words
+
+
+def there(program):
+    """The program that the gate left; where there is none, that of a trial run of these sources, if it is kept."""
+    return program if program.is_file() or not trial.kept(program.name).is_file() else trial.kept(program.name)
 
 
 def named(cases, word):
     """The cases that a word names: by its whole name, by a group before a slash, or by a part of it."""
     some = [it for it in cases if it.name == word] or [it for it in cases if it.name.startswith(f"{word}/")] or [it for it in cases if word in it.name]
     if not some:
-        names = sorted({it.name.split("/")[0] for it in cases})
+        group = word.split("/")[0] + "/"
+        names = sorted({it.name for it in cases if it.name.startswith(group)} or {it.name.split("/")[0] for it in cases})
         print(f"no case has '{word}' in its name. There are: {', '.join(names[:LISTED])}" + (" .." if len(names) > LISTED else ""), file=sys.stderr)
         sys.exit(2)
     return some
@@ -136,10 +144,10 @@ def tried(case, words):
 
 def run(words, cases):
     """Tries the chosen cases and ends the script: the last line counts what was found."""
+    cases = chosen(cases, words)
     if words.list:
         show(it.name for it in cases)
         sys.exit(0)
-    cases = chosen(cases, words)
     need(words)
     started = time.monotonic()
     with ThreadPoolExecutor(max(words.jobs, 1)) as pool:
