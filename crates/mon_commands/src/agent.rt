@@ -1,64 +1,80 @@
 //! The commands of an agent: `agent` and `answer`.
 
-ghost use Rattle.std.specs.Prelude.{◌≡◌, ℤ, IfErr, IfOk, IsOk, Some, option_copied};
+ghost use Rattle.std.specs.Prelude.{◌≡◌, IfErr, IfOk, Some, option_copied};
 ghost use Rattle.mon_agent.specs.State.{policy_of, settings_of};
-ghost use Rattle.mon_mib.specs.Moment.{IsMoment};
+ghost use Rattle.mon_app.specs.Served.{AnswersIt, stands};
+ghost use Rattle.mon_console.specs.Failure.{IsUnopened};
+ghost use Rattle.mon_console.specs.Printing.{shown_names};
+ghost use Rattle.mon_host.specs.Log.{GoesOnBy};
+ghost use Rattle.mon_udp.specs.Addr.{addr_text};
+ghost use Rattle.mon_commands.specs.Agent.{AreAgentSettings, AreAnswers, IsAgentIn, IsAnswering, IsFused, IsListening, IsMomentOf, IsSimulated, PrintsAnswers, with_boots};
 
 use mon_agent::Agent;
 use mon_answers::{Scene, answer_lines};
 use mon_app::{AppFault, SocketPort, Untaken, serve};
-use mon_cli::{AgentArgs, AnswerArgs};
-use mon_console::{Failure, Fault, names_of, print, read_input_text, read_text, settings_failure};
+use mon_cli::{AgentArgs, AnswerArgs, Named};
+use mon_console::{Failure, names_of, print, read_input_text, read_text, settings_failure};
+use mon_host::Host;
 use mon_mib::{Device, FuseDevice, Moment, SimDevice};
 use mon_settings::{AgentSettings, SettingsKind, read_agent};
 use mon_smi::{Labels, Names};
 use mon_udp::Addr;
 use std::alloc::{AllocError, Global};
 use std::net::Net;
-use std::rt::{Clock, Files};
+use std::rt::Clock;
 
 /// The greatest time of a device's life, in hundredths of a second.
 const MOMENTS: &str = "a moment up to 214748364799";
 
 /// Serves the agent of the settings, as many datagrams as the arguments say.
-pub fn serve_agent<R: Clock + Files + Net + Eprint + AllocGlobal>(
+pub fn serve_agent<R: Clock + Net + AllocGlobal, H: Host>(
     rt: &R,
+    host: &mut H,
     words: AgentArgs<'_>,
 ) -> Result<(), Failure> {
-    let told = told_of(rt, words.settings, words.boots)?;
-    let device = SimDevice::new(told.interfaces, told.texts)?;
-    let agent = Agent::new(told.policy, told.settings, device);
-    open_port(rt, told.listen, agent, words.count)
-}
-
-/// Listens at an address, says so, and serves this many datagrams.
-fn open_port<R: Clock + Net + Eprint + AllocGlobal>(
-    rt: &R,
-    listen: Addr,
-    agent: Agent<SimDevice>,
-    count: u32,
-) -> Result<(), Failure> {
-    let mut agent = agent;
-    let mut port = listen_at(rt, listen)?;
-    let at = port.address()?;
-    let _ = eprintln!(rt; "snmpmon: agent at {at}");
-    let mut telling = Telling { rt, times: 0 };
-    serve(rt.alloc(), &mut port, &mut agent, count, &mut telling)?;
+    let told = told_of(rt.alloc(), host, words.settings, words.boots)?;
+    let listen = told.listen;
+    let mut agent = simulated(told)?;
+    let mut port = open_port(rt, host, listen)?;
+    let mut telling = Telling { host, times: 0 };
+    serve(rt.alloc(), &mut port, &mut agent, words.count, &mut telling)?;
     Ok(())
 }
 
-/// Reports on standard error each datagram for which memory ran out.
-#[derive(Drop)]
-struct Telling<'a, R> {
+/// The agent of the settings over a device in memory.
+fn simulated(told: AgentSettings) -> Result<Agent<SimDevice>, Failure>
+    ensures { IsSimulated told result }
+{
+    let device = SimDevice::new(told.interfaces, told.texts)?;
+    Ok(Agent::new(told.policy, told.settings, device))
+}
+
+/// Listens at an address, and says so.
+fn open_port<'a, R: Clock + Net + AllocGlobal, H: Host>(
     rt: &'a R,
+    host: &mut H,
+    listen: Addr,
+) -> Result<SocketPort<'a, R>, Failure>
+    ensures { GoesOnBy (λ log. IsListening listen log result) (H.log host.old) (H.log host.new) }
+{
+    let port = listen_at(rt, listen)?;
+    let at = port.address()?;
+    host.note(format_args!("snmpmon: agent at {at}\n"));
+    Ok(port)
+}
+
+/// Tells each datagram for which memory ran out.
+#[derive(Drop)]
+struct Telling<'a, H> {
+    host: &'a mut H,
     times: u64,
 }
 
-impl<R: Eprint> Untaken for Telling<'_, R> {
+impl<H: Host> Untaken for Telling<'_, H> {
     ghost times = { λ t. t.times };
 
     fn tell(&mut self) {
-        Failure::from(AppFault::OutOfMemory).tell(self.rt);
+        Failure::from(AppFault::OutOfMemory).tell(self.host);
         self.times = self.times.saturating_add(1);
     }
 }
@@ -67,7 +83,10 @@ impl<R: Eprint> Untaken for Telling<'_, R> {
 fn listen_at<R: Clock + Net + AllocGlobal>(
     rt: &R,
     listen: Addr,
-) -> Result<SocketPort<'_, R>, Failure> {
+) -> Result<SocketPort<'_, R>, Failure>
+    ensures { IfErr result (λ failure. (fault : AppFault)
+        × IsUnopened (Some (addr_text listen)) fault failure) }
+{
     match SocketPort::open(rt, listen) {
         Ok(port) => Ok(port),
         Err(fault) => Err(port_failure(rt.alloc(), listen, fault)),
@@ -76,7 +95,7 @@ fn listen_at<R: Clock + Net + AllocGlobal>(
 
 /// Returns why an agent does not listen at its address.
 fn port_failure(alloc: Global, listen: Addr, fault: AppFault) -> Failure
-    ensures { result.fault ≡ Fault.App fault }
+    ensures { IsUnopened (Some (addr_text listen)) fault result }
 {
     match fault {
         AppFault::SocketFault { reason } => { Failure::without_socket(alloc, listen, reason) }
@@ -85,50 +104,92 @@ fn port_failure(alloc: Global, listen: Addr, fault: AppFault) -> Failure
 }
 
 /// What the file of an agent's settings says, with the boots that may be given in their place.
-fn told_of<R: Files + AllocGlobal>(
-    rt: &R,
+fn told_of<H: Host>(
+    alloc: Global,
+    host: &mut H,
     path: &str,
     boots: Option<i32>,
 ) -> Result<AgentSettings, Failure>
-    ensures { (number : ℤ) → boots ≡ Some number → IfOk result (λ told. told.settings.boots ≡ number) }
+    ensures { GoesOnBy (λ log. AreAgentSettings path.now boots log result)
+        (H.log host.old) (H.log host.new) }
 {
-    let text = read_text(rt, path)?;
-    let mut told = match read_agent(rt.alloc(), &text) {
-        Ok(told) => told,
-        Err(fault) => return Err(settings_failure(
-            rt.alloc(),
-            SettingsKind::Agent,
-            path,
-            &text,
-            fault,
-        )),
-    };
+    let text = read_text(alloc, host, path)?;
+    told_in(alloc, path, &text, boots)
+}
+
+/// What a text says as an agent's settings, with the boots that may be given in their place.
+fn told_in(
+    alloc: Global,
+    path: &str,
+    text: &str,
+    boots: Option<i32>,
+) -> Result<AgentSettings, Failure>
+    ensures { IsAgentIn boots text.now result }
+{
+    match read_agent(alloc, text) {
+        Ok(told) => Ok(with_boots(told, boots)),
+        Err(fault) => Err(settings_failure(alloc, SettingsKind::Agent, path, text, fault)),
+    }
+}
+
+/// Settings with these boots, if they are given.
+fn with_boots(told: AgentSettings, boots: Option<i32>) -> AgentSettings
+    ensures { result ≡ with_boots boots told }
+{
+    let mut told = told;
     if let Some(boots) = boots {
         told.settings.boots = boots;
     }
-    Ok(told)
+    told
 }
 
 /// Prints what the agent of the settings answers to the datagrams on standard input.
-pub fn print_answers<R: Files + Input + Print + AllocGlobal>(
-    rt: &R,
+pub fn print_answers<H: Host>(
+    alloc: Global,
+    host: &mut H,
     words: AnswerArgs<'_, '_>,
-) -> Result<(), Failure> {
+) -> Result<(), Failure>
+    ensures { GoesOnBy (λ log. IsAnswering words.entry log result)
+        (H.log host.old) (H.log host.new) }
+{
     let AnswerArgs { scene, named, .. } = words;
-    let told = told_of(rt, words.settings, words.boots)?;
+    let told = told_of(alloc, host, words.settings, words.boots)?;
     let mut agent = fused_agent(told, scene.fuses)?;
-    let at = moment_of(rt.alloc(), scene.at)?;
-    let names = names_of(rt, named.modules)?;
-    let text = read_input_text(rt)?;
-    let names = named.shown.then_some(&names);
-    let lines = told_answers(rt.alloc(), &mut agent, (at, scene.times), names, &text)?;
-    print(rt, lines.as_bytes())
+    let at = moment_of(alloc, scene.at)?;
+    print_told(alloc, host, &mut agent, (at, scene.times), named)
+}
+
+/// Prints what an agent answers to the datagrams on standard input, which arrive at a time and so
+/// many times each, with names by these modules.
+fn print_told<D: Device + Drop, H: Host>(
+    alloc: Global,
+    host: &mut H,
+    agent: &mut Agent<D>,
+    arrivals: (Moment, u32),
+    named: Named<'_, '_>,
+) -> Result<(), Failure>
+    ensures { let Answers = AnswersIt D.held D.failed D.refuses
+        (policy_of agent.old) (settings_of agent.old) in
+        GoesOnBy (λ log. PrintsAnswers Answers (stands agent.old 0) arrivals named.entry log result)
+        (H.log host.old) (H.log host.new) }
+{
+    let names = names_of(alloc, host, named.modules)?;
+    let text = read_input_text(alloc, host)?;
+    let names = lent_if(named.shown, &names);
+    let lines = told_answers(alloc, agent, arrivals, names, &text)?;
+    print(alloc, host, lines.as_bytes())
+}
+
+/// Names, if they are shown.
+fn lent_if(shown: bool, names: &Names) -> Option<&Names>
+    ensures { option_copied result ≡ shown_names shown names.now }
+{
+    if shown { Some(names) } else { None }
 }
 
 /// The agent of the settings over a device that fails the changes of the fuses.
 fn fused_agent(told: AgentSettings, fuses: u64) -> Result<Agent<FuseDevice<SimDevice>>, Failure>
-    ensures policy { IfOk result (λ agent. policy_of agent ≡ told.policy) }
-    ensures settings { IfOk result (λ agent. settings_of agent ≡ told.settings) }
+    ensures { IsFused told fuses result }
 {
     let simulated = SimDevice::new(told.interfaces, told.texts)?;
     let device = FuseDevice::new(simulated, fuses);
@@ -137,9 +198,7 @@ fn fused_agent(told: AgentSettings, fuses: u64) -> Result<Agent<FuseDevice<SimDe
 
 /// Makes the time of this many hundredths of a second.
 fn moment_of(alloc: Global, hundredths: u64) -> Result<Moment, Failure>
-    ensures at { IfOk result (λ at. at ≡ hundredths) }
-    ensures accepted { IsMoment hundredths → IsOk result }
-    ensures fault { IfErr result (λ failure. failure.fault ≡ Fault.App AppFault.BadText) }
+    ensures { IsMomentOf hundredths result }
 {
     match Moment::new(hundredths) {
         Some(at) => Ok(at),
@@ -152,17 +211,23 @@ fn moment_of(alloc: Global, hundredths: u64) -> Result<Moment, Failure>
 fn told_answers<D: Device + Drop>(
     alloc: Global,
     agent: &mut Agent<D>,
-    (at, times): (Moment, u32),
+    arrivals: (Moment, u32),
     names: Option<&Names>,
     text: &str,
-) -> Result<String, AllocError> {
+) -> Result<String, Failure>
+    ensures { let Answers = AnswersIt D.held D.failed D.refuses
+        (policy_of agent.old) (settings_of agent.old) in
+        AreAnswers Answers (stands agent.old 0) arrivals
+        (option_copied names.entry) text.now result }
+{
+    let (at, times) = arrivals;
     let labels = labels_of(alloc, names)?;
     let scene = Scene {
         at,
         times,
         labels: labels.as_ref(),
     };
-    answer_lines(alloc, agent, text, &scene)
+    Ok(answer_lines(alloc, agent, text, &scene)?)
 }
 
 /// The labels of names, if there are any.

@@ -1,26 +1,37 @@
 //! The command `mib`.
 
+ghost use Rattle.std.specs.Prelude.{map};
+ghost use Rattle.mon_host.specs.Log.{GoesOnBy};
+ghost use Rattle.mon_commands.specs.Mib.{IsListed, IsMib};
+
 use mon_cli::MibArgs;
 use mon_console::{Failure, KnownNames, known_names, name_failure, no_module, print, read_text};
+use mon_host::Host;
 use mon_listing::ListFault;
 use mon_smi::read_module;
 use std::alloc::{AllocError, Global};
-use std::rt::Files;
 
 /// Prints the names of the module in a file, by the names of other modules too.
-pub fn print_names<R: Files + Print + AllocGlobal>(
-    rt: &R,
+pub fn print_names<H: Host>(
+    alloc: Global,
+    host: &mut H,
     words: MibArgs<'_, '_>,
-) -> Result<(), Failure> {
-    let text = read_text(rt, words.file)?;
-    let known = known_names(rt, words.modules)?;
-    let lines = list(rt.alloc(), words.file, &text, known)?;
-    print(rt, lines.as_bytes())
+) -> Result<(), Failure>
+    ensures { GoesOnBy (λ log. IsMib words.entry.file.now
+        (map (λ f. f.now) words.entry.modules.now) log result)
+        (H.log host.old) (H.log host.new) }
+{
+    let text = read_text(alloc, host, words.file)?;
+    let known = known_names(alloc, host, words.modules)?;
+    let lines = list(alloc, words.file, &text, known)?;
+    print(alloc, host, lines.as_bytes())
 }
 
 /// Returns the names that the module in a text defines, with their identifiers, a line each.
 /// The names of other modules that it uses are these.
-fn list(alloc: Global, path: &str, text: &str, known: KnownNames) -> Result<String, Failure> {
+fn list(alloc: Global, path: &str, text: &str, known: KnownNames) -> Result<String, Failure>
+    ensures { IsListed text.now known.names result }
+{
     let module = match read_module(alloc, text) {
         Ok(module) => module,
         Err(fault) => return Err(no_module(alloc, path, text, fault)),

@@ -4,19 +4,26 @@ ghost use Rattle.std.specs.Prelude.{◌≡◌, None};
 
 use mon_app::{AppFault, LineSink};
 use mon_console::{Failure, print};
+use mon_host::Host;
+use std::alloc::Global;
 
 /// Prints each line to standard output as it comes, and keeps why one could not be printed.
 #[derive(Drop)]
-pub(crate) struct Output<'a, R> {
-    rt: &'a R,
+pub(crate) struct Output<'a, H> {
+    alloc: Global,
+    host: &'a mut H,
     failure: Option<Failure>,
 }
 
-impl<'a, R> Output<'a, R> {
-    pub(crate) fn new(rt: &'a R) -> Self
+impl<'a, H> Output<'a, H> {
+    pub(crate) fn new(alloc: Global, host: &'a mut H) -> Self
         ensures { result.failure ≡ None }
     {
-        Output { rt, failure: None }
+        Output {
+            alloc,
+            host,
+            failure: None,
+        }
     }
 
     /// Returns how a walk ended that printed its lines here: with the output's own failure, if it
@@ -29,7 +36,7 @@ impl<'a, R> Output<'a, R> {
     }
 }
 
-impl<R: Print + AllocGlobal> LineSink for Output<'_, R> {
+impl<H: Host> LineSink for Output<'_, H> {
     ghost use Rattle.mon_app.specs.declared.fault.AppFault.TheVariants.{FileFault};
 
     // No clause of std says what is printed.
@@ -41,7 +48,7 @@ impl<R: Print + AllocGlobal> LineSink for Output<'_, R> {
     ghost refuses = { λ fault. fault ≡ FileFault };
 
     fn put_line(&mut self, line: &str) -> Result<(), AppFault> {
-        match print(self.rt, line.as_bytes()) {
+        match print(self.alloc, self.host, line.as_bytes()) {
             Ok(()) => Ok(()),
             Err(failure) => {
                 self.failure = Some(failure);

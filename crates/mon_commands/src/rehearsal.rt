@@ -1,6 +1,8 @@
 //! The commands of stations in memory.
 
-ghost use Rattle.std.specs.Prelude.{◌≡◌, ◌≤◌};
+ghost use Rattle.std.specs.Prelude.{◌≡◌, ◌≤◌, false};
+ghost use Rattle.mon_host.specs.Log.{GoesOnBy};
+ghost use Rattle.mon_commands.specs.Rehearsing.{IsPlain, IsRehearsed, IsRehearsing, IsSelfTest, IsTried};
 ghost use Rattle.mon_faults.specs.Fault.{innermost_of};
 ghost use Rattle.mon_rehearsal.specs.Fault as rehearsal;
 ghost use Rattle.mon_rehearsal.specs.Trial as trial;
@@ -8,41 +10,73 @@ ghost use Rattle.mon_rehearsal.specs.Trial as trial;
 use mon_cli::{Named, Printed, RehearseArgs};
 use mon_console::{Failure, Fault, print, read_input, read_station_file};
 use mon_formats::Format;
-use mon_rehearsal::{RehearsalFault, TrialFault, rehearse, run_trial};
+use mon_host::Host;
+use mon_rehearsal::{RehearsalFault, Trial, TrialFault, rehearse, run_trial};
+use mon_settings::StationSettings;
 use mon_world::WorldFault;
 use std::alloc::Global;
-use std::rt::Files;
 
 /// How a report is printed if the arguments do not say.
-const PLAIN: Printed<'static, 'static> = Printed {
-    format: Format::Text,
-    named: Named {
+fn plain() -> Printed<'static, 'static>
+    ensures { IsPlain result }
+{
+    let named = Named {
         modules: &[],
         shown: false,
-    },
-};
+    };
+    Printed {
+        format: Format::Text,
+        named,
+    }
+}
 
 /// Prints what the steps on standard input make of stations in memory.
-pub fn print_rehearsal<R: Files + Input + Print + AllocGlobal>(
-    rt: &R,
+pub fn print_rehearsal<H: Host>(
+    alloc: Global,
+    host: &mut H,
     words: RehearseArgs<'_>,
 ) -> Result<(), Failure>
     requires { (1 ≤ words.stations) × (words.stations ≤ 16) }
+    ensures { GoesOnBy (λ log. IsRehearsing words.entry log result)
+        (H.log host.old) (H.log host.new) }
 {
-    let (settings, _) = read_station_file(rt, words.settings, PLAIN)?;
-    let script = read_input(rt)?;
-    let alloc = rt.alloc();
-    match rehearse(alloc, &settings.core, words.stations, script.as_slice()) {
-        Ok(text) => print(rt, text.as_slice()),
+    let (settings, _) = read_station_file(alloc, host, words.settings, plain())?;
+    let script = read_input(alloc, host)?;
+    let text = rehearsed(alloc, &settings, words.stations, &script)?;
+    print(alloc, host, &text)
+}
+
+/// What the steps of a script make of so many stations in memory.
+fn rehearsed(
+    alloc: Global,
+    settings: &StationSettings,
+    stations: u32,
+    script: &[u8],
+) -> Result<Vec<u8>, Failure>
+    requires { (1 ≤ stations) × (stations ≤ 16) }
+    ensures { IsRehearsed settings.now stations script.now result }
+{
+    match rehearse(alloc, &settings.core, stations, script) {
+        Ok(text) => Ok(text),
         Err(fault) => Err(rehearsal_failure(alloc, fault)),
     }
 }
 
 /// Prints what a station in memory measured of an agent in memory.
-pub fn run_self_test<R: Print + AllocGlobal>(rt: &R) -> Result<(), Failure> {
-    match run_trial(rt.alloc()) {
-        Ok(trial) => print(rt, trial.text.as_slice()),
-        Err(fault) => Err(trial_failure(rt.alloc(), fault)),
+pub fn run_self_test<H: Host>(alloc: Global, host: &mut H) -> Result<(), Failure>
+    ensures { GoesOnBy (λ log. IsSelfTest log result) (H.log host.old) (H.log host.new) }
+{
+    let trial = tried(alloc)?;
+    print(alloc, host, trial.text.as_slice())
+}
+
+/// The trial of a station in memory.
+fn tried(alloc: Global) -> Result<Trial, Failure>
+    ensures { IsTried result }
+{
+    match run_trial(alloc) {
+        Ok(trial) => Ok(trial),
+        Err(fault) => Err(trial_failure(alloc, fault)),
     }
 }
 
@@ -51,6 +85,7 @@ fn rehearsal_failure(alloc: Global, fault: RehearsalFault) -> Failure
     ensures part { (innermost_of result.fault).part ≡ (rehearsal.innermost_of fault).part }
     ensures number { (innermost_of result.fault).number ≡ (rehearsal.innermost_of fault).number }
     ensures name { (innermost_of result.fault).name ≡ (rehearsal.innermost_of fault).name }
+    ensures whole { result.is_cut ≡ false }
 {
     Failure::said(rehearsal_fault(fault), format!(in alloc; "{fault}"))
 }
@@ -60,6 +95,7 @@ fn trial_failure(alloc: Global, fault: TrialFault) -> Failure
     ensures part { (innermost_of result.fault).part ≡ (trial.innermost_of fault).part }
     ensures number { (innermost_of result.fault).number ≡ (trial.innermost_of fault).number }
     ensures name { (innermost_of result.fault).name ≡ (trial.innermost_of fault).name }
+    ensures whole { result.is_cut ≡ false }
 {
     Failure::said(trial_fault(fault), format!(in alloc; "{fault}"))
 }

@@ -1,2 +1,9 @@
+pub mod Agents
+pub mod Clashing
 pub mod Failure
+pub mod Files
+pub mod Labelled
+pub mod Naming
+pub mod Printing
+pub mod Settings
 pub mod Shown

@@ -1,6 +1,8 @@
 //! The agent that a command asks, and why it gave no answer.
 
-ghost use Rattle.std.specs.Prelude.{◌≡◌, ◌↔◌, ◌≤◌, IfErr, IfOk, IsTrue, None, Some, length};
+ghost use Rattle.std.specs.Prelude.{◌≡◌, ◌↔◌, ◌≤◌, IfErr, IfOk, IsTrue, None, Some, codes, length, string_bytes};
+ghost use Rattle.mon_console.specs.Agents.{IsUnanswered, status_line};
+ghost use Rattle.mon_console.specs.Failure.{IsOfText};
 ghost use Rattle.mon_udp.specs.Addr.{addr_of};
 
 use crate::failure::Failure;
@@ -24,7 +26,7 @@ pub fn agent_at<'a>(alloc: Global, word: &'a str) -> Result<AgentAt<'a>, Failure
     ensures word { IfOk result (λ agent. agent.word.now ≡ word.now) }
     ensures address { IfOk result (λ agent. addr_of word.now ≡ Some agent.address) }
     ensures refused { IfErr result (λ _. addr_of word.now ≡ None) }
-    ensures fault { IfErr result (λ failure. failure.fault ≡ Fault.App AppFault.BadText) }
+    ensures fault { IfErr result (IsOfText word.now (codes "an address, a.b.c.d:port,")) }
 {
     match Addr::parse(word) {
         Some(address) => Ok(AgentAt { word, address }),
@@ -37,7 +39,8 @@ pub fn community<'a>(alloc: Global, word: &'a str) -> Result<&'a [u8], Failure>
     ensures octets { IfOk result (λ octets. octets.now ≡ word.now) }
     ensures fits { IfOk result (λ _. (1 ≤ length word.now) × (length word.now ≤ 512)) }
     ensures refused { IfErr result (λ _. ¬ ((1 ≤ length word.now) × (length word.now ≤ 512))) }
-    ensures fault { IfErr result (λ failure. failure.fault ≡ Fault.App AppFault.BadText) }
+    ensures fault { IfErr result
+        (IsOfText (codes "COMMUNITY") (codes "a text of 1 to 512 octets")) }
 {
     if is_community(word) {
         return Ok(word.as_bytes());
@@ -54,7 +57,8 @@ fn is_community(word: &str) -> bool
 
 /// Why the agent gave no answer that is printed.
 pub fn answer_failure(alloc: Global, agent: &str, fault: AppFault) -> Failure
-    ensures { result.fault ≡ Fault.App fault }
+    ensures fault { result.fault ≡ Fault.App fault }
+    ensures more { IsUnanswered agent.now fault result }
 {
     match fault {
         AppFault::AgentStatus { status, index } => Failure::said(
@@ -67,7 +71,9 @@ pub fn answer_failure(alloc: Global, agent: &str, fault: AppFault) -> Failure
 }
 
 /// The error-status of an agent's reply, and the variable binding that it names.
-fn status_text(alloc: Global, agent: &str, status: i32, index: i32) -> Result<String, AllocError> {
+fn status_text(alloc: Global, agent: &str, status: i32, index: i32) -> Result<String, AllocError>
+    ensures { IfOk result (λ text. string_bytes text ≡ status_line agent.now status index) }
+{
     let name = status_name(status).unwrap_or("an unknown error-status");
     if index == 0 {
         return format!(in alloc; "{agent}: the agent answered {name} ({status})");

@@ -1,15 +1,19 @@
 //! Why a command failed, and where.
 
-ghost use Rattle.std.specs.Prelude.{◌≡◌, ◌↔◌, IsTrue, false};
+ghost use Rattle.std.specs.Prelude.{◌≡◌, ◌↔◌, IsTrue, false, option_map, string_bytes};
 ghost use Rattle.std.specs.IoError.{error_kind};
+ghost use Rattle.std.specs.Result.{result_ok};
 ghost use Rattle.mon_app.specs.AppFault.{of_socket, of_stream};
-ghost use Rattle.mon_console.specs.Failure.{is_cut_by};
-ghost use Rattle.mon_app.specs.declared.fault.AppFault.TheVariants.{OutOfMemory};
+ghost use Rattle.mon_console.specs.Failure.{HasReason, IsOfSocket, IsOfStream, IsOfText, IsPlain, IsSecond, IsTold, IsUnopened};
 ghost use Rattle.mon_faults.specs.Fault.{innermost_of, station_fault};
 ghost use Rattle.mon_faults.specs.declared.fault.Fault.TheVariants.{App, Device, Names};
+ghost use Rattle.mon_app.specs.declared.fault.AppFault.TheVariants.{OutOfMemory};
+ghost use Rattle.mon_host.specs.Log.{GoesOnBy};
+ghost use Rattle.mon_host.specs.Reason.{why};
 
 use mon_app::{AppFault, SocketReason};
 use mon_faults::{Fault, StationFault};
+use mon_host::{Host, Reason};
 use mon_mib::DeviceFault;
 use mon_smi::NamesFault;
 use std::alloc::{AllocError, AllocFailed, Global};
@@ -40,8 +44,7 @@ impl Drop for Failure {
 impl Failure {
     /// A fault that says all itself.
     pub fn plain(fault: Fault) -> Self
-        ensures fault { result.fault ≡ fault }
-        ensures whole { result.is_cut ≡ false }
+        ensures { IsPlain fault result }
     {
         Failure {
             fault,
@@ -53,6 +56,7 @@ impl Failure {
     /// A fault, and a line that says more of it.
     pub fn said(fault: Fault, more: Result<String, AllocError>) -> Self
         ensures fault { result.fault ≡ fault }
+        ensures more { result.more ≡ result_ok more }
         ensures whole { result.is_cut ≡ false }
     {
         Failure {
@@ -64,36 +68,36 @@ impl Failure {
 
     /// A fault that arose at this place: a file or an address.
     pub fn at(alloc: Global, place: &str, fault: Fault) -> Self
-        ensures { result.fault ≡ fault }
+        ensures fault { result.fault ≡ fault }
+        ensures whole { result.is_cut ≡ false }
     {
         Failure::said(fault, format!(in alloc; "{place}: {fault}"))
     }
 
     /// Makes the failure of an argument or a text that is not what must be in its place.
     pub fn text(alloc: Global, place: &str, wanted: &str) -> Self
-        ensures { result.fault ≡ Fault.App AppFault.BadText }
+        ensures { IsOfText place.now wanted.now result }
     {
         let fault = Fault::App(AppFault::BadText);
         Failure::said(fault, format!(in alloc; "{place}: {wanted} is wanted"))
     }
 
     /// A file or a standard stream that could not be used, with the system's reason.
-    pub fn stream(alloc: Global, path: &str, error: io::Error) -> Self
-        ensures fault { result.fault ≡ Fault.App (of_stream (error_kind error)) }
-        ensures cut { result.is_cut ≡ is_cut_by (error_kind error) }
+    pub fn stream(alloc: Global, place: &str, reason: Reason) -> Self
+        ensures { IsOfStream place.now (why reason) result }
     {
-        let more = format!(in alloc; "{path}: {error}").ok();
-        let is_cut = matches!(error.kind(), io::ErrorKind::BrokenPipe);
+        let Reason { kind, words } = reason;
         Failure {
-            fault: Fault::App(AppFault::from(error)),
-            more,
-            is_cut,
+            fault: Fault::App(stream_fault(kind)),
+            more: reason_line(alloc, place, words),
+            is_cut: matches!(kind, io::ErrorKind::BrokenPipe),
         }
     }
 
     /// A socket that could not be had or used at this address, with the system's reason.
     pub fn socket<P: Display + Drop>(alloc: Global, address: P, error: io::Error) -> Self
-        ensures { result.fault ≡ Fault.App (of_socket (error_kind error)) }
+        ensures fault { result.fault ≡ Fault.App (of_socket (error_kind error)) }
+        ensures more { IsUnopened (P.output address) (of_socket (error_kind error)) result }
     {
         match error.kind() {
             io::ErrorKind::OutOfMemory => Failure::from(AppFault::OutOfMemory),
@@ -107,7 +111,7 @@ impl Failure {
         address: P,
         reason: SocketReason,
     ) -> Self
-        ensures { result.fault ≡ Fault.App (AppFault.SocketFault reason) }
+        ensures { IsOfSocket (P.output address) reason result }
     {
         let why = reason.text();
         Failure::said(
@@ -130,23 +134,50 @@ impl Failure {
         self.is_cut
     }
 
-    /// Prints the fault's line, and a second one that says what was wrong and where. Out of memory says all in one line.
-    pub fn tell(&self, rt: &impl Eprint) {
+    /// Sends the fault's line to standard error, and a second one that says what was wrong and
+    /// where. If memory ran out, the first line says all.
+    pub fn tell<H: Host>(&self, host: &mut H)
+        ensures { GoesOnBy (IsTold self.now) (H.log host.old) (H.log host.new) }
+    {
         let innermost = self.fault.innermost();
-        let _ = eprintln!(rt; "snmpmon: {innermost}");
+        host.note(format_args!("snmpmon: {innermost}\n"));
         if innermost.number != OUT_OF_MEMORY {
-            self.tell_more(rt);
+            self.tell_more(host);
         }
     }
 
-    fn tell_more(&self, rt: &impl Eprint) {
-        let _ = match &self.more {
-            Some(more) => eprintln!(rt; "{more}"),
+    /// Sends the second line to standard error.
+    fn tell_more<H: Host>(&self, host: &mut H)
+        ensures { GoesOnBy (IsSecond (option_map string_bytes self.now.more))
+            (H.log host.old) (H.log host.new) }
+    {
+        match &self.more {
+            Some(more) => host.note(format_args!("{more}\n")),
             None => {
                 let fault = self.fault;
-                eprintln!(rt; "{fault}")
+                host.note(format_args!("{fault}\n"));
             }
-        };
+        }
+    }
+}
+
+/// Returns the fault of a file or a stream that failed so.
+fn stream_fault(kind: io::ErrorKind) -> AppFault
+    ensures { result ≡ of_stream kind }
+{
+    match kind {
+        io::ErrorKind::OutOfMemory => AppFault::OutOfMemory,
+        _ => AppFault::FileFault,
+    }
+}
+
+/// Returns the line of a file or a stream that failed, if there are words for why, and memory.
+fn reason_line(alloc: Global, place: &str, words: Option<String>) -> Option<String>
+    ensures { HasReason place.now (option_map string_bytes words) result }
+{
+    match words {
+        Some(words) => format!(in alloc; "{place}: {words}").ok(),
+        None => None,
     }
 }
 
@@ -154,7 +185,7 @@ impl Failure {
 const OUT_OF_MEMORY: u8 = 1;
 
 impl From<AppFault> for Failure {
-    ghost from_gives = { λ fault failure. failure.fault ≡ App fault };
+    ghost from_gives = { λ fault failure. IsPlain (App fault) failure };
 
     fn from(fault: AppFault) -> Failure {
         Failure::plain(Fault::App(fault))
@@ -162,7 +193,7 @@ impl From<AppFault> for Failure {
 }
 
 impl From<NamesFault> for Failure {
-    ghost from_gives = { λ fault failure. failure.fault ≡ Names fault };
+    ghost from_gives = { λ fault failure. IsPlain (Names fault) failure };
 
     fn from(fault: NamesFault) -> Failure {
         Failure::plain(Fault::Names(fault))
@@ -170,7 +201,7 @@ impl From<NamesFault> for Failure {
 }
 
 impl From<DeviceFault> for Failure {
-    ghost from_gives = { λ fault failure. failure.fault ≡ Device fault };
+    ghost from_gives = { λ fault failure. IsPlain (Device fault) failure };
 
     fn from(fault: DeviceFault) -> Failure {
         Failure::plain(Fault::Device(fault))
@@ -178,7 +209,7 @@ impl From<DeviceFault> for Failure {
 }
 
 impl From<StationFault> for Failure {
-    ghost from_gives = { λ fault failure. failure.fault ≡ station_fault fault };
+    ghost from_gives = { λ fault failure. IsPlain (station_fault fault) failure };
 
     fn from(fault: StationFault) -> Failure {
         Failure::plain(Fault::from(fault))
@@ -186,7 +217,7 @@ impl From<StationFault> for Failure {
 }
 
 impl From<AllocError> for Failure {
-    ghost from_gives = { λ _ failure. failure.fault ≡ App OutOfMemory };
+    ghost from_gives = { λ _ failure. IsPlain (App OutOfMemory) failure };
 
     fn from(_error: AllocError) -> Failure {
         Failure::plain(Fault::App(AppFault::OutOfMemory))
@@ -194,7 +225,7 @@ impl From<AllocError> for Failure {
 }
 
 impl<T: Drop> From<AllocFailed<T>> for Failure {
-    ghost from_gives = { λ _ failure. failure.fault ≡ App OutOfMemory };
+    ghost from_gives = { λ _ failure. IsPlain (App OutOfMemory) failure };
 
     fn from(_error: AllocFailed<T>) -> Failure {
         Failure::plain(Fault::App(AppFault::OutOfMemory))

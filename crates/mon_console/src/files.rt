@@ -1,113 +1,125 @@
-//! What commands read and print.
+//! What commands read, print and replace.
+
+ghost use Rattle.mon_host.specs.Log.{GoesOnBy};
+ghost use Rattle.mon_console.specs.Files.{IsFile, IsInput, IsInputText, IsPart, IsPrint, IsRename, IsReplacing, IsText, IsTextOf, IsWrite};
 
 use crate::failure::Failure;
-use mon_app::{AppFault, Counted, read_all};
-use mon_faults::Fault;
+use mon_host::{Host, Part};
 use std::alloc::Global;
-use std::fs::File;
-use std::io::{Read, Write};
-use std::rt::Files;
-use std::{fs, io};
 
 /// What second lines call the standard streams.
 const INPUT: &str = "standard input";
 
 const OUTPUT: &str = "standard output";
 
-/// Prints octets.
-pub fn print<R: Print + AllocGlobal>(rt: &R, octets: &[u8]) -> Result<(), Failure> {
-    match io::writer(rt).write_all(octets) {
+/// Prints octets on standard output.
+pub fn print<H: Host>(alloc: Global, host: &mut H, octets: &[u8]) -> Result<(), Failure>
+    ensures { GoesOnBy (λ log. IsPrint octets.now log result) (H.log host.old) (H.log host.new) }
+{
+    match host.print(octets) {
         Ok(()) => Ok(()),
-        Err(error) => Err(Failure::stream(rt.alloc(), OUTPUT, error)),
+        Err(reason) => Err(Failure::stream(alloc, OUTPUT, reason)),
     }
 }
 
 /// Replaces a file whole: a new one is written next to it and renamed, so that a reader finds the
 /// old text or the new one.
-pub fn replace_file<R: Files<File = File> + AllocGlobal>(
-    rt: &R,
+pub fn replace_file<H: Host>(
+    alloc: Global,
+    host: &mut H,
     path: &str,
     octets: &[u8],
-) -> Result<(), Failure> {
-    let alloc = rt.alloc();
+) -> Result<(), Failure>
+    ensures { GoesOnBy (λ log. IsReplacing path.now octets.now log result)
+        (H.log host.old) (H.log host.new) }
+{
     let fresh = format!(in alloc; "{path}.new")?;
-    match write_file(rt, fresh.as_str(), octets) {
-        Ok(()) => {}
-        Err(error) => return Err(Failure::stream(alloc, fresh.as_str(), error)),
-    }
-    match fs::rename(rt, fresh.as_str(), path) {
-        Ok(()) => Ok(()),
-        Err(error) => Err(Failure::stream(alloc, path, error)),
-    }
+    write_file(alloc, host, fresh.as_str(), octets)?;
+    rename(alloc, host, fresh.as_str(), path)
 }
 
-/// Writes a new file.
-fn write_file<R: Files<File = File>>(rt: &R, path: &str, octets: &[u8]) -> io::Result<()> {
-    let mut file = File::create(rt, path)?;
-    file.write_all(octets)
-}
-
-/// All octets of standard input.
-pub fn read_input<R: Input + AllocGlobal>(rt: &R) -> Result<Vec<u8>, Failure> {
-    match read_all(rt.alloc(), &mut Counted::new(rt.reader())) {
-        Ok(octets) => Ok(octets),
-        Err(fault) => Err(input_failure(rt.alloc(), INPUT, fault)),
-    }
-}
-
-/// The text on standard input.
-pub fn read_input_text<R: Input + AllocGlobal>(rt: &R) -> Result<String, Failure> {
-    text_of(rt.alloc(), INPUT, read_input(rt)?)
-}
-
-/// The text of a file.
-pub fn read_text<R: Files + AllocGlobal>(rt: &R, path: &str) -> Result<String, Failure> {
-    let alloc = rt.alloc();
-    let mut file = match File::open(rt, path) {
-        Ok(file) => Counted::new(file),
-        Err(error) => return Err(Failure::stream(alloc, path, error)),
-    };
-    match read_all(alloc, &mut file) {
-        Ok(octets) => text_of(alloc, path, octets),
-        Err(fault) => Err(unread_file(rt, path, fault)),
-    }
-}
-
-/// Reads the first octets of a file, at most this many.
-pub fn read_first<R: Files<File = File> + AllocGlobal>(
-    rt: &R,
+/// Writes octets to the file at a path, which is made, or emptied before.
+pub fn write_file<H: Host>(
+    alloc: Global,
+    host: &mut H,
     path: &str,
-    limit: u64,
-) -> Result<Vec<u8>, Failure> {
-    let alloc = rt.alloc();
-    let file = match File::open(rt, path) {
-        Ok(file) => file,
-        Err(error) => return Err(Failure::stream(alloc, path, error)),
-    };
-    match read_all(alloc, &mut Counted::new(file.take(limit))) {
+    octets: &[u8],
+) -> Result<(), Failure>
+    ensures { GoesOnBy (λ log. IsWrite path.now octets.now log result)
+        (H.log host.old) (H.log host.new) }
+{
+    match host.write_file(path, octets) {
+        Ok(()) => Ok(()),
+        Err(reason) => Err(Failure::stream(alloc, path, reason)),
+    }
+}
+
+/// Gives the file at a path another one, in the place of a file that is there.
+fn rename<H: Host>(alloc: Global, host: &mut H, path: &str, other: &str) -> Result<(), Failure>
+    ensures { GoesOnBy (λ log. IsRename path.now other.now log result)
+        (H.log host.old) (H.log host.new) }
+{
+    match host.rename(path, other) {
+        Ok(()) => Ok(()),
+        Err(reason) => Err(Failure::stream(alloc, other, reason)),
+    }
+}
+
+/// Reads standard input to its end.
+pub fn read_input<H: Host>(alloc: Global, host: &mut H) -> Result<Vec<u8>, Failure>
+    ensures { GoesOnBy (λ log. IsInput log result) (H.log host.old) (H.log host.new) }
+{
+    match host.read_input() {
         Ok(octets) => Ok(octets),
-        Err(fault) => Err(unread_file(rt, path, fault)),
+        Err(reason) => Err(Failure::stream(alloc, INPUT, reason)),
     }
 }
 
-/// Returns the failure of a file that could not be read to its end. Of a folder it names the cause.
-fn unread_file<R: Files + AllocGlobal>(rt: &R, path: &str, fault: AppFault) -> Failure {
-    let alloc = rt.alloc();
-    match fs::metadata(rt, path) {
-        Ok(found) if found.is_dir() => {
-            Failure::stream(alloc, path, io::Error::from(io::ErrorKind::IsADirectory))
-        }
-        _ => input_failure(alloc, path, fault),
+/// Reads the text on standard input.
+pub fn read_input_text<H: Host>(alloc: Global, host: &mut H) -> Result<String, Failure>
+    ensures { GoesOnBy (λ log. IsInputText log result) (H.log host.old) (H.log host.new) }
+{
+    let octets = read_input(alloc, host)?;
+    text_of(alloc, INPUT, octets)
+}
+
+/// Reads the file at a path to its end.
+fn read_file<H: Host>(alloc: Global, host: &mut H, path: &str) -> Result<Vec<u8>, Failure>
+    ensures { GoesOnBy (λ log. IsFile path.now log result) (H.log host.old) (H.log host.new) }
+{
+    match host.read_file(path) {
+        Ok(octets) => Ok(octets),
+        Err(reason) => Err(Failure::stream(alloc, path, reason)),
     }
 }
 
-/// What could not be read to its end.
-fn input_failure(alloc: Global, place: &str, fault: AppFault) -> Failure {
-    Failure::at(alloc, place, Fault::App(fault))
+/// Reads the text in the file at a path.
+pub fn read_text<H: Host>(alloc: Global, host: &mut H, path: &str) -> Result<String, Failure>
+    ensures { GoesOnBy (λ log. IsText path.now log result) (H.log host.old) (H.log host.new) }
+{
+    let octets = read_file(alloc, host, path)?;
+    text_of(alloc, path, octets)
 }
 
-/// The text of octets in UTF-8.
-fn text_of(alloc: Global, place: &str, octets: Vec<u8>) -> Result<String, Failure> {
+/// Reads a part of the file at a path.
+pub fn read_part<H: Host>(
+    alloc: Global,
+    host: &mut H,
+    path: &str,
+    part: Part,
+) -> Result<Vec<u8>, Failure>
+    ensures { GoesOnBy (λ log. IsPart path.now part log result) (H.log host.old) (H.log host.new) }
+{
+    match host.read_part(path, part) {
+        Ok(octets) => Ok(octets),
+        Err(reason) => Err(Failure::stream(alloc, path, reason)),
+    }
+}
+
+/// Returns the text of octets in UTF-8, which are of this place.
+fn text_of(alloc: Global, place: &str, octets: Vec<u8>) -> Result<String, Failure>
+    ensures { IsTextOf place.now octets.items result }
+{
     match String::from_utf8(octets) {
         Ok(text) => Ok(text),
         Err(_) => Err(Failure::text(alloc, place, "text in UTF-8")),

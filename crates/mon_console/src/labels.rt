@@ -1,5 +1,11 @@
 //! Labels of the instances of a station, for Prometheus and the page.
 
+ghost use Rattle.std.specs.Prelude.{◌≡◌, IfOk, Some, map, option_map, string_bytes};
+ghost use Rattle.mon_console.specs.Labelled.{AreLabelled, AreLabels, AreLabelsOf, AreSaid, IsLabelled, IsOfLabels};
+ghost use Rattle.mon_host.specs.Log.{GoesOnBy};
+ghost use Rattle.mon_labels.specs.Given.{given};
+ghost use Rattle.mon_udp.specs.Addr.{addr_text};
+
 use crate::failure::Failure;
 use crate::files::read_text;
 use crate::printing::Printing;
@@ -8,42 +14,50 @@ use mon_cli::Printed;
 use mon_core::Core;
 use mon_faults::{Fault, explain};
 use mon_formats::InstanceLabels;
+use mon_host::Host;
 use mon_labels::{Labels, LabelsFault, Reached, read_labels};
 use mon_poller::Target;
 use mon_settings::{SettingsFault, SettingsKind, StationSettings};
 use mon_station::Innermost;
 use std::alloc::{AllocError, Global};
-use std::rt::Files;
 
 /// Returns what the file of a station's settings says, and how its reports are printed: with the
-/// addresses of the targets as labels, and those of interfaces that are in the file of labels, if one is given.
-pub fn read_labelled_station<R: Files + AllocGlobal>(
-    rt: &R,
+/// addresses of the targets as labels, and those of interfaces that are in the file of labels, if
+/// one is given.
+pub fn read_labelled_station<H: Host>(
+    alloc: Global,
+    host: &mut H,
     path: &str,
     labels: Option<&str>,
     printed: Printed<'_, '_>,
-) -> Result<(StationSettings, Printing), Failure> {
-    let (settings, printing) = read_station_file(rt, path, printed)?;
-    let labels = labels_for(rt, labels, &settings.core)?;
-    Ok((settings, printing.with_labels(labels)))
+) -> Result<(StationSettings, Printing), Failure>
+    ensures { GoesOnBy (λ log. IsLabelled path.now (option_map (λ l. l.now) labels.entry)
+        printed.entry log result) (H.log host.old) (H.log host.new) }
+{
+    let (settings, printing) = read_station_file(alloc, host, path, printed)?;
+    let labels = labels_in(alloc, host, labels)?;
+    labelled(alloc, settings, printing, &labels)
 }
 
-/// Returns the labels of the instances of a station.
-fn labels_for<R: Files + AllocGlobal>(
-    rt: &R,
-    path: Option<&str>,
-    core: &Core,
-) -> Result<Vec<InstanceLabels>, Failure> {
-    let labels = labels_in(rt, path)?;
-    Ok(labels_of(rt.alloc(), &labels, core)?)
+/// Adds labels to how reports are printed: the addresses of the targets, and those of interfaces.
+fn labelled(
+    alloc: Global,
+    settings: StationSettings,
+    printing: Printing,
+    labels: &Labels,
+) -> Result<(StationSettings, Printing), Failure>
+    ensures { AreLabelled settings printing labels.now result }
+{
+    match labels_of(alloc, labels, &settings.core) {
+        Ok(labels) => Ok((settings, printing.with_labels(labels))),
+        Err(error) => Err(Failure::from(error)),
+    }
 }
 
 /// Returns the labels of the instances of a station by those of interfaces.
-fn labels_of(
-    alloc: Global,
-    labels: &Labels,
-    core: &Core,
-) -> Result<Vec<InstanceLabels>, AllocError> {
+fn labels_of(alloc: Global, labels: &Labels, core: &Core) -> Result<Vec<InstanceLabels>, AllocError>
+    ensures { IfOk result (λ all. AreLabelsOf core.now labels.now (map given all.items)) }
+{
     let addresses = addresses_of(alloc, core.targets())?;
     let reached = Reached {
         targets: core.targets(),
@@ -53,34 +67,58 @@ fn labels_of(
 }
 
 /// Returns where the agent of each target is reached.
-fn addresses_of(alloc: Global, targets: &[Target]) -> Result<Vec<String>, AllocError> {
+fn addresses_of(alloc: Global, targets: &[Target]) -> Result<Vec<String>, AllocError>
+    ensures { IfOk result (λ all.
+        map string_bytes all.items ≡ map (λ t. addr_text t.address) targets.now) }
+{
     let mut addresses = Vec::with_capacity(alloc, targets.len())?;
     for target in targets {
-        addresses.push(format!(in alloc; "{}", target.address)?)?;
+        addresses.push(address_text(alloc, target)?)?;
     }
     Ok(addresses)
 }
 
+/// Returns where the agent of a target is reached.
+fn address_text(alloc: Global, target: &Target) -> Result<String, AllocError>
+    ensures { IfOk result (λ text. string_bytes text ≡ addr_text target.now.address) }
+{
+    format!(in alloc; "{}", target.address)
+}
+
 /// Reads the labels in a file, if one is given.
-fn labels_in<R: Files + AllocGlobal>(rt: &R, path: Option<&str>) -> Result<Labels, Failure> {
+fn labels_in<H: Host>(alloc: Global, host: &mut H, path: Option<&str>) -> Result<Labels, Failure>
+    ensures { GoesOnBy (λ log. AreLabels (option_map (λ p. p.now) path.entry) log result)
+        (H.log host.old) (H.log host.new) }
+{
     match path {
-        None => Ok(Labels::none(rt.alloc())),
-        Some(path) => read_labels_file(rt, path),
+        None => Ok(Labels::none(alloc)),
+        Some(path) => read_labels_file(alloc, host, path),
     }
 }
 
 /// Reads the labels in a file.
-fn read_labels_file<R: Files + AllocGlobal>(rt: &R, path: &str) -> Result<Labels, Failure> {
-    let alloc = rt.alloc();
-    let text = read_text(rt, path)?;
-    match read_labels(alloc, &text) {
+fn read_labels_file<H: Host>(alloc: Global, host: &mut H, path: &str) -> Result<Labels, Failure>
+    ensures { GoesOnBy (λ log. AreLabels (Some path.now) log result)
+        (H.log host.old) (H.log host.new) }
+{
+    let text = read_text(alloc, host, path)?;
+    labels_in_text(alloc, path, text.as_str())
+}
+
+/// Returns the labels that a text says, which is that of this file.
+fn labels_in_text(alloc: Global, path: &str, text: &str) -> Result<Labels, Failure>
+    ensures { AreSaid text.now result }
+{
+    match read_labels(alloc, text) {
         Ok(labels) => Ok(labels),
-        Err(fault) => Err(labels_failure(alloc, path, &text, fault)),
+        Err(fault) => Err(labels_failure(alloc, path, text, fault)),
     }
 }
 
 /// Returns why a file of labels was refused.
-fn labels_failure(alloc: Global, path: &str, text: &str, fault: LabelsFault) -> Failure {
+fn labels_failure(alloc: Global, path: &str, text: &str, fault: LabelsFault) -> Failure
+    ensures { IsOfLabels fault result }
+{
     let innermost = Innermost::new("mon_labels", fault.number(), fault.name());
     Failure::said(Fault::Other(innermost), line(alloc, path, text, fault))
 }

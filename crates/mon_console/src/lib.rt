@@ -1,21 +1,27 @@
-//! What the program's commands share: why one failed and where, what they read and print, names by the modules that are given,
-//! and how reports are printed.
-//! Contract: a failure has the fault that it was made of.
+//! What the program's commands share: why one failed and where, what they read, print and replace,
+//! names by the modules that are given, and how reports are printed.
+//! Contract: what was done to the surroundings, in which order, and that a failure has the fault
+//! and the words of the call that failed.
 #![tactic(auto)]
 
 mod agents;
 mod failure;
 mod files;
 mod labels;
+pub mod laws;
 mod naming;
 mod printing;
 mod settings;
 
 pub use agents::{AgentAt, agent_at, answer_failure, community};
 pub use failure::Failure;
-pub use files::{print, read_first, read_input, read_input_text, read_text, replace_file};
+pub use files::{
+    print, read_input, read_input_text, read_part, read_text, replace_file, write_file,
+};
 pub use labels::read_labelled_station;
 pub use mon_faults::Fault;
-pub use naming::{KnownNames, asked_for, known_names, name_failure, names_of, no_module};
+pub use naming::{
+    KnownNames, asked_for, known_names, known_names_in, name_failure, names_of, no_module,
+};
 pub use printing::Printing;
-pub use settings::{read_station_file, settings_failure};
+pub use settings::{module_files_in, read_station_file, settings_failure, station_settings_in};

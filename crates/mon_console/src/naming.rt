@@ -1,17 +1,20 @@
 //! Names by the modules that are given.
 
-ghost use Rattle.std.specs.Prelude.{◌≡◌, ◌++◌, IfErr, IfOk, OnOk};
+ghost use Rattle.std.specs.Prelude.{◌≡◌, ◌++◌, IfErr, IfOk, OnOk, false, length, map, nat_le, option_map, string_bytes};
+ghost use Rattle.mon_console.specs.Clashing.{clash_end, clash_line, name_at, owner_of};
+ghost use Rattle.mon_console.specs.Naming.{AreBuiltIn, AreJoined, AreJoinedFromAll, AreKnown, AreNames, IsAddedFile, IsUnaddable, IsUnnamed, is_among, left, names_in, others};
+ghost use Rattle.mon_host.specs.Log.{GoesOnBy};
 ghost use Rattle.mon_oid.specs.Oid.{IsOid};
 ghost use Rattle.mon_smi.specs.BuiltIn.{built_in};
-ghost use Rattle.mon_smi.specs.Names.{IsFaultOfNameText, MeansNumbers};
+ghost use Rattle.mon_smi.specs.Names.{AreDistinct, IsFaultOfNameText, MeansNumbers};
 
 use crate::failure::Failure;
 use crate::files::read_text;
 use mon_faults::Fault;
+use mon_host::Host;
 use mon_oid::Oid;
-use mon_smi::{Module, Names, NamesFault, Position, TextFault, read_module};
+use mon_smi::{Clash, Definition, Module, Names, NamesFault, Position, TextFault, read_module};
 use std::alloc::{AllocError, Global};
-use std::rt::Files;
 
 /// The built-in names and those of modules, and which module defines which.
 pub struct KnownNames {
@@ -30,7 +33,8 @@ impl Drop for KnownNames {
 impl KnownNames {
     /// The built-in names.
     pub fn new(alloc: Global) -> Result<Self, NamesFault>
-        ensures { IfOk result (λ known. known.names ≡ built_in) }
+        ensures known { IfOk result (λ known. known.names ≡ built_in) }
+        ensures refused { IfErr result (λ fault. fault ≡ NamesFault.OutOfMemory) }
     {
         Ok(KnownNames {
             names: Names::new(alloc)?,
@@ -54,28 +58,60 @@ impl KnownNames {
     }
 
     /// Adds the names of the module in a file.
-    pub fn add_file<R: Files + AllocGlobal>(&mut self, rt: &R, path: &str) -> Result<(), Failure> {
-        let alloc = rt.alloc();
-        let text = read_text(rt, path)?;
-        match read_module(alloc, &text) {
+    pub fn add_file<H: Host>(
+        &mut self,
+        alloc: Global,
+        host: &mut H,
+        path: &str,
+    ) -> Result<(), Failure>
+        ensures { GoesOnBy (λ log. IsAddedFile path.now self.old.names self.new.names log result)
+            (H.log host.old) (H.log host.new) }
+    {
+        let text = read_text(alloc, host, path)?;
+        self.add_text(alloc, path, text.as_str())
+    }
+
+    /// Adds the names of the modules in files, in order.
+    pub fn add_files<H: Host>(
+        &mut self,
+        alloc: Global,
+        host: &mut H,
+        files: &[String],
+    ) -> Result<(), Failure>
+        ensures { GoesOnBy (λ log. AreJoinedFromAll self.old.names (map string_bytes files.now)
+            log (left self.new.names result)) (H.log host.old) (H.log host.new) }
+    {
+        for file in files {
+            self.add_file(alloc, host, file.as_str())?;
+        }
+        Ok(())
+    }
+
+    /// Adds the names of the module that a text is, which is that of this file.
+    fn add_text(&mut self, alloc: Global, path: &str, text: &str) -> Result<(), Failure>
+        ensures { AreJoined self.old.names text.now (left self.new.names result) }
+    {
+        match read_module(alloc, text) {
             Ok(module) => self.add(alloc, path, &module),
-            Err(fault) => Err(no_module(alloc, path, &text, fault)),
+            Err(fault) => Err(no_module(alloc, path, text, fault)),
         }
     }
 
     /// Adds the names of a module that was read from this file.
-    pub fn add(&mut self, alloc: Global, path: &str, module: &Module) -> Result<(), Failure>
-        ensures { OnOk result (self.new.names ≡ self.old.names ++ module.now.defs) }
+    pub fn add(&mut self, alloc: Global, path: &str, added: &Module) -> Result<(), Failure>
+        ensures added { OnOk result (self.new.names ≡ self.old.names ++ added.now.defs) }
+        ensures distinct { OnOk result (AreDistinct (self.old.names ++ added.now.defs)) }
+        ensures refused { IfErr result (IsUnaddable self.old.names added.now.defs) }
     {
-        let name = String::from_str(alloc, module.name.as_str())?;
-        match self.names.add(alloc, module) {
+        let name = String::from_str(alloc, added.name.as_str())?;
+        match self.names.add(alloc, added) {
             Ok(()) => {
                 self.ends.push((name, self.names.definitions().len()))?;
                 Ok(())
             }
             Err(fault) => Err(Failure::said(
                 Fault::Names(fault),
-                self.refusal(alloc, path, module, fault),
+                self.refusal(alloc, path, added, fault),
             )),
         }
     }
@@ -85,22 +121,35 @@ impl KnownNames {
         &self,
         alloc: Global,
         path: &str,
-        module: &Module,
+        added: &Module,
         fault: NamesFault,
     ) -> Result<String, AllocError> {
-        let NamesFault::Duplicate(clash) = fault else {
-            return format!(in alloc; "{path}: {fault}");
-        };
-        let own = module.name.as_str();
-        let name = match module.defs.as_slice().get(clash.added) {
-            Some(definition) => definition.name.as_str(),
-            None => "a name",
-        };
+        match fault {
+            NamesFault::Duplicate(clash) => self.clash_text(alloc, path, added, clash),
+            _ => format!(in alloc; "{path}: {fault}"),
+        }
+    }
+
+    /// Says where a name that a module defines is defined already.
+    fn clash_text(
+        &self,
+        alloc: Global,
+        path: &str,
+        added: &Module,
+        clash: Clash,
+    ) -> Result<String, AllocError>
+        ensures { IfOk result (λ text. string_bytes text
+            ≡ clash_line path.now added.now.name (name_at added.now.defs clash.added)
+            (clash_end (nat_le (length self.now.names) clash.earlier)
+            (owner_of self.now.ends.items clash.earlier))) }
+    {
+        let own = added.name.as_str();
+        let name = name_at(added.defs.as_slice(), clash.added);
         if clash.earlier >= self.names.definitions().len() {
             return format!(in alloc; "{path}: {own} defines {name} twice");
         }
-        match self.ends.iter().find(|(_, end)| clash.earlier < *end) {
-            Some((other, _)) => format!(in alloc;
+        match owner_of(self.ends.as_slice(), clash.earlier) {
+            Some(other) => format!(in alloc;
                 "{path}: {own} defines {name}, which {other} defines too"
             ),
             None => format!(in alloc; "{path}: {own} defines {name}, which is a built-in name"),
@@ -108,23 +157,104 @@ impl KnownNames {
     }
 }
 
-/// The built-in names, and those of the modules in files, in this order.
-pub fn known_names<R: Files + AllocGlobal>(rt: &R, files: &[&str]) -> Result<KnownNames, Failure> {
-    let mut known = KnownNames::new(rt.alloc())?;
-    for path in files {
-        known.add_file(rt, path)?;
+/// Returns the name of the definition at a place.
+fn name_at(definitions: &[Definition], place: usize) -> &str
+    ensures { result.now ≡ name_at definitions.now place }
+{
+    match definitions.get(place) {
+        Some(definition) => definition.name.as_str(),
+        None => "a name",
+    }
+}
+
+/// Returns the module of the definition at a place: the first one that ends after it.
+fn owner_of(ends: &[(String, usize)], place: usize) -> Option<&str>
+    ensures { option_map (λ o. o.now) result ≡ owner_of ends.now place }
+{
+    match ends.iter().find(|(_, end)| place < *end) {
+        Some((owner, _)) => Some(owner.as_str()),
+        None => None,
+    }
+}
+
+/// Returns the built-in names, and those of the modules in files, in this order.
+pub fn known_names<H: Host>(
+    alloc: Global,
+    host: &mut H,
+    files: &[&str],
+) -> Result<KnownNames, Failure>
+    ensures { GoesOnBy (λ log. AreKnown (map (λ f. f.now) files.now) log result)
+        (H.log host.old) (H.log host.new) }
+{
+    let known = built_in_names(alloc)?;
+    add_others(alloc, host, known, files, &[])
+}
+
+/// Returns the names of `known_names`, of files with owned paths.
+pub fn known_names_in<H: Host>(
+    alloc: Global,
+    host: &mut H,
+    files: &[String],
+) -> Result<KnownNames, Failure>
+    ensures { GoesOnBy (λ log. AreKnown (map string_bytes files.now) log result)
+        (H.log host.old) (H.log host.new) }
+{
+    let mut known = built_in_names(alloc)?;
+    known.add_files(alloc, host, files)?;
+    Ok(known)
+}
+
+/// Returns the built-in names.
+fn built_in_names(alloc: Global) -> Result<KnownNames, Failure>
+    ensures { AreBuiltIn (names_in result) }
+{
+    match KnownNames::new(alloc) {
+        Ok(known) => Ok(known),
+        Err(fault) => Err(Failure::from(fault)),
+    }
+}
+
+/// Returns the names of `known_names`, without which module defines which.
+pub fn names_of<H: Host>(alloc: Global, host: &mut H, files: &[&str]) -> Result<Names, Failure>
+    ensures { GoesOnBy (λ log. AreNames (map (λ f. f.now) files.now) log result)
+        (H.log host.old) (H.log host.new) }
+{
+    Ok(known_names(alloc, host, files)?.into_names())
+}
+
+/// Returns these names and those of the modules at paths, of which those are passed over that are
+/// among the files.
+pub(crate) fn add_others<H: Host>(
+    alloc: Global,
+    host: &mut H,
+    known: KnownNames,
+    paths: &[&str],
+    files: &[String],
+) -> Result<KnownNames, Failure>
+    ensures { GoesOnBy (λ log. AreJoinedFromAll known.names
+        (others files.now (map (λ p. p.now) paths.now)) log (names_in result))
+        (H.log host.old) (H.log host.new) }
+{
+    let mut known = known;
+    for path in paths {
+        if !is_among(files, path) {
+            known.add_file(alloc, host, path)?;
+        }
     }
     Ok(known)
 }
 
-/// The names of `known_names`, without which module defines which.
-pub fn names_of<R: Files + AllocGlobal>(rt: &R, files: &[&str]) -> Result<Names, Failure> {
-    Ok(known_names(rt, files)?.into_names())
+/// Returns `true` if one of the files is this one.
+fn is_among(files: &[String], path: &str) -> bool
+    ensures { result ≡ is_among files.now path.now }
+{
+    files.iter().any(|file| file.as_str() == path)
 }
 
 /// Why a file holds no module: where in it, and by which word.
 pub fn no_module(alloc: Global, path: &str, text: &str, fault: TextFault) -> Failure
-    ensures { result.fault ≡ Fault.Text fault }
+    ensures fault { result.fault ≡ Fault.Text fault }
+    ensures whole { result.is_cut ≡ false }
 {
     match fault {
         TextFault::Unexpected(span) | TextFault::Duplicate(span) => {
@@ -141,10 +271,14 @@ pub fn no_module(alloc: Global, path: &str, text: &str, fault: TextFault) -> Fai
     }
 }
 
-/// The identifier that a word of the command line means. Where its name is not defined, the fault says what would define it.
+/// The identifier that a word of the command line means. Where its name is not defined, the fault
+/// says what would define it.
 pub fn asked_for(alloc: Global, names: &Names, word: &str) -> Result<Oid, Failure>
     ensures found { IfOk result (λ oid. IsOid oid × MeansNumbers names.now word.now oid) }
-    ensures refused { IfErr result (λ failure. (fault : NamesFault) × (failure.fault ≡ Fault.Names fault) × IsFaultOfNameText fault names.now word.now) }
+    ensures refused { IfErr result (λ failure. (fault : NamesFault)
+        × (failure.fault ≡ Fault.Names fault) × IsFaultOfNameText fault names.now word.now) }
+    ensures more { IfErr result (λ failure.
+        (fault : NamesFault) × IsUnnamed names.now word.now fault failure) }
 {
     match names.resolve(alloc, word) {
         Ok(oid) => Ok(oid),
@@ -154,7 +288,8 @@ pub fn asked_for(alloc: Global, names: &Names, word: &str) -> Result<Oid, Failur
 
 /// Why a word means no identifier by these names.
 pub fn name_failure(alloc: Global, names: &Names, word: &str, fault: NamesFault) -> Failure
-    ensures { result.fault ≡ Fault.Names fault }
+    ensures fault { result.fault ≡ Fault.Names fault }
+    ensures more { IsUnnamed names.now word.now fault result }
 {
     match fault {
         NamesFault::Unknown => {

@@ -2,25 +2,25 @@
 
 ghost use Rattle.std.specs.Prelude.{◌≡◌, ◌↔◌, [], IfOk, IsTrue, None, is_some, option_map, string_bytes};
 ghost use Rattle.mon_board.specs.Board.{window_of};
+ghost use Rattle.mon_console.specs.Printing.{IsPrinting, shown_names};
 ghost use Rattle.mon_console.specs.Shown.{shown_by};
+ghost use Rattle.mon_host.specs.Log.{GoesOnBy};
 ghost use Rattle.mon_formats.specs.Changes.{change_line, instance_text};
 ghost use Rattle.mon_formats.specs.Formats.{formatted, report_in};
 ghost use Rattle.mon_formats.specs.declared.format.Format.TheVariants.{Text};
 
 use crate::failure::Failure;
-use crate::files::replace_file;
-use crate::naming::KnownNames;
+use crate::naming::{KnownNames, add_others};
 use mon_alarms::AlarmChange;
 use mon_board::{Board, Instance, Watch};
 use mon_cli::Printed;
 use mon_formats::{
     Extras, Figures, Format, InstanceLabels, alarm_line, format_report, instance_text,
 };
+use mon_host::Host;
 use mon_report::{Entry, entries_of};
 use mon_smi::{InNumbers, Names};
 use std::alloc::{AllocError, Global};
-use std::fs::File;
-use std::rt::Files;
 
 /// How reports are printed.
 pub struct Printing {
@@ -44,26 +44,25 @@ impl Drop for Printing {
 impl Printing {
     /// Reads what the arguments ask for. These names are known, of the modules in these files, and
     /// those of the modules that the arguments give.
-    pub fn of<R: Files + AllocGlobal>(
-        rt: &R,
+    pub fn of<H: Host>(
+        alloc: Global,
+        host: &mut H,
         printed: Printed<'_, '_>,
         known: KnownNames,
         files: &[String],
     ) -> Result<Self, Failure>
+        ensures done { GoesOnBy (λ log. IsPrinting printed.entry known.names files.now log result)
+            (H.log host.old) (H.log host.new) }
         ensures format { IfOk result (λ printing. printing.format ≡ printed.entry.format) }
-        ensures shown { IfOk result (λ printing. is_some printing.names ≡ printed.entry.named.shown) }
+        ensures shown { IfOk result (λ printing.
+            is_some printing.names ≡ printed.entry.named.shown) }
         ensures labels { IfOk result (λ printing. printing.labels.items ≡ []) }
     {
-        let mut known = known;
-        for path in printed.named.modules {
-            if !is_among(files, path) {
-                known.add_file(rt, path)?;
-            }
-        }
+        let known = add_others(alloc, host, known, printed.named.modules, files)?;
         Ok(Printing {
             format: printed.format,
-            names: printed.named.shown.then_some(known.into_names()),
-            labels: Vec::new(rt.alloc()),
+            names: names_if(printed.named.shown, known),
+            labels: Vec::new(alloc),
         })
     }
 
@@ -106,13 +105,15 @@ impl Printing {
         entries: &[Entry],
         station: Option<&Figures>,
     ) -> Result<Vec<u8>, AllocError>
-        ensures { IfOk result (λ text. text.items ≡ formatted self.now.format (shown_by self.now.names) entries.now (option_map (λ f. f.now) station.entry) self.now.labels.items) }
+        ensures { IfOk result (λ text. text.items
+            ≡ formatted self.now.format (shown_by self.now.names) entries.now
+            (option_map (λ f. f.now) station.entry) self.now.labels.items) }
     {
         self.text_in(Vec::new(alloc), self.format, entries, station)
     }
 
-    /// The report of these instances in this format, and for Prometheus of what the station says of itself.
-    /// The buffer's octets are dropped, and its capacity is used again.
+    /// The report of these instances in this format, and for Prometheus of what the station says of
+    /// itself. The buffer's octets are dropped, and its capacity is used again.
     pub fn text_in(
         &self,
         buffer: Vec<u8>,
@@ -120,7 +121,9 @@ impl Printing {
         entries: &[Entry],
         station: Option<&Figures>,
     ) -> Result<Vec<u8>, AllocError>
-        ensures { IfOk result (λ text. text.items ≡ formatted format (shown_by self.now.names) entries.now (option_map (λ f. f.now) station.entry) self.now.labels.items) }
+        ensures { IfOk result (λ text. text.items
+            ≡ formatted format (shown_by self.now.names) entries.now
+            (option_map (λ f. f.now) station.entry) self.now.labels.items) }
     {
         let extras = Extras {
             station,
@@ -142,7 +145,8 @@ impl Printing {
         watch: &Watch,
         change: &AlarmChange,
     ) -> Result<String, AllocError>
-        ensures { IfOk result (λ line. string_bytes line ≡ change_line (shown_by self.now.names) watch.now change.now) }
+        ensures { IfOk result (λ line.
+            string_bytes line ≡ change_line (shown_by self.now.names) watch.now change.now) }
     {
         match &self.names {
             None => alarm_line(alloc, &InNumbers, watch, change),
@@ -152,7 +156,8 @@ impl Printing {
 
     /// Returns an instance's engine id and its name.
     pub fn instance_text(&self, alloc: Global, instance: &Instance) -> Result<String, AllocError>
-        ensures { IfOk result (λ text. string_bytes text ≡ instance_text (shown_by self.now.names) instance.now) }
+        ensures { IfOk result (λ text.
+            string_bytes text ≡ instance_text (shown_by self.now.names) instance.now) }
     {
         match &self.names {
             None => instance_text(alloc, &InNumbers, instance),
@@ -167,26 +172,23 @@ impl Printing {
         board: &Board,
         station: Option<&Figures>,
     ) -> Result<Vec<u8>, AllocError>
-        ensures { IfOk result (λ text. text.items ≡ report_in self.now.format (shown_by self.now.names) board.now.watch (window_of board.now) (option_map (λ f. f.now) station.entry) self.now.labels.items) }
+        ensures { IfOk result (λ text. text.items
+            ≡ report_in self.now.format (shown_by self.now.names) board.now.watch
+            (window_of board.now) (option_map (λ f. f.now) station.entry)
+            self.now.labels.items) }
     {
         let entries = entries_of(alloc, board)?;
         self.text(alloc, entries.as_slice(), station)
     }
-
-    /// Writes the report of a board to a file, which is replaced whole.
-    pub fn write<R: Files<File = File> + AllocGlobal>(
-        &self,
-        rt: &R,
-        path: &str,
-        board: &Board,
-        station: Option<&Figures>,
-    ) -> Result<(), Failure> {
-        let text = self.report(rt.alloc(), board, station)?;
-        replace_file(rt, path, text.as_slice())
-    }
 }
 
-/// Returns `true` if one of the files is this one.
-fn is_among(files: &[String], path: &str) -> bool {
-    files.iter().any(|file| file.as_str() == path)
+/// Returns the names, if they are to be shown.
+fn names_if(shown: bool, known: KnownNames) -> Option<Names>
+    ensures { result ≡ shown_names shown known.names }
+{
+    if shown {
+        Some(known.into_names())
+    } else {
+        None
+    }
 }

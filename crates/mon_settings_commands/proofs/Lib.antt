@@ -1,1 +1,7 @@
+pub mod Counting
+pub mod Groups
+pub mod Made
 pub mod Percentages
+pub mod Sequences
+pub mod Turns
+pub mod Writing

@@ -1,4 +1,11 @@
+pub mod Appended
+pub mod Asked
+pub mod Command
 pub mod Kinds
 pub mod Named
+pub mod Parts
 pub mod Percent
 pub mod Replies
+pub mod Settings
+pub mod Source
+pub mod Texts

@@ -3,6 +3,8 @@
 ghost use Rattle.std.specs.Prelude.{◌≡◌, ◌≢◌, IfErr, IfOk, false, pos};
 ghost use Rattle.mon_ber.specs.declared.value.Value.TheVariants.{EndOfMibView};
 ghost use Rattle.mon_oid.specs.Oid.{IsPrefix};
+ghost use Rattle.mon_host.specs.Log.{GoesOnBy};
+ghost use Rattle.mon_settings_commands.specs.Asked.{IsAsking, count_lines};
 ghost use Rattle.mon_settings_commands.specs.Replies.{bindings_in, index_in, status_in};
 
 use crate::failing::survey_failure;
@@ -10,12 +12,13 @@ use crate::settings::Asked;
 use mon_app::{AppFault, Asking, Question, Repeats, SocketWire, Wire, send_request};
 use mon_ber::Value;
 use mon_console::{Failure, Fault, answer_failure};
+use mon_host::Host;
 use mon_oid::Oid;
 use mon_pdu::{Binding, Body, Message};
 use mon_survey::{Answers, Column, Kinds, SurveyFault, columns, engine_of};
 use std::alloc::{AllocError, Global};
 use std::net::Net;
-use std::rt::{Clock, Files};
+use std::rt::Clock;
 use std::{mem, slice};
 
 /// How many rounds a GetBulk asks for.
@@ -38,26 +41,40 @@ const IF_NUMBER: [u32; 9] = [1, 3, 6, 1, 2, 1, 2, 1, 0];
 #[derive(Drop)]
 pub(crate) struct Survey {
     pub(crate) engine: Vec<u8>,
+    /// The agent's ifNumber, where it has one.
+    pub(crate) number: Option<u32>,
     pub(crate) answers: Answers,
 }
 
 /// Asks the agent for its engine and its interfaces. Where its ifNumber is another number than that of
 /// ifTable's interfaces, a line on standard error says so.
-pub(crate) fn ask_agent<R: Clock + Files + Net + Eprint + AllocGlobal>(
+pub(crate) fn ask_agent<R: Clock + Net + AllocGlobal, H: Host>(
     rt: &R,
+    host: &mut H,
     asked: Asked<'_>,
-) -> Result<Survey, Failure> {
+) -> Result<Survey, Failure>
+    ensures { GoesOnBy (λ log. IsAsking asked.entry.agent.word.now log result)
+        (H.log host.old) (H.log host.new) }
+{
     let mut asker = Asker::open(rt, asked)?;
-    asker.survey(rt, asked.kinds)
+    let survey = asker.survey(rt.alloc(), asked.kinds)?;
+    let count = survey.answers.count();
+    tell_count(host, asked.agent.word, survey.number, count);
+    Ok(survey)
 }
 
 /// Says that ifNumber is another number than that of ifTable's interfaces, where it is.
-fn tell_count(rt: &impl Eprint, agent: &str, number: Option<u32>, count: usize) {
-    let Some(number) = number else {
-        return;
-    };
-    if number as usize != count {
-        let _ = eprintln!(rt; "{agent}: ifNumber is {number}, and ifTable has {count} interfaces");
+fn tell_count<H: Host>(host: &mut H, agent: &str, number: Option<u32>, count: usize)
+    ensures { GoesOnBy (λ log. log ≡ count_lines agent.now number count)
+        (H.log host.old) (H.log host.new) }
+{
+    match number {
+        Some(number) if number as usize != count => {
+            host.note(format_args!(
+                "{agent}: ifNumber is {number}, and ifTable has {count} interfaces\n"
+            ));
+        }
+        _ => {}
     }
 }
 
@@ -118,16 +135,15 @@ impl<W: Wire> Asker<'_, W> {
     }
 
     /// Returns what the agent answers, for these kinds of counters.
-    fn survey<R: Eprint + AllocGlobal>(&mut self, rt: &R, kinds: Kinds) -> Result<Survey, Failure> {
-        let alloc = rt.alloc();
+    fn survey(&mut self, alloc: Global, kinds: Kinds) -> Result<Survey, Failure> {
         let Head { engine, number } = self.first(alloc)?;
         let mut survey = Survey {
             engine,
+            number,
             answers: Answers::new(alloc),
         };
         self.walk_columns(alloc, kinds, &mut survey.answers)?;
         self.require_engine(alloc, survey.engine.as_slice())?;
-        tell_count(rt, self.agent, number, survey.answers.count());
         Ok(survey)
     }
 

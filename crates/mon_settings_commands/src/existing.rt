@@ -1,11 +1,15 @@
 //! Settings that are there.
 
-use mon_console::{Failure, KnownNames, read_text, settings_failure};
-use mon_settings::{SettingsKind, StationSettings, module_files, read_station};
+ghost use Rattle.std.specs.Prelude.{◌≡◌, map, string_bytes};
+ghost use Rattle.mon_console.specs.Naming.{AreNames};
+ghost use Rattle.mon_host.specs.Log.{GoesOnBy};
+ghost use Rattle.mon_settings_commands.specs.Appended.{AreNamesIn, IsExisting};
+
+use mon_console::{Failure, known_names_in, module_files_in, read_text, station_settings_in};
+use mon_host::Host;
+use mon_settings::StationSettings;
 use mon_smi::Names;
 use std::alloc::Global;
-use std::fs::File;
-use std::rt::Files;
 
 /// Settings that are there: their text, the names of their modules, and what they say.
 pub(crate) struct Existing {
@@ -27,7 +31,11 @@ impl Drop for Existing {
 
 impl Existing {
     /// The settings, to add to.
-    pub(crate) fn lent(&self) -> mon_survey::Existing<'_> {
+    pub(crate) fn lent(&self) -> mon_survey::Existing<'_>
+        ensures text { result.text.now ≡ string_bytes self.now.text }
+        ensures station { result.station.now ≡ self.now.station }
+        ensures names { result.names.now ≡ self.now.names }
+    {
         mon_survey::Existing {
             text: self.text.as_str(),
             station: &self.station,
@@ -37,13 +45,16 @@ impl Existing {
 }
 
 /// Reads the settings in a file.
-pub(crate) fn existing_in<R: Files<File = File> + AllocGlobal>(
-    rt: &R,
+pub(crate) fn existing_in<H: Host>(
+    alloc: Global,
+    host: &mut H,
     path: &str,
-) -> Result<Existing, Failure> {
-    let text = read_text(rt, path)?;
-    let names = names_in(rt, path, text.as_str())?;
-    let station = station_in(rt.alloc(), path, text.as_str(), &names)?;
+) -> Result<Existing, Failure>
+    ensures { GoesOnBy (λ log. IsExisting path.now log result) (H.log host.old) (H.log host.new) }
+{
+    let text = read_text(alloc, host, path)?;
+    let names = names_in(alloc, host, path, text.as_str())?;
+    let station = station_settings_in(alloc, path, text.as_str(), &names)?;
     Ok(Existing {
         text,
         names,
@@ -52,42 +63,17 @@ pub(crate) fn existing_in<R: Files<File = File> + AllocGlobal>(
 }
 
 /// The names of the modules that settings list.
-fn names_in<R: Files<File = File> + AllocGlobal>(
-    rt: &R,
-    path: &str,
-    text: &str,
-) -> Result<Names, Failure> {
-    let alloc = rt.alloc();
-    let files = match module_files(alloc, text) {
-        Ok(files) => files,
-        Err(fault) => {
-            return Err(settings_failure(alloc, SettingsKind::Station, path, text, fault));
-        }
-    };
-    names_by(rt, files.as_slice())
+fn names_in<H: Host>(alloc: Global, host: &mut H, path: &str, text: &str) -> Result<Names, Failure>
+    ensures { GoesOnBy (λ log. AreNamesIn text.now log result) (H.log host.old) (H.log host.new) }
+{
+    let files = module_files_in(alloc, path, text)?;
+    names_by(alloc, host, files.as_slice())
 }
 
 /// The names of the modules in files.
-fn names_by<R: Files<File = File> + AllocGlobal>(
-    rt: &R,
-    files: &[String],
-) -> Result<Names, Failure> {
-    let mut known = KnownNames::new(rt.alloc())?;
-    for file in files {
-        known.add_file(rt, file)?;
-    }
-    Ok(known.into_names())
-}
-
-/// What settings say.
-fn station_in(
-    alloc: Global,
-    path: &str,
-    text: &str,
-    names: &Names,
-) -> Result<StationSettings, Failure> {
-    match read_station(alloc, text, names) {
-        Ok(station) => Ok(station),
-        Err(fault) => Err(settings_failure(alloc, SettingsKind::Station, path, text, fault)),
-    }
+fn names_by<H: Host>(alloc: Global, host: &mut H, files: &[String]) -> Result<Names, Failure>
+    ensures { GoesOnBy (λ log. AreNames (map string_bytes files.now) log result)
+        (H.log host.old) (H.log host.new) }
+{
+    Ok(known_names_in(alloc, host, files)?.into_names())
 }

@@ -1,44 +1,59 @@
 //! The settings of several stations, a file each.
 
+ghost use Rattle.std.specs.Prelude.{◌≡◌, ◌<◌, ◌≤◌, ◌⊎◌, ◌^◌, ◌∷◌, ◌++◌, [], Err, IfErr, IfOk, Ok, OnOk, Some, String, false, map, string_bytes};
+ghost use Rattle.std.specs.Global.{Global as TheGlobal};
+ghost use Rattle.mon_console.specs.Failure.{IsMemory};
+ghost use Rattle.mon_host.specs.Log.{GoesOnBy};
+ghost use Rattle.mon_settings_commands.specs.Parts.{AreParts, ArePartTexts, AreWritten, HasGroups, HasNoCounter, HasNoPlan, IsNamedWritten, IsPartWritten, part_path};
+ghost use Rattle.mon_settings_commands.specs.Settings.{IsSettingsOf};
+ghost use Rattle.mon_settings_commands.specs.Source.{IsOfSurvey, source_in};
+
 use crate::failing::survey_failure;
 use crate::labelling::write_labels;
 use crate::settings::{Ground, settings_of};
-use mon_console::{Failure, print};
+use mon_console::{Failure, print, write_file};
+use mon_host::Host;
 use mon_survey::{SurveyFault, plan};
 use std::alloc::Global;
-use std::fs;
-use std::fs::File;
-use std::rt::Files;
 
 /// The most files that settings are split into.
 const MOST_PARTS: u32 = 65_536;
 
 /// Writes the settings of a station for each group into a folder, and prints the names of the files.
-pub(crate) fn write_parts<R: Files<File = File> + Print + AllocGlobal>(
-    rt: &R,
+pub(crate) fn write_parts<H: Host>(
+    alloc: Global,
+    host: &mut H,
     ground: &Ground<'_, '_>,
     folder: &str,
-) -> Result<(), Failure> {
-    let texts = texts_of(rt.alloc(), ground)?;
-    write_texts(rt, ground, folder, texts.as_slice())
+) -> Result<(), Failure>
+    ensures { GoesOnBy (λ log. AreParts (source_in ground.now) folder.now log result)
+        (H.log host.old) (H.log host.new) }
+{
+    let texts = texts_of(alloc, ground)?;
+    write_labels(alloc, host, ground, "")?;
+    write_texts(alloc, host, folder, texts.as_slice())
 }
 
-/// Writes the labels, and then the settings of each group.
-fn write_texts<R: Files<File = File> + Print + AllocGlobal>(
-    rt: &R,
-    ground: &Ground<'_, '_>,
+/// Writes a file for each of these texts, in order, and prints its name.
+fn write_texts<H: Host>(
+    alloc: Global,
+    host: &mut H,
     folder: &str,
     texts: &[String],
-) -> Result<(), Failure> {
-    write_labels(rt, ground, "")?;
-    for (place, text) in texts.iter().enumerate() {
-        write_part(rt, folder, place, text.as_str())?;
+) -> Result<(), Failure>
+    ensures { GoesOnBy (λ log. AreWritten folder.now 0 (map string_bytes texts.now) log result)
+        (H.log host.old) (H.log host.new) }
+{
+    for place in 0..texts.len() {
+        write_part(alloc, host, folder, place, texts[place].as_str())?;
     }
     Ok(())
 }
 
 /// The settings of each group.
-fn texts_of(alloc: Global, ground: &Ground<'_, '_>) -> Result<Vec<String>, Failure> {
+fn texts_of(alloc: Global, ground: &Ground<'_, '_>) -> Result<Vec<String>, Failure>
+    ensures { ArePartTexts (source_in ground.now) result }
+{
     let groups = groups_of(alloc, ground)?;
     let mut texts = Vec::new(alloc);
     for group in 0..groups {
@@ -53,13 +68,21 @@ fn add_text(
     texts: &mut Vec<String>,
     ground: &Ground<'_, '_>,
     group: u32,
-) -> Result<(), Failure> {
+) -> Result<(), Failure>
+    requires { group < 65536 }
+    ensures added { OnOk result ((text : String TheGlobal) × (texts.new.items ≡ texts.old.items ++ text ∷ []) × IsSettingsOf (source_in ground.now) (Some group) (Ok text)) }
+    ensures refused { IfErr result (λ failure. IsMemory failure ⊎ IsSettingsOf (source_in ground.now) (Some group) (Err failure)) }
+{
     let text = settings_of(alloc, ground, Some(group))?;
     Ok(texts.push(text)?)
 }
 
 /// Returns how many groups of counters there are.
-fn groups_of(alloc: Global, ground: &Ground<'_, '_>) -> Result<u32, Failure> {
+fn groups_of(alloc: Global, ground: &Ground<'_, '_>) -> Result<u32, Failure>
+    ensures few { IfOk result (λ groups. groups ≤ 65536) }
+    ensures last { IfOk result (HasGroups (source_in ground.now)) }
+    ensures refused { IfErr result (HasNoPlan (source_in ground.now)) }
+{
     for group in 0..MOST_PARTS {
         if !has_group(alloc, ground, group)? {
             return Ok(group);
@@ -69,40 +92,50 @@ fn groups_of(alloc: Global, ground: &Ground<'_, '_>) -> Result<u32, Failure> {
 }
 
 /// Returns `true` if a group has counters, which the first one must have.
-fn has_group(alloc: Global, ground: &Ground<'_, '_>, group: u32) -> Result<bool, Failure> {
-    match plan(alloc, &ground.survey.answers, &ground.choice(Some(group))) {
-        Ok(_) => Ok(true),
-        Err(SurveyFault::NoCounter) if group > 0 => Ok(false),
-        Err(fault) => Err(survey_failure(alloc, ground.asked.agent.word, fault)),
+fn has_group(alloc: Global, ground: &Ground<'_, '_>, group: u32) -> Result<bool, Failure>
+    ensures last { IfOk result (λ has. has ≡ false → HasNoCounter (source_in ground.now) group) }
+    ensures refused { IfErr result (HasNoPlan (source_in ground.now)) }
+{
+    let Err(fault) = plan(alloc, &ground.survey.answers, &ground.choice(Some(group))) else {
+        return Ok(true);
+    };
+    no_group(alloc, ground.asked.agent.word, group, fault)
+}
+
+/// Returns `false` for a group that has no counters, and a failure for one that has no plan.
+fn no_group(alloc: Global, agent: &str, group: u32, fault: SurveyFault) -> Result<bool, Failure>
+    ensures none { IfOk result (λ _. fault ≡ SurveyFault.NoCounter) }
+    ensures refused { IfErr result (IsOfSurvey fault) }
+{
+    match fault {
+        SurveyFault::NoCounter if group > 0 => Ok(false),
+        _ => Err(survey_failure(alloc, agent, fault)),
     }
 }
 
 /// Writes a file of settings, and prints its name.
-fn write_part<R: Files + Print + AllocGlobal>(
-    rt: &R,
+fn write_part<H: Host>(
+    alloc: Global,
+    host: &mut H,
     folder: &str,
     place: usize,
     text: &str,
-) -> Result<(), Failure> {
-    let number = place.saturating_add(1);
-    let path = format!(in rt.alloc(); "{folder}/station-{number}.toml")?;
-    write_file(rt, path.as_str(), text)
+) -> Result<(), Failure>
+    requires { place < 2 ^ 63 }
+    ensures { GoesOnBy (λ log. IsPartWritten (part_path folder.now place) text.now log result)
+        (H.log host.old) (H.log host.new) }
+{
+    let number = place + 1;
+    let path = format!(in alloc; "{folder}/station-{number}.toml")?;
+    write_named(alloc, host, path.as_str(), text)
 }
 
 /// Writes a file, and prints its name.
-fn write_file<R: Files + Print + AllocGlobal>(
-    rt: &R,
-    path: &str,
-    text: &str,
-) -> Result<(), Failure> {
-    match fs::write(rt, path, text.as_bytes()) {
-        Ok(()) => print_name(rt, path),
-        Err(error) => Err(Failure::stream(rt.alloc(), path, error)),
-    }
-}
-
-/// Prints the name of a file.
-fn print_name<R: Print + AllocGlobal>(rt: &R, path: &str) -> Result<(), Failure> {
-    let line = format!(in rt.alloc(); "{path}\n")?;
-    print(rt, line.as_bytes())
+fn write_named<H: Host>(alloc: Global, host: &mut H, path: &str, text: &str) -> Result<(), Failure>
+    ensures { GoesOnBy (λ log. IsNamedWritten path.now text.now log result)
+        (H.log host.old) (H.log host.new) }
+{
+    write_file(alloc, host, path, text.as_bytes())?;
+    let line = format!(in alloc; "{path}\n")?;
+    print(alloc, host, line.as_bytes())
 }

@@ -1,8 +1,14 @@
 //! The command `settings`: asks an agent for its engine, walks its tables of interfaces, and prints the
 //! settings of a station that polls it.
 
-ghost use Rattle.std.specs.Prelude.{◌≡◌, ◌≤◌, [], IfOk, IsOk, None, OnOk, option_copied, string_bytes};
-ghost use Rattle.mon_settings_commands.specs.Percent.{GivesPercentage};
+ghost use Rattle.std.specs.Prelude.{◌≡◌, ◌<◌, ◌≤◌, [], IfErr, IfOk, OnOk, option_copied, string_bytes};
+ghost use Rattle.mon_host.specs.Log.{GoesOnBy};
+ghost use Rattle.mon_settings_commands.specs.Appended.{IsAlone, IsAppendedOf, IsLonger};
+ghost use Rattle.mon_settings_commands.specs.Asked.{IsAsked};
+ghost use Rattle.mon_settings_commands.specs.Command.{AreLongerSettings, AreNewSettings, AreNewTexts, AreSettings};
+ghost use Rattle.mon_settings_commands.specs.Settings.{IsSettingsOf, IsWhole, up_of};
+ghost use Rattle.mon_settings_commands.specs.Source.{source_in};
+ghost use Rattle.mon_settings_commands.specs.Texts.{AreTexts, IsOfOptions, given_or};
 
 use crate::asking::{Survey, ask_agent};
 use crate::existing::{Existing, existing_in};
@@ -12,12 +18,12 @@ use crate::parts::write_parts;
 use crate::words::{kinds_of, percent_of, put_address, put_file, put_peers, require_peers};
 use mon_cli::SettingsArgs;
 use mon_console::{AgentAt, Failure, agent_at, community, names_of, print};
+use mon_host::Host;
 use mon_smi::Names;
 use mon_survey::{Choice, Kinds, Options, Peer, Surveyed, append, settings};
 use std::alloc::Global;
-use std::fs::File;
 use std::net::Net;
-use std::rt::{Clock, Files};
+use std::rt::Clock;
 
 /// Where a station listens if the arguments do not say.
 const LISTEN: &str = "0.0.0.0:16101";
@@ -28,17 +34,18 @@ const FILE: &str = "station.mon";
 /// Prints the settings of a station that polls the agent that the arguments name, writes those of
 /// several stations, or prints settings that are there with the agent's targets at their end. Nothing
 /// is printed or written unless all was answered and each text was read back.
-pub fn print_settings<R: Clock + Files<File = File> + Net + Print + Eprint + AllocGlobal>(
+pub fn print_settings<R: Clock + Net + AllocGlobal, H: Host>(
     rt: &R,
+    host: &mut H,
     words: SettingsArgs<'_, '_>,
-) -> Result<(), Failure> {
+) -> Result<(), Failure>
+    ensures { GoesOnBy (λ log. AreSettings words.entry log result)
+        (H.log host.old) (H.log host.new) }
+{
     let asked = asked_of(rt.alloc(), &words)?;
     match words.append {
-        Some(path) => {
-            require_alone(rt.alloc(), &words)?;
-            print_appended(rt, &words, asked, &existing_in(rt, path)?)
-        }
-        None => print_new(rt, &words, asked, &names_of(rt, words.modules)?),
+        Some(path) => print_appended(rt, host, &words, asked, path),
+        None => print_new(rt, host, &words, asked),
     }
 }
 
@@ -55,7 +62,7 @@ pub(crate) struct Asked<'a> {
 /// Reads what the arguments say of the agent, and requires that each peer has a number and an address,
 /// before the agent is asked.
 fn asked_of<'a>(alloc: Global, words: &SettingsArgs<'_, 'a>) -> Result<Asked<'a>, Failure>
-    ensures { IfOk result (λ asked. GivesPercentage (option_copied words.now.thresholds) asked.percent) }
+    ensures { IsAsked words.now result }
 {
     let asked = Asked {
         agent: agent_at(alloc, words.address)?,
@@ -70,9 +77,7 @@ fn asked_of<'a>(alloc: Global, words: &SettingsArgs<'_, 'a>) -> Result<Asked<'a>
 /// Requires that neither several files nor modules are asked for together with settings that are
 /// there.
 fn require_alone(alloc: Global, words: &SettingsArgs<'_, '_>) -> Result<(), Failure>
-    ensures split { OnOk result (words.now.split ≡ None) }
-    ensures modules { OnOk result (words.now.modules.now ≡ []) }
-    ensures accepted { words.now.split ≡ None → words.now.modules.now ≡ [] → IsOk result }
+    ensures { IsAlone words.now result }
 {
     if words.split.is_some() || !words.modules.is_empty() {
         return Err(together_failure(alloc));
@@ -81,22 +86,34 @@ fn require_alone(alloc: Global, words: &SettingsArgs<'_, '_>) -> Result<(), Fail
 }
 
 /// Prints the settings of a station that polls the agent, or writes those of several.
-fn print_new<R: Clock + Files<File = File> + Net + Print + Eprint + AllocGlobal>(
+fn print_new<R: Clock + Net + AllocGlobal, H: Host>(
     rt: &R,
+    host: &mut H,
     words: &SettingsArgs<'_, '_>,
     asked: Asked<'_>,
-    names: &Names,
-) -> Result<(), Failure> {
-    let survey = ask_agent(rt, asked)?;
+) -> Result<(), Failure>
+    ensures { GoesOnBy (λ log. AreNewSettings words.now asked.entry log result)
+        (H.log host.old) (H.log host.new) }
+{
+    let names = names_of(rt.alloc(), host, words.modules)?;
+    let survey = ask_agent(rt, host, asked)?;
     let ground = Ground {
         words,
         asked,
-        names,
+        names: &names,
         survey: &survey,
     };
-    match words.split {
-        Some(folder) => write_parts(rt, &ground, folder),
-        None => print_whole(rt, &ground),
+    write_new(rt.alloc(), host, &ground)
+}
+
+/// Prints the settings of a station, or writes those of several into a folder.
+fn write_new<H: Host>(alloc: Global, host: &mut H, ground: &Ground<'_, '_>) -> Result<(), Failure>
+    ensures { GoesOnBy (λ log. AreNewTexts (source_in ground.now) log result)
+        (H.log host.old) (H.log host.new) }
+{
+    match ground.words.split {
+        Some(folder) => write_parts(alloc, host, ground, folder),
+        None => print_whole(alloc, host, ground),
     }
 }
 
@@ -110,43 +127,53 @@ pub(crate) struct Ground<'m, 'a> {
 }
 
 /// Prints the settings of one station.
-fn print_whole<R: Files<File = File> + Print + AllocGlobal>(
-    rt: &R,
-    ground: &Ground<'_, '_>,
-) -> Result<(), Failure> {
-    let text = settings_of(rt.alloc(), ground, None)?;
-    write_labels(rt, ground, "")?;
-    print(rt, text.as_bytes())
+fn print_whole<H: Host>(alloc: Global, host: &mut H, ground: &Ground<'_, '_>) -> Result<(), Failure>
+    ensures { GoesOnBy (λ log. IsWhole (source_in ground.now) log result)
+        (H.log host.old) (H.log host.new) }
+{
+    let text = settings_of(alloc, ground, None)?;
+    write_labels(alloc, host, ground, "")?;
+    print(alloc, host, text.as_bytes())
 }
 
 /// Prints settings that are there with the agent's targets at their end.
-fn print_appended<R: Clock + Files<File = File> + Net + Print + Eprint + AllocGlobal>(
+fn print_appended<R: Clock + Net + AllocGlobal, H: Host>(
     rt: &R,
+    host: &mut H,
     words: &SettingsArgs<'_, '_>,
     asked: Asked<'_>,
-    existing: &Existing,
-) -> Result<(), Failure> {
-    let old = old_labels(rt, words.labels)?;
-    let survey = ask_agent(rt, asked)?;
+    path: &str,
+) -> Result<(), Failure>
+    ensures { GoesOnBy (λ log. AreLongerSettings words.now asked.entry path.now log result)
+        (H.log host.old) (H.log host.new) }
+{
+    require_alone(rt.alloc(), words)?;
+    let existing = existing_in(rt.alloc(), host, path)?;
+    let old = old_labels(rt.alloc(), host, words.labels)?;
+    let survey = ask_agent(rt, host, asked)?;
     let ground = Ground {
         words,
         asked,
         names: &existing.names,
         survey: &survey,
     };
-    print_longer(rt, &ground, existing, old.as_str())
+    print_longer(rt.alloc(), host, &ground, &existing, old.as_str())
 }
 
 /// Prints settings with the agent's targets at their end, and writes labels after the old ones.
-fn print_longer<R: Files<File = File> + Print + AllocGlobal>(
-    rt: &R,
+fn print_longer<H: Host>(
+    alloc: Global,
+    host: &mut H,
     ground: &Ground<'_, '_>,
     existing: &Existing,
     old: &str,
-) -> Result<(), Failure> {
-    let text = appended(rt.alloc(), ground, existing)?;
-    write_labels(rt, ground, old)?;
-    print(rt, text.as_bytes())
+) -> Result<(), Failure>
+    ensures { GoesOnBy (λ log. IsLonger (source_in ground.now) existing.now old.now log result)
+        (H.log host.old) (H.log host.new) }
+{
+    let text = appended(alloc, ground, existing)?;
+    write_labels(alloc, host, ground, old)?;
+    print(alloc, host, text.as_bytes())
 }
 
 impl<'m, 'a> Ground<'m, 'a> {
@@ -198,7 +225,11 @@ impl Drop for Texts {
 
 impl Texts {
     /// Returns empty texts.
-    fn new(alloc: Global) -> Self {
+    fn new(alloc: Global) -> Self
+        ensures listen { string_bytes result.listen ≡ [] }
+        ensures file { string_bytes result.file ≡ [] }
+        ensures peers { result.peers.items ≡ [] }
+    {
         Texts {
             listen: String::new(alloc),
             file: String::new(alloc),
@@ -207,15 +238,36 @@ impl Texts {
     }
 
     /// Appends the texts that the arguments give, with ports and the file's name counted up.
-    fn put(&mut self, alloc: Global, words: &SettingsArgs<'_, '_>, up: u32) -> Result<(), Failure> {
-        put_address(alloc, &mut self.listen, words.listen.unwrap_or(LISTEN), up)?;
-        put_file(&mut self.file, words.file.unwrap_or(FILE), up)?;
+    fn put(&mut self, alloc: Global, words: &SettingsArgs<'_, '_>, up: u32) -> Result<(), Failure>
+        requires few { up < 65536 }
+        requires listen { string_bytes self.old.listen ≡ [] }
+        requires file { string_bytes self.old.file ≡ [] }
+        requires peers { self.old.peers.items ≡ [] }
+        ensures texts { OnOk result (AreTexts words.now up self.new) }
+        ensures refused { IfErr result IsOfOptions }
+    {
+        put_address(alloc, &mut self.listen, given_or(words.listen, LISTEN), up)?;
+        put_file(&mut self.file, given_or(words.file, FILE), up)?;
         put_peers(alloc, &mut self.peers, words.peers, up)
     }
 }
 
+/// Returns what an option gives, or another text if it is left out.
+fn given_or<'a>(given: Option<&'a str>, other: &'a str) -> &'a str
+    ensures { result.now ≡ given_or other.now (option_copied given.entry) }
+{
+    match given {
+        Some(text) => text,
+        None => other,
+    }
+}
+
 /// The texts that the arguments give, with ports and the file's name counted up.
-fn texts_of(alloc: Global, words: &SettingsArgs<'_, '_>, up: u32) -> Result<Texts, Failure> {
+fn texts_of(alloc: Global, words: &SettingsArgs<'_, '_>, up: u32) -> Result<Texts, Failure>
+    requires { up < 65536 }
+    ensures texts { IfOk result (AreTexts words.now up) }
+    ensures refused { IfErr result IsOfOptions }
+{
     let mut texts = Texts::new(alloc);
     texts.put(alloc, words, up)?;
     Ok(texts)
@@ -286,7 +338,10 @@ pub(crate) fn settings_of(
     alloc: Global,
     ground: &Ground<'_, '_>,
     group: Option<u32>,
-) -> Result<String, Failure> {
+) -> Result<String, Failure>
+    requires { up_of group < 65536 }
+    ensures { IsSettingsOf (source_in ground.now) group result }
+{
     let texts = texts_of(alloc, ground.words, group.unwrap_or(0))?;
     settings_by(alloc, ground, group, &texts)
 }
@@ -297,7 +352,10 @@ fn settings_by(
     ground: &Ground<'_, '_>,
     group: Option<u32>,
     texts: &Texts,
-) -> Result<String, Failure> {
+) -> Result<String, Failure>
+    requires { AreTexts ground.now.words.now (up_of group) texts.now }
+    ensures { IsSettingsOf (source_in ground.now) group result }
+{
     let words = ground.words;
     let lent = lend(words.address, words.community, words.modules, texts);
     let options = options_of(words, ground.asked.percent, lent);
@@ -314,11 +372,9 @@ fn settings_by(
 }
 
 /// Settings with the agent's targets at their end.
-fn appended(
-    alloc: Global,
-    ground: &Ground<'_, '_>,
-    existing: &Existing,
-) -> Result<String, Failure> {
+fn appended(alloc: Global, ground: &Ground<'_, '_>, existing: &Existing) -> Result<String, Failure>
+    ensures { IsAppendedOf (source_in ground.now) existing.now result }
+{
     let texts = texts_of(alloc, ground.words, 0)?;
     appended_by(alloc, ground, existing, &texts)
 }
@@ -329,7 +385,10 @@ fn appended_by(
     ground: &Ground<'_, '_>,
     existing: &Existing,
     texts: &Texts,
-) -> Result<String, Failure> {
+) -> Result<String, Failure>
+    requires { AreTexts ground.now.words.now 0 texts.now }
+    ensures { IsAppendedOf (source_in ground.now) existing.now result }
+{
     let words = ground.words;
     let lent = lend(words.address, words.community, words.modules, texts);
     let options = options_of(words, ground.asked.percent, lent);

@@ -1,11 +1,12 @@
 //! What the options of `settings` say.
 
-ghost use Rattle.std.specs.Prelude.{◌≡◌, ◌≢◌, ◌+◌, ◌++◌, ◌<◌, ◌^◌, ℕ, IfErr, IfNone, IfOk, IfSome, None, OnOk, false, length, option_copied, string_bytes, true};
+ghost use Rattle.std.specs.Prelude.{◌≡◌, ◌≢◌, ◌+◌, ◌++◌, ◌∷◌, ◌<◌, ◌≤◌, ◌^◌, ℕ, List, [], IfErr, IfNone, IfOk, IfSome, None, OnOk, Some, false, map, option_copied, string_bytes, true};
 ghost use Rattle.mon_settings_commands.specs.Kinds.{kind_word, with_kind};
 ghost use Rattle.mon_settings_commands.specs.Named.{NamesPeer, file_name};
 ghost use Rattle.mon_settings_commands.specs.Percent.{GivesNone, GivesPercentage, IsPercentage, MeansPercentage};
 ghost use Rattle.mon_survey.specs.declared.counter.Kind.{Kind};
-ghost use Rattle.mon_udp.specs.Addr.{addr_of};
+ghost use Rattle.mon_settings_commands.specs.Texts.{ArePeers, IsOfOptions, IsPeer, moved_up};
+ghost use Rattle.mon_udp.specs.Addr.{addr_of, addr_text};
 
 use mon_app::AppFault;
 use mon_console::{Failure, Fault};
@@ -21,17 +22,28 @@ pub(crate) fn put_address(
     text: &str,
     up: u32,
 ) -> Result<(), Failure>
-    ensures { addr_of text.now ≡ None → OnOk result (string_bytes place.new ≡ string_bytes place.old ++ text.now) }
+    ensures kept { addr_of text.now ≡ None → OnOk result (string_bytes place.new ≡ string_bytes place.old ++ text.now) }
+    ensures moved { (a : Addr) → addr_of text.now ≡ Some a → OnOk result ((a.port + up < 65536) × (string_bytes place.new ≡ string_bytes place.old ++ addr_text (moved_up up a))) }
+    ensures refused { IfErr result IsOfOptions }
 {
-    let Some(mut address) = Addr::parse(text) else {
-        return Ok(place.push_str(text)?);
-    };
-    match u16::try_from(u32::from(address.port).saturating_add(up)) {
-        Ok(port) => {
-            address.port = port;
-            Ok(write!(place, "{address}")?)
-        }
-        Err(_) => Err(Failure::text(alloc, text, "an address whose port can be counted up")),
+    match Addr::parse(text) {
+        None => Ok(place.push_str(text)?),
+        Some(address) => match moved_up(address, up) {
+            Some(moved) => Ok(write!(place, "{moved}")?),
+            None => Err(Failure::text(alloc, text, "an address whose port can be counted up")),
+        },
+    }
+}
+
+/// Returns an address with its port counted up, if there is such a port.
+fn moved_up(address: Addr, up: u32) -> Option<Addr>
+    ensures moved { IfSome result (λ moved. (address.port + up < 65536) × (moved ≡ moved_up up address)) }
+    ensures none { IfNone result (65536 ≤ address.port + up) }
+{
+    let Addr { octets, port } = address;
+    match u16::try_from(u32::from(port).saturating_add(up)) {
+        Ok(port) => Some(Addr { octets, port }),
+        Err(_) => None,
     }
 }
 
@@ -48,7 +60,9 @@ pub(crate) fn put_file(place: &mut String, file: &str, up: u32) -> Result<(), Al
 }
 
 /// The kinds of counters that a text names; octets and errors if there is none.
-pub(crate) fn kinds_of(alloc: Global, only: Option<&str>) -> Result<Kinds, Failure> {
+pub(crate) fn kinds_of(alloc: Global, only: Option<&str>) -> Result<Kinds, Failure>
+    ensures { IfErr result (λ failure. failure.fault ≡ Fault.App AppFault.BadText) }
+{
     let mut kinds = Kinds {
         octets: false,
         packets: false,
@@ -122,7 +136,9 @@ fn number_to_100(text: &str) -> Option<u8>
 }
 
 /// Requires that each text names a peer.
-pub(crate) fn require_peers(alloc: Global, words: &[&str]) -> Result<(), Failure> {
+pub(crate) fn require_peers(alloc: Global, words: &[&str]) -> Result<(), Failure>
+    ensures { IfErr result (λ failure. failure.fault ≡ Fault.App AppFault.BadText) }
+{
     for word in words {
         peer_at(alloc, word)?;
     }
@@ -136,7 +152,8 @@ pub(crate) fn put_peers(
     words: &[&str],
     up: u32,
 ) -> Result<(), Failure>
-    ensures { OnOk result (length peers.new.items ≡ length peers.old.items + length words.now) }
+    ensures put { OnOk result ((more : List Peer) × (peers.new.items ≡ peers.old.items ++ more) × ArePeers up (map (λ text. text.now) words.now) more) }
+    ensures refused { IfErr result IsOfOptions }
 {
     for word in words {
         put_peer(alloc, peers, word, up)?;
@@ -146,7 +163,8 @@ pub(crate) fn put_peers(
 
 /// Appends the peer that a text names, with its port counted up.
 fn put_peer(alloc: Global, peers: &mut Vec<Peer>, word: &str, up: u32) -> Result<(), Failure>
-    ensures { OnOk result (length peers.new.items ≡ length peers.old.items + 1) }
+    ensures put { OnOk result ((peer : Peer) × (peers.new.items ≡ peers.old.items ++ peer ∷ []) × IsPeer up word.now peer) }
+    ensures refused { IfErr result IsOfOptions }
 {
     let (station, text) = peer_at(alloc, word)?;
     let mut address = String::new(alloc);
@@ -156,7 +174,8 @@ fn put_peer(alloc: Global, peers: &mut Vec<Peer>, word: &str, up: u32) -> Result
 
 /// Returns the number and the address of the peer that a text names, as `2=10.0.0.2:16101`.
 fn peer_at<'a>(alloc: Global, word: &'a str) -> Result<(u32, &'a str), Failure>
-    ensures { IfOk result (λ peer. NamesPeer word.now peer.0 peer.1.now) }
+    ensures named { IfOk result (λ peer. NamesPeer word.now peer.0 peer.1.now) }
+    ensures refused { IfErr result (λ failure. failure.fault ≡ Fault.App AppFault.BadText) }
 {
     let Some((number, address)) = word.split_once('=') else {
         return Err(peer_failure(alloc, word));

@@ -1,4 +1,13 @@
+pub mod Checking
+pub mod Ending
 pub mod Figures
 pub mod Limits
 pub mod Opening
+pub mod Pace
+pub mod Quiet
+pub mod Reporting
+pub mod Rounds
+pub mod Saved
 pub mod Showing
+pub mod Steps
+pub mod Telling

@@ -1,10 +1,15 @@
 //! What limits a station of some settings.
 
-ghost use Rattle.std.specs.Prelude.{◌≡◌, ◌<◌, ◌+◌, ◌*◌, ◌/◌, length};
-ghost use Rattle.mon_station_commands.specs.Limits.{greatest_tries, has_some, turn_of, waits};
+ghost use Rattle.std.specs.Prelude.{◌≡◌, ◌≤◌, ◌<◌, ◌+◌, ◌*◌, ◌/◌, ◌++◌, IfOk, OnOk, length, string_bytes};
+ghost use Rattle.mon_board.specs.Instance.{AreSized};
+ghost use Rattle.mon_host.specs.Log.{GoesOnBy};
+ghost use Rattle.mon_station_commands.specs.Checking.{AreLimits};
+ghost use Rattle.mon_station_commands.specs.Limits.{greatest_tries, has_some, interval_line, kept_lines, limits_text, outlasting_line, round_line, samples_of, target_line, target_lines, turn_line, turn_lines, turn_of, waits};
 
+use mon_board::Watched;
 use mon_console::{Failure, print};
 use mon_disk::SLOT_SIZE;
+use mon_host::Host;
 use mon_poller::Target;
 use mon_settings::StationSettings;
 use std::alloc::{AllocError, Global};
@@ -25,39 +30,65 @@ struct RoundTime {
 
 /// Prints how long a round of a station of these settings may take, with this interval in seconds
 /// (0 for none), and what else limits it. Nothing is opened.
-pub fn print_limits<R: Print + AllocGlobal>(
-    rt: &R,
+pub(crate) fn print_limits<H: Host>(
+    alloc: Global,
+    host: &mut H,
     settings: &StationSettings,
     interval: u32,
-) -> Result<(), Failure> {
-    let text = limits(rt.alloc(), settings, interval)?;
-    print(rt, text.as_bytes())
+) -> Result<(), Failure>
+    ensures { GoesOnBy (λ log. AreLimits settings.now interval log result)
+        (H.log host.old) (H.log host.new) }
+{
+    let text = limits(alloc, settings, interval)?;
+    print(alloc, host, text.as_bytes())
 }
 
 /// Returns the lines that `print_limits` prints.
-fn limits(alloc: Global, settings: &StationSettings, interval: u32) -> Result<String, AllocError> {
+fn limits(alloc: Global, settings: &StationSettings, interval: u32) -> Result<String, AllocError>
+    ensures { IfOk result (λ text. string_bytes text ≡ limits_text settings.now interval) }
+{
+    let time = round_time(settings);
+    let instances = settings.core.watch().instances();
+    let samples = samples_of(instances);
     let mut text = String::new(alloc);
-    put_round(&mut text, settings, interval)?;
-    put_turns(&mut text, settings, interval)?;
+    put_round(&mut text, time, settings.wait_ms)?;
+    put_interval(&mut text, time.most, interval)?;
+    put_turns(
+        &mut text,
+        time.silent,
+        interval,
+        settings.core.peers().len(),
+    )?;
     put_targets(&mut text, settings.core.targets())?;
-    put_windows(&mut text, settings)?;
+    put_kept(&mut text, instances.len(), samples, &settings.file)?;
     Ok(text)
 }
 
-/// Adds how long a round may take, and what to change if that is longer than the interval.
-fn put_round(
-    text: &mut String,
-    settings: &StationSettings,
-    interval: u32,
-) -> Result<(), AllocError> {
-    let time = round_time(settings);
-    let (least, silent, most) = (time.least, time.silent, time.most);
-    let wait_ms = settings.wait_ms;
+/// Adds how long a round may take.
+fn put_round(text: &mut String, time: RoundTime, wait_ms: u32) -> Result<(), AllocError>
+    ensures { OnOk result (string_bytes text.new
+        ≡ string_bytes text.old ++ round_line time.least time.silent time.most wait_ms) }
+{
+    let RoundTime {
+        least,
+        silent,
+        most,
+    } = time;
     write!(
         text,
         "round: {least} ms if all targets answer, {silent} ms if none does, {most} ms at most (wait_ms = {wait_ms}); at most 4096 datagrams\n"
-    )?;
-    if interval == 0 || most <= u64::from(interval) * 1000 {
+    )
+}
+
+/// Adds what to change if the longest round is longer than the interval.
+fn put_interval(text: &mut String, most: u64, interval: u32) -> Result<(), AllocError>
+    ensures { OnOk result (string_bytes text.new
+        ≡ string_bytes text.old ++ interval_line most interval) }
+{
+    if interval == 0 {
+        return Ok(());
+    }
+    if most <= u64::from(interval) * 1000 {
         return Ok(());
     }
     write!(
@@ -66,22 +97,40 @@ fn put_round(
     )
 }
 
-/// Adds how long a station's turn is where several poll one after another, and what to change if a
+/// Adds how long a station's turn is if several poll one after another, and what to change if a
 /// round in which no target answers outlasts it.
-fn put_turns(
-    text: &mut String,
-    settings: &StationSettings,
-    interval: u32,
-) -> Result<(), AllocError> {
-    let stations = settings.core.peers().len() + 1;
-    if interval == 0 || stations == 1 {
+fn put_turns(text: &mut String, silent: u64, interval: u32, peers: usize) -> Result<(), AllocError>
+    requires { peers ≤ 15 }
+    ensures { OnOk result (string_bytes text.new
+        ≡ string_bytes text.old ++ turn_lines silent interval peers) }
+{
+    if interval == 0 {
         return Ok(());
     }
-    let (turn, silent) = (turn_of(interval, stations), round_time(settings).silent);
+    if peers == 0 {
+        return Ok(());
+    }
+    let turn = turn_of(interval, peers + 1);
+    put_turn(text, peers + 1, turn)?;
+    put_outlasting(text, silent, turn)
+}
+
+/// Adds how many stations poll one after another, and how long each one's turn is.
+fn put_turn(text: &mut String, stations: usize, turn: u64) -> Result<(), AllocError>
+    ensures { OnOk result (string_bytes text.new
+        ≡ string_bytes text.old ++ turn_line stations turn) }
+{
     write!(
         text,
         "turns: {stations} stations poll one after another, each in {turn} ms of the interval\n"
-    )?;
+    )
+}
+
+/// Adds what to change if a round in which no target answers outlasts a station's turn.
+fn put_outlasting(text: &mut String, silent: u64, turn: u64) -> Result<(), AllocError>
+    ensures { OnOk result (string_bytes text.new
+        ≡ string_bytes text.old ++ outlasting_line silent turn) }
+{
     if silent <= turn {
         return Ok(());
     }
@@ -136,29 +185,55 @@ pub(crate) fn greatest_tries(targets: &[Target]) -> u8
 }
 
 /// Adds a line for each target: how many objects its poll asks for, and how often it is sent.
-fn put_targets(text: &mut String, targets: &[Target]) -> Result<(), AllocError> {
+fn put_targets(text: &mut String, targets: &[Target]) -> Result<(), AllocError>
+    ensures { OnOk result (string_bytes text.new
+        ≡ string_bytes text.old ++ target_lines 1 targets.now) }
+{
     for (place, target) in targets.iter().enumerate() {
-        let (number, at) = (place + 1, target.address);
-        let (objects, tries) = (target.objects.as_slice().len(), target.tries);
-        write!(
-            text,
-            "target {number} at {at}: objects {objects}, tries {tries}\n"
-        )?;
+        put_target(text, place + 1, target)?;
     }
     Ok(())
 }
 
-/// Adds how much is kept in memory and in the file.
-fn put_windows(text: &mut String, settings: &StationSettings) -> Result<(), AllocError> {
-    let instances = settings.core.watch().instances();
-    let mut samples: usize = 0;
-    for it in instances {
-        samples = samples.saturating_add(it.window);
-    }
-    let (count, file, size) = (instances.len(), &settings.file, 2 * SLOT_SIZE);
+/// Adds the line of the target of this number.
+fn put_target(text: &mut String, number: usize, target: &Target) -> Result<(), AllocError>
+    ensures { OnOk result (string_bytes text.new
+        ≡ string_bytes text.old ++ target_line number target.now) }
+{
+    let at = target.address;
+    let (objects, tries) = (target.objects.as_slice().len(), target.tries);
     write!(
         text,
-        "windows: instances {count}, samples at most {samples}\n"
-    )?;
-    write!(text, "file: {file}, {size} octets\n")
+        "target {number} at {at}: objects {objects}, tries {tries}\n"
+    )
+}
+
+/// Adds how much is kept in memory and in the file.
+fn put_kept(
+    text: &mut String,
+    instances: usize,
+    samples: usize,
+    file: &str,
+) -> Result<(), AllocError>
+    ensures { OnOk result (string_bytes text.new
+        ≡ string_bytes text.old ++ kept_lines instances samples file.now) }
+{
+    let size = 2 * SLOT_SIZE;
+    write!(
+        text,
+        "windows: instances {instances}, samples at most {samples}\nfile: {file}, {size} octets\n"
+    )
+}
+
+/// Returns how many samples these instances have at most.
+fn samples_of(instances: &[Watched]) -> usize
+    requires few { length instances.now ≤ 256 }
+    requires sized { AreSized instances.now }
+    ensures { result ≡ samples_of instances.now }
+{
+    let mut samples = 0;
+    for it in instances {
+        samples += it.window;
+    }
+    samples
 }

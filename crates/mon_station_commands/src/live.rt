@@ -1,17 +1,26 @@
 //! A running station: what it works with, and a round of it.
 
-ghost use Rattle.std.specs.Prelude.{◌≡◌, ◌≤◌, IfOk, IfSome, is_some, length};
+ghost use Rattle.std.specs.Prelude.{◌≡◌, ◌≤◌, IfOk, IfSome, Some, is_some, length, option_map, string_bytes};
+ghost use Rattle.std.specs.Result.{result_ok};
+ghost use Rattle.mon_console.specs.Shown.{shown_by};
 ghost use Rattle.mon_disk.specs.Fault.{number_of};
+ghost use Rattle.mon_host.specs.AtHost.{IsNoted};
+ghost use Rattle.mon_host.specs.Log.{GoesOnBy};
 ghost use Rattle.mon_station_commands.specs.Opening.{last_of, unsaved_in};
+ghost use Rattle.mon_station_commands.specs.Quiet.{AreQuiet};
+ghost use Rattle.mon_station_commands.specs.Steps.{OrMemory};
+ghost use Rattle.mon_station_commands.specs.Telling.{AreChangesSaid, IsOpening, start_line};
+ghost use Rattle.mon_station.specs.State.{state_of};
 
 use crate::limits::greatest_tries;
 use crate::opening::{or_socket_failure, unopened};
 use crate::pace::passed;
 use crate::showing::show_span;
-use crate::telling::{tell_alarm, tell_change, tell_notices, tell_raised};
+use crate::telling::{tell_alarms, tell_change, tell_notices, tell_raised};
 use mon_console::{Failure, Printing};
 use mon_core::Core;
 use mon_disk::{FileDisk, KeeperFault};
+use mon_host::Host;
 use mon_poller::Target;
 use mon_rounds::{
     Addresses, Course, Freshness, Notice, Receiver, RoundReport, Rounds, Sends, SocketOutbox, Span,
@@ -23,7 +32,6 @@ use mon_web_receiver::Shows;
 use std::alloc::{AllocError, Global};
 use std::io;
 use std::net::SocketAddr;
-use std::rt::Clock;
 use std::time::Instant;
 
 /// What a running station works with.
@@ -108,6 +116,9 @@ pub(crate) struct Reports {
     pub(crate) out: Option<String>,
     pub(crate) stale_after: u32,
     pub(crate) interval: u32,
+    /// The buffer for reports as lines of text with names in numbers. It has its capacity from the
+    /// station's start on, so that such a report needs no memory later; it grows if it must.
+    pub(crate) lines: Vec<u8>,
 }
 
 // By hand: where one is let go, a proof has one call and not a drop of each field.
@@ -118,8 +129,16 @@ impl Drop for Reports {
             out: _,
             stale_after: _,
             interval: _,
+            lines: _,
         } = self;
     }
+}
+
+/// What a station is set up with: its settings, and how it reports.
+#[derive(Drop)]
+pub(crate) struct Setup {
+    pub(crate) settings: StationSettings,
+    pub(crate) reports: Reports,
 }
 
 /// Where a station keeps its windows and is reached, and since when.
@@ -192,24 +211,31 @@ fn engines_of(alloc: Global, targets: &[Target]) -> Result<Vec<Vec<u8>>, AllocEr
 }
 
 /// Opens the station, and prints where it is and each alarm that its saved windows raise.
-pub(crate) fn start_station<R: Eprint + AllocGlobal, S: Receiver + Drop, O: Outbox + Drop>(
-    rt: &R,
-    settings: StationSettings,
+pub(crate) fn start_station<H: Host, S: Receiver + Drop, O: Outbox + Drop>(
+    alloc: Global,
+    host: &mut H,
+    setup: Setup,
     place: Place,
     transport: Transport<S, O>,
-    reports: Reports,
-) -> Result<Live<S, O>, Failure> {
+) -> Result<Live<S, O>, Failure>
+    ensures { GoesOnBy (λ log. IsOpening transport.number place.at
+        (string_bytes setup.settings.file) (length transport.engines.items)
+        (length transport.peers.items) (shown_by setup.reports.printing.names) log
+        (option_map (λ live. state_of live.station.life) (result_ok result)))
+        (H.log host.old) (H.log host.new) }
+{
+    let Setup { settings, reports } = setup;
     let StationSettings { core, file, .. } = settings;
     let Place { disk, at, origin } = place;
-    let opened = open_station(rt.alloc(), core, disk, &file, &transport)?;
-    tell_start(rt, opened.station.incarnation(), &transport, at, &file);
+    let opened = open_station(alloc, core, disk, &file, &transport)?;
+    tell_start(host, opened.station.incarnation(), &transport, at, &file);
     let live = Live {
         station: opened.station,
         transport,
-        run: Run::new(rt.alloc()),
+        run: Run::new(alloc),
         course: opened.course,
         freshness: opened.freshness,
-        troubles: Troubles::new(rt.alloc()),
+        troubles: Troubles::new(alloc),
         reports,
         file,
         origin,
@@ -218,23 +244,27 @@ pub(crate) fn start_station<R: Eprint + AllocGlobal, S: Receiver + Drop, O: Outb
         unprinted: None,
         unwritten: None,
     };
-    tell_raised(rt, &live)?;
+    tell_raised(alloc, host, &live)?;
     Ok(live)
 }
 
 /// Prints where a station is and what it polls.
-fn tell_start<R: Eprint, S: Receiver + Drop, O: Outbox + Drop>(
-    rt: &R,
+fn tell_start<H: Host, S: Receiver + Drop, O: Outbox + Drop>(
+    host: &mut H,
     incarnation: u32,
     transport: &Transport<S, O>,
     at: SocketAddr,
     file: &str,
-) {
+)
+    ensures { GoesOnBy (IsNoted (Some (start_line transport.now.number at incarnation file.now
+        (length transport.now.engines.items) (length transport.now.peers.items))))
+        (H.log host.old) (H.log host.new) }
+{
     let number = transport.number;
     let (targets, peers) = (transport.engines.len(), transport.peers.len());
-    let _ = eprintln!(rt;
-        "snmpmon: station {number} at {at}, incarnation {incarnation}, file {file}, targets: {targets}, peers: {peers}"
-    );
+    host.note(format_args!(
+        "snmpmon: station {number} at {at}, incarnation {incarnation}, file {file}, targets: {targets}, peers: {peers}\n"
+    ));
 }
 
 /// Opens the station of these settings over the file's disk.
@@ -277,72 +307,93 @@ fn watched<S: Receiver + Drop, O: Outbox + Drop>(
 
 /// Runs a round or the time after it, and prints its notices. If memory runs out that is reported,
 /// and the station goes on.
-pub(crate) fn run_span<R: Clock + Eprint + AllocGlobal, S: Shows + Drop, O: Outbox + Drop>(
-    rt: &R,
+pub(crate) fn run_span<H: Host, S: Shows + Drop, O: Outbox + Drop>(
+    alloc: Global,
+    host: &mut H,
     live: &mut Live<S, O>,
     number: u32,
     span: Span,
-) -> Result<(), Failure> {
-    let began = passed(rt, live.origin)?;
+) -> Result<(), Failure>
+    ensures quiet { GoesOnBy AreQuiet (H.log host.old) (H.log host.new) }
+    ensures printing { live.new.reports.printing ≡ live.old.reports.printing }
+    ensures out { live.new.reports.out ≡ live.old.reports.out }
+    ensures printed { live.new.unprinted ≡ live.old.unprinted }
+{
+    let began = passed(alloc, host, live.origin)?;
     let ran = live.transport.rounds.run(
-        rt.alloc(),
+        alloc,
         &mut live.station,
         &mut live.transport.outbox,
         span,
         &mut live.run,
     );
-    live.ended = passed(rt, live.origin)?;
+    live.ended = passed(alloc, host, live.origin)?;
     let spell = Spell {
         span,
         ended: live.ended,
         took: live.ended.saturating_sub(began),
     };
     let told = match ran {
-        Ok(()) => report_round(rt, live, number, spell),
+        Ok(()) => report_round(alloc, host, live, number, spell),
         Err(fault) => Err(Failure::from(fault)),
     };
     if let Err(failure) = told {
-        failure.tell(rt);
+        failure.tell(host);
     }
-    show_span(rt.alloc(), live, span);
+    show_span(alloc, live, span);
     Ok(())
 }
 
 /// Adds what a round did to what is known of the station, and prints its notices.
-fn report_round<R: Eprint + AllocGlobal, S: Receiver + Drop, O: Outbox + Drop>(
-    rt: &R,
+fn report_round<H: Host, S: Receiver + Drop, O: Outbox + Drop>(
+    alloc: Global,
+    host: &mut H,
     live: &mut Live<S, O>,
     number: u32,
     spell: Spell,
-) -> Result<(), Failure> {
-    let alloc = rt.alloc();
+) -> Result<(), Failure>
+    ensures quiet { GoesOnBy AreQuiet (H.log host.old) (H.log host.new) }
+    ensures printing { live.new.reports.printing ≡ live.old.reports.printing }
+    ensures out { live.new.reports.out ≡ live.old.reports.out }
+    ensures printed { live.new.unprinted ≡ live.old.unprinted }
+{
     let report = RoundReport::of(alloc, live.transport.rounds.round(), &live.run)?;
     live.course.add(&report);
     live.freshness.add(spell, &report, live.station.board());
-    tell_notices(rt, live, number, &report);
+    tell_notices(host, live, number, &report);
     if spell.span == Span::Round {
         live.unsaved = save_fault(&report);
-        report_troubles(rt, live, number)?;
+        report_troubles(alloc, host, live, number)?;
     }
-    let changes = live.course.take_changes(alloc, live.station.board())?;
-    for change in changes.as_slice() {
-        tell_alarm(rt, live, change)?;
-    }
+    let board = live.station.board();
+    let changes = live.course.take_changes(alloc, board)?;
+    tell_alarms(
+        alloc,
+        host,
+        &live.reports.printing,
+        board.watch(),
+        changes.as_slice(),
+    )?;
     Ok(())
 }
 
 /// Prints what went wrong with targets, peers and instances in a round, and what is right again.
-fn report_troubles<R: Eprint + AllocGlobal, S: Receiver + Drop, O: Outbox + Drop>(
-    rt: &R,
+fn report_troubles<H: Host, S: Receiver + Drop, O: Outbox + Drop>(
+    alloc: Global,
+    host: &mut H,
     live: &mut Live<S, O>,
     number: u32,
-) -> Result<(), Failure> {
+) -> Result<(), Failure>
+    ensures said { GoesOnBy (AreChangesSaid number) (H.log host.old) (H.log host.new) }
+    ensures memory { OrMemory (λ _. Unit) result }
+    ensures printing { live.new.reports.printing ≡ live.old.reports.printing }
+    ensures out { live.new.reports.out ≡ live.old.reports.out }
+    ensures printed { live.new.unprinted ≡ live.old.unprinted }
+{
     let limit = live.reports.stale_after;
-    let changes = live
-        .troubles
-        .take_changes(rt.alloc(), &live.freshness, limit)?;
+    let changes = live.troubles.take_changes(alloc, &live.freshness, limit)?;
     for change in changes.as_slice() {
-        tell_change(rt, live, number, *change)?;
+        tell_change(alloc, host, live, number, *change)?;
     }
     Ok(())
 }

@@ -1,50 +1,55 @@
 //! The file and the socket of a station.
 
-ghost use Rattle.std.specs.Prelude.{◌≡◌, ◌↔◌, ◌<◌, ◌≤◌, IsTrue, Ok, codes};
+ghost use Rattle.std.specs.Prelude.{◌≡◌, ◌↔◌, ◌<◌, ◌≤◌, IsTrue, Ok, codes, option_map};
 ghost use Rattle.mon_faults.specs.Fault.{innermost_of, station_fault};
+ghost use Rattle.mon_host.specs.Log.{GoesOnBy};
 ghost use Rattle.mon_station_commands.specs.Opening.{IsFaultOf};
+ghost use Rattle.mon_station_commands.specs.Saved.{AreLooks, IsBoardIn, IsLook, IsReportCommand, IsSameHead, IsSavedIn, IsSavedReport, IsSteadyRead};
+ghost use Rattle.mon_station_commands.specs.Telling.{AreNoted, short_lines, short_lines_of};
 
 use mon_board::Board;
 use mon_cli::ReportArgs;
-use mon_console::{Failure, Fault, print, read_first, read_labelled_station};
+use mon_console::{Failure, Fault, Printing, print, read_labelled_station, read_part};
 use mon_disk::{Disk, DiskError, FileDisk, KeeperFault, OpenFault, SLOT_SIZE};
+use mon_host::{Host, Part, Reason};
 use mon_settings::StationSettings;
 use mon_station::{Innermost, StationFault, board_in};
 use mon_udp::Addr;
 use std::alloc::Global;
 use std::fs::File;
-use std::os::unix::fs::FileExt;
+use std::io;
 use std::rt::Files;
-use std::{fs, io};
 
 /// How many octets the head of a slot has: its gate, its generation and the length of its body.
-const HEAD: usize = 17;
+const HEAD: u64 = 17;
 
-/// How often a file is read in all that is saved to meanwhile.
-const READS: u32 = 16;
+/// How often a file is read again, at most, that is saved to meanwhile.
+const MORE_READS: u32 = 15;
 
 /// Returns the socket of the settings, which is taken before the file, so that of two processes over
 /// one file the second neither makes the file nor writes it; yet the faults of an existing
 /// file are reported before the socket's.
-pub(crate) fn or_no_socket<T: Drop, R: Files<File = File> + AllocGlobal>(
-    rt: &R,
+pub(crate) fn or_no_socket<T: Drop, H: Host>(
+    alloc: Global,
+    host: &mut H,
     settings: &StationSettings,
     given: io::Result<T>,
 ) -> Result<T, Failure> {
     match given {
         Ok(socket) => Ok(socket),
         Err(error) => {
-            if fs::exists(rt, settings.file.as_str()).unwrap_or(true) {
-                saved_in(rt, settings)?;
+            if host.is_there(settings.file.as_str()).unwrap_or(true) {
+                saved_in(alloc, host, settings)?;
             }
-            Err(Failure::socket(rt.alloc(), settings.listen, error))
+            Err(Failure::socket(alloc, settings.listen, error))
         }
     }
 }
 
 /// Opens the file of the settings, which no other process can then open as a station's.
-pub(crate) fn open_file<R: Files<File = File> + Eprint + AllocGlobal>(
+pub(crate) fn open_file<R: Files<File = File> + AllocGlobal, H: Host>(
     rt: &R,
+    host: &mut H,
     settings: &StationSettings,
 ) -> Result<FileDisk, Failure> {
     let mut disk = or_file_failure(
@@ -52,18 +57,28 @@ pub(crate) fn open_file<R: Files<File = File> + Eprint + AllocGlobal>(
         &settings.file,
         FileDisk::open_or_create(rt, &settings.file),
     )?;
-    warn_of_short(rt, &settings.file, disk.size());
+    warn_of_short(host, &settings.file, disk.size());
     Ok(disk)
 }
 
 /// Says of a file that is shorter than a station's, and not empty, that it will be laid out.
-fn warn_of_short<R: Eprint>(rt: &R, path: &str, size: Result<u64, DiskError>) {
-    if let Ok(size) = size {
-        if is_short(size) {
-            let _ = eprintln!(rt;
-                "snmpmon: {path} has {size} octets, so it is no station's file yet: it is laid out as one"
-            );
-        }
+fn warn_of_short<H: Host>(host: &mut H, path: &str, size: Result<u64, DiskError>)
+    ensures { GoesOnBy (AreNoted (short_lines_of path.now size)) (H.log host.old) (H.log host.new) }
+{
+    match size {
+        Ok(size) => warn_of_size(host, path, size),
+        Err(_) => {}
+    }
+}
+
+/// Says of a file of this size, if it is short, that it will be laid out.
+fn warn_of_size<H: Host>(host: &mut H, path: &str, size: u64)
+    ensures { GoesOnBy (AreNoted (short_lines path.now size)) (H.log host.old) (H.log host.new) }
+{
+    if is_short(size) {
+        host.note(format_args!(
+            "snmpmon: {path} has {size} octets, so it is no station's file yet: it is laid out as one\n"
+        ));
     }
 }
 
@@ -76,65 +91,123 @@ fn is_short(size: u64) -> bool
 
 /// Prints the report of the windows in the file of the settings. The station is not started, and
 /// the file is only read.
-pub fn print_saved_report<R: Files<File = File> + Print + AllocGlobal>(
-    rt: &R,
+pub fn print_saved_report<H: Host>(
+    alloc: Global,
+    host: &mut H,
     words: ReportArgs<'_, '_>,
-) -> Result<(), Failure> {
+) -> Result<(), Failure>
+    ensures { GoesOnBy (λ log. IsReportCommand words.entry.settings.now
+        (option_map (λ l. l.now) words.entry.labels) words.entry.printed log result)
+        (H.log host.old) (H.log host.new) }
+{
     let (settings, printing) = read_labelled_station(
-        rt,
+        alloc,
+        host,
         words.settings,
         words.labels,
         words.printed,
     )?;
-    let alloc = rt.alloc();
-    let board = saved_in(rt, &settings)?;
+    print_saved(alloc, host, &settings, &printing)
+}
+
+/// Prints the report of the windows in the file of these settings.
+fn print_saved<H: Host>(
+    alloc: Global,
+    host: &mut H,
+    settings: &StationSettings,
+    printing: &Printing,
+) -> Result<(), Failure>
+    ensures { GoesOnBy (λ log. IsSavedReport settings.now printing.now log result)
+        (H.log host.old) (H.log host.new) }
+{
+    let board = saved_in(alloc, host, settings)?;
     let text = printing.report(alloc, &board, None)?;
-    print(rt, text.as_slice())
+    print(alloc, host, text.as_slice())
 }
 
 /// Reads the windows in the file of the settings, which is only read.
-pub(crate) fn saved_in<R: Files<File = File> + AllocGlobal>(
-    rt: &R,
+pub(crate) fn saved_in<H: Host>(
+    alloc: Global,
+    host: &mut H,
     settings: &StationSettings,
-) -> Result<Board, Failure> {
-    let alloc = rt.alloc();
-    let octets = read_saved(rt, &settings.file)?;
-    match board_in(alloc, settings.core.watch(), octets.as_slice()) {
+) -> Result<Board, Failure>
+    ensures { GoesOnBy (λ log. IsSavedIn settings.now log result) (H.log host.old) (H.log host.new) }
+{
+    let octets = read_saved(alloc, host, &settings.file, MORE_READS)?;
+    board_of(alloc, settings, octets.as_slice())
+}
+
+/// Returns the windows in the octets of the file of the settings.
+fn board_of(alloc: Global, settings: &StationSettings, octets: &[u8]) -> Result<Board, Failure>
+    ensures { IsBoardIn settings.now octets.now result }
+{
+    match board_in(alloc, settings.core.watch(), octets) {
         Ok(board) => Ok(board),
         Err(fault) => Err(file_failure(alloc, &settings.file, fault)),
     }
 }
 
 /// Reads a station's file, which may be saved to meanwhile. If a head of it changed until the end of
-/// the read, it is read again, at most 16 times in all.
-fn read_saved<R: Files<File = File> + AllocGlobal>(rt: &R, path: &str) -> Result<Vec<u8>, Failure> {
+/// the read, it is read again, at most this many times more.
+fn read_saved<H: Host>(
+    alloc: Global,
+    host: &mut H,
+    path: &str,
+    more: u32,
+) -> Result<Vec<u8>, Failure>
+    ensures { GoesOnBy (λ log. IsSteadyRead path.now more log result) (H.log host.old) (H.log host.new) }
+{
     // A file that is longer than a station's is damaged, whatever follows.
-    let mut octets = read_first(rt, path, 2 * SLOT_SIZE + 1)?;
-    for _ in 1..READS {
-        if has_heads_of(rt, path, octets.as_slice()) {
-            break;
-        }
-        octets = read_first(rt, path, 2 * SLOT_SIZE + 1)?;
+    let whole = Part {
+        at: 0,
+        length: 2 * SLOT_SIZE + 1,
+    };
+    let octets = read_part(alloc, host, path, whole)?;
+    if more == 0 {
+        return Ok(octets);
     }
-    Ok(octets)
+    if has_heads_of(host, path, octets.as_slice()) {
+        return Ok(octets);
+    }
+    drop(octets);
+    read_saved(alloc, host, path, more - 1)
 }
 
 /// Returns `true` if the heads of both slots in the file are still those of these octets, or cannot
 /// be read: then nothing tells that the file changed.
-fn has_heads_of<R: Files<File = File>>(rt: &R, path: &str, octets: &[u8]) -> bool {
-    match File::open(rt, path) {
-        Ok(file) => has_head_of(&file, octets, 0) && has_head_of(&file, octets, SLOT_SIZE),
+fn has_heads_of<H: Host>(host: &mut H, path: &str, octets: &[u8]) -> bool
+    ensures { GoesOnBy (λ log. AreLooks path.now octets.now log result) (H.log host.old) (H.log host.new) }
+{
+    if has_head_of(host, path, octets, 0) {
+        return has_head_of(host, path, octets, SLOT_SIZE);
+    }
+    false
+}
+
+/// Returns `true` if the head of the slot at this place is that of these octets, or cannot be read.
+fn has_head_of<H: Host>(host: &mut H, path: &str, octets: &[u8], at: u64) -> bool
+    requires { at ≤ 1048576 }
+    ensures { GoesOnBy (λ log. IsLook path.now octets.now at log result) (H.log host.old) (H.log host.new) }
+{
+    match host.read_part(path, Part { at, length: HEAD }) {
+        Ok(head) => is_head_at(octets, at, head.as_slice()),
         Err(_) => true,
     }
 }
 
-/// Returns `true` if the head of the slot at this place is that of these octets, or cannot be read.
-fn has_head_of(file: &File, octets: &[u8], at: u64) -> bool {
-    let mut head = [0u8; HEAD];
-    match file.read_exact_at(&mut head, at) {
-        Ok(()) => octets.iter().skip(at as usize).take(HEAD).eq(head.iter()),
-        Err(_) => true,
+/// Returns `true` if this is the head of the slot at this place of these octets, or is cut short.
+fn is_head_at(octets: &[u8], at: u64, head: &[u8]) -> bool
+    requires { at ≤ 1048576 }
+    ensures { IsSameHead octets.now at head.now result }
+{
+    if (head.len() as u64) < HEAD {
+        return true;
     }
+    let (start, end) = (at as usize, (at + HEAD) as usize);
+    if octets.len() < end {
+        return false;
+    }
+    &octets[start..end] == head
 }
 
 /// Returns what the opening of the station's file gave.
@@ -157,7 +230,7 @@ fn opening_failure(alloc: Global, path: &str, fault: OpenFault) -> Failure
 {
     match fault {
         OpenFault::InUse => in_use(alloc, path),
-        OpenFault::System(error) => Failure::stream(alloc, path, error),
+        OpenFault::System(error) => Failure::stream(alloc, path, Reason::of(alloc, error)),
     }
 }
 

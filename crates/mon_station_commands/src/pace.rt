@@ -1,16 +1,22 @@
 //! When a station's rounds begin.
 
-ghost use Rattle.std.specs.Prelude.{◌≡◌, ◌*◌, ◌%◌, ◌≤◌, ℕ, [], None, Some, length};
+ghost use Rattle.std.specs.Prelude.{◌≡◌, ◌*◌, ◌%◌, ◌≤◌, ◌-◌, ℕ, [], None, Some, length};
+ghost use Rattle.mon_host.specs.AtHost.{IsNoted};
+ghost use Rattle.mon_host.specs.Log.{GoesOnBy};
 ghost use Rattle.mon_rounds.specs.Grid.{share_of};
+ghost use Rattle.mon_station_commands.specs.Pace.{IsDate, IsPassed, IsTime};
+ghost use Rattle.mon_station_commands.specs.Quiet.{AreQuiet};
+ghost use Rattle.mon_station_commands.specs.Telling.{AreNoted, first_line, outrun_lines};
 
 use crate::live::{Live, Transport, run_span};
 use mon_cli::Timing;
 use mon_console::Failure;
+use mon_host::Host;
 use mon_rounds::{Receiver, Span, left_of, milliseconds, next_start, phase_of};
 use mon_station::Outbox;
 use mon_web_receiver::Shows;
-use std::rt::Clock;
-use std::time::{Duration, Instant, SystemTime, UNIX_EPOCH};
+use std::alloc::Global;
+use std::time::{Duration, Instant, UNIX_EPOCH};
 
 /// When rounds begin, in milliseconds since the station was started: at the first start and whole
 /// intervals after it.
@@ -31,31 +37,44 @@ const TELL_AFTER: u32 = 1000;
 /// Returns when the rounds begin, the first one now. With a phase it waits for that by the wall clock;
 /// so does a station with peers for its share of the interval, so that they poll one after another.
 /// Until then it answers its peers.
-pub(crate) fn start_pace<R: Clock + Eprint + AllocGlobal, S: Shows + Drop, O: Outbox + Drop>(
-    rt: &R,
+pub(crate) fn start_pace<H: Host, S: Shows + Drop, O: Outbox + Drop>(
+    alloc: Global,
+    host: &mut H,
     live: &mut Live<S, O>,
     timing: Timing,
-) -> Result<Pace, Failure> {
+) -> Result<Pace, Failure>
+    ensures quiet { GoesOnBy AreQuiet (H.log host.old) (H.log host.new) }
+    ensures printing { live.new.reports.printing ≡ live.old.reports.printing }
+    ensures out { live.new.reports.out ≡ live.old.reports.out }
+    ensures printed { live.new.unprinted ≡ live.old.unprinted }
+{
     let interval = u64::from(timing.interval) * 1000;
     let left = match phase(&live.transport, timing) {
         Some(phase) if interval > 0 => {
-            let time = wall_time(rt)?;
+            let time = wall_time(alloc, host)?;
             next_start(time, interval, phase).saturating_sub(time)
         }
         _ => 0,
     };
-    let first = passed(rt, live.origin)?.saturating_add(left);
+    let first = passed(alloc, host, live.origin)?.saturating_add(left);
     let pace = Pace {
         first,
         interval,
         due: first,
     };
     if left > 0 {
-        let (seconds, tenths) = (left / 1000, left % 1000 / 100);
-        let _ = eprintln!(rt; "snmpmon: the first round begins in {seconds}.{tenths} s");
-        pause(rt, live, 1, pace)?;
+        tell_first(host, left);
+        pause(alloc, host, live, 1, pace)?;
     }
     Ok(pace)
+}
+
+/// Reports in how many milliseconds the first round begins.
+fn tell_first<H: Host>(host: &mut H, left: u64)
+    ensures { GoesOnBy (IsNoted (Some (first_line left))) (H.log host.old) (H.log host.new) }
+{
+    let (seconds, tenths) = (left / 1000, left % 1000 / 100);
+    host.note(format_args!("snmpmon: the first round begins in {seconds}.{tenths} s\n"));
 }
 
 /// Returns how many milliseconds after whole intervals of the wall clock rounds begin, if they keep to
@@ -81,68 +100,97 @@ fn phase<S: Receiver + Drop, O: Outbox + Drop>(
 }
 
 /// Hands the station what comes until the round after this one begins. Returns when that was due.
-pub(crate) fn wait_for_next<R: Clock + Eprint + AllocGlobal, S: Shows + Drop, O: Outbox + Drop>(
-    rt: &R,
+pub(crate) fn wait_for_next<H: Host, S: Shows + Drop, O: Outbox + Drop>(
+    alloc: Global,
+    host: &mut H,
     live: &mut Live<S, O>,
     number: u32,
     pace: Pace,
-) -> Result<Pace, Failure> {
+) -> Result<Pace, Failure>
+    ensures quiet { GoesOnBy AreQuiet (H.log host.old) (H.log host.new) }
+    ensures printing { live.new.reports.printing ≡ live.old.reports.printing }
+    ensures out { live.new.reports.out ≡ live.old.reports.out }
+    ensures printed { live.new.unprinted ≡ live.old.unprinted }
+{
     if pace.interval == 0 {
         return Ok(pace);
     }
-    let passed = passed(rt, live.origin)?;
-    tell_outrun(rt, number, pace, passed);
+    let passed = passed(alloc, host, live.origin)?;
+    tell_outrun(host, number, pace, passed);
     let due = next_start(passed.max(pace.due), pace.interval, pace.first);
     let pace = Pace { due, ..pace };
-    pause(rt, live, number, pace)?;
+    pause(alloc, host, live, number, pace)?;
     Ok(pace)
 }
 
 /// Reports a round that took longer than the interval.
-fn tell_outrun<R: Eprint>(rt: &R, number: u32, pace: Pace, passed: u64) {
+fn tell_outrun<H: Host>(host: &mut H, number: u32, pace: Pace, passed: u64)
+    ensures { GoesOnBy (AreNoted (outrun_lines number (passed - pace.due) pace.interval))
+        (H.log host.old) (H.log host.new) }
+{
     let took = passed.saturating_sub(pace.due);
     if took > pace.interval {
         let (seconds, tenths) = (took / 1000, took % 1000 / 100);
         let interval = pace.interval / 1000;
-        let _ = eprintln!(rt; "snmpmon: round {number} took {seconds}.{tenths} s of {interval} s");
+        host.note(format_args!(
+            "snmpmon: round {number} took {seconds}.{tenths} s of {interval} s\n"
+        ));
     }
 }
 
 /// Hands the station what comes until the next round is due.
-fn pause<R: Clock + Eprint + AllocGlobal, S: Shows + Drop, O: Outbox + Drop>(
-    rt: &R,
+fn pause<H: Host, S: Shows + Drop, O: Outbox + Drop>(
+    alloc: Global,
+    host: &mut H,
     live: &mut Live<S, O>,
     number: u32,
     pace: Pace,
-) -> Result<(), Failure> {
+) -> Result<(), Failure>
+    ensures quiet { GoesOnBy AreQuiet (H.log host.old) (H.log host.new) }
+    ensures printing { live.new.reports.printing ≡ live.old.reports.printing }
+    ensures out { live.new.reports.out ≡ live.old.reports.out }
+    ensures printed { live.new.unprinted ≡ live.old.unprinted }
+{
     let due = Duration::from_millis(pace.due);
     for _ in 0..MOST_RESTS {
-        let left = left_of(due, now(rt)?.duration_since(live.origin));
+        let left = left_of(due, now(alloc, host)?.duration_since(live.origin));
         if left == 0 {
             return Ok(());
         }
-        run_span(rt, live, number, Span::Between(left.min(TELL_AFTER)))?;
+        run_span(
+            alloc,
+            host,
+            live,
+            number,
+            Span::Between(left.min(TELL_AFTER)),
+        )?;
     }
     Ok(())
 }
 
-/// The milliseconds since the station was started.
-pub(crate) fn passed<R: Clock + AllocGlobal>(rt: &R, origin: Instant) -> Result<u64, Failure> {
-    Ok(milliseconds(now(rt)?.duration_since(origin)))
+/// Returns the milliseconds since the station was started.
+pub(crate) fn passed<H: Host>(alloc: Global, host: &mut H, origin: Instant) -> Result<u64, Failure>
+    ensures { GoesOnBy (λ log. IsPassed origin log result) (H.log host.old) (H.log host.new) }
+{
+    Ok(milliseconds(now(alloc, host)?.duration_since(origin)))
 }
 
-/// The time.
-pub(crate) fn now<R: Clock + AllocGlobal>(rt: &R) -> Result<Instant, Failure> {
-    match Instant::now(rt) {
+/// Returns the time.
+pub(crate) fn now<H: Host>(alloc: Global, host: &mut H) -> Result<Instant, Failure>
+    ensures { GoesOnBy (λ log. IsTime log result) (H.log host.old) (H.log host.new) }
+{
+    match host.time() {
         Ok(now) => Ok(now),
-        Err(error) => Err(Failure::stream(rt.alloc(), "the clock", error)),
+        Err(reason) => Err(Failure::stream(alloc, "the clock", reason)),
     }
 }
 
-/// The milliseconds since 1970 by the wall clock.
-fn wall_time<R: Clock + AllocGlobal>(rt: &R) -> Result<u64, Failure> {
-    match SystemTime::now(rt) {
+/// Returns the milliseconds since 1970 by the wall clock.
+fn wall_time<H: Host>(alloc: Global, host: &mut H) -> Result<u64, Failure>
+    ensures { GoesOnBy (λ log. IsDate log result) (H.log host.old) (H.log host.new) }
+{
+    match host.date() {
         Ok(now) => Ok(milliseconds(now.duration_since(UNIX_EPOCH).unwrap_or(Duration::ZERO))),
-        Err(error) => Err(Failure::stream(rt.alloc(), "the clock", error)),
+        Err(reason) => Err(Failure::stream(alloc, "the clock", reason)),
     }
 }

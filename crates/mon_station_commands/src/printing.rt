@@ -1,87 +1,201 @@
 //! The reports of a running station.
 
+ghost use Rattle.std.specs.Prelude.{◌≡◌, [], IfOk, None, OnOk, option_map, string_bytes};
+ghost use Rattle.mon_board.specs.Board.{window_of};
+ghost use Rattle.mon_host.specs.Log.{GoesOnBy};
+ghost use Rattle.mon_formats.specs.Formats.{report_in};
+ghost use Rattle.mon_formats.specs.declared.format.Format.TheVariants.{Text};
+ghost use Rattle.mon_console.specs.Shown.{shown_by};
+ghost use Rattle.mon_station.specs.State.{state_of};
+ghost use Rattle.mon_station_commands.specs.Reporting.{IsFiled, IsOut, IsReportOf, IsReported};
+ghost use Rattle.mon_station_commands.specs.Steps.{IsKeptOf, IsSaidOf, IsTried, kept_after};
+
 use crate::figures::make_figures;
 use crate::live::Live;
-use mon_app::AppFault;
 use mon_board::Board;
-use mon_console::{Failure, Fault, print};
+use mon_console::{Failure, print, replace_file};
+use mon_host::Host;
 use mon_report::write_report;
 use mon_rounds::Receiver;
 use mon_station::Outbox;
-use std::fs::File;
-use std::io::{self, BufWriter, Write};
-use std::rt::Files;
+use std::alloc::{AllocError, Global};
 
-/// Prints the report between two rounds. What goes wrong is reported, and the station goes on.
-pub(crate) fn print_between<R: Print + Eprint + AllocGlobal, S: Receiver + Drop, O: Outbox + Drop>(
-    rt: &R,
+/// Prints the report between two rounds. What goes wrong is reported, and the station goes on. If a
+/// report could not be printed, that is kept, except if memory ran out.
+pub(crate) fn print_between<H: Host, S: Receiver + Drop, O: Outbox + Drop>(
+    alloc: Global,
+    host: &mut H,
     live: &mut Live<S, O>,
-) {
-    if let Err(failure) = print_report(rt, live) {
-        failure.tell(rt);
-        if !failure.is_of_memory() {
-            live.unprinted = Some(failure);
+)
+    ensures printed { GoesOnBy (λ log. IsKeptOf (IsReported (IsReportOf (state_of live.old.station.life) live.old.course
+        live.old.freshness live.old.transport.peers.items live.old.transport.engines.items
+        live.old.ended live.old.reports))
+        live.old.unprinted log live.new.unprinted) (H.log host.old) (H.log host.new) }
+    ensures saved { live.new.unsaved ≡ live.old.unsaved }
+    ensures written { live.new.unwritten ≡ live.old.unwritten }
+    ensures format { live.new.reports.printing ≡ live.old.reports.printing }
+    ensures out { live.new.reports.out ≡ live.old.reports.out }
+{
+    let failure = try_print(alloc, host, live);
+    live.unprinted = kept_after(live.unprinted.take(), failure);
+}
+
+/// Returns the failure that is kept: the new one, except if memory ran out, or else the one before.
+fn kept_after(before: Option<Failure>, failure: Option<Failure>) -> Option<Failure>
+    ensures { result ≡ kept_after before failure }
+{
+    match failure {
+        None => before,
+        Some(failure) => {
+            if failure.is_of_memory() {
+                before
+            } else {
+                Some(failure)
+            }
         }
     }
 }
 
-/// Prints the report of a station's windows. Lines of text with names in numbers need no memory.
-pub(crate) fn print_report<R: Print + AllocGlobal, S: Receiver + Drop, O: Outbox + Drop>(
-    rt: &R,
-    live: &Live<S, O>,
-) -> Result<(), Failure> {
-    let board = live.station.board();
-    if live.reports.printing.is_plain() {
-        return print_lines(rt, board);
-    }
-    let figures = make_figures(rt.alloc(), live)?;
-    let text = live
-        .reports
-        .printing
-        .report(rt.alloc(), board, Some(&figures))?;
-    print(rt, text.as_slice())
+/// Prints the report. Returns why it could not be printed, which is said.
+fn try_print<H: Host, S: Receiver + Drop, O: Outbox + Drop>(
+    alloc: Global,
+    host: &mut H,
+    live: &mut Live<S, O>,
+) -> Option<Failure>
+    ensures tried { GoesOnBy (λ log. IsTried (IsReported (IsReportOf (state_of live.old.station.life) live.old.course
+        live.old.freshness live.old.transport.peers.items live.old.transport.engines.items
+        live.old.ended live.old.reports))
+        log result) (H.log host.old) (H.log host.new) }
+    ensures saved { live.new.unsaved ≡ live.old.unsaved }
+    ensures printed { live.new.unprinted ≡ live.old.unprinted }
+    ensures written { live.new.unwritten ≡ live.old.unwritten }
+    ensures format { live.new.reports.printing ≡ live.old.reports.printing }
+    ensures out { live.new.reports.out ≡ live.old.reports.out }
+{
+    let done = print_report(alloc, host, live);
+    said(host, done)
 }
 
-/// Prints the report of a board as lines of text: many at once, or piece by piece if there is no
-/// memory for them.
-fn print_lines<R: Print + AllocGlobal>(rt: &R, board: &Board) -> Result<(), Failure> {
-    let is_printed = match BufWriter::new(rt.alloc(), io::writer(rt)) {
-        Ok(mut lines) => write_report(board, &mut lines).is_ok() && lines.flush().is_ok(),
-        Err(_) => write_report(board, &mut io::writer(rt)).is_ok(),
-    };
-    if is_printed {
-        return Ok(());
+/// Says a failure, if there is one, and returns it.
+fn said<H: Host>(host: &mut H, done: Result<(), Failure>) -> Option<Failure>
+    ensures { GoesOnBy (λ log. IsSaidOf done log result) (H.log host.old) (H.log host.new) }
+{
+    match done {
+        Ok(()) => None,
+        Err(failure) => {
+            failure.tell(host);
+            Some(failure)
+        }
     }
-    Err(Failure::at(
-        rt.alloc(),
-        "standard output",
-        Fault::App(AppFault::FileFault),
-    ))
+}
+
+/// Prints the report of a station's windows. Lines of text with names in numbers are made in the
+/// station's buffer for them.
+pub(crate) fn print_report<H: Host, S: Receiver + Drop, O: Outbox + Drop>(
+    alloc: Global,
+    host: &mut H,
+    live: &mut Live<S, O>,
+) -> Result<(), Failure>
+    ensures report { GoesOnBy (λ log. IsReported (IsReportOf (state_of live.old.station.life) live.old.course
+        live.old.freshness live.old.transport.peers.items live.old.transport.engines.items
+        live.old.ended live.old.reports)
+        log result) (H.log host.old) (H.log host.new) }
+    ensures saved { live.new.unsaved ≡ live.old.unsaved }
+    ensures printed { live.new.unprinted ≡ live.old.unprinted }
+    ensures written { live.new.unwritten ≡ live.old.unwritten }
+    ensures format { live.new.reports.printing ≡ live.old.reports.printing }
+    ensures out { live.new.reports.out ≡ live.old.reports.out }
+{
+    if live.reports.printing.is_plain() {
+        put_lines(&mut live.reports.lines, live.station.board())?;
+        return print(alloc, host, live.reports.lines.as_slice());
+    }
+    let text = report_text(alloc, live)?;
+    print(alloc, host, text.as_slice())
+}
+
+/// Makes the report of a board as lines of text, in place of what a buffer holds.
+fn put_lines(lines: &mut Vec<u8>, board: &Board) -> Result<(), AllocError>
+    ensures { OnOk result (lines.new.items
+        ≡ report_in Text (shown_by None) board.now.watch (window_of board.now) None []) }
+{
+    mon_formats::laws::names_in_numbers();
+    lines.clear();
+    match write_report(board, lines) {
+        Ok(()) => Ok(()),
+        Err(_) => Err(AllocError),
+    }
+}
+
+/// Makes the report of a station's windows and of what it says of itself.
+fn report_text<S: Receiver + Drop, O: Outbox + Drop>(
+    alloc: Global,
+    live: &Live<S, O>,
+) -> Result<Vec<u8>, AllocError>
+    ensures { IfOk result (λ text. IsReportOf (state_of live.now.station.life) live.now.course
+        live.now.freshness live.now.transport.peers.items live.now.transport.engines.items
+        live.now.ended live.now.reports text.items) }
+{
+    let figures = make_figures(alloc, live)?;
+    live.reports
+        .printing
+        .report(alloc, live.station.board(), Some(&figures))
 }
 
 /// Writes the report to the file that the arguments name, if they name one. What goes wrong is
 /// reported and kept until a report is written, and the station goes on.
-pub(crate) fn write_out<
-    R: Files<File = File> + Eprint + AllocGlobal,
-    S: Receiver + Drop,
-    O: Outbox + Drop,
->(rt: &R, live: &mut Live<S, O>) {
-    let written = match &live.reports.out {
-        Some(path) => write_report_file(rt, live, path),
-        None => Ok(()),
-    };
-    if let Err(failure) = &written {
-        failure.tell(rt);
-    }
-    live.unwritten = written.err();
+pub(crate) fn write_out<H: Host, S: Receiver + Drop, O: Outbox + Drop>(
+    alloc: Global,
+    host: &mut H,
+    live: &mut Live<S, O>,
+)
+    ensures written { GoesOnBy (λ log. IsOut (option_map string_bytes live.old.reports.out)
+        (IsReportOf (state_of live.old.station.life) live.old.course
+        live.old.freshness live.old.transport.peers.items live.old.transport.engines.items
+        live.old.ended live.old.reports)
+        log live.new.unwritten) (H.log host.old) (H.log host.new) }
+    ensures saved { live.new.unsaved ≡ live.old.unsaved }
+    ensures printed { live.new.unprinted ≡ live.old.unprinted }
+    ensures format { live.new.reports.printing ≡ live.old.reports.printing }
+    ensures out { live.new.reports.out ≡ live.old.reports.out }
+{
+    live.unwritten = try_write(alloc, host, live);
 }
 
-fn write_report_file<R: Files<File = File> + AllocGlobal, S: Receiver + Drop, O: Outbox + Drop>(
-    rt: &R,
+/// Writes the report to the file that the arguments name, if they name one. Returns why that could
+/// not be done, which is said.
+fn try_write<H: Host, S: Receiver + Drop, O: Outbox + Drop>(
+    alloc: Global,
+    host: &mut H,
+    live: &Live<S, O>,
+) -> Option<Failure>
+    ensures { GoesOnBy (λ log. IsOut (option_map string_bytes live.now.reports.out)
+        (IsReportOf (state_of live.now.station.life) live.now.course
+        live.now.freshness live.now.transport.peers.items live.now.transport.engines.items
+        live.now.ended live.now.reports)
+        log result) (H.log host.old) (H.log host.new) }
+{
+    match &live.reports.out {
+        Some(path) => {
+            let done = write_file(alloc, host, live, path);
+            said(host, done)
+        }
+        None => None,
+    }
+}
+
+/// Replaces the file at a path by the report.
+fn write_file<H: Host, S: Receiver + Drop, O: Outbox + Drop>(
+    alloc: Global,
+    host: &mut H,
     live: &Live<S, O>,
     path: &str,
-) -> Result<(), Failure> {
-    let figures = make_figures(rt.alloc(), live)?;
-    let board = live.station.board();
-    live.reports.printing.write(rt, path, board, Some(&figures))
+) -> Result<(), Failure>
+    ensures { GoesOnBy (λ log. IsFiled path.now (IsReportOf (state_of live.now.station.life) live.now.course
+        live.now.freshness live.now.transport.peers.items live.now.transport.engines.items
+        live.now.ended live.now.reports)
+        log result) (H.log host.old) (H.log host.new) }
+{
+    let text = report_text(alloc, live)?;
+    replace_file(alloc, host, path, text.as_slice())
 }

@@ -27,7 +27,11 @@ pub(crate) fn show_span<S: Shows + Drop, O: Outbox + Drop>(
     alloc: Global,
     live: &mut Live<S, O>,
     span: Span,
-) {
+)
+    ensures printing { live.new.reports.printing ≡ live.old.reports.printing }
+    ensures out { live.new.reports.out ≡ live.old.reports.out }
+    ensures printed { live.new.unprinted ≡ live.old.unprinted }
+{
     if span == Span::Round {
         let ended = live.ended;
         live.transport.rounds.receiver_mut().note_round(ended);
@@ -39,8 +43,11 @@ pub(crate) fn show_span<S: Shows + Drop, O: Outbox + Drop>(
 
 /// Shows what is known, by texts in the buffers of the texts so far.
 pub(crate) fn show<S: Shows + Drop, O: Outbox + Drop>(alloc: Global, live: &mut Live<S, O>)
-    ensures { IsShown (AreTextsOf (state_of live.old.station.life) live.old.course live.old.freshness live.old.transport.peers.items live.old.transport.engines.items live.old.ended live.old.reports)
+    ensures shown { IsShown (AreTextsOf (state_of live.old.station.life) live.old.course live.old.freshness live.old.transport.peers.items live.old.transport.engines.items live.old.ended live.old.reports)
         (S.shown live.old.transport.rounds.receiver) (S.shown live.new.transport.rounds.receiver) }
+    ensures printing { live.new.reports.printing ≡ live.old.reports.printing }
+    ensures out { live.new.reports.out ≡ live.old.reports.out }
+    ensures printed { live.new.unprinted ≡ live.old.unprinted }
 {
     if live.transport.rounds.receiver().is_shown() {
         let before = live.transport.rounds.receiver_mut().take_texts();

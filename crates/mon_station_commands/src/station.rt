@@ -1,19 +1,26 @@
 //! The command `station`.
 
-ghost use Rattle.std.specs.Prelude.{◌≡◌, IfErr, IfOk, IfSome, IsOk, None, Ok, OnOk, Some, map, option_copied, option_map, string_bytes};
+ghost use Rattle.std.specs.Prelude.{◌≡◌, IfErr, IfOk, IfSome, IsOk, None, Ok, OnOk, Some, map, option_copied, option_map, string_bytes, true};
 ghost use Rattle.mon_disk.specs.declared.fault.KeeperFault.{KeeperFault};
 ghost use Rattle.mon_faults.specs.declared.fault.Fault.TheVariants.{Keeper};
+ghost use Rattle.mon_host.specs.AtHost.{IsNoted};
+ghost use Rattle.mon_host.specs.Log.{GoesOnBy};
+ghost use Rattle.mon_station_commands.specs.Checking.{IsCheck};
+ghost use Rattle.mon_station_commands.specs.Ending.{IsEnded};
 ghost use Rattle.mon_station_commands.specs.Limits.{longest_gap};
+ghost use Rattle.mon_station_commands.specs.Rounds.{AreRun, IsBetween, IsLastRun, IsRoundRun, IsRun};
+ghost use Rattle.mon_station_commands.specs.Telling.{http_line};
 ghost use Rattle.mon_udp.specs.Addr.{addr_of};
 
 use crate::limits::print_limits;
-use crate::live::{Live, Place, Reports, open_transport, run_span, start_station};
+use crate::live::{Live, Place, Reports, Setup, open_transport, run_span, start_station};
 use crate::opening::{open_file, or_no_socket, or_socket_failure, unsaved};
 use crate::pace::{now, start_pace, wait_for_next};
 use crate::printing::{print_between, print_report, write_out};
 use crate::showing::show;
 use mon_cli::{StationArgs, Timing};
-use mon_console::{Failure, read_labelled_station};
+use mon_console::{Failure, Printing, read_labelled_station};
+use mon_host::Host;
 use mon_rounds::{Receiver, SocketReceiver, Span, is_due};
 use mon_settings::StationSettings;
 use mon_station::Outbox;
@@ -28,37 +35,67 @@ use std::rt::{Clock, Files};
 
 /// Runs the station of the settings through its rounds, and prints its report; or only prints what
 /// limits it.
-pub fn run_station<R: Clock + Files<File = File> + Net + Print + Eprint + AllocGlobal>(
+pub fn run_station<R: Clock + Files<File = File> + Net + AllocGlobal, H: Host>(
     rt: &R,
+    host: &mut H,
     words: StationArgs<'_, '_>,
-) -> Result<(), Failure> {
+) -> Result<(), Failure>
+    // Where only the limits are asked for, no station is opened.
+    ensures { words.entry.checks ≡ true → GoesOnBy (λ log. IsCheck words.entry.settings.now
+        (option_map (λ l. l.now) words.entry.labels) words.entry.printed
+        words.entry.timing.interval log result) (H.log host.old) (H.log host.new) }
+{
+    let alloc = rt.alloc();
     if words.checks {
-        return check_station(rt, words);
+        return check_station(alloc, host, words);
     }
-    let door = door_of(rt.alloc(), words.http)?;
+    let door = door_of(alloc, words.http)?;
     let (settings, printing) = read_labelled_station(
-        rt,
+        alloc,
+        host,
         words.settings,
         words.labels,
         words.printed,
     )?;
-    let reports = Reports {
-        printing,
-        out: out_of(rt.alloc(), words.out)?,
-        stale_after: words.stale_after,
-        interval: words.timing.interval,
-    };
+    let reports = reports_of(alloc, words, &settings, printing)?;
+    let setup = Setup { settings, reports };
     match door {
-        None => run_unseen(rt, settings, reports, words.timing),
+        None => run_unseen(rt, host, setup, words.timing),
         Some(at) => {
             let front = Front {
                 at,
                 hosts: words.http_hosts,
             };
-            run_shown(rt, settings, reports, words.timing, front)
+            run_shown(rt, host, setup, words.timing, front)
         }
     }
 }
+
+/// Returns how the reports of a station of these settings are printed, and what else the arguments
+/// say of them.
+fn reports_of(
+    alloc: Global,
+    words: StationArgs<'_, '_>,
+    settings: &StationSettings,
+    printing: Printing,
+) -> Result<Reports, Failure> {
+    let instances = if printing.is_plain() {
+        settings.core.watch().instances().len()
+    } else {
+        0
+    };
+    Ok(Reports {
+        printing,
+        out: out_of(alloc, words.out)?,
+        stale_after: words.stale_after,
+        interval: words.timing.interval,
+        lines: Vec::with_capacity(alloc, instances * LINE_SIZE)?,
+    })
+}
+
+/// How many octets are reserved for an instance in a report of lines of text. Few lines are a quarter
+/// as long.
+const LINE_SIZE: usize = 1024;
 
 /// Where a station serves HTTP, and by which names of hosts.
 #[derive(Clone, Copy)]
@@ -68,43 +105,57 @@ struct Front<'m, 'a> {
 }
 
 /// Prints what limits the station of the settings.
-fn check_station<R: Files<File = File> + Print + AllocGlobal>(
-    rt: &R,
+fn check_station<H: Host>(
+    alloc: Global,
+    host: &mut H,
     words: StationArgs<'_, '_>,
-) -> Result<(), Failure> {
-    let (settings, _) = read_labelled_station(rt, words.settings, words.labels, words.printed)?;
-    print_limits(rt, &settings, words.timing.interval)
+) -> Result<(), Failure>
+    ensures { GoesOnBy (λ log. IsCheck words.entry.settings.now
+        (option_map (λ l. l.now) words.entry.labels) words.entry.printed
+        words.entry.timing.interval log result) (H.log host.old) (H.log host.new) }
+{
+    let (settings, _) = read_labelled_station(
+        alloc,
+        host,
+        words.settings,
+        words.labels,
+        words.printed,
+    )?;
+    print_limits(alloc, host, &settings, words.timing.interval)
 }
 
 /// Runs a station that serves no HTTP.
-fn run_unseen<R: Clock + Files<File = File> + Net + Print + Eprint + AllocGlobal>(
+fn run_unseen<R: Clock + Files<File = File> + Net + AllocGlobal, H: Host>(
     rt: &R,
-    settings: StationSettings,
-    reports: Reports,
+    host: &mut H,
+    setup: Setup,
     timing: Timing,
 ) -> Result<(), Failure> {
-    let (socket, place) = open_unseen(rt, &settings)?;
-    let receiver = SocketReceiver::new(rt, rt.alloc(), &socket);
-    let transport = open_transport(rt.alloc(), &settings, &socket, receiver)?;
-    let mut live = start_station(rt, settings, place, transport, reports)?;
-    run_rounds(rt, &mut live, timing)
+    let alloc = rt.alloc();
+    let (socket, place) = open_unseen(rt, host, &setup.settings)?;
+    let receiver = SocketReceiver::new(rt, alloc, &socket);
+    let transport = open_transport(alloc, &setup.settings, &socket, receiver)?;
+    let mut live = start_station(alloc, host, setup, place, transport)?;
+    run_rounds(alloc, host, &mut live, timing)
 }
 
 /// Opens the socket and the file of the settings.
-fn open_unseen<R: Clock + Files<File = File> + Net + Eprint + AllocGlobal>(
+fn open_unseen<R: Files<File = File> + Net + AllocGlobal, H: Host>(
     rt: &R,
+    host: &mut H,
     settings: &StationSettings,
 ) -> Result<(Socket, Place), Failure> {
-    let socket = or_no_socket(rt, settings, Socket::open(rt, settings.listen))?;
-    let place = open_place(rt, settings, socket.address())?;
+    let given = Socket::open(rt, settings.listen);
+    let socket = or_no_socket(rt.alloc(), host, settings, given)?;
+    let place = open_place(rt, host, settings, socket.address())?;
     Ok((socket, place))
 }
 
 /// Runs a station that serves HTTP.
-fn run_shown<R: Clock + Files<File = File> + Net + Print + Eprint + AllocGlobal>(
+fn run_shown<R: Clock + Files<File = File> + Net + AllocGlobal, H: Host>(
     rt: &R,
-    settings: StationSettings,
-    reports: Reports,
+    host: &mut H,
+    setup: Setup,
     timing: Timing,
     front: Front<'_, '_>,
 ) -> Result<(), Failure> {
@@ -113,13 +164,21 @@ fn run_shown<R: Clock + Files<File = File> + Net + Print + Eprint + AllocGlobal>
         place,
         web,
         at,
-    } = open_shown(rt, &settings, front, timing)?;
+    } = open_shown(rt, host, &setup.settings, front, timing)?;
+    let alloc = rt.alloc();
     let receiver = WebReceiver::new(rt, rt, &socket, web, place.origin);
-    let transport = open_transport(rt.alloc(), &settings, &socket, receiver)?;
-    let mut live = start_station(rt, settings, place, transport, reports)?;
-    let _ = eprintln!(rt; "snmpmon: HTTP at {at}");
-    show(rt.alloc(), &mut live);
-    run_rounds(rt, &mut live, timing)
+    let transport = open_transport(alloc, &setup.settings, &socket, receiver)?;
+    let mut live = start_station(alloc, host, setup, place, transport)?;
+    tell_http(host, at);
+    show(alloc, &mut live);
+    run_rounds(alloc, host, &mut live, timing)
+}
+
+/// Prints where a station serves HTTP.
+fn tell_http<H: Host>(host: &mut H, at: SocketAddr)
+    ensures { GoesOnBy (IsNoted (Some (http_line at))) (H.log host.old) (H.log host.new) }
+{
+    host.note(format_args!("snmpmon: HTTP at {at}\n"));
 }
 
 /// What a station that serves HTTP has opened.
@@ -133,15 +192,17 @@ struct Shown {
 }
 
 /// Opens the socket of the settings, the listener for HTTP and the file of the settings.
-fn open_shown<R: Clock + Files<File = File> + Net + Eprint + AllocGlobal>(
+fn open_shown<R: Files<File = File> + Net + AllocGlobal, H: Host>(
     rt: &R,
+    host: &mut H,
     settings: &StationSettings,
     front: Front<'_, '_>,
     timing: Timing,
 ) -> Result<Shown, Failure> {
-    let socket = or_no_socket(rt, settings, PolledSocket::open(rt, settings.listen))?;
+    let given = PolledSocket::open(rt, settings.listen);
+    let socket = or_no_socket(rt.alloc(), host, settings, given)?;
     let (web, at) = open_web(rt, front, timing)?;
-    let place = open_place(rt, settings, socket.address())?;
+    let place = open_place(rt, host, settings, socket.address())?;
     Ok(Shown {
         socket,
         place,
@@ -151,14 +212,15 @@ fn open_shown<R: Clock + Files<File = File> + Net + Eprint + AllocGlobal>(
 }
 
 /// Opens the file of the settings, for a station whose socket is there.
-fn open_place<R: Clock + Files<File = File> + Eprint + AllocGlobal>(
+fn open_place<R: Files<File = File> + AllocGlobal, H: Host>(
     rt: &R,
+    host: &mut H,
     settings: &StationSettings,
     address: io::Result<SocketAddr>,
 ) -> Result<Place, Failure> {
-    let disk = open_file(rt, settings)?;
+    let disk = open_file(rt, host, settings)?;
     let at = or_socket_failure(rt.alloc(), settings.listen, address)?;
-    let origin = now(rt)?;
+    let origin = now(rt.alloc(), host)?;
     Ok(Place { disk, at, origin })
 }
 
@@ -215,25 +277,99 @@ fn door_of(alloc: Global, text: Option<&str>) -> Result<Option<Addr>, Failure>
 
 /// Runs a station through its rounds, and prints its report. If a report between two rounds could not
 /// be printed, the last round's could not be written or its save failed, that is the failure.
-fn run_rounds<
-    R: Clock + Files<File = File> + Print + Eprint + AllocGlobal,
-    S: Shows + Drop,
-    O: Outbox + Drop,
->(rt: &R, live: &mut Live<S, O>, timing: Timing) -> Result<(), Failure> {
-    let mut pace = start_pace(rt, live, timing)?;
-    for number in 1..=timing.rounds {
-        run_span(rt, live, number, Span::Round)?;
-        write_out(rt, live);
-        if number == timing.rounds {
-            break;
-        }
-        if is_due(number, timing.report_every) {
-            print_between(rt, live);
-        }
-        pace = wait_for_next(rt, live, number, pace)?;
+fn run_rounds<H: Host, S: Shows + Drop, O: Outbox + Drop>(
+    alloc: Global,
+    host: &mut H,
+    live: &mut Live<S, O>,
+    timing: Timing,
+) -> Result<(), Failure>
+    ensures { GoesOnBy (λ log. IsRun timing.rounds timing.report_every live.old.reports.printing
+        (option_map string_bytes live.old.reports.out) live.old.unprinted
+        log result) (H.log host.old) (H.log host.new) }
+{
+    run_all(alloc, host, live, timing)?;
+    print_report(alloc, host, live)?;
+    ended(alloc, live)
+}
+
+/// Runs a station's rounds, and what is between them.
+fn run_all<H: Host, S: Shows + Drop, O: Outbox + Drop>(
+    alloc: Global,
+    host: &mut H,
+    live: &mut Live<S, O>,
+    timing: Timing,
+) -> Result<(), Failure>
+    ensures run { GoesOnBy (λ log. AreRun timing.rounds timing.report_every
+        live.old.reports.printing (option_map string_bytes live.old.reports.out)
+        live.old.unprinted log live.new.unprinted live.new.unwritten result)
+        (H.log host.old) (H.log host.new) }
+    ensures printing { live.new.reports.printing ≡ live.old.reports.printing }
+    ensures out { live.new.reports.out ≡ live.old.reports.out }
+{
+    let mut pace = start_pace(alloc, host, live, timing)?;
+    for number in 1..timing.rounds {
+        run_round(alloc, host, live, number)?;
+        print_due(alloc, host, live, number, timing.report_every);
+        pace = wait_for_next(alloc, host, live, number, pace)?;
     }
-    print_report(rt, live)?;
-    ended(rt.alloc(), live)
+    run_last(alloc, host, live, timing.rounds)
+}
+
+/// Runs the last of so many rounds, if there are any.
+fn run_last<H: Host, S: Shows + Drop, O: Outbox + Drop>(
+    alloc: Global,
+    host: &mut H,
+    live: &mut Live<S, O>,
+    rounds: u32,
+) -> Result<(), Failure>
+    ensures run { GoesOnBy (λ log. IsLastRun rounds live.old.reports.printing
+        (option_map string_bytes live.old.reports.out) log
+        live.new.unwritten result) (H.log host.old) (H.log host.new) }
+    ensures printing { live.new.reports.printing ≡ live.old.reports.printing }
+    ensures out { live.new.reports.out ≡ live.old.reports.out }
+    ensures printed { live.new.unprinted ≡ live.old.unprinted }
+{
+    if rounds == 0 {
+        return Ok(());
+    }
+    run_round(alloc, host, live, rounds)
+}
+
+/// Runs a round, and writes its report to the file for reports.
+fn run_round<H: Host, S: Shows + Drop, O: Outbox + Drop>(
+    alloc: Global,
+    host: &mut H,
+    live: &mut Live<S, O>,
+    number: u32,
+) -> Result<(), Failure>
+    ensures run { GoesOnBy (λ log. IsRoundRun live.old.reports.printing
+        (option_map string_bytes live.old.reports.out) log live.new.unwritten result)
+        (H.log host.old) (H.log host.new) }
+    ensures printing { live.new.reports.printing ≡ live.old.reports.printing }
+    ensures out { live.new.reports.out ≡ live.old.reports.out }
+    ensures printed { live.new.unprinted ≡ live.old.unprinted }
+{
+    run_span(alloc, host, live, number, Span::Round)?;
+    write_out(alloc, host, live);
+    Ok(())
+}
+
+/// Prints the report if it is due after this round.
+fn print_due<H: Host, S: Shows + Drop, O: Outbox + Drop>(
+    alloc: Global,
+    host: &mut H,
+    live: &mut Live<S, O>,
+    number: u32,
+    every: u32,
+)
+    ensures run { GoesOnBy (λ log. IsBetween number every live.old.reports.printing
+        live.old.unprinted log live.new.unprinted) (H.log host.old) (H.log host.new) }
+    ensures printing { live.new.reports.printing ≡ live.old.reports.printing }
+    ensures out { live.new.reports.out ≡ live.old.reports.out }
+{
+    if is_due(number, every) {
+        print_between(alloc, host, live);
+    }
 }
 
 /// Returns why a station did not do all that it had to: a report or its last save.
@@ -245,12 +381,16 @@ fn ended<S: Receiver + Drop, O: Outbox + Drop>(
     ensures printed { OnOk result (live.old.unprinted ≡ None) }
     ensures written { OnOk result (live.old.unwritten ≡ None) }
     ensures fault { (fault : KeeperFault) → live.old.unsaved ≡ Some fault → IfErr result (λ failure. failure.fault ≡ Keeper fault) }
+    ensures reports { IsEnded live.old.unsaved live.old.unprinted live.old.unwritten result }
     ensures done { live.old.unsaved ≡ None → live.old.unprinted ≡ None → live.old.unwritten ≡ None → IsOk result }
 {
     if let Some(fault) = live.unsaved {
         return Err(unsaved(alloc, &live.file, fault, live.station.disk()));
     }
-    match live.unprinted.take().or(live.unwritten.take()) {
+    if let Some(failure) = live.unprinted.take() {
+        return Err(failure);
+    }
+    match live.unwritten.take() {
         Some(failure) => Err(failure),
         None => Ok(()),
     }

@@ -1,6 +1,6 @@
 //! Receives a station's datagrams, and serves HTTP while it waits for them.
 
-ghost use Rattle.std.specs.Prelude.{◌≡◌, ◌<◌, ◌+◌, IfNone, IfOk, IfSome, OnOk, length};
+ghost use Rattle.std.specs.Prelude.{◌⊎◌, ◌≡◌, ◌<◌, ◌≤◌, ◌+◌, IfNone, IfOk, IfSome, OnOk, length};
 ghost use Rattle.std.specs.Duration.{as_nanos};
 ghost use Rattle.mon_rounds.specs.AtSocket.{IsGot};
 ghost use Rattle.mon_rounds.specs.Reception.{IsTimed};
@@ -191,6 +191,8 @@ impl<R: Dates, T: Ticks, S: Looks, W: Serves> WebReceiver<'_, R, T, S, W> {
         ensures turns { IfOk result (λ found. IfSome found (λ _.
             (self.old.unserved < 64) × (self.new.unserved ≡ self.old.unserved + 1))) }
         ensures none { IfOk result (λ found. IfNone found (self.new.unserved ≡ self.old.unserved)) }
+        ensures empty { IfOk result (λ found. IfNone found ((64 ≤ self.old.unserved)
+            ⊎ S.was_empty self.old.socket.now)) }
         ensures timer { self.new.timer ≡ self.old.timer }
         ensures by { (self.new.ticks ≡ self.old.ticks) × (self.new.socket ≡ self.old.socket)
             × (self.new.rt ≡ self.old.rt) }

@@ -32,12 +32,15 @@ impl PolledSocket {
 
 /// What is looked at for a datagram, as a socket of the system whose calls do not wait.
 pub trait Looks {
-    ghost use Rattle.std.specs.Prelude.{◌≡◌, IfOk, IfSome, List, ℕ, length};
+    ghost use Rattle.std.specs.Prelude.{◌≡◌, IfNone, IfOk, IfSome, List, ℕ, length};
     ghost use Rattle.std.specs.declared.net.socket_addr.SocketAddr.{SocketAddr as AnySocketAddr};
 
     // A call left this in a buffer, with this many octets of a datagram at its front, which came
     // from this address. Code that is generic over what is looked at has this from a call alone.
     ghost found: { Self → List ℕ → ℕ → AnySocketAddr → Type 0 };
+
+    // A call found no datagram, as the system said. Such code has this from a call alone, too.
+    ghost was_empty: { Self → Type 0 };
 
     /// Puts a datagram into the buffer, if one is there. Returns how many of its octets are there,
     /// and where it came from.
@@ -46,12 +49,15 @@ pub trait Looks {
     /// That of the system.
     fn look(&self, buffer: &mut [u8]) -> io::Result<Option<(usize, SocketAddr)>>
         ensures found { IfOk result (λ datagram. IfSome datagram (λ r. found self.now buffer.new r.0 r.1)) }
+        ensures none { IfOk result (λ datagram. IfNone datagram (was_empty self.now)) }
         ensures length { length buffer.new ≡ length buffer.old };
 }
 
 impl Looks for PolledSocket {
     // What happens at a socket is not known.
     ghost found = { λ _ _ _ _. Unit {0} };
+
+    ghost was_empty = { λ _. Unit {0} };
 
     fn look(&self, buffer: &mut [u8]) -> io::Result<Option<(usize, SocketAddr)>> {
         match self.udp.recv_from(buffer) {

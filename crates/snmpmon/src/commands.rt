@@ -1,6 +1,11 @@
 //! Which command the arguments name, and the exit status.
 
+ghost use Rattle.std.specs.Prelude.{◌≡◌, map, string_bytes};
+ghost use Rattle.clap.specs.Values.{kind_of};
 ghost use Rattle.mon_cli.specs.Asked.{IsWithin};
+ghost use Rattle.mon_host.specs.Log.{GoesOnBy};
+ghost use Rattle.mon_host.specs.Reason.{why};
+ghost use Rattle.snmpmon.specs.Start.{Does, Hints, IsBefore, IsEnd, IsRefused, IsRun, IsRunFor, IsShown, IsStart, IsStartOf, IsStartWith, IsStated, IsUnlisted, IsUsage, reads_input};
 
 use clap::error::ErrorKind;
 use mon_cli::{Asked, VERSION, read, read_command};
@@ -9,135 +14,209 @@ use mon_commands::{
     serve_agent, set, walk,
 };
 use mon_console::{Failure, print};
+use mon_host::{Host, Reason};
 use mon_settings_commands::print_settings;
 use mon_station_commands::{print_saved_report, run_station};
-use std::alloc::AllocError;
+use std::alloc::{AllocError, Global};
 use std::fs::File;
+use std::io;
 use std::net::Net;
-use std::rt::{Clock, Env, Files};
-use std::{env, io};
+use std::rt::{Clock, Files};
 
-/// Runs the command that the arguments name, and returns the exit status. `at_terminal` is `true`
-/// if standard input is a terminal.
-pub fn start<R: Env + Clock + Files<File = File> + Net + Input + Print + Eprint + AllocGlobal>(
-    rt: &R,
-    at_terminal: bool,
-) -> u8 {
-    let words: Result<Vec<String>, _> = match env::args(rt) {
-        Ok(args) => args.collect(rt.alloc()),
-        Err(error) if error.kind() == io::ErrorKind::OutOfMemory => {
-            return report_failure(rt, &Failure::from(AllocError));
-        }
-        Err(_) => return unreadable(rt),
-    };
-    let Ok(words) = words else {
-        return report_failure(rt, &Failure::from(AllocError));
-    };
-    match read(rt.alloc(), words.as_slice()) {
-        Ok(matches) => start_command(rt, read_command(&matches), at_terminal),
-        Err(error) => report_usage(rt, &error),
+/// The line for arguments that are no text.
+const NO_TEXT: &str = "snmpmon: the command line is not UTF-8; see snmpmon --help\n";
+
+/// The line for a command that reads lines from a terminal.
+const AT_TERMINAL: &str =
+    "snmpmon: reads lines from this terminal until Ctrl-D; see snmpmon --help\n";
+
+/// The line for a station without rounds.
+const NO_ROUNDS: &str =
+    "snmpmon: station wants --rounds ROUNDS or --check; see snmpmon station --help\n";
+
+/// The line for a phase without an interval.
+const NO_INTERVAL: &str =
+    "snmpmon: station wants --interval SECONDS with --phase; see snmpmon station --help\n";
+
+/// Runs the command that the arguments name, and returns the exit status.
+pub fn start<R: Clock + Files<File = File> + Net + AllocGlobal, H: Host>(rt: &R, host: &mut H) -> u8
+    ensures { IsStart (H.log host.old) (H.log host.new) result }
+{
+    match host.arguments() {
+        Ok(words) => start_with(rt, host, words.as_slice()),
+        Err(reason) => end_unlisted(host, reason),
     }
 }
 
-/// Runs a command, and returns the exit status.
-fn start_command<R: Clock + Files<File = File> + Net + Input + Print + Eprint + AllocGlobal>(
+/// Says that there are no arguments, and returns the exit status.
+fn end_unlisted<H: Host>(host: &mut H, reason: Reason) -> u8
+    ensures { GoesOnBy (λ log. IsUnlisted (why reason).kind log result)
+        (H.log host.old) (H.log host.new) }
+{
+    match reason.kind {
+        io::ErrorKind::OutOfMemory => end(host, Err(Failure::from(AllocError))),
+        _ => refuse(host, NO_TEXT),
+    }
+}
+
+/// Says a line, and returns the exit status of a command line that is refused.
+fn refuse<H: Host>(host: &mut H, line: &str) -> u8
+    ensures { GoesOnBy (λ log. IsRefused line.now log result) (H.log host.old) (H.log host.new) }
+{
+    host.note(line);
+    2
+}
+
+/// Runs the command that these arguments name, and returns the exit status.
+fn start_with<R: Clock + Files<File = File> + Net + AllocGlobal, H: Host>(
     rt: &R,
+    host: &mut H,
+    words: &[String],
+) -> u8
+    ensures { IsStartWith (map string_bytes words.now) (H.log host.old) (H.log host.new) result }
+{
+    match read(rt.alloc(), words) {
+        Ok(matches) => start_command(rt, host, read_command(&matches)),
+        Err(error) => end_usage(rt.alloc(), host, &error),
+    }
+}
+
+/// Says why the arguments were refused, or prints the help that they asked for, and returns the
+/// exit status.
+fn end_usage<H: Host>(alloc: Global, host: &mut H, error: &clap::Error) -> u8
+    ensures { GoesOnBy (λ log. IsUsage (kind_of error.now) log result)
+        (H.log host.old) (H.log host.new) }
+{
+    match error.kind() {
+        ErrorKind::OutOfMemory => end(host, Err(Failure::from(AllocError))),
+        ErrorKind::DisplayHelp => show_to_end(alloc, host, error),
+        ErrorKind::DisplayVersion => show_to_end(alloc, host, error),
+        _ => {
+            host.note(error);
+            2
+        }
+    }
+}
+
+/// Prints the help that arguments asked for, and returns the exit status.
+fn show_to_end<H: Host>(alloc: Global, host: &mut H, error: &clap::Error) -> u8
+    ensures { GoesOnBy (λ log. IsRun IsShown log result) (H.log host.old) (H.log host.new) }
+{
+    let shown = show(alloc, host, error);
+    end(host, shown)
+}
+
+/// Prints the help that arguments asked for.
+fn show<H: Host>(alloc: Global, host: &mut H, error: &clap::Error) -> Result<(), Failure>
+    ensures { GoesOnBy (λ log. IsShown log result) (H.log host.old) (H.log host.new) }
+{
+    let text: Result<String, AllocError> = format!(in alloc; "{error}");
+    print(alloc, host, text?.as_bytes())
+}
+
+/// Runs a command if it lacks nothing, and returns the exit status.
+fn start_command<R: Clock + Files<File = File> + Net + AllocGlobal, H: Host>(
+    rt: &R,
+    host: &mut H,
     asked: Asked<'_, '_>,
-    at_terminal: bool,
 ) -> u8
     requires { IsWithin asked }
+    ensures { IsStartOf asked.entry (H.log host.old) (H.log host.new) result }
 {
-    if let Some(line) = lack_of(&asked) {
-        let _ = rt.eprintln(line);
-        return 2;
+    if asked.lacks_rounds() {
+        return refuse(host, NO_ROUNDS);
     }
-    if at_terminal && reads_input(&asked) {
-        let _ = rt.eprintln(
-            "snmpmon: reads lines from this terminal until Ctrl-D; see snmpmon --help",
-        );
+    if asked.lacks_interval() {
+        return refuse(host, NO_INTERVAL);
     }
-    match run(rt, asked) {
-        Ok(()) => 0,
-        Err(failure) => report_failure(rt, &failure),
+    run_to_end(rt, host, asked)
+}
+
+/// Runs a command, and returns the exit status.
+fn run_to_end<R: Clock + Files<File = File> + Net + AllocGlobal, H: Host>(
+    rt: &R,
+    host: &mut H,
+    asked: Asked<'_, '_>,
+) -> u8
+    requires { IsWithin asked }
+    ensures { IsStated asked.entry → GoesOnBy (λ log. IsRunFor asked.entry log result)
+        (H.log host.old) (H.log host.new) }
+{
+    prepare(host, reads_input(&asked));
+    let done = run(rt, host, asked);
+    end(host, done)
+}
+
+/// Says how lines that are read from a terminal end, before a command that reads some.
+fn prepare<H: Host>(host: &mut H, reads: bool)
+    ensures { GoesOnBy (IsBefore reads) (H.log host.old) (H.log host.new) }
+{
+    if reads {
+        hint(host);
     }
 }
 
 /// Returns `true` for a command that reads lines from standard input.
-fn reads_input(asked: &Asked<'_, '_>) -> bool {
+fn reads_input(asked: &Asked<'_, '_>) -> bool
+    ensures { result ≡ reads_input asked.now }
+{
     matches!(
         asked,
         Asked::Replay(_) | Asked::Answer(_) | Asked::Rehearse(_)
     )
 }
 
-/// Returns a line that says what a station's arguments lack, if they lack something.
-fn lack_of(asked: &Asked<'_, '_>) -> Option<&'static str> {
-    if asked.lacks_rounds() {
-        return Some(
-            "snmpmon: station wants --rounds ROUNDS or --check; see snmpmon station --help",
-        );
+/// Says at a terminal how lines that are read from it end.
+fn hint<H: Host>(host: &mut H)
+    ensures { GoesOnBy Hints (H.log host.old) (H.log host.new) }
+{
+    if host.is_at_terminal() {
+        host.note(AT_TERMINAL);
     }
-    if asked.lacks_interval() {
-        return Some(
-            "snmpmon: station wants --interval SECONDS with --phase; see snmpmon station --help",
-        );
-    }
-    None
 }
 
-/// Prints why the arguments were refused, or the help that they asked for, and returns the exit
-/// status.
-fn report_usage<R: Print + Eprint + AllocGlobal>(rt: &R, error: &clap::Error) -> u8 {
-    if error.kind() == ErrorKind::OutOfMemory {
-        return report_failure(rt, &Failure::from(AllocError));
-    }
-    let printed = error.print(rt);
-    if error.exit_code() != 0 {
-        return 2;
-    }
-    match printed {
+/// Ends a command: says why it failed, and returns the exit status. If the reader of what was
+/// printed went away, only the status says so.
+fn end<H: Host>(host: &mut H, done: Result<(), Failure>) -> u8
+    ensures { GoesOnBy (λ log. IsEnd done log result) (H.log host.old) (H.log host.new) }
+{
+    match done {
         Ok(()) => 0,
-        Err(error) => report_failure(rt, &Failure::stream(rt.alloc(), "standard output", error)),
+        Err(failure) => {
+            if !failure.is_cut() {
+                failure.tell(host);
+            }
+            1
+        }
     }
-}
-
-/// Words that are no text.
-fn unreadable(rt: &impl Eprint) -> u8 {
-    let _ = rt.eprintln("snmpmon: the command line is not UTF-8; see snmpmon --help");
-    2
-}
-
-/// Prints why a command failed, and returns the exit status. If printing fails too, only the status
-/// says so, as where the reader of standard output went away.
-fn report_failure(rt: &impl Eprint, failure: &Failure) -> u8 {
-    if !failure.is_cut() {
-        failure.tell(rt);
-    }
-    1
 }
 
 /// Does what the arguments ask for.
-fn run<R: Clock + Files<File = File> + Net + Input + Print + Eprint + AllocGlobal>(
+fn run<R: Clock + Files<File = File> + Net + AllocGlobal, H: Host>(
     rt: &R,
+    host: &mut H,
     asked: Asked<'_, '_>,
 ) -> Result<(), Failure>
     requires { IsWithin asked }
+    ensures { IsStated asked.entry → GoesOnBy (λ log. Does asked.entry log result)
+        (H.log host.old) (H.log host.new) }
 {
+    let alloc = rt.alloc();
     match asked {
-        Asked::Version => print(rt, VERSION.as_bytes()),
-        Asked::Replay(words) => print_recorded(rt, words),
-        Asked::Get(request) => get(rt, request),
-        Asked::Next(request) => next(rt, request),
-        Asked::Bulk(words) => bulk(rt, words),
-        Asked::Walk(words) => walk(rt, words),
-        Asked::Set(words) => set(rt, words),
-        Asked::Settings(words) => print_settings(rt, words),
-        Asked::Agent(words) => serve_agent(rt, words),
-        Asked::Answer(words) => print_answers(rt, words),
-        Asked::Mib(words) => print_names(rt, words),
-        Asked::Station(words) => run_station(rt, words),
-        Asked::Report(words) => print_saved_report(rt, words),
-        Asked::SelfTest => run_self_test(rt),
-        Asked::Rehearse(words) => print_rehearsal(rt, words),
+        Asked::Version => print(alloc, host, VERSION.as_bytes()),
+        Asked::Replay(words) => print_recorded(alloc, host, words),
+        Asked::Get(request) => get(rt, host, request),
+        Asked::Next(request) => next(rt, host, request),
+        Asked::Bulk(words) => bulk(rt, host, words),
+        Asked::Walk(words) => walk(rt, host, words),
+        Asked::Set(words) => set(rt, host, words),
+        Asked::Settings(words) => print_settings(rt, host, words),
+        Asked::Agent(words) => serve_agent(rt, host, words),
+        Asked::Answer(words) => print_answers(alloc, host, words),
+        Asked::Mib(words) => print_names(alloc, host, words),
+        Asked::Station(words) => run_station(rt, host, words),
+        Asked::Report(words) => print_saved_report(alloc, host, words),
+        Asked::SelfTest => run_self_test(alloc, host),
+        Asked::Rehearse(words) => print_rehearsal(alloc, host, words),
     }
 }

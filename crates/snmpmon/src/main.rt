@@ -1,15 +1,17 @@
 //! The program `snmpmon`: reads the command line and runs one command.
 //!
-//! Statuses: 0; 1 with a line on standard error that names the fault, and mostly a second one that says what was wrong and where; 2 for a command line that
-//! it cannot read.
+//! Statuses: 0; 1 with a line on standard error that names the fault, and mostly a second one that
+//! says what was wrong and where; 2 for a command line that it cannot read.
+//! Contract: what is printed, read and said, in which order, and the status (specs/Start.antt).
 #![tactic(auto)]
 
 mod commands;
 
+use mon_host::System;
 use std::io::IsTerminal;
 use std::process::ExitCode;
 
 fn main(rt: HostRuntime) -> ExitCode {
-    let at_terminal = rt.stdin().is_terminal();
-    ExitCode::from(commands::start(&rt, at_terminal))
+    let mut host = System::new(&rt, rt.stdin().is_terminal());
+    ExitCode::from(commands::start(&rt, &mut host))
 }

@@ -23,18 +23,18 @@ BUGS = {
     ),
     "a_stream_never_lacks_memory": (
         "src/failure.rt",
-        "Fault::App(AppFault::from(error))",
-        "Fault::App(AppFault::FileFault)",
+        "        io::ErrorKind::OutOfMemory => AppFault::OutOfMemory,",
+        "        io::ErrorKind::OutOfMemory => AppFault::FileFault,",
     ),
     "no_reader_goes_away": (
         "src/failure.rt",
-        "let is_cut = matches!(error.kind(), io::ErrorKind::BrokenPipe);",
-        "let is_cut = false;",
+        "            is_cut: matches!(kind, io::ErrorKind::BrokenPipe),",
+        "            is_cut: false,",
     ),
     "a_full_disk_is_a_reader_that_went_away": (
         "src/failure.rt",
-        "let is_cut = matches!(error.kind(), io::ErrorKind::BrokenPipe);",
-        "let is_cut = matches!(error.kind(), io::ErrorKind::BrokenPipe | io::ErrorKind::StorageFull);",
+        "            is_cut: matches!(kind, io::ErrorKind::BrokenPipe),",
+        "            is_cut: matches!(kind, io::ErrorKind::BrokenPipe | io::ErrorKind::StorageFull),",
     ),
     "says_nothing_of_any_fault": (
         "src/failure.rt",
@@ -53,8 +53,8 @@ BUGS = {
     ),
     "adds_no_name_of_a_module": (
         "src/naming.rt",
-        "        match self.names.add(alloc, module) {",
-        "        let added: Result<(), NamesFault> = Ok(());\n        match added {",
+        "        match self.names.add(alloc, added) {",
+        "        let done: Result<(), NamesFault> = Ok(());\n        match done {",
     ),
     "each_word_means_1_3": (
         "src/naming.rt",
@@ -118,4 +118,152 @@ BUGS = {
     ),
     "gives_the_buffer_back": ("src/printing.rt", "            None => format_report(buffer, format, &InNumbers, entries, extras),", "            None => Ok(buffer),"),
     "a_buffer_in_the_format_of_the_arguments": ("src/printing.rt", "            None => format_report(buffer, format, &InNumbers, entries, extras),", "            None => format_report(buffer, self.format, &InNumbers, entries, extras),"),
+    "says_0_of_no_variable_binding": (
+        "src/agents.rt",
+        "    if index == 0 {",
+        "    if index == 7 {",
+    ),
+    "each_status_is_noError": (
+        "src/agents.rt",
+        "status_name(status)",
+        "status_name(0)",
+    ),
+    "a_socket_has_another_reason_in_words": (
+        "src/failure.rt",
+        "        let why = reason.text();",
+        "        let why = SocketReason::Other.text();",
+    ),
+    "needs_what_is_wanted": (
+        "src/failure.rt",
+        "{place}: {wanted} is wanted",
+        "{place}: {wanted} is needed",
+    ),
+    "says_no_second_line_of_a_failure": (
+        "src/failure.rt",
+        '            Some(more) => host.note(format_args!("{more}\\n")),',
+        "            Some(_) => {}",
+    ),
+    "names_the_new_file_where_it_cannot_be_renamed": (
+        "src/files.rt",
+        "        Err(reason) => Err(Failure::stream(alloc, other, reason)),",
+        "        Err(reason) => Err(Failure::stream(alloc, path, reason)),",
+    ),
+    "reads_each_part_from_the_beginning": (
+        "src/files.rt",
+        "    match host.read_part(path, part) {",
+        "    match host.read_part(path, Part { at: 0, ..part }) {",
+    ),
+    "each_text_is_of_standard_input": (
+        "src/files.rt",
+        'Failure::text(alloc, place, "text in UTF-8")',
+        'Failure::text(alloc, INPUT, "text in UTF-8")',
+    ),
+    "reads_input_twice": (
+        "src/files.rt",
+        "    match host.read_input() {",
+        "    let _ = host.read_input();\n    match host.read_input() {",
+    ),
+    "reads_only_the_first_module": (
+        "src/naming.rt",
+        "            self.add_file(alloc, host, file.as_str())?;",
+        "            self.add_file(alloc, host, file.as_str())?;\n            if file.len() == 7 {\n                return Ok(());\n            }",
+    ),
+    "reads_modules_of_the_settings_again": (
+        "src/naming.rt",
+        "        if !is_among(files, path) {",
+        "        if !is_among(files, path) || path.len() == 7 {",
+    ),
+    "reads_no_module_of_the_settings": (
+        "src/settings.rt",
+        "    let known = known_names_in(alloc, host, files.as_slice())?;",
+        "    let known = known_names_in(alloc, host, &[])?;",
+    ),
+    "each_name_is_shown": (
+        "src/printing.rt",
+        "    if shown {",
+        "    if shown || known.names().definitions().len() == 7 {",
+    ),
+    "labels_no_instance": (
+        "src/labels.rt",
+        "    labels.of_instances(alloc, core.watch().instances(), reached)",
+        "    labels.of_instances(alloc, &[], reached)",
+    ),
+    "a_space_follows_each_address": (
+        "src/labels.rt",
+        'format!(in alloc; "{}", target.address)',
+        'format!(in alloc; "{} ", target.address)',
+    ),
+    "refused_labels_are_never_toml": (
+        "src/labels.rt",
+        'Innermost::new("mon_labels", fault.number(), fault.name())',
+        'Innermost::new("mon_labels", fault.number(), "NotToml")',
+    ),
+    "prints_on_another_stream": (
+        "src/files.rt",
+        "    match host.print(octets) {",
+        '    if octets.len() == 7 { host.note("7"); return Ok(()); } match host.print(octets) {',
+    ),
+    "prints_twice": (
+        "src/files.rt",
+        "    match host.print(octets) {",
+        "    let _ = host.print(octets); match host.print(octets) {",
+    ),
+    "reads_another_path": (
+        "src/files.rt",
+        "    let octets = read_file(alloc, host, path)?;",
+        '    let octets = read_file(alloc, host, "other")?;',
+    ),
+    "reads_other_labels": (
+        "src/labels.rt",
+        "        Some(path) => read_labels_file(alloc, host, path),",
+        '        Some(path) => read_labels_file(alloc, host, if path.len() == 7 { "other" } else { path }),',
+    ),
+    "says_a_line_twice": (
+        "src/failure.rt",
+        "            self.tell_more(host);",
+        "            self.tell_more(host); self.tell_more(host);",
+    ),
+    "says_nothing_of_a_fault": (
+        "src/failure.rt",
+        "        let innermost = self.fault.innermost();",
+        "        let innermost = self.fault.innermost(); if self.is_cut { return; }",
+    ),
+    "says_two_lines_of_memory": (
+        "src/failure.rt",
+        "        if innermost.number != OUT_OF_MEMORY {",
+        "        if innermost.number != 0 {",
+    ),
+    "writes_another_file": (
+        "src/files.rt",
+        '    let fresh = format!(in alloc; "{path}.new")?;',
+        '    let fresh = format!(in alloc; "{path}.old")?;',
+    ),
+    "prints_nothing": (
+        "src/files.rt",
+        "    match host.print(octets) {",
+        "    if octets.len() == 7 { return Ok(()); } match host.print(octets) {",
+    ),
+    "another_reason": (
+        "src/failure.rt",
+        "        let Reason { kind, words } = reason;",
+        "        let Reason { kind: _, words } = reason; let kind = io::ErrorKind::Other;",
+    ),
+    "second_line_without_place": (
+        "src/failure.rt",
+        "        Some(words) => format!(in alloc; \"{place}: {words}\").ok(),",
+        "        Some(words) => format!(in alloc; \"{words}: {words}\").ok(),",
+    ),
+    "swallows_a_fault": (
+        "src/files.rt",
+        "        Err(reason) => Err(Failure::stream(alloc, other, reason)),",
+        "        Err(reason) => { if path.len() == 7 { return Ok(()); } Err(Failure::stream(alloc, other, reason)) }",
+    ),
+}
+
+# Those that break a promise as a whole, each with its function: tests/bodies tries them in the gate.
+PROMISES = {
+    "prints_nothing": "files::print",
+    "another_reason": "failure::Failure::stream",
+    "second_line_without_place": "failure::reason_line",
+    "swallows_a_fault": "files::rename",
 }

@@ -73,8 +73,8 @@ BUGS = {
     ),
     "leaves_out_an_address_that_is_none": (
         "src/words.rt",
-        "        return Ok(place.push_str(text)?);",
-        "        return Ok(());",
+        "        None => Ok(place.push_str(text)?),",
+        "        None => Ok(()),",
     ),
     "polls_discards_for_errors": (
         "src/words.rt",
@@ -131,4 +131,166 @@ BUGS = {
         "    if number < 1 {",
         "    if number > 200 {",
     ),
+    "counts_no_port_up": (
+        "src/words.rt",
+        "saturating_add(up)) {\n        Ok(port) => Some(Addr { octets, port }),",
+        "saturating_add(up)) {\n        Ok(_) => Some(address),",
+    ),
+    "counts_a_port_past_the_last_up": (
+        "src/words.rt",
+        "        Err(_) => None,\n    }\n}\n\n/// Appends the name of a file",
+        "        Err(_) => Some(address),\n    }\n}\n\n/// Appends the name of a file",
+    ),
+    "leaves_out_a_peer": (
+        "src/words.rt",
+        "        put_peer(alloc, peers, word, up)?;",
+        "        peer_at(alloc, word)?;",
+    ),
+    "a_peer_with_another_number": (
+        "src/words.rt",
+        "    Ok(peers.push(Peer { station, address })?)",
+        "    Ok(peers.push(Peer { station: up, address })?)",
+    ),
+    "prints_no_settings": (
+        "src/settings.rt",
+        "    write_labels(alloc, host, ground, \"\")?;\n    print(alloc, host, text.as_bytes())\n",
+        "    write_labels(alloc, host, ground, \"\")\n",
+    ),
+    "prints_settings_twice": (
+        "src/settings.rt",
+        "    write_labels(alloc, host, ground, \"\")?;\n    print(alloc, host, text.as_bytes())\n",
+        "    write_labels(alloc, host, ground, \"\")?;\n    print(alloc, host, text.as_bytes())?;\n    print(alloc, host, text.as_bytes())\n",
+    ),
+    "prints_settings_before_labels_are_written": (
+        "src/settings.rt",
+        "    write_labels(alloc, host, ground, old)?;\n    print(alloc, host, text.as_bytes())\n",
+        "    print(alloc, host, text.as_bytes())?;\n    write_labels(alloc, host, ground, old)\n",
+    ),
+    "prints_the_old_labels": (
+        "src/settings.rt",
+        "    write_labels(alloc, host, ground, old)?;\n    print(alloc, host, text.as_bytes())\n",
+        "    write_labels(alloc, host, ground, old)?;\n    print(alloc, host, old.as_bytes())\n",
+    ),
+    "swallows_a_fault_of_labels": (
+        "src/settings.rt",
+        "    write_labels(alloc, host, ground, old)?;\n",
+        "    let _ = write_labels(alloc, host, ground, old);\n",
+    ),
+    "asks_before_it_reads_modules": (
+        "src/settings.rt",
+        "    let names = names_of(rt.alloc(), host, words.modules)?;\n    let survey = ask_agent(rt, host, asked)?;\n",
+        "    let survey = ask_agent(rt, host, asked)?;\n    let names = names_of(rt.alloc(), host, words.modules)?;\n",
+    ),
+    "reads_the_settings_that_are_there_twice": (
+        "src/settings.rt",
+        "    let existing = existing_in(rt.alloc(), host, path)?;\n",
+        "    existing_in(rt.alloc(), host, path)?;\n    let existing = existing_in(rt.alloc(), host, path)?;\n",
+    ),
+    "reads_the_labels_for_the_settings": (
+        "src/settings.rt",
+        "    let existing = existing_in(rt.alloc(), host, path)?;\n",
+        "    let existing = existing_in(rt.alloc(), host, words.labels.unwrap_or(path))?;\n",
+    ),
+    "appends_to_no_settings": (
+        "src/settings.rt",
+        "        Some(path) => print_appended(rt, host, &words, asked, path),",
+        "        Some(_) => print_new(rt, host, &words, asked),",
+    ),
+    "prints_in_place_of_splitting": (
+        "src/settings.rt",
+        "        Some(folder) => write_parts(alloc, host, ground, folder),",
+        "        Some(_) => print_whole(alloc, host, ground),",
+    ),
+    "takes_labels_from_another_file": (
+        "src/labelling.rt",
+        "        Some(path) => read_text(alloc, host, path),",
+        "        Some(_) => read_text(alloc, host, \"labels.toml\"),",
+    ),
+    "forgets_the_old_labels": (
+        "src/labelling.rt",
+        "        Some(path) => read_text(alloc, host, path),",
+        "        Some(_) => Ok(String::new(alloc)),",
+    ),
+    "replaces_no_labels": (
+        "src/labelling.rt",
+        "    replace_file(alloc, host, path, text.as_bytes())\n",
+        "    Ok(())\n",
+    ),
+    "replaces_labels_by_the_old_ones": (
+        "src/labelling.rt",
+        "    replace_file(alloc, host, path, text.as_bytes())\n",
+        "    replace_file(alloc, host, path, old.as_bytes())\n",
+    ),
+    "labels_without_the_old_ones": (
+        "src/labelling.rt",
+        "    match labels(alloc, old, &ground.agent(), &ground.choice(None)) {",
+        "    match labels(alloc, path, &ground.agent(), &ground.choice(None)) {",
+    ),
+    "names_a_part_by_its_place": (
+        "src/parts.rt",
+        "    let number = place + 1;",
+        "    let number = place;",
+    ),
+    "writes_each_part_twice": (
+        "src/parts.rt",
+        "        write_part(alloc, host, folder, place, texts[place].as_str())?;",
+        "        write_part(alloc, host, folder, place, texts[place].as_str())?;\n        write_part(alloc, host, folder, place, texts[place].as_str())?;",
+    ),
+    "writes_the_first_part_alone": (
+        "src/parts.rt",
+        "    for place in 0..texts.len() {",
+        "    for place in 0..texts.len().min(1) {",
+    ),
+    "writes_one_text_to_all_parts": (
+        "src/parts.rt",
+        "        write_part(alloc, host, folder, place, texts[place].as_str())?;",
+        "        write_part(alloc, host, folder, place, texts[0].as_str())?;",
+    ),
+    "prints_the_text_for_its_name": (
+        "src/parts.rt",
+        "    print(alloc, host, line.as_bytes())\n",
+        "    print(alloc, host, text.as_bytes())\n",
+    ),
+    "prints_the_name_before_the_file_is_written": (
+        "src/parts.rt",
+        "    write_file(alloc, host, path, text.as_bytes())?;\n    let line = format!(in alloc; \"{path}\\n\")?;\n    print(alloc, host, line.as_bytes())\n",
+        "    let line = format!(in alloc; \"{path}\\n\")?;\n    print(alloc, host, line.as_bytes())?;\n    write_file(alloc, host, path, text.as_bytes())\n",
+    ),
+    "leaves_out_the_last_group": (
+        "src/parts.rt",
+        "    for group in 0..groups {",
+        "    for group in 1..groups {",
+    ),
+    "says_no_count": (
+        "src/asking.rt",
+        "        Some(number) if number as usize != count => {",
+        "        Some(number) if number as usize > count + 1 => {",
+    ),
+    "says_each_count": (
+        "src/asking.rt",
+        "        Some(number) if number as usize != count => {",
+        "        Some(number) if number as usize != count + 1 => {",
+    ),
+    "reads_the_file_before_the_arguments": (
+        "src/settings.rt",
+        "    require_alone(rt.alloc(), words)?;\n    let existing = existing_in(rt.alloc(), host, path)?;\n",
+        "    let existing = existing_in(rt.alloc(), host, path)?;\n    require_alone(rt.alloc(), words)?;\n",
+    ),
+    "keeps_another_text": (
+        "src/existing.rt",
+        "    Ok(Existing {\n        text,\n",
+        "    Ok(Existing {\n        text: String::new(alloc),\n",
+    ),
+    "knows_no_module_that_settings_list": (
+        "src/existing.rt",
+        "    names_by(alloc, host, files.as_slice())\n",
+        "    names_by(alloc, host, &[])\n",
+    ),
+}
+
+# Those that break a promise as a whole, each with its function: tests/bodies tries them in the gate.
+PROMISES = {
+    "prints_no_settings": "settings::print_whole",
+    "replaces_no_labels": "labelling::write_labels_file",
+    "writes_one_text_to_all_parts": "parts::write_texts",
 }

@@ -159,4 +159,195 @@ BUGS = {
         "        Some(Notice::NotSaved(_)) => Some(keeper_fault(1)),",
     ),
     "each_last_notice_is_of_a_save": ("src/live.rt", "        _ => None,\n    }\n}\n\n/// Returns the keeper", "        _ => Some(KeeperFault::DiskFault),\n    }\n}\n\n/// Returns the keeper"),
+    "limits_are_not_printed": (
+        "src/limits.rt",
+        "    print(alloc, host, text.as_bytes())",
+        "    let _ = (host, text);\n    Ok(())",
+    ),
+    "limits_without_targets": (
+        "src/limits.rt",
+        "    put_targets(&mut text, settings.core.targets())?;\n",
+        "",
+    ),
+    "targets_in_limits_from_0": (
+        "src/limits.rt",
+        "        put_target(text, place + 1, target)?;",
+        "        put_target(text, place, target)?;",
+    ),
+    "an_interval_is_always_long_enough": (
+        "src/limits.rt",
+        "    if most <= u64::from(interval) * 1000 {",
+        "    if most <= u64::from(interval) * 10_000 {",
+    ),
+    "samples_of_the_last_instance": (
+        "src/limits.rt",
+        "        samples += it.window;",
+        "        samples = it.window;",
+    ),
+    "limits_of_no_labels": (
+        "src/station.rt",
+        "        words.settings,\n        words.labels,\n        words.printed,\n    )?;\n    print_limits",
+        "        words.settings,\n        None,\n        words.printed,\n    )?;\n    print_limits",
+    ),
+    "a_saved_report_is_printed_twice": (
+        "src/opening.rt",
+        "    print(alloc, host, text.as_slice())",
+        "    print(alloc, host, text.as_slice())?;\n    print(alloc, host, text.as_slice())",
+    ),
+    "a_report_of_the_settings_file": (
+        "src/opening.rt",
+        "    print_saved(alloc, host, &settings, &printing)",
+        "    let _ = host.read_file(words.settings);\n    print_saved(alloc, host, &settings, &printing)",
+    ),
+    "the_first_head_twice": (
+        "src/opening.rt",
+        "        return has_head_of(host, path, octets, SLOT_SIZE);",
+        "        return has_head_of(host, path, octets, 0);",
+    ),
+    "no_second_head": (
+        "src/opening.rt",
+        "        return has_head_of(host, path, octets, SLOT_SIZE);",
+        "        return true;",
+    ),
+    "an_unread_head_has_changed": (
+        "src/opening.rt",
+        "        Ok(head) => is_head_at(octets, at, head.as_slice()),\n        Err(_) => true,",
+        "        Ok(head) => is_head_at(octets, at, head.as_slice()),\n        Err(_) => false,",
+    ),
+    "a_file_is_read_17_times": (
+        "src/opening.rt",
+        "const MORE_READS: u32 = 15;",
+        "const MORE_READS: u32 = 16;",
+    ),
+    "a_part_of_a_file_is_read": (
+        "src/opening.rt",
+        "        length: 2 * SLOT_SIZE + 1,",
+        "        length: 2 * SLOT_SIZE,",
+    ),
+    "a_short_file_is_not_said": (
+        "src/opening.rt",
+        "        Ok(size) => warn_of_size(host, path, size),",
+        "        Ok(_) => {}",
+    ),
+    "no_file_for_reports": (
+        "src/printing.rt",
+        "            let done = write_file(alloc, host, live, path);",
+        "            let _ = path.len();\n            let done = Ok(());",
+    ),
+    "a_report_replaces_another_file": (
+        "src/printing.rt",
+        "    replace_file(alloc, host, path, text.as_slice())",
+        "    let _ = path;\n    replace_file(alloc, host, \"report\", text.as_slice())",
+    ),
+    "a_report_is_written_in_place": (
+        "src/printing.rt",
+        "    replace_file(alloc, host, path, text.as_slice())",
+        "    mon_console::write_file(alloc, host, path, text.as_slice())",
+    ),
+    "the_last_failure_to_print_is_forgotten": (
+        "src/printing.rt",
+        "    live.unprinted = kept_after(live.unprinted.take(), failure);",
+        "    live.unprinted = kept_after(None, failure);",
+    ),
+    "each_failure_to_print_is_kept": (
+        "src/printing.rt",
+        "            if failure.is_of_memory() {\n                before\n            } else {\n                Some(failure)\n            }",
+        "            let _ = before;\n            Some(failure)",
+    ),
+    "lines_of_the_report_before": (
+        "src/printing.rt",
+        "    lines.clear();\n",
+        "",
+    ),
+    "an_unwritten_report_before_an_unprinted_one": (
+        "src/station.rt",
+        "    if let Some(failure) = live.unprinted.take() {\n        return Err(failure);\n    }\n    match live.unwritten.take() {",
+        "    if let Some(failure) = live.unwritten.take() {\n        return Err(failure);\n    }\n    match live.unprinted.take() {",
+    ),
+    "a_notice_is_said_twice": (
+        "src/telling.rt",
+        "        tell_notice(host, live, round, *notice);",
+        "        tell_notice(host, live, round, *notice);\n        tell_notice(host, live, round, *notice);",
+    ),
+    "the_first_stray_for_the_last": (
+        "src/telling.rt",
+        "            last = Some(from);",
+        "            last = last.or(Some(from));",
+    ),
+    "unsent_datagrams_are_unreceived": (
+        "src/telling.rt",
+        "    tell_unsent(host, round, report.send_faults);",
+        "    tell_unsent(host, round, report.source_faults);",
+    ),
+    "an_alarm_without_a_line": (
+        "src/telling.rt",
+        "        tell_line(host, &line);",
+        "        let _ = line;",
+    ),
+    "no_raised_alarm_is_said": (
+        "src/telling.rt",
+        "    tell_alarms(\n        alloc,\n        host,\n        &live.reports.printing,\n        board.watch(),\n        raised.as_slice(),\n    )",
+        "    let _ = (host, raised);\n    Ok(())",
+    ),
+    "targets_for_peers": (
+        "src/live.rt",
+        "    let (targets, peers) = (transport.engines.len(), transport.peers.len());",
+        "    let (targets, peers) = (transport.peers.len(), transport.engines.len());",
+    ),
+    "the_time_is_told_twice": (
+        "src/pace.rt",
+        "    match host.time() {",
+        "    let _ = host.time();\n    match host.time() {",
+    ),
+    "tenths_of_a_minute": (
+        "src/pace.rt",
+        "        let (seconds, tenths) = (took / 1000, took % 1000 / 100);\n        let interval",
+        "        let (seconds, tenths) = (took / 1000, took / 100);\n        let interval",
+    ),
+    "an_alarm_without_a_colon": (
+        "src/telling.rt",
+        '    host.note(format_args!("snmpmon: {line}\\n"));',
+        '    host.note(format_args!("snmpmon {line}\\n"));',
+    ),
+    "checks_another_interval": (
+        "src/station.rt",
+        "    print_limits(alloc, host, &settings, words.timing.interval)",
+        "    print_limits(alloc, host, &settings, words.stale_after)",
+    ),
+    "ends_well_with_an_unwritten_report": (
+        "src/station.rt",
+        "        Some(failure) => Err(failure),",
+        "        Some(_) => Ok(()),",
+    ),
+    "forgets_an_unwritten_report": (
+        "src/printing.rt",
+        "    live.unwritten = try_write(alloc, host, live);",
+        "    let _ = try_write(alloc, host, live);",
+    ),
+    "keeps_that_memory_ran_out": (
+        "src/printing.rt",
+        "            if failure.is_of_memory() {",
+        "            if !failure.is_of_memory() {",
+    ),
+    "looks_at_16_octets": (
+        "src/opening.rt",
+        "const HEAD: u64 = 17;",
+        "const HEAD: u64 = 16;",
+    ),
+    "reads_another_file": (
+        "src/opening.rt",
+        "    let octets = read_saved(alloc, host, &settings.file, MORE_READS)?;",
+        '    let octets = read_saved(alloc, host, "other", MORE_READS)?;',
+    ),
+    "says_nothing_of_a_failure": (
+        "src/printing.rt",
+        "            failure.tell(host);",
+        "",
+    ),
+}
+
+# Those that break a promise as a whole, each with its function: tests/bodies tries them in the gate.
+PROMISES = {
+    "forgets_an_unwritten_report": "printing::write_out",
+    "ends_well_with_an_unwritten_report": "station::ended",
 }

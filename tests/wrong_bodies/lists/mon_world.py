@@ -392,6 +392,26 @@ BUGS = {
         "            Step::Forge(s, octets) => self.handle(s, Event::FromPeer(octets)),",
         "            Step::Forge(s, octets) => self.hear(s, 0, octets),",
     ),
+    "a_target_past_the_last_is_the_first": (
+        "src/world.rt",
+        "        return u16::MAX;",
+        "        return 0;",
+    ),
+    "a_count_of_all_that_was_sent": (
+        "src/sending.rt",
+        "        count: (now - before) as u64,",
+        "        count: now as u64,",
+    ),
+    "a_copy_fails_as_a_disk": (
+        "src/stop.rt",
+        "        KeeperFault::DiskFault => StationFault::OutOfMemory,",
+        "        KeeperFault::DiskFault => StationFault::Keeper(KeeperFault::DiskFault),",
+    ),
+    "an_image_without_its_room": (
+        "src/stop.rt",
+        "    octets.extend_from_slice(&[0; HEAD_ROOM])?;\n",
+        "",
+    ),
 }
 
 # Those that break a promise as a whole, each with its function: tests/bodies tries them in the gate.

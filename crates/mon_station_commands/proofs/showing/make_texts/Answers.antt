@@ -1,4 +1,4 @@
-use Rattle.std.proofs.Common.{◌∙◌, ◌≡◌, List, Some, ap}
+use Rattle.std.proofs.Common.{◌∙◌, List, Some, ap}
 use Rattle.mon_board.specs.Board.{window_of}
 use Rattle.mon_board.specs.declared.board.Board.{Board}
 use Rattle.mon_console.specs.Shown.{shown_by}

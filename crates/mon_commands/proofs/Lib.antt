@@ -1,0 +1,5 @@
+mod Assigned
+mod Meant
+mod Rehearsals
+mod Steps
+mod Ways

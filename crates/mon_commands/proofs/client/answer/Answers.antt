@@ -1,0 +1,17 @@
+use Rattle.std.proofs.Common.{List, sym, subst}
+use Rattle.std.specs.Prelude.{Bool}
+use Rattle.mon_smi.specs.Labels.{name_text}
+use Rattle.mon_smi.specs.declared.definition.Definition.{Definition}
+use Rattle.mon_commands.specs.Client.{IsAnsweredAs, shown_if}
+use Rattle.mon_commands.proofs.client.answer.Goals as goal
+
+pub returns-in_ok-labels : goal.returns-in_ok-labels
+returns-in_ok-labels g c =
+    let named = subst (λ (defs : List Definition). IsAnsweredAs (λ oid. name_text defs oid) c.args.query.now c.args.asking c.answer_shown-then-query.result)
+    c.in_ok-labels.ensures c.answer_shown-then-query.ensures in
+    subst (λ (b : Bool). IsAnsweredAs (shown_if b c.args.query.now.known) c.args.query.now c.args.asking c.answer_shown-then-query.result)
+    (sym c.if-query.true) named
+
+pub returns-else-query : goal.returns-else-query
+returns-else-query g c = subst (λ (b : Bool). IsAnsweredAs (shown_if b c.args.query.now.known) c.args.query.now c.args.asking c.answer_shown-else-query.result)
+    (sym c.if-query.false) c.answer_shown-else-query.ensures

@@ -1,0 +1,6 @@
+pub mod Agent
+pub mod Client
+pub mod Mib
+pub mod Query
+pub mod Rehearsing
+pub mod Replaying

@@ -1,0 +1,47 @@
+-- What is done in turn, of what commands share.
+use Rattle.std.proofs.Common.{◌≡◌, ◌≢◌, ◌∙◌, Bool, List, ℕ, [], ◌∷◌, ◌++◌, arith, false, sym, ap, inr, subst}
+use Rattle.std.proofs.lemmas.Bool.Decides.{nat_tests}
+use Rattle.std.specs.Prelude.{◌==◌, Option, Some, Result, Ok, codes, option_map, string_bytes}
+use Rattle.mon_console.specs.Failure.{IsSecond, IsTold, IsToldMore, first_line, is_memory}
+use Rattle.mon_console.specs.Files.{IsRename, IsReplacing, IsWrite}
+use Rattle.mon_console.specs.declared.failure.Failure.{Failure}
+use Rattle.mon_faults.specs.Fault.{innermost_of}
+use Rattle.mon_host.specs.AtHost.{AtHost, IsNoted, Noted}
+use Rattle.mon_host.specs.Log.{GoesOnBy}
+use Rattle.mon_host.specs.Then.{Then}
+use Rattle.mon_host.proofs.Promised.{goes_on, then_follows, weaker}
+use Rattle.mon_station.specs.Fault.{Told, told_text}
+
+other_number : (n : ℕ) → n ≢ 1 → (n == 1) ≡ false
+other_number n other = grind (arith, nat_tests)
+
+-- both lines of a failure
+pub told : (failure : Failure) (named : Told) (before between after : Option (List AtHost)) → named ≡ innermost_of failure.fault → named.number ≢ 1
+    → GoesOnBy (IsNoted (Some (codes "snmpmon: " ++ (told_text named ++ 10 ∷ [])))) before between
+    → GoesOnBy (IsSecond (option_map string_bytes failure.more)) between after → GoesOnBy (IsTold failure) before after
+told failure named before between after is other first second =
+    let more = option_map string_bytes failure.more in
+    let no_memory : is_memory failure.fault ≡ false = ap (λ (t : Told). t.number == 1) (sym is) ∙ other_number named.number other in
+    let line : first.more ≡ Noted (first_line failure.fault) ∷ [] = first.holds.2 ∙ ap (λ (o : List ℕ). Noted o ∷ []) (first.holds.1 ∙ ap (λ (t : Told). codes "snmpmon: " ++ told_text t ++ 10 ∷ []) is) in
+    record {
+      more = first.more ++ second.more;
+      holds = record {
+        rest = second.more;
+        more = subst (λ (b : Bool). IsToldMore b more second.more) (sym no_memory) second.holds;
+        log_is = ap (λ (l : List AtHost). l ++ second.more) line;
+      };
+      on = goes_on first.more second.more before between after first.on second.on;
+    }
+
+-- a file that was written, and then renamed
+pub replaced : (path octets fresh again : List ℕ) (u : Unit) (result : Result Unit Failure) (before between after : Option (List AtHost))
+    → fresh ≡ path ++ codes ".new"
+    → again ≡ path ++ codes ".new" → GoesOnBy (λ log. IsWrite fresh octets log (Ok u)) before between
+    → GoesOnBy (λ log. IsRename again path log result) between after
+    → GoesOnBy (λ log. IsReplacing path octets log result) before after
+replaced path octets fresh again u result before between after is same first second =
+    let new = path ++ codes ".new" in
+    let written = subst (λ (n : List ℕ). GoesOnBy (λ log. IsWrite n octets log (Ok u)) before between) is first in
+    let renamed = subst (λ (n : List ℕ). GoesOnBy (λ log. IsRename n path log result) between after) same second in
+    weaker (λ log. Then (IsWrite new octets) (λ done. IsRename new path) log result) (λ log. IsReplacing path octets log result) before after (λ log holds. inr holds)
+    (then_follows (IsWrite new octets) (λ done. IsRename new path) (Ok u) result before between after written renamed)

@@ -1,0 +1,5 @@
+pub mod AtHost
+pub mod Log
+pub mod Reason
+pub mod Recorded
+pub mod Then

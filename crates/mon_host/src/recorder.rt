@@ -1,0 +1,365 @@
+//! Surroundings in memory.
+
+ghost use Rattle.std.specs.Prelude.{◌≡◌, ◌∷◌, [], IfErr, IfOk, None, Ok, Some, map, string_bytes};
+ghost use Rattle.mon_host.specs.AtHost.{IsNoted, finding, listing_arguments, printing, reading_file, reading_input, reading_part, renaming, writing};
+ghost use Rattle.mon_host.specs.Log.{GoesOn};
+ghost use Rattle.mon_host.specs.Recorded.{IsStepOf, recorded, refused, step_of};
+
+use crate::host::{Host, Part};
+use crate::reason::Reason;
+use std::alloc::{AllocError, Global};
+use std::fmt::Display;
+use std::io::ErrorKind;
+use std::time::{Instant, SystemTime};
+
+/// A call that was recorded: what it was asked, and what it gave.
+#[derive(Drop)]
+pub enum Step {
+    Arguments(Result<Vec<String>, ErrorKind>),
+    AtTerminal(bool),
+    Print(Vec<u8>, Result<(), ErrorKind>),
+    Note(String),
+    Input(Result<Vec<u8>, ErrorKind>),
+    File(String, Result<Vec<u8>, ErrorKind>),
+    Part(String, Part, Result<Vec<u8>, ErrorKind>),
+    Write(String, Vec<u8>, Result<(), ErrorKind>),
+    Rename(String, String, Result<(), ErrorKind>),
+    Find(String, bool),
+    Time,
+    Date,
+}
+
+/// A file in memory.
+#[derive(Drop)]
+pub struct Page {
+    pub path: String,
+    pub octets: Vec<u8>,
+}
+
+/// What a program is given in memory, and whether its standard output is refused.
+#[derive(Drop)]
+pub struct Given {
+    /// The arguments, the program's name first.
+    pub words: Vec<String>,
+    pub input: Result<Vec<u8>, ErrorKind>,
+    pub files: Vec<Page>,
+    pub output: Result<(), ErrorKind>,
+}
+
+/// Surroundings in memory. They have no clock and no terminal, and say no words for why a call
+/// failed. Each call is recorded. If memory runs out for that, nothing is known from then on.
+#[derive(Drop)]
+pub struct Recorder {
+    alloc: Global,
+    given: Given,
+    steps: Vec<Step>,
+    is_lost: bool,
+}
+
+impl Recorder {
+    /// Returns surroundings in which nothing was done so far.
+    pub fn new(alloc: Global, given: Given) -> Self
+        ensures { recorded result.is_lost result.steps.items ≡ Some [] }
+    {
+        Recorder {
+            alloc,
+            given,
+            steps: Vec::new(alloc),
+            is_lost: false,
+        }
+    }
+
+    /// Returns what was done, or None if that is lost.
+    pub fn steps(&self) -> Option<&[Step]> {
+        if self.is_lost {
+            return None;
+        }
+        Some(self.steps.as_slice())
+    }
+
+    /// Records a call, or that it could not be recorded.
+    fn record(&mut self, step: Result<Step, AllocError>)
+        ensures kept { IfOk step (λ s. GoesOn (step_of s ∷ [])
+            (recorded self.old.is_lost self.old.steps.items)
+            (recorded self.new.is_lost self.new.steps.items)) }
+        ensures lost { IfErr step (λ _. recorded self.new.is_lost self.new.steps.items ≡ None) }
+    {
+        match step {
+            Ok(step) => {
+                if self.steps.push(step).is_err() {
+                    self.is_lost = true;
+                }
+            }
+            Err(_) => self.is_lost = true,
+        }
+    }
+
+    /// Returns what the file at a path holds.
+    fn look_up(&self, path: &str) -> Result<Vec<u8>, ErrorKind> {
+        match self
+            .given
+            .files
+            .iter()
+            .find(|page| page.path.as_str() == path)
+        {
+            Some(page) => or_kind(Vec::from_slice(self.alloc, page.octets.as_slice())),
+            None => Err(ErrorKind::NotFound),
+        }
+    }
+
+    /// Returns a part of what the file at a path holds.
+    fn look_up_part(&self, path: &str, part: Part) -> Result<Vec<u8>, ErrorKind> {
+        let octets = self.look_up(path)?;
+        or_kind(Vec::from_slice(self.alloc, part_of(octets.as_slice(), part)))
+    }
+
+    /// Puts octets into the file at a path.
+    fn put(&mut self, path: &str, octets: &[u8]) -> Result<(), AllocError>
+        ensures steps { self.new.steps ≡ self.old.steps }
+        ensures lost { self.new.is_lost ≡ self.old.is_lost }
+    {
+        let page = Page {
+            path: String::from_str(self.alloc, path)?,
+            octets: Vec::from_slice(self.alloc, octets)?,
+        };
+        self.given.files.retain(|page| page.path.as_str() != path);
+        self.given.files.push(page)?;
+        Ok(())
+    }
+
+    /// Gives the file at a path another one.
+    fn put_at(&mut self, path: &str, other: &str) -> Result<(), ErrorKind>
+        ensures steps { self.new.steps ≡ self.old.steps }
+        ensures lost { self.new.is_lost ≡ self.old.is_lost }
+    {
+        let octets = self.look_up(path)?;
+        let done = or_kind(self.put(other, octets.as_slice()));
+        if done.is_ok() && path != other {
+            self.given.files.retain(|page| page.path.as_str() != path);
+        }
+        done
+    }
+}
+
+/// Returns what there was memory for.
+fn or_kind<T: Drop, E: Drop>(given: Result<T, E>) -> Result<T, ErrorKind> {
+    match given {
+        Ok(value) => Ok(value),
+        Err(_) => Err(ErrorKind::OutOfMemory),
+    }
+}
+
+/// Returns a part of octets, fewer if they end before.
+fn part_of(octets: &[u8], part: Part) -> &[u8] {
+    let at = usize::try_from(part.at)
+        .unwrap_or(octets.len())
+        .min(octets.len());
+    let rest = &octets[at..];
+    let length = usize::try_from(part.length)
+        .unwrap_or(rest.len())
+        .min(rest.len());
+    &rest[..length]
+}
+
+/// Returns copies of words.
+fn copies(alloc: Global, words: &[String]) -> Result<Vec<String>, AllocError>
+    ensures { IfOk result (λ copies. map string_bytes copies.items ≡ map string_bytes words.now) }
+{
+    let mut copies = Vec::new(alloc);
+    for word in words {
+        copies.push(String::from_str(alloc, word.as_str())?)?;
+    }
+    Ok(copies)
+}
+
+/// Returns what a call gives that failed for a reason of this kind, or not.
+fn refused<T: Drop>(given: Result<T, ErrorKind>) -> Result<T, Reason>
+    ensures { result ≡ refused given }
+{
+    match given {
+        Ok(value) => Ok(value),
+        Err(kind) => Err(Reason { kind, words: None }),
+    }
+}
+
+/// Records the arguments.
+fn arguments_step(alloc: Global, given: &Result<Vec<String>, ErrorKind>) -> Result<Step, AllocError>
+    ensures { IfOk result (IsStepOf (listing_arguments (refused given.now))) }
+{
+    match given {
+        Ok(words) => Ok(Step::Arguments(Ok(copies(alloc, words.as_slice())?))),
+        Err(kind) => Ok(Step::Arguments(Err(*kind))),
+    }
+}
+
+/// Records octets that were printed, or that were not.
+fn print_step(
+    alloc: Global,
+    octets: &[u8],
+    given: Result<(), ErrorKind>,
+) -> Result<Step, AllocError>
+    ensures { IfOk result (IsStepOf (printing octets.now (refused given))) }
+{
+    Ok(Step::Print(Vec::from_slice(alloc, octets)?, given))
+}
+
+/// Records a text for standard error.
+fn note_step<D: Display + Drop>(alloc: Global, text: D) -> Result<Step, AllocError>
+    ensures { IfOk result (λ step. IsNoted (D.output text) (step_of step ∷ [])) }
+{
+    Ok(Step::Note(format!(in alloc; "{text}")?))
+}
+
+/// Records what was read from standard input.
+fn input_step(alloc: Global, given: &Result<Vec<u8>, ErrorKind>) -> Result<Step, AllocError>
+    ensures { IfOk result (IsStepOf (reading_input (refused given.now))) }
+{
+    match given {
+        Ok(octets) => Ok(Step::Input(Ok(Vec::from_slice(alloc, octets)?))),
+        Err(kind) => Ok(Step::Input(Err(*kind))),
+    }
+}
+
+/// Records what was read from a file.
+fn file_step(
+    alloc: Global,
+    path: &str,
+    given: &Result<Vec<u8>, ErrorKind>,
+) -> Result<Step, AllocError>
+    ensures { IfOk result (IsStepOf (reading_file path.now (refused given.now))) }
+{
+    let path = String::from_str(alloc, path)?;
+    match given {
+        Ok(octets) => Ok(Step::File(path, Ok(Vec::from_slice(alloc, octets)?))),
+        Err(kind) => Ok(Step::File(path, Err(*kind))),
+    }
+}
+
+/// Records what was read from a part of a file.
+fn part_step(
+    alloc: Global,
+    path: &str,
+    part: Part,
+    given: &Result<Vec<u8>, ErrorKind>,
+) -> Result<Step, AllocError>
+    ensures { IfOk result (IsStepOf (reading_part path.now part (refused given.now))) }
+{
+    let path = String::from_str(alloc, path)?;
+    match given {
+        Ok(octets) => Ok(Step::Part(path, part, Ok(Vec::from_slice(alloc, octets)?))),
+        Err(kind) => Ok(Step::Part(path, part, Err(*kind))),
+    }
+}
+
+/// Records octets that were written to a file, or that were not.
+fn write_step(
+    alloc: Global,
+    path: &str,
+    octets: &[u8],
+    given: Result<(), ErrorKind>,
+) -> Result<Step, AllocError>
+    ensures { IfOk result (IsStepOf (writing path.now octets.now (refused given))) }
+{
+    let path = String::from_str(alloc, path)?;
+    Ok(Step::Write(path, Vec::from_slice(alloc, octets)?, given))
+}
+
+/// Records that a file got another path, or did not.
+fn rename_step(
+    alloc: Global,
+    path: &str,
+    other: &str,
+    given: Result<(), ErrorKind>,
+) -> Result<Step, AllocError>
+    ensures { IfOk result (IsStepOf (renaming path.now other.now (refused given))) }
+{
+    let path = String::from_str(alloc, path)?;
+    Ok(Step::Rename(path, String::from_str(alloc, other)?, given))
+}
+
+/// Records whether something is at a path.
+fn find_step(alloc: Global, path: &str, is: bool) -> Result<Step, AllocError>
+    ensures { IfOk result (IsStepOf (finding path.now (Ok is))) }
+{
+    Ok(Step::Find(String::from_str(alloc, path)?, is))
+}
+
+impl Host for Recorder {
+    ghost use Rattle.mon_host.specs.Recorded.{recorded};
+
+    ghost log = { λ r. recorded r.is_lost r.steps.items };
+
+    fn arguments(&mut self) -> Result<Vec<String>, Reason> {
+        let given = or_kind(copies(self.alloc, self.given.words.as_slice()));
+        self.record(arguments_step(self.alloc, &given));
+        refused(given)
+    }
+
+    fn is_at_terminal(&mut self) -> bool {
+        self.record(Ok(Step::AtTerminal(false)));
+        false
+    }
+
+    fn print(&mut self, octets: &[u8]) -> Result<(), Reason> {
+        let given = self.given.output;
+        self.record(print_step(self.alloc, octets, given));
+        refused(given)
+    }
+
+    fn note<D: Display + Drop>(&mut self, text: D) {
+        self.record(note_step(self.alloc, text));
+    }
+
+    fn read_input(&mut self) -> Result<Vec<u8>, Reason> {
+        let given = match &self.given.input {
+            Ok(octets) => or_kind(Vec::from_slice(self.alloc, octets)),
+            Err(kind) => Err(*kind),
+        };
+        self.record(input_step(self.alloc, &given));
+        refused(given)
+    }
+
+    fn read_file(&mut self, path: &str) -> Result<Vec<u8>, Reason> {
+        let given = self.look_up(path);
+        self.record(file_step(self.alloc, path, &given));
+        refused(given)
+    }
+
+    fn read_part(&mut self, path: &str, part: Part) -> Result<Vec<u8>, Reason> {
+        let given = self.look_up_part(path, part);
+        self.record(part_step(self.alloc, path, part, &given));
+        refused(given)
+    }
+
+    fn write_file(&mut self, path: &str, octets: &[u8]) -> Result<(), Reason> {
+        let given = or_kind(self.put(path, octets));
+        self.record(write_step(self.alloc, path, octets, given));
+        refused(given)
+    }
+
+    fn rename(&mut self, path: &str, other: &str) -> Result<(), Reason> {
+        let given = self.put_at(path, other);
+        self.record(rename_step(self.alloc, path, other, given));
+        refused(given)
+    }
+
+    fn is_there(&mut self, path: &str) -> Result<bool, Reason> {
+        let is = self
+            .given
+            .files
+            .iter()
+            .any(|page| page.path.as_str() == path);
+        self.record(find_step(self.alloc, path, is));
+        Ok(is)
+    }
+
+    fn time(&mut self) -> Result<Instant, Reason> {
+        self.record(Ok(Step::Time));
+        refused(Err(ErrorKind::Unsupported))
+    }
+
+    fn date(&mut self) -> Result<SystemTime, Reason> {
+        self.record(Ok(Step::Date));
+        refused(Err(ErrorKind::Unsupported))
+    }
+}

@@ -1,0 +1,45 @@
+-- Groups of counters, and the texts of their settings.
+use Rattle.std.proofs.Common.{◌≡◌, ◌≤◌, ◌+◌, ◌++◌, ◌∷◌, ◌⊎◌, Bool, List, ℕ, [], length, refl, sym, ap, arith, ◌∙◌, subst}
+use Rattle.std.proofs.lemmas.List.{length-append}
+use Rattle.std.specs.Global.{Global}
+use Rattle.std.specs.Prelude.{IfErr, IsErrAnd, Some, Result, Ok, Err, String}
+use Rattle.mon_console.specs.declared.failure.Failure.{Failure}
+use Rattle.mon_survey.specs.Plan.{planned_of}
+use Rattle.mon_survey.specs.declared.choice.Choice.{Choice}
+use Rattle.mon_survey.specs.declared.fault.SurveyFault.{SurveyFault}
+use Rattle.mon_survey.specs.declared.fault.SurveyFault.TheVariants as faults
+use Rattle.mon_settings_commands.specs.Parts.{AreGroupsFrom, HasGroups, HasNoPlan}
+use Rattle.mon_settings_commands.specs.Settings.{IsSettingsOf}
+use Rattle.mon_settings_commands.specs.Source.{IsChoice, IsOfSurvey, Source}
+
+-- a group without a plan
+pub no_plan : (s : Source) (group : ℕ) (choice : Choice) (fault : SurveyFault) (r : Result Bool Failure) → IsChoice s (Some group) choice
+    → (fault ≡ faults.OutOfMemory) ⊎ (planned_of choice s.survey.answers ≡ Err fault) → IfErr r (IsOfSurvey fault) → IfErr r (HasNoPlan s)
+no_plan s group choice fault (Ok has) is cause said = tt
+no_plan s group choice fault (Err failure) is cause said = (group, choice, fault, is, said, cause)
+
+-- the text of the next group
+pub groups_on : (s : Source) (first : ℕ) (texts : List (String Global)) (text : String Global) → AreGroupsFrom s first texts → IsSettingsOf s (Some (first + length texts)) (Ok text)
+    → AreGroupsFrom s first (texts ++ text ∷ [])
+groups_on s first [] text are is = (subst (λ (n : ℕ). IsSettingsOf s (Some n) (Ok text)) (grind (arith)) is, tt)
+groups_on s first (t ∷ texts) text are is = (are.0, groups_on s (first + 1) texts text are.1 (subst (λ (n : ℕ). IsSettingsOf s (Some n) (Ok text)) (grind (arith)) is))
+
+-- a failure that a `?` made has what it had
+pub still : {A : Type 0} → (P : Failure → Type 0) (failure : Failure) (r : Result A Failure) → IsErrAnd r (λ f. f ≡ failure) → P failure → IfErr r P
+still P failure (Ok a) is holds = absurd is
+still P failure (Err f) is holds = subst P (sym is) holds
+
+zero-plus : (n : ℕ) → 0 + n ≡ n
+zero-plus n = grind (arith)
+
+-- the settings of one group more
+pub one_group_more : (s : Source) (before after : List (String Global)) (group : ℕ) → length before ≡ group → AreGroupsFrom s 0 before
+    → ((text : String Global) × (after ≡ before ++ text ∷ []) × IsSettingsOf s (Some group) (Ok text)) → (length after ≡ group + 1) × AreGroupsFrom s 0 after
+one_group_more s before after group is are (text, now, said) = (
+  ap length now ∙ (length-append before (text ∷ []) ∙ ap (λ n. n + 1) is),
+  subst (λ (ts : List (String Global)). AreGroupsFrom s 0 ts) (sym now) (groups_on s 0 before text are (subst (λ (n : ℕ). IsSettingsOf s (Some n) (Ok text)) (sym (zero-plus (length before) ∙ is)) said)),
+)
+
+-- there are as many texts as groups
+pub all_groups : (s : Source) (texts : List (String Global)) (group groups : ℕ) → length texts ≡ group → groups ≤ group → group ≤ groups → HasGroups s groups → HasGroups s (length texts)
+all_groups s texts group groups is past fits has = let same : group ≡ groups = omega (arith, past, fits) in subst (λ (n : ℕ). HasGroups s n) (sym (is ∙ same)) has

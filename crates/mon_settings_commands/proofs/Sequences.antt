@@ -1,0 +1,26 @@
+-- What follows each step of the command `settings`.
+use Rattle.std.proofs.Common.{List, ℕ, string_bytes}
+use Rattle.std.specs.Global.{Global}
+use Rattle.std.specs.Prelude.{Result, String, option_copied}
+use Rattle.mon_cli.specs.declared.meaning.SettingsArgs.{SettingsArgs}
+use Rattle.mon_console.specs.declared.failure.Failure.{Failure}
+use Rattle.mon_host.specs.AtHost.{AtHost}
+use Rattle.mon_host.specs.Then.{Then}
+use Rattle.mon_settings_commands.specs.Appended.{AreOldLabels, IsExisting, IsLonger}
+use Rattle.mon_settings_commands.specs.Asked.{IsAsking}
+use Rattle.mon_settings_commands.specs.Command.{source}
+use Rattle.mon_settings_commands.specs.declared.asking.Survey.{Survey}
+use Rattle.mon_settings_commands.specs.declared.existing.Existing.{Existing}
+use Rattle.mon_settings_commands.specs.declared.settings.Asked.{Asked}
+
+abbrev pub AfterSurvey : SettingsArgs → Asked → Existing → String Global → Survey → List AtHost → Result Unit Failure → Type 0
+AfterSurvey words asked existing old survey = IsLonger (source words asked existing.names survey) existing (string_bytes old)
+
+abbrev pub AfterOld : SettingsArgs → Asked → Existing → String Global → List AtHost → Result Unit Failure → Type 0
+AfterOld words asked existing old = Then (IsAsking asked.agent.word.now) (AfterSurvey words asked existing old)
+
+abbrev pub AfterExisting : SettingsArgs → Asked → Existing → List AtHost → Result Unit Failure → Type 0
+AfterExisting words asked existing = Then (AreOldLabels (option_copied words.labels)) (AfterOld words asked existing)
+
+abbrev pub AfterAlone : SettingsArgs → Asked → List ℕ → Unit {0} → List AtHost → Result Unit Failure → Type 0
+AfterAlone words asked path done = Then (IsExisting path) (AfterExisting words asked)

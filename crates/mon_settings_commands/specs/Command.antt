@@ -1,0 +1,48 @@
+-- The command `settings`.
+use Rattle.std.specs.Prelude.{ℕ, List, Option, Some, None, Result, map, option_copied, string_bytes}
+use Rattle.mon_cli.specs.declared.meaning.SettingsArgs.{SettingsArgs}
+use Rattle.mon_console.specs.Naming.{AreNames}
+use Rattle.mon_console.specs.declared.failure.Failure.{Failure}
+use Rattle.mon_host.specs.AtHost.{AtHost}
+use Rattle.mon_host.specs.Then.{Quietly, Then}
+use Rattle.mon_smi.specs.declared.definition.Definition.{Definition}
+use Rattle.mon_settings_commands.specs.Appended.{AreOldLabels, IsAlone, IsExisting, IsLonger}
+use Rattle.mon_settings_commands.specs.Asked.{IsAsked, IsAsking}
+use Rattle.mon_settings_commands.specs.Parts.{AreParts}
+use Rattle.mon_settings_commands.specs.Settings.{IsWhole}
+use Rattle.mon_settings_commands.specs.Source.{Source}
+use Rattle.mon_settings_commands.specs.declared.asking.Survey.{Survey}
+use Rattle.mon_settings_commands.specs.declared.settings.Asked.{Asked}
+
+-- what settings are written from
+abbrev pub source : SettingsArgs → Asked → List Definition → Survey → Source
+source words asked names survey = record { words = words; asked = asked; names = names; survey = survey }
+
+-- the settings of several stations go into a folder if the arguments name one, else those of one are printed
+abbrev pub AreTextsFor : Source → Option (List ℕ) → List AtHost → Result Unit Failure → Type 0
+AreTextsFor s None = IsWhole s
+AreTextsFor s (Some folder) = AreParts s folder
+
+-- settings go where the arguments say: into their folder, or to standard output
+abbrev pub AreNewTexts : Source → List AtHost → Result Unit Failure → Type 0
+AreNewTexts s = AreTextsFor s (option_copied s.words.split)
+
+-- New settings: modules are read, the agent is asked, and texts are written.
+abbrev pub AreNewSettings : SettingsArgs → Asked → List AtHost → Result Unit Failure → Type 0
+AreNewSettings words asked = Then (AreNames (map (λ m. m.now) words.modules.now)) (λ names.
+    Then (IsAsking asked.agent.word.now) (λ survey. AreNewTexts (source words asked names survey)))
+
+-- Settings that are there with more targets: they and the old labels are read before the agent is asked.
+abbrev pub AreLongerSettings : SettingsArgs → Asked → List ℕ → List AtHost → Result Unit Failure → Type 0
+AreLongerSettings words asked path = Then (Quietly (IsAlone words)) (λ done. Then (IsExisting path) (λ existing.
+    Then (AreOldLabels (option_copied words.labels)) (λ old. Then (IsAsking asked.agent.word.now) (λ survey.
+    IsLonger (source words asked existing.names survey) existing (string_bytes old)))))
+
+-- new settings, or those in a file with more targets
+abbrev pub AreSettingsFor : SettingsArgs → Asked → Option (List ℕ) → List AtHost → Result Unit Failure → Type 0
+AreSettingsFor words asked None = AreNewSettings words asked
+AreSettingsFor words asked (Some path) = AreLongerSettings words asked path
+
+-- The command: its arguments are read before anything is done.
+abbrev pub AreSettings : SettingsArgs → List AtHost → Result Unit Failure → Type 0
+AreSettings words = Then (Quietly (IsAsked words)) (λ asked. AreSettingsFor words asked (option_copied words.append))

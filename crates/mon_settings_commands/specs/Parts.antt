@@ -1,0 +1,60 @@
+-- The settings of several stations, a file each.
+use Rattle.std.specs.Prelude.{◌≡◌, ◌<◌, ◌≤◌, ◌⊎◌, ◌+◌, ℕ, List, [], ◌∷◌, ◌++◌, Option, Some, None, Result, Ok, Err, String, codes, decimal, length, map, slice_get, string_bytes}
+use Rattle.std.specs.Global.{Global, Vec}
+use Rattle.mon_console.specs.Files.{IsPrint, IsWrite}
+use Rattle.mon_console.specs.Failure.{IsMemory}
+use Rattle.mon_console.specs.declared.failure.Failure.{Failure}
+use Rattle.mon_host.specs.AtHost.{AtHost}
+use Rattle.mon_host.specs.Then.{Quietly, Then}
+use Rattle.mon_survey.specs.Plan.{planned_of}
+use Rattle.mon_survey.specs.declared.choice.Choice.{Choice}
+use Rattle.mon_survey.specs.declared.fault.SurveyFault.{SurveyFault}
+use Rattle.mon_survey.specs.declared.fault.SurveyFault.TheVariants as faults
+use Rattle.mon_settings_commands.specs.Settings.{AreLabels, IsSettingsOf}
+use Rattle.mon_settings_commands.specs.Source.{IsChoice, IsOfSurvey, OrMemory, Source}
+
+-- the path of the file of a station that is this many after the first, in a folder
+abbrev pub part_path : List ℕ → ℕ → List ℕ
+part_path folder place = folder ++ codes "/station-" ++ decimal (place + 1) ++ codes ".toml"
+
+-- a file is written and its name printed
+abbrev pub IsNamedWritten : List ℕ → List ℕ → List AtHost → Result Unit Failure → Type 0
+IsNamedWritten path text = Then (IsWrite path text) (λ done. OrMemory (IsPrint (path ++ 10 ∷ [])))
+
+-- a file is written and its name printed, unless memory ran out for its path
+abbrev pub IsPartWritten : List ℕ → List ℕ → List AtHost → Result Unit Failure → Type 0
+IsPartWritten path text = OrMemory (IsNamedWritten path text)
+
+-- texts are written in order, each into the file of its place, from this place on
+abbrev pub AreWritten : List ℕ → ℕ → List (List ℕ) → List AtHost → Result Unit Failure → Type 0
+AreWritten folder place [] log result = (log ≡ []) × (result ≡ Ok tt)
+AreWritten folder place (text ∷ texts) log result =
+    Then (IsPartWritten (part_path folder place) text) (λ done. AreWritten folder (place + 1) texts) log result
+
+-- a group has no counters
+abbrev pub HasNoCounter : Source → ℕ → Type 0
+HasNoCounter s group = (choice : Choice) × IsChoice s (Some group) choice × (planned_of choice s.survey.answers ≡ Err faults.NoCounter)
+
+-- a group has no plan, as a failure says
+abbrev pub HasNoPlan : Source → Failure → Type 0
+HasNoPlan s failure = (group : ℕ) × (choice : Choice) × (fault : SurveyFault) × IsChoice s (Some group) choice × IsOfSurvey fault failure
+    × ((fault ≡ faults.OutOfMemory) ⊎ (planned_of choice s.survey.answers ≡ Err fault))
+
+-- there are this many groups of counters: the next one has none, or there are as many as files may be
+abbrev pub HasGroups : Source → ℕ → Type 0
+HasGroups s count = (count ≡ 65536) ⊎ HasNoCounter s count
+
+-- texts are the settings of groups, from this one on
+abbrev pub AreGroupsFrom : Source → ℕ → List (String Global) → Type 0
+AreGroupsFrom s group [] = Unit {0}
+AreGroupsFrom s group (text ∷ texts) = IsSettingsOf s (Some group) (Ok text) × AreGroupsFrom s (group + 1) texts
+
+-- The settings of each group; or why there are none: a group has no plan, or no settings.
+abbrev pub ArePartTexts : Source → Result (Vec (String Global)) Failure → Type 0
+ArePartTexts s (Ok texts) = HasGroups s (length texts.items) × AreGroupsFrom s 0 texts.items
+ArePartTexts s (Err failure) = HasNoPlan s failure
+    ⊎ ((group : ℕ) × (IsMemory failure ⊎ IsSettingsOf s (Some group) (Err failure)))
+
+-- The settings of several stations: labels are replaced before the first file is written.
+abbrev pub AreParts : Source → List ℕ → List AtHost → Result Unit Failure → Type 0
+AreParts s folder = Then (Quietly (ArePartTexts s)) (λ texts. Then (AreLabels s []) (λ done. AreWritten folder 0 (map string_bytes texts.items)))

@@ -1,0 +1,58 @@
+-- The settings that the command `settings` prints.
+use Rattle.std.specs.Prelude.{◌≡◌, ◌⊎◌, ℕ, List, [], ◌∷◌, ◌++◌, Option, Some, None, Result, Ok, Err, String, length, map, option_copied, string_bytes}
+use Rattle.std.specs.Global.{Global}
+use Rattle.hex.specs.Hex.{encode_lower}
+use Rattle.mon_cli.specs.declared.meaning.SettingsArgs.{SettingsArgs}
+use Rattle.mon_console.specs.Files.{IsPrint, IsReplacing}
+use Rattle.mon_console.specs.Naming.{AreNames}
+use Rattle.mon_console.specs.declared.failure.Failure.{Failure}
+use Rattle.mon_host.specs.AtHost.{AtHost}
+use Rattle.mon_host.specs.Then.{Quietly, Then}
+use Rattle.mon_survey.specs.Appended.{shown_by}
+use Rattle.mon_survey.specs.Labels.{IsLabels, IsNoLabels, indexes_of}
+use Rattle.mon_survey.specs.Meant.{IsFault, IsSettingsText}
+use Rattle.mon_survey.specs.declared.choice.Choice.{Choice}
+use Rattle.mon_survey.specs.declared.fault.SurveyFault.{SurveyFault}
+use Rattle.mon_survey.specs.declared.options.Options.{Options}
+use Rattle.mon_settings_commands.specs.Asked.{IsAsking}
+use Rattle.mon_settings_commands.specs.Source.{IsChoice, IsOfSurvey, Source}
+use Rattle.mon_settings_commands.specs.Texts.{AreOptions, IsOfOptions}
+use Rattle.mon_settings_commands.specs.declared.settings.Asked.{Asked}
+
+-- by how much a group's ports and the number of its file are counted up
+abbrev pub up_of : Option ℕ → ℕ
+up_of None = 0
+up_of (Some group) = group
+
+-- The settings of a group or of all: a text by the options and what the agent answered, or why there
+-- is none.
+abbrev pub IsSettingsOf : Source → Option ℕ → Result (String Global) Failure → Type 0
+IsSettingsOf s group (Ok text) = (o : Options) × (choice : Choice) × AreOptions s (up_of group) o × IsChoice s group choice
+    × IsSettingsText s.names (shown_by s.names (length o.modules.now)) choice o s.survey.engine.items s.survey.answers (string_bytes text)
+IsSettingsOf s group (Err failure) = IsOfOptions failure
+    ⊎ ((o : Options) × (choice : Choice) × (fault : SurveyFault) × AreOptions s (up_of group) o × IsChoice s group choice × IsOfSurvey fault failure
+    × IsFault s.names (shown_by s.names (length o.modules.now)) choice o s.survey.engine.items s.survey.answers fault)
+
+-- The file of labels: the texts of the agent's interfaces after the old ones, or why there are none.
+abbrev pub IsLabelsText : Source → List ℕ → Result (String Global) Failure → Type 0
+IsLabelsText s old (Ok text) = (choice : Choice) × IsChoice s None choice
+    × IsLabels old (encode_lower s.survey.engine.items) s.survey.answers (indexes_of choice s.survey.answers) (string_bytes text)
+IsLabelsText s old (Err failure) = (choice : Choice) × (fault : SurveyFault) × IsChoice s None choice × IsOfSurvey fault failure
+    × IsNoLabels old (encode_lower s.survey.engine.items) s.survey.answers (indexes_of choice s.survey.answers) fault
+
+-- labels replace the file at a path
+abbrev pub AreLabelsAt : Source → List ℕ → List ℕ → List AtHost → Result Unit Failure → Type 0
+AreLabelsAt s path old = Then (Quietly (IsLabelsText s old)) (λ text. IsReplacing path (string_bytes text))
+
+-- labels replace the file that is named; if none is, nothing is done
+abbrev pub AreLabelsFor : Source → List ℕ → Option (List ℕ) → List AtHost → Result Unit Failure → Type 0
+AreLabelsFor s old None = Quietly (λ result. result ≡ Ok tt)
+AreLabelsFor s old (Some path) = AreLabelsAt s path old
+
+-- labels replace the file that the arguments name, if they name one
+abbrev pub AreLabels : Source → List ℕ → List AtHost → Result Unit Failure → Type 0
+AreLabels s old = AreLabelsFor s old (option_copied s.words.labels)
+
+-- The settings of one station: labels are replaced before the text is printed.
+abbrev pub IsWhole : Source → List AtHost → Result Unit Failure → Type 0
+IsWhole s = Then (Quietly (IsSettingsOf s None)) (λ text. Then (AreLabels s []) (λ done. IsPrint (string_bytes text)))

@@ -1,0 +1,98 @@
+-- Lines that are sent to standard error.
+use Rattle.std.proofs.Common.{◌≡◌, ◌≢◌, ◌∙◌, ◌<◌, ◌+◌, ◌++◌, ◌∷◌, Bool, List, ℕ, [], ap, append_assoc, arith, false, length, map, refl, subst, sym, take, true}
+use Rattle.std.proofs.Math.ListN.{get_or}
+use Rattle.std.proofs.lemmas.Bool.Decides.{nat_tests}
+use Rattle.std.proofs.lemmas.List.{flat_map_more, map-append, take-map, take_more}
+use Rattle.std.specs.List.{flat_map}
+use Rattle.std.specs.Prelude.{◌==◌, Option, Some, if◌then◌else◌, nat_lt, Result, Ok, Err, IsErr}
+use Rattle.std.specs.declared.alloc.AllocError.{AllocError}
+use Rattle.mon_host.specs.AtHost.{AtHost, IsNoted, Noted}
+use Rattle.mon_host.specs.Log.{GoesOnBy}
+use Rattle.mon_host.proofs.Promised.{goes_on, stays, weaker}
+use Rattle.mon_station_commands.specs.Telling.{AreNoted, AreSaid}
+
+-- lines, and others after them
+pub are_noted_on : (texts others : List (Option (List ℕ))) (log rest : List AtHost) → AreNoted texts log → AreNoted others rest → AreNoted (texts ++ others) (log ++ rest)
+are_noted_on [] others log rest none are = subst (λ (l : List AtHost). AreNoted others (l ++ rest)) (sym none) are
+are_noted_on (text ∷ texts) others log rest (octets, more, is, later, log_is) are =
+    (octets, more ++ rest, is, are_noted_on texts others more rest later are, ap (λ (l : List AtHost). l ++ rest) log_is)
+
+pub noted_on : (texts others : List (Option (List ℕ))) (before between after : Option (List AtHost)) → GoesOnBy (AreNoted texts) before between
+    → GoesOnBy (AreNoted others) between after → GoesOnBy (AreNoted (texts ++ others)) before after
+noted_on texts others before between after first second = record {
+  more = first.more ++ second.more;
+  holds = are_noted_on texts others first.more second.more first.holds second.holds;
+  on = goes_on first.more second.more before between after first.on second.on;
+}
+
+-- one line of which all is stated, in the pieces that were written
+pub line_noted : (pieces text : List ℕ) (before after : Option (List AtHost)) → pieces ≡ text → GoesOnBy (IsNoted (Some pieces)) before after
+    → GoesOnBy (AreNoted (Some text ∷ [])) before after
+line_noted pieces text before after same note = weaker (IsNoted (Some pieces)) (AreNoted (Some text ∷ [])) before after
+    (λ log noted. (noted.0, [], noted.1 ∙ same, refl, noted.2)) note
+
+pub text_noted : (pieces text : List ℕ) (before after : Option (List AtHost)) → pieces ≡ text → GoesOnBy (IsNoted (Some pieces)) before after
+    → GoesOnBy (IsNoted (Some text)) before after
+text_noted pieces text before after same note = subst (λ (t : List ℕ). GoesOnBy (IsNoted (Some t)) before after) same note
+
+-- five pieces, however they are put together
+pub five_pieces : (a b c d e : List ℕ) → a ++ (b ++ (c ++ (d ++ e))) ≡ a ++ b ++ c ++ d ++ e
+five_pieces a b c d e = simp append_assoc refl
+
+pub seven_pieces : (a b c d e f g : List ℕ) → a ++ (b ++ (c ++ (d ++ (e ++ (f ++ g))))) ≡ a ++ b ++ c ++ d ++ e ++ f ++ g
+seven_pieces a b c d e f g = simp append_assoc refl
+
+pub thirteen_pieces : (a b c d e f g h i j k l m : List ℕ)
+    → a ++ (b ++ (c ++ (d ++ (e ++ (f ++ (g ++ (h ++ (i ++ (j ++ (k ++ (l ++ m))))))))))) ≡ a ++ b ++ c ++ d ++ e ++ f ++ g ++ h ++ i ++ j ++ k ++ l ++ m
+thirteen_pieces a b c d e f g h i j k l m = simp append_assoc refl
+
+pub not_zero : (n : ℕ) → n ≢ 0 → (n == 0) ≡ false
+not_zero n other = grind (arith, nat_tests)
+
+pub less : (n m : ℕ) → n < m → nat_lt n m ≡ true
+less n m is = grind (arith, nat_tests)
+
+-- a line if there is something to count
+pub counted : (n : ℕ) (pieces text : List ℕ) (before after : Option (List AtHost)) → n ≢ 0 → pieces ≡ text → GoesOnBy (IsNoted (Some pieces)) before after
+    → GoesOnBy (AreNoted (if n == 0 then [] else (Some text ∷ []))) before after
+counted n pieces text before after some same note =
+    subst (λ (b : Bool). GoesOnBy (AreNoted (if b then [] else (Some text ∷ []))) before after) (sym (not_zero n some)) (line_noted pieces text before after same note)
+
+-- a line of a size that is short
+pub short : (n most : ℕ) (pieces text : List ℕ) (before after : Option (List AtHost)) → n ≢ 0 → n < most → pieces ≡ text → GoesOnBy (IsNoted (Some pieces)) before after
+    → GoesOnBy (AreNoted (if n == 0 then [] else if nat_lt n most then (Some text ∷ []) else [])) before after
+short n most pieces text before after some few same note =
+    subst (λ (b : Bool). GoesOnBy (AreNoted (if b then [] else if nat_lt n most then (Some text ∷ []) else [])) before after) (sym (not_zero n some))
+    (subst (λ (b : Bool). GoesOnBy (AreNoted (if b then (Some text ∷ []) else [])) before after) (sym (less n most few)) (line_noted pieces text before after same note))
+
+module _ {X : Type 0} (f : X → List (Option (List ℕ))) where
+  -- the lines of the elements up to a place, and those of the element there
+  pub noted_more : (xs : List X) (i : ℕ) (d : X) (before between after : Option (List AtHost)) → i < length xs → GoesOnBy (AreNoted (flat_map f (take i xs))) before between
+      → GoesOnBy (AreNoted (f (get_or xs i d))) between after → GoesOnBy (AreNoted (flat_map f (take (i + 1) xs))) before after
+  noted_more xs i d before between after inside first second =
+      let x = get_or xs i d in
+      let taken : take (i + 1) xs ≡ take i xs ++ x ∷ [] = take_more xs i d inside in
+      let lines : flat_map f (take i xs) ++ f x ≡ flat_map f (take (i + 1) xs) = flat_map_more f [] (take i xs) x ∙ ap (λ ys. flat_map f ys) (sym taken) in
+      subst (λ (ts : List (Option (List ℕ))). GoesOnBy (AreNoted ts) before after) lines (noted_on (flat_map f (take i xs)) (f x) before between after first second)
+
+module _ {X : Type 0} (f : X → List ℕ) where
+  -- one line more of a list of lines, of which each is sent
+  pub line_more : (xs : List X) (i : ℕ) (d : X) (line : List ℕ) (before between after : Option (List AtHost)) → i < length xs → line ≡ f (get_or xs i d)
+      → GoesOnBy (λ log. log ≡ map Noted (take i (map f xs))) before between → GoesOnBy (IsNoted (Some line)) between after
+      → GoesOnBy (λ log. log ≡ map Noted (take (i + 1) (map f xs))) before after
+  line_more xs i d line before between after inside is first second =
+      let x = get_or xs i d in
+      let taken : take (i + 1) (map f xs) ≡ take i (map f xs) ++ f x ∷ [] =
+      take-map f (i + 1) xs ∙ (ap (λ (ys : List X). map f ys) (take_more xs i d inside) ∙ (map-append f (take i xs) (x ∷ []) ∙ ap (λ (ls : List (List ℕ)). ls ++ f x ∷ []) (sym (take-map f i xs)))) in
+      let noted : second.more ≡ Noted (f x) ∷ [] = second.holds.2 ∙ ap (λ (o : List ℕ). Noted o ∷ []) (second.holds.1 ∙ is) in
+      record {
+        more = first.more ++ second.more;
+        holds = ap (λ (l : List AtHost). l ++ second.more) first.holds ∙ (ap (λ (l : List AtHost). map Noted (take i (map f xs)) ++ l) noted
+            ∙ (sym (map-append Noted (take i (map f xs)) (f x ∷ [])) ∙ ap (λ (ls : List (List ℕ)). map Noted ls) (sym taken)));
+        on = goes_on first.more second.more before between after first.on second.on;
+      }
+
+-- nothing was said, since there was no memory
+pub unsaid : (lines : List (List ℕ)) (r : Result Unit AllocError) (told : Option (List AtHost)) → IsErr r → GoesOnBy (λ log. AreSaid lines log r) told told
+unsaid lines (Ok u) told is = absurd (let never : ⊥ = cc in never)
+unsaid lines (Err fault) told is = record { more = []; holds = record { many = 0; log_is = refl; all = tt }; on = stays told }

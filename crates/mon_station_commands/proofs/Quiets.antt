@@ -1,0 +1,99 @@
+-- Quiet events, one after another.
+use Rattle.std.proofs.Common.{◌≡◌, ◌∙◌, ◌++◌, ◌∷◌, ◌&&◌, Bool, List, ℕ, [], ap, false, map, refl, subst, sym, take, true}
+use Rattle.std.proofs.lemmas.List.Folds.{list_all-append}
+use Rattle.std.specs.List.{flat_map, list_all}
+use Rattle.std.specs.Prelude.{Option, Some, None, Result, Ok, Err}
+use Rattle.std.specs.declared.alloc.AllocError.{AllocError}
+use Rattle.std.specs.declared.time.Instant.{Instant}
+use Rattle.mon_console.specs.Failure.{IsSecond, IsTold, IsToldMore}
+use Rattle.mon_console.specs.declared.failure.Failure.{Failure}
+use Rattle.mon_host.specs.AtHost.{AtHost, IsNoted, Noted}
+use Rattle.mon_host.specs.Log.{GoesOnBy}
+use Rattle.mon_host.proofs.Promised.{goes_on, stays, weaker}
+use Rattle.mon_station_commands.specs.Pace.{IsDate, IsPassed, IsTime}
+use Rattle.mon_station_commands.specs.Quiet.{AreQuiet, is_quiet}
+use Rattle.mon_station_commands.specs.Telling.{AreChangesSaid, AreNoted, AreSaid, IsChangeSaid, text_lines}
+
+pub are_quiet_on : (log rest : List AtHost) → AreQuiet log → AreQuiet rest → AreQuiet (log ++ rest)
+are_quiet_on log rest one two = list_all-append is_quiet log rest ∙ (λ i. one i && two i)
+
+are_quiet_as : (log other : List AtHost) → other ≡ log → AreQuiet log → AreQuiet other
+are_quiet_as log other is quiet = ap (λ (l : List AtHost). list_all is_quiet l) is ∙ quiet
+
+-- nothing was done
+pub still : (told : Option (List AtHost)) → GoesOnBy AreQuiet told told
+still told = record { more = []; holds = refl; on = stays told }
+
+-- quiet events, and more of them
+pub quiet_on : (before between after : Option (List AtHost)) → GoesOnBy AreQuiet before between → GoesOnBy AreQuiet between after → GoesOnBy AreQuiet before after
+quiet_on before between after one two = record {
+  more = one.more ++ two.more;
+  holds = are_quiet_on one.more two.more one.holds two.holds;
+  on = goes_on one.more two.more before between after one.on two.on;
+}
+
+-- lines
+are_noted : (texts : List (Option (List ℕ))) (log : List AtHost) → AreNoted texts log → AreQuiet log
+are_noted [] log is = are_quiet_as [] log is refl
+are_noted (text ∷ texts) log (octets, rest, is, later, log_is) = are_quiet_as (Noted octets ∷ rest) log log_is (are_noted texts rest later)
+
+are_said : (lines : List (List ℕ)) → AreQuiet (map Noted lines)
+are_said [] = refl
+are_said (line ∷ lines) = are_said lines
+
+is_change : (round : ℕ) (log : List AtHost) (r : Result Unit AllocError) → IsChangeSaid round log r → AreQuiet log
+is_change round log (Ok done) (text, noted) = are_noted (text_lines round text) log noted
+is_change round log (Err fault) is = are_quiet_as [] log is refl
+
+is_second : (more : Option (List ℕ)) (log : List AtHost) → IsSecond more log → AreQuiet log
+is_second (Some more) log is = are_quiet_as _ log is refl
+is_second None log (words, is) = are_quiet_as _ log is refl
+
+is_told_more : (memory : Bool) (more : Option (List ℕ)) (log : List AtHost) → IsToldMore memory more log → AreQuiet log
+is_told_more true more log is = are_quiet_as [] log is refl
+is_told_more false more log is = is_second more log is
+
+is_time : (log : List AtHost) (r : Result Instant Failure) → IsTime log r → AreQuiet log
+is_time log (Ok now) is = are_quiet_as _ log is refl
+is_time log (Err failure) (why, is, of) = are_quiet_as _ log is refl
+
+is_passed : (origin : Instant) (log : List AtHost) (r : Result ℕ Failure) → IsPassed origin log r → AreQuiet log
+is_passed origin log (Ok passed) (now, is, of) = are_quiet_as _ log is refl
+is_passed origin log (Err failure) is = is_time log (Err failure) is
+
+is_date : (log : List AtHost) (r : Result ℕ Failure) → IsDate log r → AreQuiet log
+is_date log (Ok date) (now, is, of) = are_quiet_as _ log is refl
+is_date log (Err failure) (why, is, of) = are_quiet_as _ log is refl
+
+module _ (before after : Option (List AtHost)) where
+  pub one_line : (text : Option (List ℕ)) → GoesOnBy (IsNoted text) before after → GoesOnBy AreQuiet before after
+  one_line text = weaker (IsNoted text) AreQuiet before after (λ log noted. are_quiet_as (Noted noted.0 ∷ []) log noted.2 refl)
+
+  pub lines : (texts : List (Option (List ℕ))) → GoesOnBy (AreNoted texts) before after → GoesOnBy AreQuiet before after
+  lines texts = weaker (AreNoted texts) AreQuiet before after (are_noted texts)
+
+  pub said : (texts : List (List ℕ)) (r : Result Unit AllocError) → GoesOnBy (λ log. AreSaid texts log r) before after → GoesOnBy AreQuiet before after
+  said texts r = weaker (λ log. AreSaid texts log r) AreQuiet before after (λ log is. are_quiet_as _ log is.log_is (are_said (take is.many texts)))
+
+  pub change : (round : ℕ) (r : Result Unit AllocError) → GoesOnBy (λ log. IsChangeSaid round log r) before after → GoesOnBy AreQuiet before after
+  change round r = weaker (λ log. IsChangeSaid round log r) AreQuiet before after (λ log is. is_change round log r is)
+
+  pub failure : (why : Failure) → GoesOnBy (IsTold why) before after → GoesOnBy AreQuiet before after
+  failure why = weaker (IsTold why) AreQuiet before after (λ log is. are_quiet_as _ log is.log_is (is_told_more _ _ is.rest is.more))
+
+  pub time : (r : Result Instant Failure) → GoesOnBy (λ log. IsTime log r) before after → GoesOnBy AreQuiet before after
+  time r = weaker (λ log. IsTime log r) AreQuiet before after (λ log is. is_time log r is)
+
+  pub since : (origin : Instant) (r : Result ℕ Failure) → GoesOnBy (λ log. IsPassed origin log r) before after → GoesOnBy AreQuiet before after
+  since origin r = weaker (λ log. IsPassed origin log r) AreQuiet before after (λ log is. is_passed origin log r is)
+
+  pub date : (r : Result ℕ Failure) → GoesOnBy (λ log. IsDate log r) before after → GoesOnBy AreQuiet before after
+  date r = weaker (λ log. IsDate log r) AreQuiet before after (λ log is. is_date log r is)
+
+-- the same end by another name
+pub quiet_to : (before after other : Option (List AtHost)) → other ≡ after → GoesOnBy AreQuiet before after → GoesOnBy AreQuiet before other
+quiet_to before after other is = subst (λ (t : Option (List AtHost)). GoesOnBy AreQuiet before t) (sym is)
+
+-- changes of trouble
+pub changes : (round : ℕ) (before after : Option (List AtHost)) → GoesOnBy (AreChangesSaid round) before after → GoesOnBy AreQuiet before after
+changes round before after = weaker (AreChangesSaid round) AreQuiet before after (λ log said. are_noted (flat_map (text_lines round) said.0) log said.1)

@@ -1,0 +1,95 @@
+-- Steps that are done one after another.
+use Rattle.std.proofs.Common.{◌≡◌, ◌∙◌, ◌++◌, List, ℕ, [], ap, refl, subst, sym}
+use Rattle.std.specs.Prelude.{IfOk, IsErrAnd, Option, Some, None, Result, Ok, Err}
+use Rattle.std.specs.Global.{Vec}
+use Rattle.std.specs.declared.alloc.AllocError.{AllocError}
+use Rattle.mon_board.specs.declared.board.Board.{Board}
+use Rattle.mon_console.specs.Failure.{IsMemory}
+use Rattle.mon_console.specs.Files.{IsPrint, IsReplacing}
+use Rattle.mon_console.specs.Shown.{shown_by}
+use Rattle.mon_console.specs.declared.failure.Failure.{Failure}
+use Rattle.mon_board.specs.Board.{window_of}
+use Rattle.mon_formats.specs.Formats.{report_in}
+use Rattle.mon_formats.specs.declared.format.Format.TheVariants.{Text}
+use Rattle.mon_console.specs.declared.printing.Printing.{Printing}
+use Rattle.mon_host.specs.AtHost.{AtHost}
+use Rattle.mon_host.specs.Log.{GoesOnBy}
+use Rattle.mon_host.specs.Then.{Quietly, Then}
+use Rattle.mon_host.proofs.Promised.{goes_on, quietly, then_fails, then_follows}
+use Rattle.mon_page.specs.declared.figures.Figures.{Figures}
+use Rattle.mon_station_commands.specs.Reporting.{IsFiled, IsOut, IsReport, report_by}
+use Rattle.mon_station_commands.specs.Steps.{IsKeptOf, IsSaidOf, IsTried, OrMemory, kept_after}
+
+-- there was no memory for a value
+pub no_memory : {A B : Type 0} → (Holds : A → Type 0) (Second : A → List AtHost → Result B Failure → Type 0) (r : Result B Failure) (told : Option (List AtHost))
+    → IsErrAnd r IsMemory → GoesOnBy (λ log. Then (Quietly (OrMemory Holds)) Second log r) told told
+no_memory Holds Second (Ok b) told is = absurd is
+no_memory Holds Second (Err failure) told is = then_fails (Quietly (OrMemory Holds)) Second failure told told (quietly (OrMemory Holds) (Err failure) told is)
+
+-- a value was made, and a step followed
+pub made : {A B : Type 0} → (Holds : A → Type 0) (Second : A → List AtHost → Result B Failure → Type 0) (value : A) (r : Result B Failure) (told after : Option (List AtHost))
+    → Holds value → GoesOnBy (λ log. Second value log r) told after → GoesOnBy (λ log. Then (Quietly (OrMemory Holds)) Second log r) told after
+made Holds Second value r told after holds second = then_follows (Quietly (OrMemory Holds)) Second (Ok value) r told told after (quietly (OrMemory Holds) (Ok value) told holds) second
+
+-- a text was made, and printed
+pub printed : (Holds : List ℕ → Type 0) (text octets : List ℕ) (r : Result Unit Failure) (told after : Option (List AtHost)) → Holds text → octets ≡ text
+    → GoesOnBy (λ log. IsPrint octets log r) told after → GoesOnBy (λ log. Then (Quietly (OrMemory Holds)) IsPrint log r) told after
+printed Holds text octets r told after holds same done = made Holds IsPrint text r told after holds (subst (λ (o : List ℕ). GoesOnBy (λ log. IsPrint o log r) told after) same done)
+
+-- a text was made, and a file replaced by it
+pub filed : (Holds : List ℕ → Type 0) (path text octets : List ℕ) (r : Result Unit Failure) (told after : Option (List AtHost)) → Holds text → octets ≡ text
+    → GoesOnBy (λ log. IsReplacing path octets log r) told after → GoesOnBy (λ log. Then (Quietly (OrMemory Holds)) (IsReplacing path) log r) told after
+filed Holds path text octets r told after holds same done =
+    made Holds (IsReplacing path) text r told after holds (subst (λ (o : List ℕ). GoesOnBy (λ log. IsReplacing path o log r) told after) same done)
+
+-- a step, and its failure, if there is one, was said
+pub tried : (Step : List AtHost → Result Unit Failure → Type 0) (given : Result Unit Failure) (failure : Option Failure) (before between after : Option (List AtHost))
+    → GoesOnBy (λ log. Step log given) before between → GoesOnBy (λ log. IsSaidOf given log failure) between after → GoesOnBy (λ log. IsTried Step log failure) before after
+tried Step given failure before between after step said = record {
+  more = step.more ++ said.more;
+  holds = record { given = given; begin = step.more; step = step.holds; rest = said.more; said = said.holds; log_is = refl };
+  on = goes_on step.more said.more before between after step.on said.on;
+}
+
+-- the report of a board and of figures
+pub report_is : (Holds : Figures → Type 0) (printing : Printing) (board other : Board) (figures : Figures) (r : Result (Vec ℕ) AllocError) → Holds figures → other ≡ board
+    → IfOk r (λ text. text.items ≡ report_by printing other (Some figures)) → IfOk r (λ text. IsReport Holds printing board text.items)
+report_is Holds printing board other figures (Ok text) holds same is = record {
+  figures = Some figures;
+  holds = holds;
+  needed = λ none. absurd (let not : Some figures ≡ None = none in let never : ⊥ = cc in never);
+  text_is = is ∙ ap (λ (b : Board). report_by printing b (Some figures)) same;
+}
+report_is Holds printing board other figures (Err fault) holds same is = tt
+
+-- a failure that a `?` made
+pub failure_is : {A : Type 0} → (r : Result A Failure) (failure : Failure) → IsErrAnd r (λ f. f ≡ failure) → r ≡ Err failure
+failure_is (Ok a) failure is = absurd is
+failure_is (Err f) failure is = ap Err is
+
+-- lines of text with names in numbers, which say nothing of figures
+pub plain : (Holds : Figures → Type 0) (printing : Printing) (board other : Board) (text : List ℕ) → printing.format ≡ Text → printing.names ≡ None → other ≡ board
+    → text ≡ report_in Text (shown_by None) other.watch (window_of other) None [] → IsReport Holds printing board text
+plain Holds printing board other text format names same is = record {
+  figures = None;
+  holds = tt;
+  needed = λ none. format;
+  text_is = is ∙ (ap (λ (b : Board). report_in Text (shown_by None) b.watch (window_of b) None printing.labels.items) same
+      ∙ (λ i. report_in (sym format i) (shown_by (sym names i)) board.watch (window_of board) None printing.labels.items));
+}
+
+-- a file for reports, and what was done to it
+pub out : (path : Option (List ℕ)) (own octets : List ℕ) (Holds : List ℕ → Type 0) (failure : Option Failure) (before after : Option (List AtHost)) → path ≡ Some own → octets ≡ own
+    → GoesOnBy (λ log. IsTried (IsFiled octets Holds) log failure) before after → GoesOnBy (λ log. IsOut path Holds log failure) before after
+out path own octets Holds failure before after is same done =
+    subst (λ (p : Option (List ℕ)). GoesOnBy (λ log. IsOut p Holds log failure) before after) (sym is)
+    (subst (λ (o : List ℕ). GoesOnBy (λ log. IsTried (IsFiled o Holds) log failure) before after) same done)
+
+-- a step that was tried, and the failure that is kept
+pub kept_of : (Step : List AtHost → Result Unit Failure → Type 0) (before same after failure : Option Failure) (start end : Option (List AtHost)) → same ≡ before
+    → after ≡ kept_after same failure → GoesOnBy (λ log. IsTried Step log failure) start end → GoesOnBy (λ log. IsKeptOf Step before log after) start end
+kept_of Step before same after failure start end is kept done = record {
+  more = done.more;
+  holds = record { failure = failure; tried = done.holds; kept = kept ∙ ap (λ (b : Option Failure). kept_after b failure) is };
+  on = done.on;
+}

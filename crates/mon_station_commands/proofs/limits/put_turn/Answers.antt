@@ -1,0 +1,5 @@
+use Rattle.std.proofs.Common.{append_assoc}
+use Rattle.mon_station_commands.proofs.limits.put_turn.Goals as goal
+
+pub returns : goal.returns
+returns c = simp append_assoc c.write.ensures.bytes

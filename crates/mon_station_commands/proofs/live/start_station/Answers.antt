@@ -1,0 +1,40 @@
+use Rattle.std.proofs.Common.{List, ℕ, length, refl, string_bytes, subst}
+use Rattle.std.specs.Prelude.{Some, Ok, Err}
+use Rattle.mon_console.specs.Shown.{shown_by}
+use Rattle.mon_host.specs.AtHost.{IsNoted}
+use Rattle.mon_host.specs.Log.{GoesOnBy}
+use Rattle.mon_station.specs.State.{state_of}
+use Rattle.mon_station_commands.specs.Telling.{start_line}
+use Rattle.mon_station_commands.proofs.Openings.{none_of, opened, unopened}
+use Rattle.mon_station_commands.proofs.live.start_station.Goals as goal
+
+pub returns-in_err-opened : goal.returns-in_err-opened
+returns-in_err-opened g c =
+    let t = c.args.transport in
+    unopened t.number c.args.place.at (string_bytes c.args.setup.settings.file) (length t.engines.items) (length t.peers.items)
+    (shown_by c.args.setup.reports.printing.names) _ (g.H.Host.log c.args.host.now) (none_of _ c.from_residual.result c.from_residual.ensures.0)
+
+pub returns-in_err-tell_raised : goal.returns-in_err-tell_raised
+returns-in_err-tell_raised g c =
+    let t = c.args.transport in
+    let at = c.args.place.at in
+    let start = g.H.Host.log c.args.host.now in
+    let said = g.H.Host.log c.tell_start.new.host in
+    let targets = length t.engines.items in
+    let peers = length t.peers.items in
+    let line = subst (λ (f : List ℕ). GoesOnBy (IsNoted (Some (start_line t.number at c.incarnation.result f targets peers))) start said) c.deref-2.ensures c.tell_start.ensures in
+    opened t.number at (string_bytes c.args.setup.settings.file) targets peers (shown_by c.args.setup.reports.printing.names) (state_of c.in_ok-opened.opened.station.life)
+    c.incarnation.result (Err c.in_err-tell_raised.field-0.0) _ start said (g.H.Host.log c.tell_raised.new.host) c.incarnation.ensures
+    (none_of _ c.from_residual-in_err-tell_raised.result c.from_residual-in_err-tell_raised.ensures.0) line c.in_err-tell_raised.ensures
+
+pub returns : goal.returns
+returns g c =
+    let t = c.args.transport in
+    let at = c.args.place.at in
+    let start = g.H.Host.log c.args.host.now in
+    let said = g.H.Host.log c.tell_start.new.host in
+    let targets = length t.engines.items in
+    let peers = length t.peers.items in
+    let line = subst (λ (f : List ℕ). GoesOnBy (IsNoted (Some (start_line t.number at c.incarnation.result f targets peers))) start said) c.deref-2.ensures c.tell_start.ensures in
+    opened t.number at (string_bytes c.args.setup.settings.file) targets peers (shown_by c.args.setup.reports.printing.names) (state_of c.in_ok-opened.opened.station.life)
+    c.incarnation.result (Ok c.in_ok-tell_raised.field-0) _ start said (g.H.Host.log c.tell_raised.new.host) c.incarnation.ensures refl line c.in_ok-tell_raised.ensures

@@ -1,0 +1,15 @@
+use Rattle.std.proofs.Common.{option_map}
+use Rattle.std.specs.Prelude.{Ok}
+use Rattle.mon_console.specs.Labelled.{IsLabelled}
+use Rattle.mon_console.specs.declared.printing.Printing.{Printing}
+use Rattle.mon_host.proofs.Promised.{then_follows}
+use Rattle.mon_settings.specs.declared.station.StationSettings.{StationSettings}
+use Rattle.mon_station_commands.specs.Saved.{IsSavedReport}
+use Rattle.mon_station_commands.proofs.opening.print_saved_report.Goals as goal
+
+pub returns : goal.returns
+returns g c =
+    let words = c.args.words in
+    then_follows (IsLabelled words.settings.now (option_map (λ l. l.now) words.labels) words.printed)
+    (λ (both : StationSettings × Printing). IsSavedReport both.0 both.1) (Ok (c.in_ok-settings.settings, c.in_ok-settings.printing)) c.print_saved.result
+    (g.H.Host.log c.args.host.now) (g.H.Host.log c.read_labelled_station.new.host) (g.H.Host.log c.print_saved.new.host) c.in_ok-settings.ensures c.print_saved.ensures

@@ -1,0 +1,80 @@
+use Rattle.std.proofs.Common.{◌∙◌, refl}
+use Rattle.mon_station_commands.proofs.Quiets.{quiet_on, still, time}
+use Rattle.mon_station_commands.proofs.pace.pause.Goals as goal
+
+pub loop-init : goal.loop-init
+loop-init g c = (still (g.H.Host.log c.args.host.now), refl, refl, refl)
+
+pub loop-preserved : goal.loop-preserved
+loop-preserved g c =
+    let start = g.H.Host.log c.args.host.now in
+    let before = g.H.Host.log c.loop.host in
+    let timed = g.H.Host.log c.now.new.host in
+    let end = g.H.Host.log c.run_span.new.host in
+    let inv = c.loop.invariant in (
+      quiet_on start timed end (quiet_on start before timed inv.0 (time before timed c.now.result c.now.ensures)) c.run_span.ensures.quiet,
+      c.run_span.ensures.printing ∙ inv.1,
+      c.run_span.ensures.out ∙ inv.2,
+      c.run_span.ensures.printed ∙ inv.3,
+    )
+
+pub returns-in_err-now-clause-quiet : goal.returns-in_err-now-clause-quiet
+returns-in_err-now-clause-quiet g c =
+    let start = g.H.Host.log c.args.host.now in
+    let before = g.H.Host.log c.loop.host in
+    let timed = g.H.Host.log c.now.new.host in
+    quiet_on start before timed c.loop.invariant.0 (time before timed c.now.result c.now.ensures)
+
+pub returns-in_err-now-clause-printing : goal.returns-in_err-now-clause-printing
+returns-in_err-now-clause-printing g c = c.loop.invariant.1
+
+pub returns-in_err-now-clause-out : goal.returns-in_err-now-clause-out
+returns-in_err-now-clause-out g c = c.loop.invariant.2
+
+pub returns-in_err-now-clause-printed : goal.returns-in_err-now-clause-printed
+returns-in_err-now-clause-printed g c = c.loop.invariant.3
+
+pub returns-then-left-eq0-clause-quiet : goal.returns-then-left-eq0-clause-quiet
+returns-then-left-eq0-clause-quiet g c =
+    let start = g.H.Host.log c.args.host.now in
+    let before = g.H.Host.log c.loop.host in
+    let timed = g.H.Host.log c.now.new.host in
+    quiet_on start before timed c.loop.invariant.0 (time before timed c.now.result c.now.ensures)
+
+pub returns-then-left-eq0-clause-printing : goal.returns-then-left-eq0-clause-printing
+returns-then-left-eq0-clause-printing g c = c.loop.invariant.1
+
+pub returns-then-left-eq0-clause-out : goal.returns-then-left-eq0-clause-out
+returns-then-left-eq0-clause-out g c = c.loop.invariant.2
+
+pub returns-then-left-eq0-clause-printed : goal.returns-then-left-eq0-clause-printed
+returns-then-left-eq0-clause-printed g c = c.loop.invariant.3
+
+pub returns-in_err-run_span-clause-quiet : goal.returns-in_err-run_span-clause-quiet
+returns-in_err-run_span-clause-quiet g c =
+    let start = g.H.Host.log c.args.host.now in
+    let before = g.H.Host.log c.loop.host in
+    let timed = g.H.Host.log c.now.new.host in
+    let end = g.H.Host.log c.run_span.new.host in
+    quiet_on start timed end (quiet_on start before timed c.loop.invariant.0 (time before timed c.now.result c.now.ensures)) c.run_span.ensures.quiet
+
+pub returns-in_err-run_span-clause-printing : goal.returns-in_err-run_span-clause-printing
+returns-in_err-run_span-clause-printing g c = c.run_span.ensures.printing ∙ c.loop.invariant.1
+
+pub returns-in_err-run_span-clause-out : goal.returns-in_err-run_span-clause-out
+returns-in_err-run_span-clause-out g c = c.run_span.ensures.out ∙ c.loop.invariant.2
+
+pub returns-in_err-run_span-clause-printed : goal.returns-in_err-run_span-clause-printed
+returns-in_err-run_span-clause-printed g c = c.run_span.ensures.printed ∙ c.loop.invariant.3
+
+pub returns-clause-quiet : goal.returns-clause-quiet
+returns-clause-quiet g c = c.loop.invariant.0
+
+pub returns-clause-printing : goal.returns-clause-printing
+returns-clause-printing g c = c.loop.invariant.1
+
+pub returns-clause-out : goal.returns-clause-out
+returns-clause-out g c = c.loop.invariant.2
+
+pub returns-clause-printed : goal.returns-clause-printed
+returns-clause-printed g c = c.loop.invariant.3

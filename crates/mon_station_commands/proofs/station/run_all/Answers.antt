@@ -1,0 +1,118 @@
+use Rattle.std.proofs.Common.{◌∙◌, inl, inr, option_map, refl, string_bytes, suc}
+use Rattle.mon_station_commands.proofs.Rounding.{all_run_as, none_yet, one_more, one_on, quieter, stopped, within, within_less, within_one}
+use Rattle.mon_station_commands.proofs.station.run_all.Goals as goal
+
+pub loop-number-init : goal.loop-number-init
+loop-number-init g c =
+    let every = c.args.timing.report_every in
+    let rounds = c.args.timing.rounds in
+    let printing = c.args.live.now.reports.printing in
+    let out = option_map string_bytes c.args.live.now.reports.out in
+    let first = c.args.live.now.unprinted in
+    let start = g.H.Host.log c.args.host.now in (
+      0,
+      refl,
+      inr refl,
+      none_yet every printing out first c.start_pace.new.live.unprinted start (g.H.Host.log c.start_pace.new.host) c.start_pace.ensures.printed c.start_pace.ensures.quiet,
+      c.start_pace.ensures.printing,
+      c.start_pace.ensures.out,
+    )
+
+pub loop-number-preserved : goal.loop-number-preserved
+loop-number-preserved g c =
+    let every = c.args.timing.report_every in
+    let rounds = c.args.timing.rounds in
+    let printing = c.args.live.now.reports.printing in
+    let out = option_map string_bytes c.args.live.now.reports.out in
+    let first = c.args.live.now.unprinted in
+    let start = g.H.Host.log c.args.host.now in
+    let inv = c.loop-number.invariant in
+    let n = inv.0 in
+    let before = g.H.Host.log c.loop-number.host in
+    let ran = g.H.Host.log c.run_round.new.host in
+    let told = g.H.Host.log c.print_due.new.host in
+    let end = g.H.Host.log c.wait_for_next.new.host in
+    let format = c.run_round.ensures.printing ∙ inv.4 in
+    let more = one_more every printing c.args.live.now.reports.out first n c.loop-number.number c.loop-number.live.reports.printing c.run_round.new.live.reports.printing
+    c.loop-number.live.reports.out c.run_round.new.live.unwritten c.loop-number.live.unprinted c.run_round.new.live.unprinted c.print_due.new.live.unprinted
+    c.wait_for_next.new.live.unprinted c.in_ok-run_round.field-0 start before ran told end inv.1 inv.4 inv.5 format c.run_round.ensures.printed c.wait_for_next.ensures.printed inv.3
+    c.in_ok-run_round.ensures.run c.print_due.ensures.run c.wait_for_next.ensures.quiet in (
+      suc n,
+      one_on n c.loop-number.number inv.1,
+      inl (within_one n c.loop-number.number rounds inv.1 c.loop-number-test.true),
+      more,
+      c.wait_for_next.ensures.printing ∙ (c.print_due.ensures.printing ∙ format),
+      c.wait_for_next.ensures.out ∙ (c.print_due.ensures.out ∙ (c.run_round.ensures.out ∙ inv.5)),
+    )
+
+pub returns-in_err-run_round-clause-run : goal.returns-in_err-run_round-clause-run
+returns-in_err-run_round-clause-run g c =
+    let every = c.args.timing.report_every in
+    let rounds = c.args.timing.rounds in
+    let printing = c.args.live.now.reports.printing in
+    let out = option_map string_bytes c.args.live.now.reports.out in
+    let first = c.args.live.now.unprinted in
+    let start = g.H.Host.log c.args.host.now in
+    let inv = c.loop-number.invariant in
+    let n = inv.0 in
+    let before = g.H.Host.log c.loop-number.host in
+    let ran = g.H.Host.log c.run_round.new.host in
+    stopped every printing out first rounds n c.run_round.new.live.unprinted c.run_round.new.live.unwritten c.from_residual-in_err-run_round.result start ran
+    c.from_residual-in_err-run_round.ensures.0 (within n c.loop-number.number rounds inv.1 c.loop-number-test.true)
+    (quieter every printing out first n c.loop-number.live.unprinted c.run_round.new.live.unprinted start before ran c.run_round.ensures.printed inv.3 c.in_err-run_round.ensures.run)
+
+pub returns-in_err-pace-2-clause-run : goal.returns-in_err-pace-2-clause-run
+returns-in_err-pace-2-clause-run g c =
+    let every = c.args.timing.report_every in
+    let rounds = c.args.timing.rounds in
+    let printing = c.args.live.now.reports.printing in
+    let out = option_map string_bytes c.args.live.now.reports.out in
+    let first = c.args.live.now.unprinted in
+    let start = g.H.Host.log c.args.host.now in
+    let inv = c.loop-number.invariant in
+    let n = inv.0 in
+    let before = g.H.Host.log c.loop-number.host in
+    let ran = g.H.Host.log c.run_round.new.host in
+    let told = g.H.Host.log c.print_due.new.host in
+    let end = g.H.Host.log c.wait_for_next.new.host in
+    let format = c.run_round.ensures.printing ∙ inv.4 in
+    let more = one_more every printing c.args.live.now.reports.out first n c.loop-number.number c.loop-number.live.reports.printing c.run_round.new.live.reports.printing
+    c.loop-number.live.reports.out c.run_round.new.live.unwritten c.loop-number.live.unprinted c.run_round.new.live.unprinted c.print_due.new.live.unprinted
+    c.wait_for_next.new.live.unprinted c.in_ok-run_round.field-0 start before ran told end inv.1 inv.4 inv.5 format c.run_round.ensures.printed c.wait_for_next.ensures.printed inv.3
+    c.in_ok-run_round.ensures.run c.print_due.ensures.run c.wait_for_next.ensures.quiet in
+    stopped every printing out first rounds (suc n) c.wait_for_next.new.live.unprinted c.wait_for_next.new.live.unwritten c.from_residual-in_err-pace-2.result start end
+    c.from_residual-in_err-pace-2.ensures.0 (within_less n c.loop-number.number rounds inv.1 c.loop-number-test.true) more
+
+pub returns-clause-run : goal.returns-clause-run
+returns-clause-run g c =
+    let every = c.args.timing.report_every in
+    let rounds = c.args.timing.rounds in
+    let printing = c.args.live.now.reports.printing in
+    let out = option_map string_bytes c.args.live.now.reports.out in
+    let first = c.args.live.now.unprinted in
+    let start = g.H.Host.log c.args.host.now in
+    let inv = c.loop-number.invariant in
+    let n = inv.0 in
+    let before = g.H.Host.log c.loop-number.host in
+    let end = g.H.Host.log c.run_last.new.host in
+    all_run_as every printing c.args.live.now.reports.out first rounds n c.loop-number.number c.loop-number.live.reports.printing c.loop-number.live.reports.out c.loop-number.live.unprinted
+    c.run_last.new.live.unprinted c.run_last.new.live.unwritten c.run_last.result start before end inv.1 inv.2 c.loop-number-test.false inv.4 inv.5 c.run_last.ensures.printed inv.3
+    c.run_last.ensures.run
+
+pub returns-in_err-run_round-clause-printing : goal.returns-in_err-run_round-clause-printing
+returns-in_err-run_round-clause-printing g c = c.run_round.ensures.printing ∙ c.loop-number.invariant.4
+
+pub returns-in_err-run_round-clause-out : goal.returns-in_err-run_round-clause-out
+returns-in_err-run_round-clause-out g c = c.run_round.ensures.out ∙ c.loop-number.invariant.5
+
+pub returns-in_err-pace-2-clause-printing : goal.returns-in_err-pace-2-clause-printing
+returns-in_err-pace-2-clause-printing g c = c.wait_for_next.ensures.printing ∙ (c.print_due.ensures.printing ∙ (c.run_round.ensures.printing ∙ c.loop-number.invariant.4))
+
+pub returns-clause-printing : goal.returns-clause-printing
+returns-clause-printing g c = c.run_last.ensures.printing ∙ c.loop-number.invariant.4
+
+pub returns-in_err-pace-2-clause-out : goal.returns-in_err-pace-2-clause-out
+returns-in_err-pace-2-clause-out g c = c.wait_for_next.ensures.out ∙ (c.print_due.ensures.out ∙ (c.run_round.ensures.out ∙ c.loop-number.invariant.5))
+
+pub returns-clause-out : goal.returns-clause-out
+returns-clause-out g c = c.run_last.ensures.out ∙ c.loop-number.invariant.5

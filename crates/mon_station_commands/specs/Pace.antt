@@ -1,0 +1,28 @@
+-- What a clock of the surroundings gives.
+use Rattle.std.specs.Prelude.{◌≡◌, ◌∷◌, ◌-◌, [], ℕ, List, Result, Ok, Err, codes}
+use Rattle.std.specs.Time.{instant_nanos, system_time_nanos}
+use Rattle.std.specs.declared.time.Instant.{Instant}
+use Rattle.std.specs.declared.time.SystemTime.{SystemTime}
+use Rattle.mon_console.specs.Failure.{IsOfStream}
+use Rattle.mon_console.specs.declared.failure.Failure.{Failure}
+use Rattle.mon_host.specs.AtHost.{AtHost, Dated, Timed, Undated, Untimed}
+use Rattle.mon_host.specs.Reason.{Why}
+use Rattle.mon_rounds.specs.Grid.{milliseconds_of}
+
+-- the time was told; or that failed, which the failure says
+abbrev pub IsTime : List AtHost → Result Instant Failure → Type 0
+IsTime log (Ok now) = log ≡ Timed now ∷ []
+IsTime log (Err failure) = (why : Why) × (log ≡ Untimed why ∷ []) × IsOfStream (codes "the clock") why failure
+
+-- the time was told, and this is how many milliseconds it is after another; or that failed
+abbrev pub IsPassed : (origin : Instant) → List AtHost → Result ℕ Failure → Type 0
+IsPassed origin log (Ok passed) = (now : Instant) × (log ≡ Timed now ∷ [])
+    × (passed ≡ milliseconds_of (instant_nanos now - instant_nanos origin))
+IsPassed origin log (Err failure) = IsTime log (Err failure)
+
+-- the time by the wall clock was told, and this is it in milliseconds since 1970; or that failed
+abbrev pub IsDate : List AtHost → Result ℕ Failure → Type 0
+IsDate log (Ok date) = (now : SystemTime) × (log ≡ Dated now ∷ [])
+    × (date ≡ milliseconds_of (system_time_nanos now))
+IsDate log (Err failure) = (why : Why) × (log ≡ Undated why ∷ [])
+    × IsOfStream (codes "the clock") why failure

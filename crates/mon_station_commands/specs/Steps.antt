@@ -1,0 +1,35 @@
+-- Steps of commands that have a log.
+use Rattle.std.specs.Prelude.{◌≡◌, List, [], ◌++◌, if◌then◌else◌, Option, Some, None, Result, Ok, Err}
+use Rattle.mon_console.specs.Failure.{IsMemory, IsTold, is_memory}
+use Rattle.mon_console.specs.declared.failure.Failure.{Failure}
+use Rattle.mon_host.specs.AtHost.{AtHost}
+
+-- a value of which this holds, or memory ran out
+abbrev pub OrMemory : {A : Type 0} → (A → Type 0) → Result A Failure → Type 0
+OrMemory Holds (Ok value) = Holds value
+OrMemory Holds (Err failure) = IsMemory failure
+
+-- what a step came to: its failure is said on standard error, and returned
+abbrev pub IsSaidOf : Result Unit Failure → List AtHost → Option Failure → Type 0
+IsSaidOf (Ok done) log failure = (log ≡ []) × (failure ≡ None)
+IsSaidOf (Err why) log failure = IsTold why log × (failure ≡ Some why)
+
+-- A step is done. If it fails, that is said on standard error.
+pub record IsTried (Step : List AtHost → Result Unit Failure → Type 0) (log : List AtHost) (failure : Option Failure) : Type 0 where
+  pub given : Result Unit Failure
+  pub begin : List AtHost
+  pub step : Step begin given
+  pub rest : List AtHost
+  pub said : IsSaidOf given rest failure
+  pub log_is : log ≡ begin ++ rest
+
+-- Which failure is kept: the new one, if there is one, except if memory ran out; or the one before.
+abbrev pub kept_after : Option Failure → Option Failure → Option Failure
+kept_after before None = before
+kept_after before (Some failure) = if is_memory failure.fault then before else Some failure
+
+-- A step is done. If it fails, that is said and kept, except if memory ran out.
+pub record IsKeptOf (Step : List AtHost → Result Unit Failure → Type 0) (before : Option Failure) (log : List AtHost) (after : Option Failure) : Type 0 where
+  pub failure : Option Failure
+  pub tried : IsTried Step log failure
+  pub kept : after ≡ kept_after before failure

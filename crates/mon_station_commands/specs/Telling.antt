@@ -1,0 +1,180 @@
+-- What a running station says on standard error.
+use Rattle.std.specs.Prelude.{◌≡◌, ◌⊎◌, ℕ, ◌+◌, ◌/◌, ◌%◌, List, [], ◌∷◌, ◌++◌, if◌then◌else◌, ◌==◌, nat_lt, IfSome, Option, Some, None, Result, Ok, Err, codes, decimal, map, min, take, OnOk}
+use Rattle.std.specs.List.{flat_map, fold}
+use Rattle.std.specs.declared.alloc.AllocError.{AllocError}
+use Rattle.std.specs.Net.Text.{socket_text}
+use Rattle.std.specs.declared.net.socket_addr.SocketAddr.{SocketAddr}
+use Rattle.mon_alarms.specs.declared.change.AlarmChange.{AlarmChange}
+use Rattle.mon_board.specs.Watch.{Watch}
+use Rattle.mon_board.specs.declared.board.Board.{Board}
+use Rattle.mon_formats.specs.Changes.{change_line}
+use Rattle.mon_host.specs.AtHost.{AtHost, Noted}
+use Rattle.mon_poller.specs.declared.fault.ResponseFault.TheVariants.{OtherEngine}
+use Rattle.mon_report.specs.Alarms.{raised_from}
+use Rattle.mon_rounds.specs.declared.reporting.Notice.{Notice}
+use Rattle.mon_rounds.specs.declared.reporting.Notice.TheVariants.{Astray, BadClaim, BadResponse, GaveUp, NoMemory, NotPolled, NotSaved, NotShared}
+use Rattle.mon_rounds.specs.declared.reporting.RoundReport.{RoundReport}
+use Rattle.mon_station.specs.State.{State}
+use Rattle.mon_station.specs.declared.fault.StationFault.{StationFault}
+use Rattle.mon_station.specs.declared.fault.StationFault.TheVariants.{Response}
+use Rattle.mon_udp.specs.Addr.{addr_text}
+use Rattle.mon_udp.specs.declared.addr.Addr.{Addr}
+
+-- Lines were sent to standard error, one after another: each has these octets, or some if its text
+-- is not stated, since a fault's words are in it.
+abbrev pub AreNoted : List (Option (List ℕ)) → List AtHost → Type 0
+AreNoted [] log = log ≡ []
+AreNoted (text ∷ texts) log = (octets : List ℕ) × (rest : List AtHost)
+    × IfSome text (λ t. octets ≡ t) × AreNoted texts rest × (log ≡ Noted octets ∷ rest)
+
+-- the line of a response that was refused; none if another engine answered, which is a change
+abbrev pub response_lines : StationFault → List (Option (List ℕ))
+response_lines (Response OtherEngine) = []
+response_lines fault = None ∷ []
+
+-- the line of a save that failed; if the disk did (2), the system's words may be in it
+abbrev pub unsaved_line : (round number : ℕ) → Option (List ℕ)
+unsaved_line round number = if number == 2 then None
+    else Some (codes "snmpmon: round " ++ decimal round ++ codes ": not saved, mon_disk " ++ decimal number ++ codes "\n")
+
+-- the line of a round in which memory ran out
+abbrev pub memory_line : ℕ → List ℕ
+memory_line round = codes "snmpmon: round " ++ decimal round ++ codes ": out of memory\n"
+
+-- The line of a notice, if it has one. What stays wrong is said once, as a change, and responses from
+-- addresses of no target are one line.
+abbrev pub notice_lines : ℕ → Notice → List (Option (List ℕ))
+notice_lines round (GaveUp target) = []
+notice_lines round (NotPolled target fault) = None ∷ []
+notice_lines round (BadResponse from fault) = response_lines fault
+notice_lines round (Astray from) = []
+notice_lines round (BadClaim from fault) = None ∷ []
+notice_lines round (NotShared peer fault) = None ∷ []
+notice_lines round (NotSaved number) = unsaved_line round number ∷ []
+notice_lines round (NoMemory event) = Some (memory_line round) ∷ []
+
+-- the count of responses from addresses of no target after a notice, as far as 32 bits go
+abbrev pub strays_after : ℕ → Notice → ℕ
+strays_after count (Astray from) = min (count + 1) 4294967295
+strays_after count other = count
+
+-- the last such address after a notice
+abbrev pub stray_after : Option Addr → Notice → Option Addr
+stray_after last (Astray from) = Some from
+stray_after last other = last
+
+-- how many responses of these notices came from addresses of no target
+abbrev pub strays_in : List Notice → ℕ
+strays_in notices = fold strays_after 0 notices
+
+-- the last of these addresses
+abbrev pub last_stray : List Notice → Option Addr
+last_stray notices = fold stray_after None notices
+
+-- the line of responses from addresses of no target, if there are any: how many, and the last one
+abbrev pub stray_lines : (round count : ℕ) → Option Addr → List (Option (List ℕ))
+stray_lines round count None = []
+stray_lines round count (Some last) = Some (codes "snmpmon: round " ++ decimal round ++ codes ": "
+    ++ decimal count ++ codes " responses came from addresses of no target, the last from "
+    ++ addr_text last ++ codes "\n") ∷ []
+
+-- the line of how often nothing could be received
+abbrev pub unreceived_lines : (round count : ℕ) → List (Option (List ℕ))
+unreceived_lines round count = if count == 0 then []
+    else (Some (codes "snmpmon: round " ++ decimal round ++ codes ": nothing could be received, " ++ decimal count ++ codes " times\n") ∷ [])
+
+-- the line of how many datagrams could not be sent
+abbrev pub unsent_lines : (round count : ℕ) → List (Option (List ℕ))
+unsent_lines round count = if count == 0 then []
+    else (Some (codes "snmpmon: round " ++ decimal round ++ codes ": " ++ decimal count ++ codes " datagrams could not be sent\n") ∷ [])
+
+-- what is said of a round: its notices in order, and what else went wrong
+abbrev pub round_lines : ℕ → RoundReport → List (Option (List ℕ))
+round_lines round report = flat_map (notice_lines round) report.notices.items
+    ++ stray_lines round (strays_in report.notices.items) (last_stray report.notices.items)
+    ++ unreceived_lines round report.source_faults ++ unsent_lines round report.send_faults
+
+-- the line of a text about a round; none if it is empty
+abbrev pub text_lines : ℕ → List ℕ → List (Option (List ℕ))
+text_lines round [] = []
+text_lines round (c ∷ cs) =
+    Some (codes "snmpmon: round " ++ decimal round ++ codes ": " ++ (c ∷ cs) ++ codes "\n") ∷ []
+
+-- a trouble that begins or ends: one line about the round, or none
+abbrev pub IsChangeSaid : ℕ → List AtHost → Result Unit AllocError → Type 0
+IsChangeSaid round log (Ok done) = (text : List ℕ) × AreNoted (text_lines round text) log
+IsChangeSaid round log (Err fault) = log ≡ []
+
+-- troubles that begin or end: for each a line about the round, or none
+abbrev pub AreChangesSaid : ℕ → List AtHost → Type 0
+AreChangesSaid round log =
+    (texts : List (List ℕ)) × AreNoted (flat_map (text_lines round) texts) log
+
+-- the line of an alarm
+abbrev pub alarm_note : (List ℕ → List ℕ) → Watch → AlarmChange → List ℕ
+alarm_note shown watch change = codes "snmpmon: " ++ change_line shown watch change ++ codes "\n"
+
+-- Some of these lines were sent to standard error, from the first one on; all, unless memory ran out.
+pub record AreSaid (lines : List (List ℕ)) (log : List AtHost) (result : Result Unit AllocError) : Type 0 where
+  pub many : ℕ
+  pub log_is : log ≡ map Noted (take many lines)
+  pub all : OnOk result (take many lines ≡ lines)
+
+-- the lines of the alarms of a board that are raised, in order
+abbrev pub raised_notes : (List ℕ → List ℕ) → Board → List (List ℕ)
+raised_notes shown board = map (alarm_note shown board.watch) (raised_from board 0 board.watch.rules)
+
+-- the line of where a station is and what it polls
+abbrev pub start_line : (number : ℕ) (at : SocketAddr) (incarnation : ℕ) (file : List ℕ) (targets peers : ℕ) → List ℕ
+start_line number at incarnation file targets peers =
+    codes "snmpmon: station " ++ decimal number ++ codes " at " ++ socket_text at
+    ++ codes ", incarnation " ++ decimal incarnation ++ codes ", file " ++ file
+    ++ codes ", targets: " ++ decimal targets ++ codes ", peers: " ++ decimal peers ++ codes "\n"
+
+-- the line of where a station serves HTTP
+abbrev pub http_line : SocketAddr → List ℕ
+http_line at = codes "snmpmon: HTTP at " ++ socket_text at ++ codes "\n"
+
+-- the line of a file that is shorter than a station's, and not empty
+abbrev pub short_lines : (path : List ℕ) (size : ℕ) → List (Option (List ℕ))
+short_lines path size = if size == 0 then []
+    else if nat_lt size 2097152 then
+    (Some (codes "snmpmon: " ++ path ++ codes " has " ++ decimal size
+    ++ codes " octets, so it is no station's file yet: it is laid out as one\n") ∷ [])
+    else []
+
+-- the same, if the size is known
+abbrev pub short_lines_of : {E : Type 0} → (path : List ℕ) → Result ℕ E → List (Option (List ℕ))
+short_lines_of path (Ok size) = short_lines path size
+short_lines_of path (Err fault) = []
+
+-- the line of how long it is to the first round: seconds and tenths
+abbrev pub first_line : ℕ → List ℕ
+first_line left = codes "snmpmon: the first round begins in " ++ decimal (left / 1000) ++ codes "."
+    ++ decimal (left % 1000 / 100) ++ codes " s\n"
+
+-- the line of a round that took longer than the interval, both in milliseconds
+abbrev pub outrun_lines : (round took interval : ℕ) → List (Option (List ℕ))
+outrun_lines round took interval = if nat_lt interval took then
+    (Some (codes "snmpmon: round " ++ decimal round ++ codes " took " ++ decimal (took / 1000) ++ codes "."
+    ++ decimal (took % 1000 / 100) ++ codes " s of " ++ decimal (interval / 1000) ++ codes " s\n") ∷ [])
+    else []
+
+-- the station that was opened, unless memory ran out for the line of an alarm
+abbrev pub opened_to : Result Unit AllocError → State → Option State
+opened_to (Ok done) state = Some state
+opened_to (Err fault) state = None
+
+-- A station was opened: the line of where it is was said, and then those of its raised alarms.
+pub record IsOpened (number : ℕ) (at : SocketAddr) (file : List ℕ) (targets peers : ℕ) (shown : List ℕ → List ℕ) (log : List AtHost) (found : Option State) : Type 0 where
+  pub state : State
+  pub told : Result Unit AllocError
+  pub rest : List AtHost
+  pub raised : AreSaid (raised_notes shown state.board) rest told
+  pub log_is : log ≡ Noted (start_line number at state.incarnation file targets peers) ∷ rest
+  pub found_is : found ≡ opened_to told state
+
+-- A station was opened, or it could not be, and nothing was said.
+abbrev pub IsOpening : (number : ℕ) (at : SocketAddr) (file : List ℕ) (targets peers : ℕ) → (shown : List ℕ → List ℕ) → List AtHost → Option State → Type 0
+IsOpening number at file targets peers shown log found =
+    ((log ≡ []) × (found ≡ None)) ⊎ IsOpened number at file targets peers shown log found

@@ -1,0 +1,55 @@
+-- A command, what comes before it, and the end of the program after it.
+use Rattle.std.proofs.Common.{◌≡◌, ◌∙◌, List, ℕ, [], ◌∷◌, ◌++◌, refl, sym, ap, subst, inr, codes}
+use Rattle.std.specs.Prelude.{Bool, true, IsErrAnd, Option, Some, Result, Ok, Err}
+use Rattle.mon_cli.specs.declared.meaning.Asked.{Asked}
+use Rattle.mon_console.specs.Failure.{IsMemory}
+use Rattle.mon_console.specs.Files.{IsPrint}
+use Rattle.mon_console.specs.declared.failure.Failure.{Failure}
+use Rattle.mon_host.proofs.Promised.{goes_on, quietly, then_fails, then_follows}
+use Rattle.mon_host.specs.AtHost.{AtHost, AtTerminal, IsNoted, Noted}
+use Rattle.mon_host.specs.Log.{GoesOn, GoesOnBy}
+use Rattle.mon_host.specs.Then.{Quietly}
+use Rattle.snmpmon.specs.Start.{Does, Hints, IsBefore, IsEnd, IsRun, IsRunFor, IsShown, IsSomeText, reads_input}
+
+pub ends : (What : List AtHost → Result Unit Failure → Type 0) (given : Result Unit Failure) (status : ℕ)
+    (before between after : Option (List AtHost)) → GoesOnBy (λ log. What log given) before between
+    → GoesOnBy (λ log. IsEnd given log status) between after → GoesOnBy (λ log. IsRun What log status) before after
+ends What given status before between after done end = record {
+  more = done.more ++ end.more;
+  holds = record { given = given; begin = done.more; done = done.holds; rest = end.more; end = end.holds; log_is = refl };
+  on = goes_on done.more end.more before between after done.on end.on;
+}
+
+pub runs : (asked : Asked) (reads : Bool) (given : Result Unit Failure) (status : ℕ) (start before between after : Option (List AtHost))
+    → reads ≡ reads_input asked → GoesOnBy (IsBefore reads) start before → GoesOnBy (λ log. Does asked log given) before between
+    → GoesOnBy (λ log. IsEnd given log status) between after → GoesOnBy (λ log. IsRunFor asked log status) start after
+runs asked reads given status start before between after is first done end =
+    let run = ends (Does asked) given status before between after done end in
+    record {
+      more = first.more ++ run.more;
+      holds = record {
+        begin = first.more;
+        before = subst (λ (b : Bool). IsBefore b first.more) is first.holds;
+        rest = run.more;
+        run = run.holds;
+        log_is = refl;
+      };
+      on = goes_on first.more run.more start before after first.on run.on;
+    }
+
+pub hints : (at : Bool) (before between after : Option (List AtHost)) → at ≡ true → GoesOn (AtTerminal at ∷ []) before between
+    → GoesOnBy (IsNoted (Some (codes "snmpmon: reads lines from this terminal until Ctrl-D; see snmpmon --help\n"))) between after
+    → GoesOnBy Hints before after
+hints at before between after is looked said =
+    let line = ap (λ (b : Bool). AtTerminal b ∷ said.more) is
+    ∙ ap (λ (rest : List AtHost). AtTerminal true ∷ rest) (said.holds.2 ∙ ap (λ (o : List ℕ). Noted o ∷ []) said.holds.1) in
+    record { more = AtTerminal at ∷ said.more; holds = inr line; on = goes_on (AtTerminal at ∷ []) said.more before between after looked said.on }
+
+pub unshown : (r : Result Unit Failure) (told : Option (List AtHost)) → IsErrAnd r IsMemory → GoesOnBy (λ log. IsShown log r) told told
+unshown (Ok done) told is = absurd is
+unshown (Err failure) told is = then_fails (Quietly IsSomeText) (λ text. IsPrint text) failure told told (quietly IsSomeText (Err failure) told is)
+
+pub shown : (octets : List ℕ) (r : Result Unit Failure) (before after : Option (List AtHost)) → GoesOnBy (λ log. IsPrint octets log r) before after
+    → GoesOnBy (λ log. IsShown log r) before after
+shown octets r before after done = then_follows (Quietly IsSomeText) (λ text. IsPrint text) (Ok octets) r before before after
+    (quietly IsSomeText (Ok octets) before tt) done

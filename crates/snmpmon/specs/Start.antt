@@ -1,0 +1,185 @@
+-- A whole run of the program: from its arguments to its exit status.
+use Rattle.std.specs.Prelude.{◌≡◌, ◌⊎◌, ℕ, List, [], ◌∷◌, ◌++◌, Bool, true, false, map, Option, Result, Ok, Err, codes, option_map}
+use Rattle.std.specs.declared.io.ErrorKind.{ErrorKind}
+use Rattle.std.specs.declared.io.ErrorKind.TheVariants as kinds
+use Rattle.clap.specs.Words.{Text, found_of, rows_of, subcommand_rows_of}
+use Rattle.clap.specs.Values.{kind_of}
+use Rattle.clap.specs.declared.parser.matches.ArgMatches.{ArgMatches}
+use Rattle.clap.specs.declared.error.Error.{Error}
+use Rattle.clap.specs.declared.error.kind.ErrorKind.{ErrorKind as UsageKind}
+use Rattle.clap.specs.declared.error.kind.ErrorKind.TheVariants as usage
+use Rattle.mon_cli.specs.Asked.{AsksFor, LacksInterval, LacksRounds, is_on}
+use Rattle.mon_cli.specs.Program.{IsParseOf, Reads}
+use Rattle.mon_cli.specs.declared.meaning.Asked.{Asked}
+use Rattle.mon_cli.specs.declared.meaning.Asked.TheVariants as asked
+use Rattle.mon_commands.specs.Agent.{IsAnswering}
+use Rattle.mon_commands.specs.Client.{IsAskingMany, IsGetting, IsGettingNext, IsSetting}
+use Rattle.mon_commands.specs.Mib.{IsMib}
+use Rattle.mon_commands.specs.Rehearsing.{IsRehearsing, IsSelfTest}
+use Rattle.mon_commands.specs.Replaying.{IsRecording}
+use Rattle.mon_console.specs.Failure.{IsMemory, IsTold}
+use Rattle.mon_console.specs.Files.{IsPrint}
+use Rattle.mon_console.specs.declared.failure.Failure.{Failure}
+use Rattle.mon_settings_commands.specs.Command.{AreSettings}
+use Rattle.mon_station_commands.specs.Saved.{IsReportCommand}
+use Rattle.mon_host.specs.AtHost.{AtHost, AtTerminal, Listed, Noted, Unlisted}
+use Rattle.mon_host.specs.Log.{GoesOn, GoesOnBy}
+use Rattle.mon_host.specs.Reason.{Why}
+use Rattle.mon_host.specs.Then.{Quietly, Then}
+
+-- what is said of a failure: nothing if the reader of what was printed went away
+abbrev pub IsToldIf : Bool → Failure → List AtHost → Type 0
+IsToldIf true failure log = log ≡ []
+IsToldIf false failure log = IsTold failure log
+
+-- the end of a command: status 0 and no word; or its failure is told, and status 1
+abbrev pub IsEnd : Result Unit Failure → List AtHost → ℕ → Type 0
+IsEnd (Ok done) log status = (log ≡ []) × (status ≡ 0)
+IsEnd (Err failure) log status = IsToldIf failure.is_cut failure log × (status ≡ 1)
+
+-- a command is run, and then the program ends
+pub record IsRun (Does : List AtHost → Result Unit Failure → Type 0) (log : List AtHost)
+    (status : ℕ) : Type 0 where
+  pub given : Result Unit Failure
+  pub begin : List AtHost
+  pub done : Does begin given
+  pub rest : List AtHost
+  pub end : IsEnd given rest status
+  pub log_is : log ≡ begin ++ rest
+
+-- the arguments are refused: one line is said, and status 2
+abbrev pub IsRefused : List ℕ → List AtHost → ℕ → Type 0
+IsRefused line log status = (log ≡ Noted line ∷ []) × (status ≡ 2)
+
+-- memory ran out before a command was run
+abbrev pub EndsForMemory : List AtHost → ℕ → Type 0
+EndsForMemory log status = (failure : Failure) × IsMemory failure × IsEnd (Err failure) log status
+
+-- the arguments could not be listed: memory ran out, or they are no text
+abbrev pub IsUnlisted : ErrorKind → List AtHost → ℕ → Type 0
+IsUnlisted kinds.OutOfMemory log status = EndsForMemory log status
+IsUnlisted _ log status =
+    IsRefused (codes "snmpmon: the command line is not UTF-8; see snmpmon --help\n") log status
+
+-- some text, or no memory for it
+abbrev pub IsSomeText : Result (List ℕ) Failure → Type 0
+IsSomeText (Ok text) = Unit {0}
+IsSomeText (Err failure) = IsMemory failure
+
+-- a text is printed
+abbrev pub IsShown : List AtHost → Result Unit Failure → Type 0
+IsShown = Then (Quietly IsSomeText) (λ text. IsPrint text)
+
+-- The arguments name no command: help is printed; or memory ran out; or some line is said of them.
+abbrev pub IsUsage : UsageKind → List AtHost → ℕ → Type 0
+IsUsage usage.OutOfMemory log status = EndsForMemory log status
+IsUsage usage.DisplayHelp log status = IsRun IsShown log status
+IsUsage usage.DisplayVersion log status = IsRun IsShown log status
+IsUsage _ log status = (line : List ℕ) × IsRefused line log status
+
+-- what a command does, of those that state it
+abbrev pub Does : Asked → List AtHost → Result Unit Failure → Type 0
+Does asked.Version log result = IsPrint (codes "snmpmon 0.1.0\n") log result
+Does (asked.Replay words) log result = IsRecording words log result
+Does (asked.Get request) log result = IsGetting request log result
+Does (asked.Next request) log result = IsGettingNext request log result
+Does (asked.Bulk words) log result = IsAskingMany words log result
+Does (asked.Set words) log result = IsSetting words log result
+Does (asked.Answer words) log result = IsAnswering words log result
+Does (asked.Mib words) log result =
+    IsMib words.file.now (map (λ f. f.now) words.modules.now) log result
+Does (asked.Settings words) log result = AreSettings words log result
+Does (asked.Report words) log result = IsReportCommand words.settings.now
+    (option_map (λ l. l.now) words.labels) words.printed log result
+Does asked.SelfTest log result = IsSelfTest log result
+Does (asked.Rehearse words) log result = IsRehearsing words log result
+Does _ log result = Unit {0}
+
+-- the command states what it does: three do not yet
+abbrev pub IsStated : Asked → Type 0
+IsStated (asked.Walk words) = ⊥
+IsStated (asked.Agent words) = ⊥
+IsStated (asked.Station words) = ⊥
+IsStated _ = Unit {0}
+
+-- whether a command reads lines from standard input
+abbrev pub reads_input : Asked → Bool
+reads_input (asked.Replay words) = true
+reads_input (asked.Answer words) = true
+reads_input (asked.Rehearse words) = true
+reads_input _ = false
+
+-- what is said at a terminal
+abbrev pub at_terminal : List ℕ
+at_terminal =
+    codes "snmpmon: reads lines from this terminal until Ctrl-D; see snmpmon --help\n"
+
+-- it is looked whether standard input is a terminal, and there one line says how lines end
+abbrev pub Hints : List AtHost → Type 0
+Hints log = (log ≡ AtTerminal false ∷ [])
+    ⊎ (log ≡ AtTerminal true ∷ Noted at_terminal ∷ [])
+
+-- what comes before a command
+abbrev pub IsBefore : Bool → List AtHost → Type 0
+IsBefore true log = Hints log
+IsBefore false log = log ≡ []
+
+-- the command is run; first comes the line at a terminal, if it reads from one
+pub record IsRunFor (asked : Asked) (log : List AtHost) (status : ℕ) : Type 0 where
+  pub begin : List AtHost
+  pub before : IsBefore (reads_input asked) begin
+  pub rest : List AtHost
+  pub run : IsRun (Does asked) rest status
+  pub log_is : log ≡ begin ++ rest
+
+-- what is said of a station without rounds
+abbrev pub no_rounds : List ℕ
+no_rounds =
+    codes "snmpmon: station wants --rounds ROUNDS or --check; see snmpmon station --help\n"
+
+-- what is said of a phase without an interval
+abbrev pub no_interval : List ℕ
+no_interval =
+    codes "snmpmon: station wants --interval SECONDS with --phase; see snmpmon station --help\n"
+
+-- The command is run, unless a station lacks something, which one line says.
+pub record IsStartOf (asked : Asked) (before after : Option (List AtHost)) (status : ℕ)
+    : Type 0 where
+  pub rounds : LacksRounds asked → GoesOnBy (λ log. IsRefused no_rounds log status) before after
+  pub interval : ¬ (LacksRounds asked) → LacksInterval asked
+      → GoesOnBy (λ log. IsRefused no_interval log status) before after
+  pub run : ¬ (LacksRounds asked) → ¬ (LacksInterval asked) → IsStated asked
+      → GoesOnBy (λ log. IsRunFor asked log status) before after
+
+-- what arguments ask for, by the rows that the command line makes of them
+pub record IsAskedBy (words : List Text) (a : Asked) : Type 0 where
+  pub matches : ArgMatches
+  pub parse : IsParseOf words matches
+  pub asks : AsksFor (is_on (codes "version") (rows_of (found_of matches)))
+      (rows_of (found_of matches)) (subcommand_rows_of matches) a
+
+-- what the program does with its arguments: it starts the command, or says why there is none
+abbrev pub IsStartWith : List Text → Option (List AtHost) → Option (List AtHost) → ℕ → Type 0
+IsStartWith words before after status =
+    ((a : Asked) × IsAskedBy words a × IsStartOf a before after status)
+    ⊎ ((e : Error) × Reads words (Err e)
+    × GoesOnBy (λ log. IsUsage (kind_of e) log status) before after)
+
+-- the arguments were listed, and the program does what they say
+pub record IsListedStart (before after : Option (List AtHost)) (status : ℕ) : Type 0 where
+  pub words : List Text
+  pub between : Option (List AtHost)
+  pub listed : GoesOn (Listed words ∷ []) before between
+  pub start : IsStartWith words between after status
+
+-- the arguments could not be listed, for this reason
+pub record IsUnlistedStart (before after : Option (List AtHost)) (status : ℕ) : Type 0 where
+  pub why : Why
+  pub between : Option (List AtHost)
+  pub unlisted : GoesOn (Unlisted why ∷ []) before between
+  pub end : GoesOnBy (λ log. IsUnlisted why.kind log status) between after
+
+-- a whole run
+abbrev pub IsStart : Option (List AtHost) → Option (List AtHost) → ℕ → Type 0
+IsStart before after status = IsListedStart before after status
+    ⊎ IsUnlistedStart before after status
