@@ -30,7 +30,7 @@ pub happened : {F : Type 0} → (before after : Log) (room : List ℕ) (r : Resu
 happened before after room r h heard told was is = told ∙ (ap (λ x. extended before (hearing room x)) was ∙ ap (λ x. extended before (heard_as room x)) is)
 
 -- a fault that a `?` made
-pub fault_is : {A : Type 0} → (r : Result A AppFault) (fault : AppFault) → IsErrAnd r (λ f. f ≡ fault) → r ≡ Err fault
+pub fault_is : {A F : Type 0} → (r : Result A F) (fault : F) → IsErrAnd r (λ f. f ≡ fault) → r ≡ Err fault
 fault_is (Ok a) fault is = absurd is
 fault_is (Err f) fault is = ap Err is
 

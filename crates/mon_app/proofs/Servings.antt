@@ -1,17 +1,14 @@
--- Serving step by step, over plain logs, for the loops.
-use Rattle.std.proofs.Common.{◌≡◌, ℕ, suc, ◌+◌, ◌<◌, arith, List, [], ◌∷◌, ◌++◌, take, refl, sym, ap, ◌∙◌, subst, inl, inr, length-append, append_assoc, add-one}
+-- Serving a datagram, step by step, over plain logs.
+use Rattle.std.proofs.Common.{◌≡◌, ℕ, ◌+◌, ◌<◌, arith, List, [], ◌∷◌, ◌++◌, take, refl, sym, ap, ◌∙◌, subst, inl, inr, length-append, append_assoc}
 use Rattle.std.specs.Prelude.{Option, None, Result, Ok, Err}
 use Rattle.std.proofs.lemmas.List.Elements.{All-append, All-cons, All-nil}
 use Rattle.mon_udp.specs.Counts.{failed_after, next_count}
 use Rattle.mon_udp.specs.Told.{extended}
 use Rattle.mon_udp.proofs.Promised.{extended_by_none, extended_on}
-use Rattle.mon_vacm.specs.Tables.{Lists}
-use Rattle.mon_mib.specs.declared.settings.Settings.{Settings}
 use Rattle.mon_app.specs.declared.fault.SocketFault.{SocketFault}
 use Rattle.mon_app.specs.declared.port.Received.{Received as AnyReceived}
-use Rattle.mon_app.specs.declared.reason.SocketReason.{SocketReason}
 use Rattle.mon_app.specs.AtPort.{AtPort, Received, Failed, Replied, Unsent, Happens, IsReplied, failures_in, receiving}
-use Rattle.mon_app.specs.Served.{AreFailures, AreServed, IsAwaited, IsCutOff, IsEnd, IsFailure, IsNext, IsTurn}
+use Rattle.mon_app.specs.Served.{AreFailures, IsAwaited, IsEnd, IsFailure, IsNext, IsTurn}
 
 -- what a port states
 abbrev pub Log : Type 0
@@ -110,34 +107,3 @@ turned Taken Then room received told_0 told_1 told_2 count_0 count_1 count_2 nex
       taken = taken sent then;
       log_is = ap (λ (l : List AtPort). l ++ sent) is.log_is ∙ append_assoc is.failed (Received (take received.len room) received.moment ∷ []) sent;
     })
-
--- what holds of one policy and settings holds of equal ones
-pub moved : (Holds : Lists → Settings → Type 0) (policy other : Lists) (settings others : Settings) → policy ≡ other → settings ≡ others → Holds policy settings
-    → Holds other others
-moved Holds policy other settings others same alike holds = subst (λ (s : Settings). Holds other s) alike (subst (λ (p : Lists). Holds p settings) same holds)
-
-module _ {S : Type 0} (Taken : S → S → List ℕ → ℕ → List AtPort → Type 0) where
-  -- one datagram more
-  pub one_served : (n : ℕ) (before between after : S) (told_0 told_1 told_2 : Log) (count_0 count_1 count_2 : ℕ)
-      → Happens (AreServed Taken n before between) told_0 told_1 count_0 count_1 → Happens (IsTurn (Taken between after)) told_1 told_2 count_1 count_2
-      → Happens (AreServed Taken (n + 1) before after) told_0 told_2 count_0 count_2
-  one_served n before between after told_0 told_1 told_2 count_0 count_1 count_2 earlier turn =
-      subst (λ (k : ℕ). Happens (AreServed Taken k before after) told_0 told_2 count_0 count_2) (sym (add-one n))
-      (joined (AreServed Taken n before between) (IsTurn (Taken between after)) (AreServed Taken (suc n) before after) told_0 told_1 told_2 count_0 count_1 count_2 earlier turn
-      (λ first last served one. (between, first, last, served, one, refl)))
-
-  -- the port failed too often
-  pub cut_off : (n count : ℕ) (before between after : S) (told_0 told_1 told_2 : Log) (count_0 count_1 count_2 : ℕ) (reason : SocketReason) → n < count
-      → Happens (AreServed Taken n before between) told_0 told_1 count_0 count_1 → Happens (λ log. (after ≡ between) × IsEnd reason log) told_1 told_2 count_1 count_2
-      → Happens (IsCutOff Taken count before after reason) told_0 told_2 count_0 count_2
-  cut_off n count before between after told_0 told_1 told_2 count_0 count_1 count_2 reason fewer earlier ends =
-      joined (AreServed Taken n before between) (λ log. (after ≡ between) × IsEnd reason log) (IsCutOff Taken count before after reason) told_0 told_1 told_2
-      count_0 count_1 count_2 earlier ends (λ first last served end. record {
-        taken = n;
-        fewer = fewer;
-        earlier = first;
-        served = subst (λ (s : S). AreServed Taken n before s first) (sym end.0) served;
-        last = last;
-        end = end.1;
-        log_is = refl;
-      })

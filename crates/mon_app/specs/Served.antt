@@ -1,6 +1,5 @@
--- What serving makes of an agent, and what happens at its port meanwhile (RFC 3416 section 4.2).
-use Rattle.std.specs.Prelude.{◌≡◌, ◌⊎◌, ℕ, zero, suc, ◌<◌, List, [], ◌∷◌, ◌++◌, length, take, All, Result, Ok, Err}
-use Rattle.mon_udp.specs.Counts.{next_count}
+-- What serving a datagram makes of an agent, and what happens at its port meanwhile (RFC 3416 section 4.2).
+use Rattle.std.specs.Prelude.{◌≡◌, ℕ, ◌<◌, List, [], ◌∷◌, ◌++◌, length, take, All, Result, Ok, Err}
 use Rattle.mon_vacm.specs.Tables.{Lists}
 use Rattle.mon_mib.specs.declared.change.Change.{Change}
 use Rattle.mon_mib.specs.declared.counters.Counters.{Counters}
@@ -14,11 +13,11 @@ use Rattle.mon_agent.specs.declared.reply.Reply.{Reply}
 use Rattle.mon_agent.specs.declared.reply.Reply.TheVariants.{Send, Silent}
 use Rattle.mon_agent.specs.Answer.{IsAnswer, raised_by}
 use Rattle.mon_agent.specs.State.{counters_of, device_of}
-use Rattle.mon_app.specs.declared.fault.AppFault.{AppFault}
-use Rattle.mon_app.specs.declared.fault.AppFault.TheVariants as faults
 use Rattle.mon_app.specs.declared.fault.SocketFault.{SocketFault}
 use Rattle.mon_app.specs.declared.port.Received.{Received as AnyReceived}
 use Rattle.mon_app.specs.declared.reason.SocketReason.{SocketReason}
+use Rattle.mon_app.specs.declared.serving.Served.{Served}
+use Rattle.mon_app.specs.declared.serving.Served.TheVariants.{Answered, Untaken}
 use Rattle.mon_app.specs.AtPort.{AtPort, Received, Failed, Replied, Unsent, IsReplied}
 
 -- a wait that failed
@@ -51,15 +50,14 @@ abbrev pub IsAwaited : List ℕ → List AtPort → Result AnyReceived SocketFau
 IsAwaited room log (Ok received) = IsNext room received log
 IsAwaited room log (Err fault) = IsEnd fault.reason log
 
--- An agent's counters and device, and how often it was reported that memory ran out for a datagram.
+-- An agent's counters and device.
 pub record Standing (D : Type 0) : Type 0 where
   pub counts : Counters
   pub device : D
-  pub untaken : ℕ
 
--- an agent's counters and device, if that was reported this often
-abbrev pub stands : {D : Type 0} → Agent D → ℕ → Standing D
-stands agent times = record { counts = counters_of agent; device = device_of agent; untaken = times }
+-- the counters and the device of an agent
+abbrev pub stands : {D : Type 0} → Agent D → Standing D
+stands agent = record { counts = counters_of agent; device = device_of agent }
 
 -- The agent's reply to a datagram that came at a moment, and what became of its counters and its
 -- device, of which devices of one kind hold, fail and refuse so.
@@ -68,7 +66,6 @@ pub record AnswersIt {D : Type 0} (held : D → Held) (failed : D → ℕ) (refu
   pub answer : IsAnswer held failed refuses policy (known_of settings (counted before.counts InPackets) (held before.device) moment) before.device
       after.device datagram reply
   pub counters : after.counts ≡ raised_by reply (counted before.counts InPackets)
-  pub untaken : after.untaken ≡ before.untaken
 
 -- what happens for a reply: it is sent, or could not be sent; nothing happens where the agent is silent
 abbrev pub IsSent : Reply → List AtPort → Type 0
@@ -82,17 +79,11 @@ pub record IsAnswered {S : Type 0} (Answers : S → S → List ℕ → ℕ → R
   pub answer : Answers before after datagram moment reply
   pub sent_for : IsSent reply sent
 
--- a datagram for which memory ran out: that was reported, nothing was sent, and the agent is as it
--- was
-pub record IsUntaken {D : Type 0} (before after : Standing D) (sent : List AtPort) : Type 0 where
-  pub counts : after.counts ≡ before.counts
-  pub device : after.device ≡ before.device
-  pub untaken : after.untaken ≡ next_count before.untaken
-  pub nothing : sent ≡ []
-
--- what becomes of an agent, and what happens at the port, if a datagram came at a moment
-abbrev pub Takes : {D : Type 0} → (Standing D → Standing D → List ℕ → ℕ → Reply → Type 0) → Standing D → Standing D → List ℕ → ℕ → List AtPort → Type 0
-Takes Answers before after datagram moment sent = IsAnswered Answers before after datagram moment sent ⊎ IsUntaken before after sent
+-- what becomes of an agent, and what happens at the port, if a datagram came at a moment: the agent
+-- answers it; or memory runs out, the agent is as it was, and nothing is sent
+abbrev pub Takes : {S : Type 0} → (S → S → List ℕ → ℕ → Reply → Type 0) → Served → S → S → List ℕ → ℕ → List AtPort → Type 0
+Takes Answers Answered before after datagram moment sent = IsAnswered Answers before after datagram moment sent
+Takes Answers Untaken before after datagram moment sent = (after ≡ before) × (sent ≡ [])
 
 -- after fewer than 16 failed waits a datagram came, of which this holds with what happened then
 pub record IsTurn (Taken : List ℕ → ℕ → List AtPort → Type 0) (log : List AtPort) : Type 0 where
@@ -107,31 +98,6 @@ pub record IsTurn (Taken : List ℕ → ℕ → List AtPort → Type 0) (log : L
   pub log_is : log ≡ failed ++ Received datagram moment ∷ sent
 
 -- what serving one datagram comes to
-abbrev pub IsServed : {S : Type 0} → (S → S → List ℕ → ℕ → List AtPort → Type 0) → S → S → List AtPort → Result Unit SocketFault → Type 0
-IsServed Taken before after log (Ok done) = IsTurn (Taken before after) log
-IsServed Taken before after log (Err fault) = (after ≡ before) × IsEnd fault.reason log
-
--- this many datagrams came, one after another
-abbrev pub AreServed : {S : Type 0} → (S → S → List ℕ → ℕ → List AtPort → Type 0) → ℕ → S → S → List AtPort → Type 0
-AreServed Taken zero before after log = (after ≡ before) × (log ≡ [])
-AreServed {S = S} Taken (suc n) before after log = (between : S) × (earlier : List AtPort) × (last : List AtPort) × AreServed Taken n before between earlier
-    × IsTurn (Taken between after) last × (log ≡ earlier ++ last)
-
--- fewer datagrams than this came; then 16 waits in a row failed
-pub record IsCutOff {S : Type 0} (Taken : S → S → List ℕ → ℕ → List AtPort → Type 0) (count : ℕ) (before after : S) (reason : SocketReason) (log : List AtPort)
-    : Type 0 where
-  pub taken : ℕ
-  pub fewer : taken < count
-  pub earlier : List AtPort
-  pub served : AreServed Taken taken before after earlier
-  pub last : List AtPort
-  pub end : IsEnd reason last
-  pub log_is : log ≡ earlier ++ last
-
--- What serving this many datagrams comes to, and what happened at the port: all came; or the port failed too often; or nothing
--- happened, since there was no memory to begin.
-abbrev pub IsServing : {S : Type 0} → (S → S → List ℕ → ℕ → List AtPort → Type 0) → ℕ → S → S → List AtPort → Result Unit AppFault → Type 0
-IsServing Taken count before after log (Ok done) = AreServed Taken count before after log
-IsServing Taken count before after log (Err (faults.SocketFault reason)) = IsCutOff Taken count before after reason log
-IsServing Taken count before after log (Err faults.OutOfMemory) = (after ≡ before) × (log ≡ [])
-IsServing Taken count before after log (Err other) = ⊥
+abbrev pub IsServed : {S : Type 0} → (S → S → List ℕ → ℕ → Reply → Type 0) → S → S → List AtPort → Result Served SocketFault → Type 0
+IsServed Answers before after log (Ok served) = IsTurn (Takes Answers served before after) log
+IsServed Answers before after log (Err fault) = (after ≡ before) × IsEnd fault.reason log

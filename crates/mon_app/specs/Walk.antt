@@ -1,13 +1,17 @@
--- What a walk asks and says, request by request.
+-- What a walk asks and prints, request by request.
 use Rattle.std.specs.Prelude.{◌≡◌, ◌≢◌, ◌<◌, ℕ, zero, suc, pos, List, [], ◌∷◌, ◌++◌, IsOk, Option, Some, None, Result, Ok, Err, ◌⊎◌}
 use Rattle.std.specs.Ordering.{nat_cmp}
 use Rattle.std.specs.Cmp.Lexicographic.{slice_cmp}
 use Rattle.std.specs.declared.cmp.Ordering.TheVariants.{Less}
+use Rattle.mon_host.specs.AtHost.{AtHost, Printed, Unprinted}
+use Rattle.mon_host.specs.Reason.{why}
 use Rattle.mon_oid.specs.Oid.{IsPrefix}
 use Rattle.mon_ber.specs.declared.value.Value.TheVariants.{EndOfMibView}
 use Rattle.mon_pdu.specs.declared.message.Binding.{Binding}
 use Rattle.mon_app.specs.declared.fault.AppFault.{AppFault}
 use Rattle.mon_app.specs.declared.fault.AppFault.TheVariants.{OutOfMemory, NotIncreasing}
+use Rattle.mon_app.specs.declared.fault.WalkFault.{WalkFault}
+use Rattle.mon_app.specs.declared.fault.WalkFault.TheVariants.{App, Output}
 use Rattle.mon_app.specs.declared.question.Asking.{Asking}
 use Rattle.mon_app.specs.declared.question.Asking.TheVariants.{GetNext, GetBulk}
 use Rattle.mon_app.specs.declared.walking.Step.{Step}
@@ -15,7 +19,7 @@ use Rattle.mon_app.specs.declared.walking.Step.TheVariants.{On, Past, Back}
 use Rattle.mon_app.specs.declared.walking.Stride.{Stride}
 use Rattle.mon_app.specs.declared.walking.Stride.TheVariants.{Next, Bulk}
 use Rattle.mon_app.specs.declared.walking.WalkPlan.{WalkPlan}
-use Rattle.mon_app.specs.AtWire.{AtWire}
+use Rattle.mon_app.specs.AtWire.{AtWire, socket_failures}
 use Rattle.mon_app.specs.Printed.{IsQuestionAnswered, binding_line}
 use Rattle.mon_app.specs.Question.{Asked}
 
@@ -46,69 +50,88 @@ IsWalkStep start last b On = IsUnderStart start b × Exceeds last b
 IsWalkStep start last b Past = IsPast start b
 IsWalkStep start last b Back = IsUnderStart start b × ¬ (Exceeds last b)
 
--- The line of a variable was said; or nothing, where memory ran out or what takes the lines refused it.
-abbrev pub IsSaid : {A : Type 0} → (AppFault → Type 0) → (List ℕ → List ℕ) → Binding → List ℕ → Result A AppFault → Type 0
-IsSaid Refuses show b said (Ok done) = said ≡ binding_line show b
-IsSaid Refuses show b said (Err fault) = (said ≡ []) × ((fault ≡ OutOfMemory) ⊎ Refuses fault)
+-- The line of a variable was printed, or that failed; or nothing was done, where memory ran out for the line.
+abbrev pub IsSaid : (List ℕ → List ℕ) → Binding → List AtHost → Result Unit WalkFault → Type 0
+IsSaid show b said (Ok done) = said ≡ Printed (binding_line show b) ∷ []
+IsSaid show b said (Err (App fault)) = (said ≡ []) × (fault ≡ OutOfMemory)
+IsSaid show b said (Err (Output reason)) = said ≡ Unprinted (binding_line show b) (why reason) ∷ []
 
--- The walk ends at this variable binding, whose line is not said: well where it is past the walk; else its name does not increase,
--- memory ran out, or what takes the lines refused its line.
-abbrev pub EndsAt : (AppFault → Type 0) → List ℕ → List ℕ → Binding → Result (Option (List ℕ)) AppFault → Type 0
-EndsAt Refuses start last b (Ok None) = IsWalkStep start last b Past
-EndsAt Refuses start last b (Ok (Some name)) = ⊥
-EndsAt Refuses start last b (Err fault) =
-    (IsWalkStep start last b Back × (fault ≡ NotIncreasing)) ⊎ (IsWalkStep start last b On × ((fault ≡ OutOfMemory) ⊎ Refuses fault))
+-- The line of a variable failed so.
+abbrev pub IsUnsaid : (List ℕ → List ℕ) → Binding → List AtHost → WalkFault → Type 0
+IsUnsaid show b said fault = let line : Result Unit WalkFault = Err fault in IsSaid show b said line
 
--- What is said of variable bindings that answer, in their order: a line for each up to the one at which the walk ends. Where it goes
--- on after all of them, the last one's name is given, if memory is left for it.
-abbrev pub IsAlong : (AppFault → Type 0) → (List ℕ → List ℕ) → List ℕ → List ℕ → List Binding → List ℕ → Result (Option (List ℕ)) AppFault → Type 0
-IsAlong Refuses show start last [] said result = (said ≡ []) × ((result ≡ Ok (Some last)) ⊎ (result ≡ Err OutOfMemory))
-IsAlong Refuses show start last (b ∷ bs) said result =
-    ((said ≡ []) × EndsAt Refuses start last b result)
-    ⊎ (IsWalkStep start last b On × ((rest : List ℕ) × (said ≡ binding_line show b ++ rest) × IsAlong Refuses show start b.name bs rest result))
+-- The walk ends at this variable binding: well where it is past the walk; else its name does not increase, or its line was not
+-- printed.
+abbrev pub EndsAt : (List ℕ → List ℕ) → List ℕ → List ℕ → Binding → List AtHost → Result (Option (List ℕ)) WalkFault → Type 0
+EndsAt show start last b said (Ok None) = (said ≡ []) × IsWalkStep start last b Past
+EndsAt show start last b said (Ok (Some name)) = ⊥
+EndsAt show start last b said (Err fault) =
+    ((said ≡ []) × IsWalkStep start last b Back × (fault ≡ App NotIncreasing)) ⊎ (IsWalkStep start last b On × IsUnsaid show b said fault)
+
+-- What is printed of variable bindings that answer, in their order: a line for each up to the one at which the walk ends. Where it
+-- goes on after all of them, the last one's name is given, if memory is left for it.
+abbrev pub IsAlong : (List ℕ → List ℕ) → List ℕ → List ℕ → List Binding → List AtHost → Result (Option (List ℕ)) WalkFault → Type 0
+IsAlong show start last [] said result = (said ≡ []) × ((result ≡ Ok (Some last)) ⊎ (result ≡ Err (App OutOfMemory)))
+IsAlong show start last (b ∷ bs) said result = EndsAt show start last b said result
+    ⊎ (IsWalkStep start last b On × ((rest : List AtHost) × (said ≡ Printed (binding_line show b) ∷ rest) × IsAlong show start b.name bs rest result))
 
 -- the same; an answer without a variable doesn't increase either
-abbrev pub EndsInLines : (AppFault → Type 0) → (List ℕ → List ℕ) → List ℕ → List ℕ → List Binding → List ℕ → Result (Option (List ℕ)) AppFault → Type 0
-EndsInLines Refuses show start last [] said result = (said ≡ []) × (result ≡ Err NotIncreasing)
-EndsInLines Refuses show start last (b ∷ bs) said result = IsAlong Refuses show start last (b ∷ bs) said result
+abbrev pub EndsInLines : (List ℕ → List ℕ) → List ℕ → List ℕ → List Binding → List AtHost → Result (Option (List ℕ)) WalkFault → Type 0
+EndsInLines show start last [] said result = (said ≡ []) × (result ≡ Err (App NotIncreasing))
+EndsInLines show start last (b ∷ bs) said result = IsAlong show start last (b ∷ bs) said result
 
--- the answer to a question, if there is one, is said; its fault is the turn's
-abbrev pub Follows : (AppFault → Type 0) → (List ℕ → List ℕ) → List ℕ → List ℕ → Result (List Binding) AppFault → List ℕ → Result (Option (List ℕ)) AppFault → Type 0
-Follows Refuses show start last (Ok found) said result = EndsInLines Refuses show start last found said result
-Follows Refuses show start last (Err fault) said result = (said ≡ []) × (result ≡ Err fault)
+-- the answer to a question, if there is one, is printed; its fault is the turn's
+abbrev pub Follows : (List ℕ → List ℕ) → List ℕ → List ℕ → Result (List Binding) AppFault → List AtHost → Result (Option (List ℕ)) WalkFault → Type 0
+Follows show start last (Ok found) said result = EndsInLines show start last found said result
+Follows show start last (Err fault) said result = (said ≡ []) × (result ≡ Err (App fault))
 
--- A turn of a walk: the question was answered so, this happened at the wire, and this was said. Where the walk goes on, the turn
+-- A turn of a walk: the question was answered so, this happened at the wire, and this was printed. Where the walk goes on, the turn
 -- gives the last name; where it ends, None.
-pub record IsTurn (Refuses : AppFault → Type 0) (show : List ℕ → List ℕ) (q : Asked) (start last said : List ℕ) (log : List AtWire) (result : Result (Option (List ℕ)) AppFault) : Type 0 where
+pub record IsTurn (show : List ℕ → List ℕ) (q : Asked) (start last : List ℕ) (said : List AtHost) (log : List AtWire)
+    (result : Result (Option (List ℕ)) WalkFault) : Type 0 where
   pub answer : Result (List Binding) AppFault
   pub answered : IsQuestionAnswered q log answer
-  pub follows : Follows Refuses show start last answer said result
+  pub follows : Follows show start last answer said result
 
--- After this many turns, by which the walk went on: what happened at the wire, what was said, and the last name. The first question
+-- After this many turns, by which the walk went on: what happened at the wire, what was printed, and the last name. The first question
 -- is for what comes after the start, and each other one for what comes after the last name that was answered.
-abbrev pub HasWalked : (AppFault → Type 0) → (List ℕ → List ℕ) → (ℕ → List ℕ → Asked) → List ℕ → ℕ → List AtWire → List ℕ → List ℕ → Type 0
-HasWalked Refuses show after start zero log said last = (log ≡ []) × (said ≡ []) × (last ≡ start)
-HasWalked Refuses show after start (suc n) log said last =
-    (earlier : List AtWire) × (others : List AtWire) × (lines : List ℕ) × (more : List ℕ) × (name : List ℕ) × HasWalked Refuses show after start n earlier lines name
-    × IsTurn Refuses show (after n name) start name more others (Ok (Some last)) × (log ≡ earlier ++ others) × (said ≡ lines ++ more)
+abbrev pub HasWalked : (List ℕ → List ℕ) → (ℕ → List ℕ → Asked) → List ℕ → ℕ → List AtWire → List AtHost → List ℕ → Type 0
+HasWalked show after start zero log said last = (log ≡ []) × (said ≡ []) × (last ≡ start)
+HasWalked show after start (suc n) log said last =
+    (earlier : List AtWire) × (others : List AtWire) × (lines : List AtHost) × (more : List AtHost) × (name : List ℕ) × HasWalked show after start n earlier lines name
+    × IsTurn show (after n name) start name more others (Ok (Some last)) × (log ≡ earlier ++ others) × (said ≡ lines ++ more)
 
 -- a walk's answer as that of its last turn
-abbrev pub last_answer : {A : Type 0} → Result A AppFault → Result (Option (List ℕ)) AppFault
+abbrev pub last_answer : {A : Type 0} → Result A WalkFault → Result (Option (List ℕ)) WalkFault
 last_answer (Ok done) = Ok None
 last_answer (Err fault) = Err fault
 
 -- A whole walk: turns by which it went on, and then a turn that ends it; or 65536 turns. It may run out of memory before its first
 -- turn.
-pub record IsWalk {A : Type 0} (Refuses : AppFault → Type 0) (show : List ℕ → List ℕ) (after : ℕ → List ℕ → Asked) (start : List ℕ) (log : List AtWire) (said : List ℕ) (result : Result A AppFault) : Type 0 where
+pub record IsWalk {A : Type 0} (show : List ℕ → List ℕ) (after : ℕ → List ℕ → Asked) (start : List ℕ) (log : List AtWire)
+    (said : List AtHost) (result : Result A WalkFault) : Type 0 where
   pub turns : ℕ
   pub earlier : List AtWire
-  pub lines : List ℕ
+  pub lines : List AtHost
   pub last : List ℕ
-  pub walked : HasWalked Refuses show after start turns earlier lines last
+  pub walked : HasWalked show after start turns earlier lines last
   pub others : List AtWire
-  pub more : List ℕ
+  pub more : List AtHost
   pub log_is : log ≡ earlier ++ others
   pub said_is : said ≡ lines ++ more
-  pub ended : ((turns < 65536) × IsTurn Refuses show (after turns last) start last more others (last_answer result))
+  pub ended : ((turns < 65536) × IsTurn show (after turns last) start last more others (last_answer result))
       ⊎ (((turns ≡ 65536) × (others ≡ []) × (more ≡ []) × IsOk result)
-      ⊎ ((log ≡ []) × (said ≡ []) × (result ≡ Err OutOfMemory)))
+      ⊎ ((log ≡ []) × (said ≡ []) × (result ≡ Err (App OutOfMemory))))
+
+-- a fault of a walk that is of no socket: a name does not increase, memory ran out, or a line could not be printed
+abbrev pub IsOfLines : WalkFault → Type 0
+IsOfLines (App NotIncreasing) = Unit {0}
+IsOfLines (App OutOfMemory) = Unit {0}
+IsOfLines (App other) = ⊥
+IsOfLines (Output reason) = Unit {0}
+
+-- a wire's count of failures after a walk, which ends with a socket's fault exactly where the socket failed
+abbrev pub walk_failures : {A : Type 0} → Result A WalkFault → ℕ → ℕ
+walk_failures (Ok given) count = count
+walk_failures (Err (App fault)) count = let asked : Result Unit AppFault = Err fault in socket_failures asked count
+walk_failures (Err (Output reason)) count = count

@@ -4,9 +4,11 @@ ghost use Rattle.std.specs.Prelude.{◌≡◌};
 ghost use Rattle.mon_app.specs.AppFault.{number_of, name_of, of_stream, of_message};
 ghost use Rattle.std.specs.IoError.{error_kind};
 ghost use Rattle.mon_app.specs.declared.fault.AppFault.TheVariants.{OutOfMemory, SocketFault as FaultOfSocket};
+ghost use Rattle.mon_app.specs.declared.fault.WalkFault.TheVariants.{App};
 
 use crate::reason::SocketReason;
 use mon_agent::AgentFault;
+use mon_host::Reason;
 use mon_pdu::PduFault;
 use std::alloc::AllocError;
 use std::io;
@@ -70,6 +72,31 @@ impl AppFault {
             AppFault::AgentStatus { .. } => "AgentStatus",
             AppFault::BadText => "BadText",
         }
+    }
+}
+
+/// Why a walk ended before its end.
+#[derive(Debug, Drop)]
+pub enum WalkFault {
+    /// A fault that a command fails with.
+    App(AppFault),
+    /// A line could not be printed, for this reason of the system's.
+    Output(Reason),
+}
+
+impl From<AppFault> for WalkFault {
+    ghost from_gives = { λ fault e. e ≡ App fault };
+
+    fn from(fault: AppFault) -> WalkFault {
+        WalkFault::App(fault)
+    }
+}
+
+impl From<AllocError> for WalkFault {
+    ghost from_gives = { λ _ e. e ≡ App OutOfMemory };
+
+    fn from(_e: AllocError) -> WalkFault {
+        WalkFault::App(AppFault::OutOfMemory)
     }
 }
 

@@ -1,65 +1,45 @@
-//! Serving an agent at a port.
+//! Serving an agent at a port, datagram by datagram.
 
 ghost use Rattle.std.specs.Prelude.{◌≡◌, ◌≤◌, IfOk, length};
 ghost use Rattle.mon_agent.specs.State.{policy_of, settings_of};
 ghost use Rattle.mon_app.specs.AtPort.{Happens};
-ghost use Rattle.mon_app.specs.Served.{AnswersIt, IsAwaited, IsServed, IsServing, Takes, stands};
+ghost use Rattle.mon_app.specs.Served.{AnswersIt, IsAwaited, IsServed, stands};
 
-use crate::fault::{AppFault, SocketFault};
+use crate::fault::SocketFault;
 use crate::port::{Port, Received};
-use crate::untaken::Untaken;
 use mon_agent::{Agent, Reply};
 use mon_mib::Device;
-use mon_udp::datagram_buffer;
 use std::alloc::Global;
 
 /// How many failed waits in a row are passed over; the next one that fails ends the serving.
 const PASSED_OVER: u8 = 15;
 
-/// Serves this many datagrams: sends the agent's reply to where each came from, or nothing where
-/// the agent is silent. A reply that cannot be sent is lost. If memory runs out for a datagram that
-/// is reported, and the agent stays as it was.
-///
-/// # Errors
-/// `SocketFault` if 16 waits in a row failed, with the reason of the last; `OutOfMemory` if there
-/// was no memory to begin.
-pub fn serve<P: Port, D: Device + Drop, U: Untaken>(
-    alloc: Global,
-    port: &mut P,
-    agent: &mut Agent<D>,
-    count: u32,
-    untaken: &mut U,
-) -> Result<(), AppFault>
-    // Each datagram is answered as the agent was then; what was sent, what failed and what was
-    // reported is known.
-    ensures served { Happens (λ log. IsServing (Takes (AnswersIt D.held D.failed D.refuses (policy_of agent.old) (settings_of agent.old))) count
-        (stands agent.old (U.times untaken.old)) (stands agent.new (U.times untaken.new)) log result)
-        (P.told port.old) (P.told port.new) (P.failures port.old) (P.failures port.new) }
-    // The agent's policy and settings stay.
-    ensures policy { policy_of agent.new ≡ policy_of agent.old }
-    ensures settings { settings_of agent.new ≡ settings_of agent.old }
-{
-    let mut room = datagram_buffer(alloc)?;
-    for _ in 0..count {
-        serve_one(alloc, port, agent, room.as_mut_slice(), untaken)?;
-    }
-    Ok(())
+/// What became of a datagram that an agent was served.
+#[derive(Clone, Copy, Debug, PartialEq, Eq)]
+pub enum Served {
+    /// The agent answered it, or is silent.
+    Answered,
+    /// Memory ran out for it, and the agent is as it was.
+    Untaken,
 }
 
-/// Serves the next datagram.
+/// Serves an agent the next datagram, which is put into the buffer: sends its reply to where the
+/// datagram came from, or nothing where the agent is silent. A reply that cannot be sent is lost.
 ///
 /// # Errors
-/// `SocketFault` where 16 waits in a row failed; the agent is as it was.
-fn serve_one<P: Port, D: Device + Drop, U: Untaken>(
+/// `SocketFault` if 16 waits in a row failed, with the reason of the last; the agent is as it was.
+pub fn serve_one<P: Port, D: Device + Drop>(
     alloc: Global,
     port: &mut P,
     agent: &mut Agent<D>,
     room: &mut [u8],
-    untaken: &mut U,
-) -> Result<(), SocketFault>
-    ensures served { Happens (λ log. IsServed (Takes (AnswersIt D.held D.failed D.refuses (policy_of agent.old) (settings_of agent.old)))
-        (stands agent.old (U.times untaken.old)) (stands agent.new (U.times untaken.new)) log result)
+) -> Result<Served, SocketFault>
+    // The datagram is answered as the agent was then; what was sent and what failed is known.
+    ensures served { Happens (λ log. IsServed
+        (AnswersIt D.held D.failed D.refuses (policy_of agent.old) (settings_of agent.old))
+        (stands agent.old) (stands agent.new) log result)
         (P.told port.old) (P.told port.new) (P.failures port.old) (P.failures port.new) }
+    // The agent's policy and settings stay.
     ensures policy { policy_of agent.new ≡ policy_of agent.old }
     ensures settings { settings_of agent.new ≡ settings_of agent.old }
 {
@@ -67,13 +47,10 @@ fn serve_one<P: Port, D: Device + Drop, U: Untaken>(
     match agent.answer(alloc, &room[..received.len], received.moment) {
         Ok(Reply::Send(octets)) => {
             port.reply(&octets);
-            Ok(())
+            Ok(Served::Answered)
         }
-        Ok(Reply::Silent(_)) => Ok(()),
-        Err(_) => {
-            untaken.tell();
-            Ok(())
-        }
+        Ok(Reply::Silent(_)) => Ok(Served::Answered),
+        Err(_) => Ok(Served::Untaken),
     }
 }
 

@@ -1,20 +1,19 @@
 //! Walking through the variables under a name.
 
-ghost use Rattle.std.specs.Prelude.{◌≡◌, ◌<◌, ◌↔◌, ◌⊎◌, IfErr, IsTrue, OnOk};
+ghost use Rattle.std.specs.Prelude.{◌≡◌, ◌<◌, ◌↔◌, IfErr, IsTrue};
 ghost use Rattle.mon_udp.specs.Told.{GoesOnBy};
+ghost use Rattle.mon_host.specs.Log.{GoesOnBy as HostGoesOnBy};
 ghost use Rattle.mon_app.specs.AtWire.{socket_failures};
-ghost use Rattle.mon_app.specs.AppFault.{IsOfStream};
-ghost use Rattle.mon_app.specs.declared.fault.AppFault.TheVariants.{NotIncreasing};
 ghost use Rattle.mon_app.specs.Printed.{IsQuestionAnswered};
-ghost use Rattle.mon_app.specs.Walk.{EndsInLines, IsAlong, IsSaid, IsWalkStep, IsTurn, IsWalk, asking_by, question_after};
+ghost use Rattle.mon_app.specs.Walk.{EndsInLines, IsAlong, IsOfLines, IsSaid, IsWalkStep, IsTurn, IsWalk, asking_by, question_after, walk_failures};
 
 use crate::client::answers;
-use crate::fault::AppFault;
+use crate::fault::{AppFault, WalkFault};
 use crate::printed::put_binding;
 use crate::question::{Asking, Question, Repeats};
-use crate::sink::LineSink;
 use crate::wire::Wire;
 use mon_ber::Value;
+use mon_host::Host;
 use mon_oid::Oid;
 use mon_pdu::{Binding, Bindings};
 use mon_smi::NameTexts;
@@ -71,25 +70,23 @@ struct Place<'a> {
     last: &'a Oid,
 }
 
-/// Asks an agent for what comes after the start, then for what comes after that, and so on, and puts a line for each variable
-/// as soon as it is answered. It ends at the first name that is not under the start, at endOfMibView, or after 65536 requests.
-/// Names are printed as `names` has it, also those that are values.
+/// Asks an agent for what comes after the start, then for what comes after that, and so on, and prints a line for each
+/// variable as soon as it is answered. It ends at the first name that is not under the start, at endOfMibView, or after
+/// 65536 requests. Names are printed as `names` has it, also those that are values.
 ///
 /// # Errors
-/// `NotIncreasing` where the agent answers with a name that does not increase, or with no variable at all; the fault with
-/// which `lines` refuses a line; else as `answer_text`. The walk ends at once, and the lines before were put.
-pub fn walk<W: Wire, S: NameTexts, L: LineSink>(
+/// `NotIncreasing` where the agent answers with a name that does not increase, or with no variable at all; `Output` where a
+/// line could not be printed; else as `answer_text`. The walk ends at once, and the lines before were printed.
+pub fn walk<W: Wire, S: NameTexts, H: Host>(
     alloc: Global,
+    host: &mut H,
     wire: &mut W,
     asked: &WalkPlan<'_>,
     names: &S,
-    lines: &mut L,
-) -> Result<(), AppFault>
-    requires { L.is_ready lines.old }
-    ensures walk { GoesOnBy (λ log. GoesOnBy (λ said. IsWalk L.refuses (S.shown names.now) (question_after asked.now) asked.now.start.now log said result) (L.told lines.old) (L.told lines.new))
-        (W.told wire.old) (W.told wire.new) }
-    ensures failures { W.failures wire.new ≡ socket_failures result (W.failures wire.old) }
-    ensures ready { OnOk result (L.is_ready lines.new) }
+) -> Result<(), WalkFault>
+    ensures walk { GoesOnBy (λ log. HostGoesOnBy (λ said. IsWalk (S.shown names.now) (question_after asked.now)
+        asked.now.start.now log said result) (H.log host.old) (H.log host.new)) (W.told wire.old) (W.told wire.new) }
+    ensures failures { W.failures wire.new ≡ walk_failures result (W.failures wire.old) }
 {
     let mut last = asked.start.try_clone(alloc)?;
     for request_id in 0..REQUESTS {
@@ -98,7 +95,7 @@ pub fn walk<W: Wire, S: NameTexts, L: LineSink>(
             last: &last,
             request_id,
         };
-        match walk_on(alloc, wire, &turn, names, lines)? {
+        match walk_on(alloc, host, wire, &turn, names)? {
             Some(name) => last = name,
             None => return Ok(()),
         }
@@ -106,28 +103,27 @@ pub fn walk<W: Wire, S: NameTexts, L: LineSink>(
     Ok(())
 }
 
-/// Puts the lines of what comes after the last name, and returns the name of the last of them, or
+/// Prints the lines of what comes after the last name, and returns the name of the last of them, or
 /// None if the walk is at its end.
-fn walk_on<W: Wire, S: NameTexts, L: LineSink>(
+fn walk_on<W: Wire, S: NameTexts, H: Host>(
     alloc: Global,
+    host: &mut H,
     wire: &mut W,
     turn: &Turn<'_>,
     names: &S,
-    lines: &mut L,
-) -> Result<Option<Oid>, AppFault>
+) -> Result<Option<Oid>, WalkFault>
     requires few { turn.now.request_id < 65536 }
-    requires ready { L.is_ready lines.old }
-    ensures turn { GoesOnBy (λ log. GoesOnBy (λ said. IsTurn L.refuses (S.shown names.now) (question_after turn.now.asked turn.now.request_id turn.now.last.now) turn.now.asked.start.now turn.now.last.now said log result)
-        (L.told lines.old) (L.told lines.new)) (W.told wire.old) (W.told wire.new) }
-    ensures failures { W.failures wire.new ≡ socket_failures result (W.failures wire.old) }
-    ensures ready { OnOk result (L.is_ready lines.new) }
+    ensures turn { GoesOnBy (λ log. HostGoesOnBy (λ said. IsTurn (S.shown names.now)
+        (question_after turn.now.asked turn.now.request_id turn.now.last.now) turn.now.asked.start.now turn.now.last.now
+        said log result) (H.log host.old) (H.log host.new)) (W.told wire.old) (W.told wire.new) }
+    ensures failures { W.failures wire.new ≡ walk_failures result (W.failures wire.old) }
 {
     let found = after(alloc, wire, turn)?;
     let at = Place {
         start: turn.asked.start,
         last: turn.last,
     };
-    put_found(alloc, at, found.as_slice(), names, lines)
+    print_found(alloc, host, at, found.as_slice(), names)
 }
 
 /// Asks for what comes after the last name.
@@ -145,67 +141,66 @@ fn after<W: Wire>(alloc: Global, wire: &mut W, turn: &Turn<'_>) -> Result<Bindin
     answers(alloc, wire, &question)
 }
 
-/// Puts the lines of the variable bindings of an answer that the walk goes on by, and returns the
+/// Prints the lines of the variable bindings of an answer that the walk goes on by, and returns the
 /// name of the last one, or None if the walk is at its end.
-fn put_found<S: NameTexts, L: LineSink>(
+fn print_found<S: NameTexts, H: Host>(
     alloc: Global,
+    host: &mut H,
     at: Place<'_>,
     found: &[Binding],
     names: &S,
-    lines: &mut L,
-) -> Result<Option<Oid>, AppFault>
-    requires { L.is_ready lines.old }
-    ensures lines { GoesOnBy (λ said. EndsInLines L.refuses (S.shown names.now) at.entry.start.now at.entry.last.now found.now said result) (L.told lines.old) (L.told lines.new) }
-    ensures fault { IfErr result (λ fault. (fault ≡ NotIncreasing) ⊎ IsOfStream fault) }
-    ensures ready { OnOk result (L.is_ready lines.new) }
+) -> Result<Option<Oid>, WalkFault>
+    ensures lines { HostGoesOnBy (λ said. EndsInLines (S.shown names.now) at.entry.start.now at.entry.last.now
+        found.now said result) (H.log host.old) (H.log host.new) }
+    ensures fault { IfErr result IsOfLines }
 {
     if found.is_empty() {
-        return Err(AppFault::NotIncreasing);
+        return Err(WalkFault::App(AppFault::NotIncreasing));
     }
-    put_lines(alloc, at, found, names, lines)
+    print_lines(alloc, host, at, found, names)
 }
 
-/// Puts the lines of the variable bindings that the walk goes on by, and returns the name of the
+/// Prints the lines of the variable bindings that the walk goes on by, and returns the name of the
 /// last one, or None if the walk is at its end.
-fn put_lines<S: NameTexts, L: LineSink>(
+fn print_lines<S: NameTexts, H: Host>(
     alloc: Global,
+    host: &mut H,
     at: Place<'_>,
     found: &[Binding],
     names: &S,
-    lines: &mut L,
-) -> Result<Option<Oid>, AppFault>
-    requires { L.is_ready lines.old }
-    ensures lines { GoesOnBy (λ said. IsAlong L.refuses (S.shown names.now) at.entry.start.now at.entry.last.now found.now said result) (L.told lines.old) (L.told lines.new) }
-    ensures fault { IfErr result (λ fault. (fault ≡ NotIncreasing) ⊎ IsOfStream fault) }
-    ensures ready { OnOk result (L.is_ready lines.new) }
+) -> Result<Option<Oid>, WalkFault>
+    ensures lines { HostGoesOnBy (λ said. IsAlong (S.shown names.now) at.entry.start.now at.entry.last.now
+        found.now said result) (H.log host.old) (H.log host.new) }
+    ensures fault { IfErr result IsOfLines }
 {
     let Place { start, mut last } = at;
     for binding in found {
         match step_of(start, last, binding) {
             Step::Past => return Ok(None),
-            Step::Back => return Err(AppFault::NotIncreasing),
-            Step::On => put_line_of(alloc, binding, names, lines)?,
+            Step::Back => return Err(WalkFault::App(AppFault::NotIncreasing)),
+            Step::On => print_line(alloc, host, binding, names)?,
         }
         last = &binding.name;
     }
     Ok(Some(last.try_clone(alloc)?))
 }
 
-/// Puts the line of a variable binding.
-fn put_line_of<S: NameTexts, L: LineSink>(
+/// Prints the line of a variable binding.
+fn print_line<S: NameTexts, H: Host>(
     alloc: Global,
+    host: &mut H,
     found: &Binding,
     names: &S,
-    lines: &mut L,
-) -> Result<(), AppFault>
-    requires { L.is_ready lines.old }
-    ensures said { GoesOnBy (λ said. IsSaid L.refuses (S.shown names.now) found.now said result) (L.told lines.old) (L.told lines.new) }
-    ensures fault { IfErr result IsOfStream }
-    ensures ready { OnOk result (L.is_ready lines.new) }
+) -> Result<(), WalkFault>
+    ensures said { HostGoesOnBy (λ said. IsSaid (S.shown names.now) found.now said result) (H.log host.old) (H.log host.new) }
+    ensures fault { IfErr result IsOfLines }
 {
     let mut line = String::new(alloc);
     put_binding(alloc, &mut line, found, names)?;
-    lines.put_line(line.as_str())
+    match host.print(line.as_bytes()) {
+        Ok(()) => Ok(()),
+        Err(reason) => Err(WalkFault::Output(reason)),
+    }
 }
 
 /// What a walk does about a variable binding that answers.

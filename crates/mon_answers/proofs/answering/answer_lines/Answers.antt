@@ -16,9 +16,9 @@ pub loop-line-preserved : goal.loop-line-preserved
 loop-line-preserved g c =
     let Answers = AnswersIt g.D.Device.held g.D.Device.failed g.D.Device.refuses in
     let Here = Answers (policy_of c.args.agent.now) (settings_of c.args.agent.now) in
-    let before = stands c.args.agent.now 0 in
-    let between = stands c.loop-line.agent 0 in
-    let after = stands c.put_line.new.agent 0 in
+    let before = stands c.args.agent.now in
+    let between = stands c.loop-line.agent in
+    let after = stands c.put_line.new.agent in
     let old = string_bytes c.loop-line.printed in
     let new = string_bytes c.put_line.new.printed in
     let line = c.in-Some.line.now in
@@ -39,5 +39,5 @@ pub returns-clause-printed : goal.returns-clause-printed
 returns-clause-printed g c =
     let Here = AnswersIt g.D.Device.held g.D.Device.failed g.D.Device.refuses (policy_of c.args.agent.now) (settings_of c.args.agent.now) in
     let all = YieldsList-end (YieldsList-from_lines c.args.text.now cc) c.loop-line.yielded _ c.loop-line.yielded_by _ _ c.in-None.is c.next.ensures.steps in
-    subst (λ (lines : List (List ℕ)). ArePrinted Here c.args.scene.now (filter is_read lines) (stands c.args.agent.now 0) (stands c.loop-line.agent 0) (string_bytes c.loop-line.printed))
+    subst (λ (lines : List (List ℕ)). ArePrinted Here c.args.scene.now (filter is_read lines) (stands c.args.agent.now) (stands c.loop-line.agent) (string_bytes c.loop-line.printed))
     all.0 c.loop-line.invariant.printed

@@ -9,7 +9,7 @@ use Rattle.mon_answers.proofs.answering.answer_lines.Given as goal
 abbrev pub invariant-loop-line : goal.invariant-loop-line
 invariant-loop-line g l = record {
   printed : ArePrinted (AnswersIt g.D.Device.held g.D.Device.failed g.D.Device.refuses (policy_of l.fn.agent) (settings_of l.fn.agent)) l.scene
-      (filter is_read (map (λ line. line.now) l.yielded)) (stands l.fn.agent 0) (stands l.agent 0) (string_bytes l.printed);
+      (filter is_read (map (λ line. line.now) l.yielded)) (stands l.fn.agent) (stands l.agent) (string_bytes l.printed);
   policy : policy_of l.agent ≡ policy_of l.fn.agent;
   settings : settings_of l.agent ≡ settings_of l.fn.agent;
 }

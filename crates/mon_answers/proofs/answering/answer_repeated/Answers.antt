@@ -14,9 +14,9 @@ loop-init g c = record { arrived = refl; few = omega arith; policy = refl; setti
 pub loop-preserved : goal.loop-preserved
 loop-preserved g c =
     let Answers = AnswersIt g.D.Device.held g.D.Device.failed g.D.Device.refuses in
-    let before = stands c.args.agent.now 0 in
-    let between = stands c.loop.agent 0 in
-    let after = stands c.answer_once.new.agent 0 in
+    let before = stands c.args.agent.now in
+    let between = stands c.loop.agent in
+    let after = stands c.answer_once.new.agent in
     let reply = c.in_ok-answer_once.field-0 in
     let Arrives = arrives (Answers (policy_of c.args.agent.now) (settings_of c.args.agent.now)) c.args.datagram.now c.args.scene.now.at in
     let last = moved (λ (p : Lists) (s : Settings). Answers p s between after c.args.datagram.now c.args.scene.now.at reply)
@@ -32,9 +32,9 @@ loop-preserved g c =
 pub returns-clause-reply : goal.returns-clause-reply
 returns-clause-reply g c =
     let Answers = AnswersIt g.D.Device.held g.D.Device.failed g.D.Device.refuses in
-    let before = stands c.args.agent.now 0 in
-    let between = stands c.loop.agent 0 in
-    let after = stands c.answer_once-2.new.agent 0 in
+    let before = stands c.args.agent.now in
+    let between = stands c.loop.agent in
+    let after = stands c.answer_once-2.new.agent in
     let Arrives = arrives (Answers (policy_of c.args.agent.now) (settings_of c.args.agent.now)) c.args.datagram.now c.args.scene.now.at in
     if_ok (λ (reply : Reply). Answers (policy_of c.loop.agent) (settings_of c.loop.agent) between after c.args.datagram.now c.args.scene.now.at reply)
     (IsLastReply Arrives c.args.scene.now.times before after) c.answer_once-2.result (λ reply last. record {

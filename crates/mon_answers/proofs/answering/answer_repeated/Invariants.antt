@@ -8,7 +8,7 @@ use Rattle.mon_answers.proofs.answering.answer_repeated.Given as goal
 abbrev pub invariant-loop : goal.invariant-loop
 invariant-loop g l = record {
   arrived : AreArrivals (arrives (AnswersIt g.D.Device.held g.D.Device.failed g.D.Device.refuses (policy_of l.fn.agent) (settings_of l.fn.agent)) l.datagram l.scene.at)
-      (l.counter - 1) (stands l.fn.agent 0) (stands l.agent 0);
+      (l.counter - 1) (stands l.fn.agent) (stands l.agent);
   few : l.counter ≤ l.scene.times + (1 - l.scene.times);
   policy : policy_of l.agent ≡ policy_of l.fn.agent;
   settings : settings_of l.agent ≡ settings_of l.fn.agent;

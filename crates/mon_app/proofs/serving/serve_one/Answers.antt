@@ -1,9 +1,10 @@
-use Rattle.std.proofs.Common.{List, ℕ, inl, refl, subst, sym}
+use Rattle.std.proofs.Common.{List, ℕ, subst, sym}
 use Rattle.mon_agent.specs.declared.reply.Reply.{Reply}
 use Rattle.mon_agent.specs.declared.reply.Reply.TheVariants.{Send}
 use Rattle.mon_agent.specs.State.{policy_of, settings_of}
 use Rattle.mon_app.specs.AtPort.{Happens, IsReplied}
 use Rattle.mon_app.specs.Served.{AnswersIt, IsSent, Takes, stands}
+use Rattle.mon_app.specs.declared.serving.Served.TheVariants.{Answered}
 use Rattle.mon_app.proofs.Servings.{turned}
 use Rattle.mon_app.proofs.serving.serve_one.Goals as goal
 
@@ -18,10 +19,10 @@ returns-in-Ok-Send-clause-served g c =
     let sent : Happens (IsSent (Send c.in-Ok-Send.octets)) told_1 told_2 count_1 count_2 =
     subst (λ (o : List ℕ). Happens (IsReplied o) told_1 told_2 count_1 count_2) c.deref.ensures.value c.reply.ensures in
     let Answers = AnswersIt g.D.Device.held g.D.Device.failed g.D.Device.refuses (policy_of c.args.agent.now) (settings_of c.args.agent.now) in
-    turned (Takes Answers (stands c.args.agent.now (g.U.Untaken.times c.args.untaken.now)) (stands c.answer.new.self (g.U.Untaken.times c.args.untaken.now)))
+    turned (Takes Answers Answered (stands c.args.agent.now) (stands c.answer.new.self))
     (IsSent (Send c.in-Ok-Send.octets)) c.next_datagram.new.room c.in_ok-received.received told_0 told_1 told_2 count_0 count_1 count_2
-    c.in_ok-received.ensures.awaited sent (λ log is. inl (record {
+    c.in_ok-received.ensures.awaited sent (λ log is. record {
       reply = c.in-Ok-Send.field-0;
-      answer = record { answer = c.in-Ok-Send.ensures.answer; counters = c.in-Ok-Send.ensures.counters; untaken = refl };
+      answer = record { answer = c.in-Ok-Send.ensures.answer; counters = c.in-Ok-Send.ensures.counters };
       sent_for = subst (λ (r : Reply). IsSent r log) (sym c.in-Ok-Send.field-0-is) is;
-    }))
+    })

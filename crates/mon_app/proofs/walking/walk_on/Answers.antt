@@ -1,6 +1,7 @@
 use Rattle.std.proofs.Common.{List, ℕ, subst, sym}
 use Rattle.std.specs.Prelude.{Option, Result}
-use Rattle.mon_app.specs.declared.fault.AppFault.{AppFault}
+use Rattle.mon_app.specs.declared.fault.WalkFault.{WalkFault}
+use Rattle.mon_app.specs.declared.fault.WalkFault.TheVariants.{App}
 use Rattle.mon_app.specs.Walk.{IsTurn, question_after}
 use Rattle.mon_app.proofs.Askings.{fault_is}
 use Rattle.mon_app.proofs.Walks.{Both, fault_of_turn}
@@ -9,9 +10,9 @@ use Rattle.mon_app.proofs.walking.walk_on.Goals as goal
 pub returns-in_err-found-clause-turn : goal.returns-in_err-found-clause-turn
 returns-in_err-found-clause-turn g c =
     let q = question_after c.args.turn.now.asked c.args.turn.now.request_id c.args.turn.now.last.now in
-    let is = fault_is c.from_residual.result c.in_err-found.field-0.0 c.from_residual.ensures.1 in
-    let text = g.L.LineSink.told c.args.lines.now in
+    let is = fault_is c.from_residual.result (App c.in_err-found.field-0.0) c.from_residual.ensures.1 in
+    let text = g.H.Host.log c.args.host.now in
     let before = g.W.Wire.told c.args.wire.now in
     let after = g.W.Wire.told c.after.new.wire in
-    subst (λ (r : Result (Option (List ℕ)) AppFault). Both (λ log said. IsTurn g.L.LineSink.refuses (g.S.NameTexts.shown c.args.names.now) q c.args.turn.now.asked.start.now c.args.turn.now.last.now said log r) before after text text) (sym is)
-    (fault_of_turn g.L.LineSink.refuses (g.S.NameTexts.shown c.args.names.now) q c.args.turn.now.asked.start.now c.args.turn.now.last.now before after text c.in_err-found.field-0.0 c.in_err-found.ensures.answer)
+    subst (λ (r : Result (Option (List ℕ)) WalkFault). Both (λ log said. IsTurn (g.S.NameTexts.shown c.args.names.now) q c.args.turn.now.asked.start.now c.args.turn.now.last.now said log r) before after text text) (sym is)
+    (fault_of_turn (g.S.NameTexts.shown c.args.names.now) q c.args.turn.now.asked.start.now c.args.turn.now.last.now before after text c.in_err-found.field-0.0 c.in_err-found.ensures.answer)
