@@ -1,6 +1,7 @@
 //! A walk through an agent whose names do not increase.
 
-use mon_app::{AppFault, Heard, SocketFault, Stride, WalkPlan, Wire, walk};
+use mon_app::{Heard, SocketFault, Stride, WalkFault, WalkPlan, Wire, walk};
+use mon_host::{Given, Host, Recorder, Step};
 use mon_oid::Oid;
 use mon_row_texts::{octets, two};
 use mon_smi::InNumbers;
@@ -42,19 +43,19 @@ impl Wire for Same {
 }
 
 /// Walks in the community `public`, without the clauses of the call.
-fn walked<W: Wire>(
+fn walked<W: Wire, H: Host>(
     alloc: Global,
+    host: &mut H,
     wire: &mut W,
     start: &Oid,
     stride: Stride,
-    text: &mut String,
-) -> Result<(), AppFault> {
+) -> Result<(), WalkFault> {
     let asked = WalkPlan {
         community: b"public",
         start,
         stride,
     };
-    walk(alloc, wire, &asked, &InNumbers, text)
+    walk(alloc, host, wire, &asked, &InNumbers)
 }
 
 /// Says what the walk of a line `NAME HEX` prints, and why it ends.
@@ -73,9 +74,37 @@ fn put_walked(
     start: &Oid,
     stride: Stride,
 ) -> Option<()> {
-    let mut printed = String::new(alloc);
-    match walked(alloc, wire, start, stride, &mut printed) {
+    let mut host = Recorder::new(alloc, nothing(alloc));
+    let walked = walked(alloc, &mut host, wire, start, stride);
+    let printed = printed_by(alloc, &host)?;
+    match walked {
         Ok(()) => write!(text, "{printed:?}").ok(),
-        Err(why) => write!(text, "{printed:?}, {} {}", why.number(), why.name()).ok(),
+        Err(WalkFault::App(why)) => {
+            write!(text, "{printed:?}, {} {}", why.number(), why.name()).ok()
+        }
+        Err(WalkFault::Output(_)) => None,
     }
+}
+
+/// Surroundings that give nothing.
+fn nothing(alloc: Global) -> Given {
+    Given {
+        words: Vec::new(alloc),
+        input: Ok(Vec::new(alloc)),
+        files: Vec::new(alloc),
+        output: Ok(()),
+    }
+}
+
+/// What was printed in surroundings, or None if that is lost.
+fn printed_by(alloc: Global, host: &Recorder) -> Option<String> {
+    let mut printed = String::new(alloc);
+    for step in host.steps()? {
+        if let Step::Print(octets, Ok(())) = step {
+            printed
+                .push_str(str::from_utf8(octets.as_slice()).ok()?)
+                .ok()?;
+        }
+    }
+    Some(printed)
 }

@@ -1,5 +1,7 @@
 mod Assigned
 mod Meant
 mod Rehearsals
+mod Servings
 mod Steps
 mod Ways
+mod Walks

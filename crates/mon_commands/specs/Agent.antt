@@ -138,4 +138,4 @@ abbrev pub IsAnswering : AnswerArgs → List AtHost → Result Unit Failure → 
 IsAnswering words = Then (AreAgentSettings words.settings.now words.boots)
     (λ told. Then (Quietly (IsFused told words.scene.fuses))
     (λ agent. Then (Quietly (IsMomentOf words.scene.at))
-    (λ at. PrintsAnswers (Answers agent) (stands agent 0) (at, words.scene.times) words.named)))
+    (λ at. PrintsAnswers (Answers agent) (stands agent) (at, words.scene.times) words.named)))

@@ -4,3 +4,5 @@ pub mod Mib
 pub mod Query
 pub mod Rehearsing
 pub mod Replaying
+pub mod Serving
+pub mod Walking

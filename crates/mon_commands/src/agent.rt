@@ -2,23 +2,25 @@
 
 ghost use Rattle.std.specs.Prelude.{◌≡◌, IfErr, IfOk, Some, option_copied};
 ghost use Rattle.mon_agent.specs.State.{policy_of, settings_of};
+ghost use Rattle.mon_app.specs.AtPort.{Happens};
 ghost use Rattle.mon_app.specs.Served.{AnswersIt, stands};
 ghost use Rattle.mon_console.specs.Failure.{IsUnopened};
 ghost use Rattle.mon_console.specs.Printing.{shown_names};
 ghost use Rattle.mon_host.specs.Log.{GoesOnBy};
 ghost use Rattle.mon_udp.specs.Addr.{addr_text};
 ghost use Rattle.mon_commands.specs.Agent.{AreAgentSettings, AreAnswers, IsAgentIn, IsAnswering, IsFused, IsListening, IsMomentOf, IsSimulated, PrintsAnswers, with_boots};
+ghost use Rattle.mon_commands.specs.Serving.{IsNextServed, IsServing, IsServingAgent, untaken_lines};
 
 use mon_agent::Agent;
 use mon_answers::{Scene, answer_lines};
-use mon_app::{AppFault, SocketPort, Untaken, serve};
+use mon_app::{AppFault, Port, Served, SocketPort, serve_one};
 use mon_cli::{AgentArgs, AnswerArgs, Named};
 use mon_console::{Failure, names_of, print, read_input_text, read_text, settings_failure};
 use mon_host::Host;
 use mon_mib::{Device, FuseDevice, Moment, SimDevice};
 use mon_settings::{AgentSettings, SettingsKind, read_agent};
 use mon_smi::{Labels, Names};
-use mon_udp::Addr;
+use mon_udp::{Addr, datagram_buffer};
 use std::alloc::{AllocError, Global};
 use std::net::Net;
 use std::rt::Clock;
@@ -31,14 +33,67 @@ pub fn serve_agent<R: Clock + Net + AllocGlobal, H: Host>(
     rt: &R,
     host: &mut H,
     words: AgentArgs<'_>,
-) -> Result<(), Failure> {
+) -> Result<(), Failure>
+    ensures { GoesOnBy (λ log. IsServingAgent words.entry log result)
+        (H.log host.old) (H.log host.new) }
+{
     let told = told_of(rt.alloc(), host, words.settings, words.boots)?;
     let listen = told.listen;
     let mut agent = simulated(told)?;
     let mut port = open_port(rt, host, listen)?;
-    let mut telling = Telling { host, times: 0 };
-    serve(rt.alloc(), &mut port, &mut agent, words.count, &mut telling)?;
+    serve_all(rt.alloc(), host, &mut port, &mut agent, words.count)
+}
+
+/// Serves the agent so many datagrams, and tells each for which memory ran out.
+fn serve_all<P: Port, D: Device + Drop, H: Host>(
+    alloc: Global,
+    host: &mut H,
+    port: &mut P,
+    agent: &mut Agent<D>,
+    count: u32,
+) -> Result<(), Failure>
+    ensures { let Answers = AnswersIt D.held D.failed D.refuses
+        (policy_of agent.old) (settings_of agent.old) in
+        Happens (λ at_port. GoesOnBy (λ log. IsServing Answers count (stands agent.old)
+        (stands agent.new) at_port log result) (H.log host.old) (H.log host.new))
+        (P.told port.old) (P.told port.new) (P.failures port.old) (P.failures port.new) }
+{
+    let mut room = datagram_buffer(alloc)?;
+    for _ in 0..count {
+        serve_next(alloc, host, port, agent, room.as_mut_slice())?;
+    }
     Ok(())
+}
+
+/// Serves the agent the next datagram, and tells if memory ran out for it.
+fn serve_next<P: Port, D: Device + Drop, H: Host>(
+    alloc: Global,
+    host: &mut H,
+    port: &mut P,
+    agent: &mut Agent<D>,
+    room: &mut [u8],
+) -> Result<(), AppFault>
+    ensures served { let Answers = AnswersIt D.held D.failed D.refuses
+        (policy_of agent.old) (settings_of agent.old) in
+        Happens (λ at_port. GoesOnBy (λ log. IsNextServed Answers (stands agent.old)
+        (stands agent.new) at_port log result) (H.log host.old) (H.log host.new))
+        (P.told port.old) (P.told port.new) (P.failures port.old) (P.failures port.new) }
+    ensures policy { policy_of agent.new ≡ policy_of agent.old }
+    ensures settings { settings_of agent.new ≡ settings_of agent.old }
+{
+    let served = serve_one(alloc, port, agent, room)?;
+    tell_untaken(host, served);
+    Ok(())
+}
+
+/// Tells of a datagram if memory ran out for it.
+fn tell_untaken<H: Host>(host: &mut H, served: Served)
+    ensures { GoesOnBy (λ log. log ≡ untaken_lines served) (H.log host.old) (H.log host.new) }
+{
+    match served {
+        Served::Answered => {}
+        Served::Untaken => Failure::from(AppFault::OutOfMemory).tell(host),
+    }
 }
 
 /// The agent of the settings over a device in memory.
@@ -61,22 +116,6 @@ fn open_port<'a, R: Clock + Net + AllocGlobal, H: Host>(
     let at = port.address()?;
     host.note(format_args!("snmpmon: agent at {at}\n"));
     Ok(port)
-}
-
-/// Tells each datagram for which memory ran out.
-#[derive(Drop)]
-struct Telling<'a, H> {
-    host: &'a mut H,
-    times: u64,
-}
-
-impl<H: Host> Untaken for Telling<'_, H> {
-    ghost times = { λ t. t.times };
-
-    fn tell(&mut self) {
-        Failure::from(AppFault::OutOfMemory).tell(self.host);
-        self.times = self.times.saturating_add(1);
-    }
 }
 
 /// Opens the port at an address.
@@ -170,7 +209,7 @@ fn print_told<D: Device + Drop, H: Host>(
 ) -> Result<(), Failure>
     ensures { let Answers = AnswersIt D.held D.failed D.refuses
         (policy_of agent.old) (settings_of agent.old) in
-        GoesOnBy (λ log. PrintsAnswers Answers (stands agent.old 0) arrivals named.entry log result)
+        GoesOnBy (λ log. PrintsAnswers Answers (stands agent.old) arrivals named.entry log result)
         (H.log host.old) (H.log host.new) }
 {
     let names = names_of(alloc, host, named.modules)?;
@@ -217,7 +256,7 @@ fn told_answers<D: Device + Drop>(
 ) -> Result<String, Failure>
     ensures { let Answers = AnswersIt D.held D.failed D.refuses
         (policy_of agent.old) (settings_of agent.old) in
-        AreAnswers Answers (stands agent.old 0) arrivals
+        AreAnswers Answers (stands agent.old) arrivals
         (option_copied names.entry) text.now result }
 {
     let (at, times) = arrivals;

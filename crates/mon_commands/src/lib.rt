@@ -6,7 +6,6 @@
 mod agent;
 mod client;
 mod listing;
-mod output;
 mod query;
 mod recorded;
 mod rehearsal;

@@ -1,16 +1,18 @@
 //! The client command `walk`.
 
-ghost use Rattle.std.specs.Prelude.{◌≡◌, ◌≤◌, pos};
+ghost use Rattle.mon_commands.specs.Client.{shown_if};
+ghost use Rattle.mon_commands.specs.Walking.{IsShown, IsStride, IsWalkAt, IsWalkFailure, IsWalkOf, IsWalking};
+ghost use Rattle.mon_host.specs.Log.{GoesOnBy};
 
 use crate::client::open_wire;
-use crate::output::Output;
 use crate::query::{Query, query_of};
-use mon_app::{AppFault, LineSink, Stride, WalkPlan};
+use mon_app::{Stride, WalkFault, WalkPlan};
 use mon_cli::WalkArgs;
-use mon_console::{Failure, answer_failure};
+use mon_console::{AgentAt, Failure, answer_failure};
 use mon_host::Host;
 use mon_smi::{InNumbers, NameTexts};
 use mon_udp::Addr;
+use std::alloc::Global;
 use std::net::Net;
 use std::rt::Clock;
 
@@ -20,17 +22,16 @@ pub fn walk<R: Clock + Net + AllocGlobal, H: Host>(
     rt: &R,
     host: &mut H,
     words: WalkArgs<'_, '_>,
-) -> Result<(), Failure> {
+) -> Result<(), Failure>
+    ensures { GoesOnBy (λ log. IsWalking words.entry log result) (H.log host.old) (H.log host.new) }
+{
     let query = query_of(rt.alloc(), host, words.request)?;
-    let mut output = Output::new(rt.alloc(), host);
-    let walked = walk_through(rt, &query, stride_of(words.bulk), &mut output);
-    output.end(walked)
+    walk_query(rt, host, &query, stride_of(words.bulk))
 }
 
 /// By which request a walk asks for so many variables at once: 0 for GetNext.
 fn stride_of(bulk: u32) -> Stride
-    ensures next { bulk ≡ 0 → result ≡ Stride.Next }
-    ensures many { 1 ≤ bulk → bulk ≤ 1000 → result ≡ Stride.Bulk (pos bulk) }
+    ensures { IsStride bulk result }
 {
     match i32::try_from(bulk) {
         Ok(most) if most > 0 => Stride::Bulk(most),
@@ -38,55 +39,76 @@ fn stride_of(bulk: u32) -> Stride
     }
 }
 
-/// Walks through the variables under the name, and puts a line for each.
-fn walk_through<R: Clock + Net + AllocGlobal, L: LineSink>(
+/// Walks through the variables under the name of the query, and prints a line for each. Of any other
+/// number of names it does nothing.
+fn walk_query<R: Clock + Net + AllocGlobal, H: Host>(
     rt: &R,
+    host: &mut H,
     query: &Query<'_>,
     stride: Stride,
-    lines: &mut L,
 ) -> Result<(), Failure>
-    requires { L.is_ready lines.old }
+    ensures { GoesOnBy (λ log. IsWalkOf query.now stride query.now.asked.items log result)
+        (H.log host.old) (H.log host.new) }
 {
-    if query.prints_names {
-        walk_shown(rt, query, stride, &query.known.labels(rt.alloc())?, lines)
-    } else {
-        walk_shown(rt, query, stride, &InNumbers, lines)
-    }
-}
-
-/// Walks through the variables under the name, and puts a line for each, names in this way.
-fn walk_shown<R: Clock + Net + AllocGlobal, S: NameTexts, L: LineSink>(
-    rt: &R,
-    query: &Query<'_>,
-    stride: Stride,
-    names: &S,
-    lines: &mut L,
-) -> Result<(), Failure>
-    requires { L.is_ready lines.old }
-{
-    let [start] = query.asked.as_slice() else {
+    if query.asked.len() != 1 {
         return Ok(());
-    };
-    let asked = WalkPlan {
+    }
+    let plan = WalkPlan {
         community: query.community,
-        start,
+        start: &query.asked[0],
         stride,
     };
-    match walk_agent(rt, query.agent.address, &asked, names, lines) {
-        Ok(()) => Ok(()),
-        Err(fault) => Err(answer_failure(rt.alloc(), query.agent.word, fault)),
+    if query.prints_names {
+        walk_shown(
+            rt,
+            host,
+            query.agent,
+            &plan,
+            &query.known.labels(rt.alloc())?,
+        )
+    } else {
+        walk_shown(rt, host, query.agent, &plan, &InNumbers)
     }
 }
 
-fn walk_agent<R: Clock + Net + AllocGlobal, S: NameTexts, L: LineSink>(
+/// Walks as planned, and prints a line for each variable, names in this way.
+fn walk_shown<R: Clock + Net + AllocGlobal, S: NameTexts, H: Host>(
     rt: &R,
-    agent: Addr,
-    asked: &WalkPlan<'_>,
+    host: &mut H,
+    agent: AgentAt<'_>,
+    plan: &WalkPlan<'_>,
     names: &S,
-    lines: &mut L,
-) -> Result<(), AppFault>
-    requires { L.is_ready lines.old }
+) -> Result<(), Failure>
+    ensures { GoesOnBy (λ log. IsShown (S.shown names.now) agent.entry.word.now plan.now.stride
+        plan.now.community.now plan.now.start.now log result) (H.log host.old) (H.log host.new) }
+{
+    match walk_agent(rt, host, agent.address, plan, names) {
+        Ok(()) => Ok(()),
+        Err(fault) => Err(walk_failure(rt.alloc(), agent.word, fault)),
+    }
+}
+
+/// Opens a wire to the agent and walks by it as planned.
+fn walk_agent<R: Clock + Net + AllocGlobal, S: NameTexts, H: Host>(
+    rt: &R,
+    host: &mut H,
+    agent: Addr,
+    plan: &WalkPlan<'_>,
+    names: &S,
+) -> Result<(), WalkFault>
+    ensures { GoesOnBy (λ log. IsWalkAt (S.shown names.now) plan.now.stride plan.now.community.now
+        plan.now.start.now log result) (H.log host.old) (H.log host.new) }
 {
     let mut wire = open_wire(rt, agent)?;
-    mon_app::walk(rt.alloc(), &mut wire, asked, names, lines)
+    mon_app::walk(rt.alloc(), host, &mut wire, plan, names)
+}
+
+/// Why a walk through this agent failed.
+fn walk_failure(alloc: Global, agent: &str, fault: WalkFault) -> Failure
+    ensures { IsWalkFailure agent.now fault result }
+{
+    match fault {
+        WalkFault::App(fault) => answer_failure(alloc, agent, fault),
+        WalkFault::Output(reason) => Failure::stream(alloc, "standard output", reason),
+    }
 }

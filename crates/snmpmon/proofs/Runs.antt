@@ -53,3 +53,12 @@ pub shown : (octets : List ℕ) (r : Result Unit Failure) (before after : Option
     → GoesOnBy (λ log. IsShown log r) before after
 shown octets r before after done = then_follows (Quietly IsSomeText) (λ text. IsPrint text) (Ok octets) r before before after
     (quietly IsSomeText (Ok octets) before tt) done
+
+-- a call, and what was done after it
+pub called : (call : AtHost) (Holds Whole : List AtHost → Type 0) (before between after : Option (List AtHost)) → ((rest : List AtHost) → Holds rest → Whole (call ∷ rest))
+    → GoesOn (call ∷ []) before between → GoesOnBy Holds between after → GoesOnBy Whole before after
+called call Holds Whole before between after gives first done = record {
+  more = call ∷ done.more;
+  holds = gives done.more done.holds;
+  on = goes_on (call ∷ []) done.more before between after first done.on;
+}

@@ -1,5 +1,5 @@
 -- A whole run of the program: from its arguments to its exit status.
-use Rattle.std.specs.Prelude.{◌≡◌, ◌⊎◌, ℕ, List, [], ◌∷◌, ◌++◌, Bool, true, false, map, Option, Result, Ok, Err, codes, option_map}
+use Rattle.std.specs.Prelude.{◌≡◌, ◌⊎◌, ℕ, List, [], ◌∷◌, ◌++◌, Bool, true, false, map, Result, Ok, Err, codes, option_map}
 use Rattle.std.specs.declared.io.ErrorKind.{ErrorKind}
 use Rattle.std.specs.declared.io.ErrorKind.TheVariants as kinds
 use Rattle.clap.specs.Words.{Text, found_of, rows_of, subcommand_rows_of}
@@ -17,13 +17,15 @@ use Rattle.mon_commands.specs.Client.{IsAskingMany, IsGetting, IsGettingNext, Is
 use Rattle.mon_commands.specs.Mib.{IsMib}
 use Rattle.mon_commands.specs.Rehearsing.{IsRehearsing, IsSelfTest}
 use Rattle.mon_commands.specs.Replaying.{IsRecording}
+use Rattle.mon_commands.specs.Serving.{IsServingAgent}
+use Rattle.mon_commands.specs.Walking.{IsWalking}
 use Rattle.mon_console.specs.Failure.{IsMemory, IsTold}
 use Rattle.mon_console.specs.Files.{IsPrint}
 use Rattle.mon_console.specs.declared.failure.Failure.{Failure}
 use Rattle.mon_settings_commands.specs.Command.{AreSettings}
 use Rattle.mon_station_commands.specs.Saved.{IsReportCommand}
+use Rattle.mon_station_commands.specs.Station.{IsStation}
 use Rattle.mon_host.specs.AtHost.{AtHost, AtTerminal, Listed, Noted, Unlisted}
-use Rattle.mon_host.specs.Log.{GoesOn, GoesOnBy}
 use Rattle.mon_host.specs.Reason.{Why}
 use Rattle.mon_host.specs.Then.{Quietly, Then}
 
@@ -77,30 +79,25 @@ IsUsage usage.DisplayHelp log status = IsRun IsShown log status
 IsUsage usage.DisplayVersion log status = IsRun IsShown log status
 IsUsage _ log status = (line : List ℕ) × IsRefused line log status
 
--- what a command does, of those that state it
+-- what a command does
 abbrev pub Does : Asked → List AtHost → Result Unit Failure → Type 0
 Does asked.Version log result = IsPrint (codes "snmpmon 0.1.0\n") log result
 Does (asked.Replay words) log result = IsRecording words log result
 Does (asked.Get request) log result = IsGetting request log result
 Does (asked.Next request) log result = IsGettingNext request log result
 Does (asked.Bulk words) log result = IsAskingMany words log result
+Does (asked.Walk words) log result = IsWalking words log result
 Does (asked.Set words) log result = IsSetting words log result
+Does (asked.Settings words) log result = AreSettings words log result
+Does (asked.Agent words) log result = IsServingAgent words log result
 Does (asked.Answer words) log result = IsAnswering words log result
 Does (asked.Mib words) log result =
     IsMib words.file.now (map (λ f. f.now) words.modules.now) log result
-Does (asked.Settings words) log result = AreSettings words log result
+Does (asked.Station words) log result = IsStation words log result
 Does (asked.Report words) log result = IsReportCommand words.settings.now
     (option_map (λ l. l.now) words.labels) words.printed log result
 Does asked.SelfTest log result = IsSelfTest log result
 Does (asked.Rehearse words) log result = IsRehearsing words log result
-Does _ log result = Unit {0}
-
--- the command states what it does: three do not yet
-abbrev pub IsStated : Asked → Type 0
-IsStated (asked.Walk words) = ⊥
-IsStated (asked.Agent words) = ⊥
-IsStated (asked.Station words) = ⊥
-IsStated _ = Unit {0}
 
 -- whether a command reads lines from standard input
 abbrev pub reads_input : Asked → Bool
@@ -143,13 +140,10 @@ no_interval =
     codes "snmpmon: station wants --interval SECONDS with --phase; see snmpmon station --help\n"
 
 -- The command is run, unless a station lacks something, which one line says.
-pub record IsStartOf (asked : Asked) (before after : Option (List AtHost)) (status : ℕ)
-    : Type 0 where
-  pub rounds : LacksRounds asked → GoesOnBy (λ log. IsRefused no_rounds log status) before after
-  pub interval : ¬ (LacksRounds asked) → LacksInterval asked
-      → GoesOnBy (λ log. IsRefused no_interval log status) before after
-  pub run : ¬ (LacksRounds asked) → ¬ (LacksInterval asked) → IsStated asked
-      → GoesOnBy (λ log. IsRunFor asked log status) before after
+pub record IsStartOf (asked : Asked) (log : List AtHost) (status : ℕ) : Type 0 where
+  pub rounds : LacksRounds asked → IsRefused no_rounds log status
+  pub interval : ¬ (LacksRounds asked) → LacksInterval asked → IsRefused no_interval log status
+  pub run : ¬ (LacksRounds asked) → ¬ (LacksInterval asked) → IsRunFor asked log status
 
 -- what arguments ask for, by the rows that the command line makes of them
 pub record IsAskedBy (words : List Text) (a : Asked) : Type 0 where
@@ -159,27 +153,24 @@ pub record IsAskedBy (words : List Text) (a : Asked) : Type 0 where
       (rows_of (found_of matches)) (subcommand_rows_of matches) a
 
 -- what the program does with its arguments: it starts the command, or says why there is none
-abbrev pub IsStartWith : List Text → Option (List AtHost) → Option (List AtHost) → ℕ → Type 0
-IsStartWith words before after status =
-    ((a : Asked) × IsAskedBy words a × IsStartOf a before after status)
-    ⊎ ((e : Error) × Reads words (Err e)
-    × GoesOnBy (λ log. IsUsage (kind_of e) log status) before after)
+abbrev pub IsStartWith : List Text → List AtHost → ℕ → Type 0
+IsStartWith words log status = ((a : Asked) × IsAskedBy words a × IsStartOf a log status)
+    ⊎ ((e : Error) × Reads words (Err e) × IsUsage (kind_of e) log status)
 
 -- the arguments were listed, and the program does what they say
-pub record IsListedStart (before after : Option (List AtHost)) (status : ℕ) : Type 0 where
+pub record IsListedStart (log : List AtHost) (status : ℕ) : Type 0 where
   pub words : List Text
-  pub between : Option (List AtHost)
-  pub listed : GoesOn (Listed words ∷ []) before between
-  pub start : IsStartWith words between after status
+  pub rest : List AtHost
+  pub start : IsStartWith words rest status
+  pub log_is : log ≡ Listed words ∷ rest
 
 -- the arguments could not be listed, for this reason
-pub record IsUnlistedStart (before after : Option (List AtHost)) (status : ℕ) : Type 0 where
+pub record IsUnlistedStart (log : List AtHost) (status : ℕ) : Type 0 where
   pub why : Why
-  pub between : Option (List AtHost)
-  pub unlisted : GoesOn (Unlisted why ∷ []) before between
-  pub end : GoesOnBy (λ log. IsUnlisted why.kind log status) between after
+  pub rest : List AtHost
+  pub end : IsUnlisted why.kind rest status
+  pub log_is : log ≡ Unlisted why ∷ rest
 
--- a whole run
-abbrev pub IsStart : Option (List AtHost) → Option (List AtHost) → ℕ → Type 0
-IsStart before after status = IsListedStart before after status
-    ⊎ IsUnlistedStart before after status
+-- A whole run: what is done from the first call to the last, and the exit status.
+abbrev pub IsStart : List AtHost → ℕ → Type 0
+IsStart log status = IsListedStart log status ⊎ IsUnlistedStart log status

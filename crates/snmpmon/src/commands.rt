@@ -5,7 +5,7 @@ ghost use Rattle.clap.specs.Values.{kind_of};
 ghost use Rattle.mon_cli.specs.Asked.{IsWithin};
 ghost use Rattle.mon_host.specs.Log.{GoesOnBy};
 ghost use Rattle.mon_host.specs.Reason.{why};
-ghost use Rattle.snmpmon.specs.Start.{Does, Hints, IsBefore, IsEnd, IsRefused, IsRun, IsRunFor, IsShown, IsStart, IsStartOf, IsStartWith, IsStated, IsUnlisted, IsUsage, reads_input};
+ghost use Rattle.snmpmon.specs.Start.{Does, Hints, IsBefore, IsEnd, IsRefused, IsRun, IsRunFor, IsShown, IsStart, IsStartOf, IsStartWith, IsUnlisted, IsUsage, reads_input};
 
 use clap::error::ErrorKind;
 use mon_cli::{Asked, VERSION, read, read_command};
@@ -40,7 +40,7 @@ const NO_INTERVAL: &str =
 
 /// Runs the command that the arguments name, and returns the exit status.
 pub fn start<R: Clock + Files<File = File> + Net + AllocGlobal, H: Host>(rt: &R, host: &mut H) -> u8
-    ensures { IsStart (H.log host.old) (H.log host.new) result }
+    ensures { GoesOnBy (λ log. IsStart log result) (H.log host.old) (H.log host.new) }
 {
     match host.arguments() {
         Ok(words) => start_with(rt, host, words.as_slice()),
@@ -73,7 +73,8 @@ fn start_with<R: Clock + Files<File = File> + Net + AllocGlobal, H: Host>(
     host: &mut H,
     words: &[String],
 ) -> u8
-    ensures { IsStartWith (map string_bytes words.now) (H.log host.old) (H.log host.new) result }
+    ensures { GoesOnBy (λ log. IsStartWith (map string_bytes words.now) log result)
+        (H.log host.old) (H.log host.new) }
 {
     match read(rt.alloc(), words) {
         Ok(matches) => start_command(rt, host, read_command(&matches)),
@@ -121,7 +122,8 @@ fn start_command<R: Clock + Files<File = File> + Net + AllocGlobal, H: Host>(
     asked: Asked<'_, '_>,
 ) -> u8
     requires { IsWithin asked }
-    ensures { IsStartOf asked.entry (H.log host.old) (H.log host.new) result }
+    ensures { GoesOnBy (λ log. IsStartOf asked.entry log result)
+        (H.log host.old) (H.log host.new) }
 {
     if asked.lacks_rounds() {
         return refuse(host, NO_ROUNDS);
@@ -139,7 +141,7 @@ fn run_to_end<R: Clock + Files<File = File> + Net + AllocGlobal, H: Host>(
     asked: Asked<'_, '_>,
 ) -> u8
     requires { IsWithin asked }
-    ensures { IsStated asked.entry → GoesOnBy (λ log. IsRunFor asked.entry log result)
+    ensures { GoesOnBy (λ log. IsRunFor asked.entry log result)
         (H.log host.old) (H.log host.new) }
 {
     prepare(host, reads_input(&asked));
@@ -198,8 +200,7 @@ fn run<R: Clock + Files<File = File> + Net + AllocGlobal, H: Host>(
     asked: Asked<'_, '_>,
 ) -> Result<(), Failure>
     requires { IsWithin asked }
-    ensures { IsStated asked.entry → GoesOnBy (λ log. Does asked.entry log result)
-        (H.log host.old) (H.log host.new) }
+    ensures { GoesOnBy (λ log. Does asked.entry log result) (H.log host.old) (H.log host.new) }
 {
     let alloc = rt.alloc();
     match asked {

@@ -16,14 +16,14 @@ pub returns-in_err-text : goal.returns-in_err-text
 returns-in_err-text g c =
     let Answers = AnswersIt g.D.Device.held g.D.Device.failed g.D.Device.refuses (policy_of c.args.agent.now) (settings_of c.args.agent.now) in
     let failure = c.in_err-text.field-0.0 in
-    failed (PrintsAnswers Answers (stands c.args.agent.now 0) c.args.arrivals c.args.named) c.from_residual-in_err-text.result failure _ _
+    failed (PrintsAnswers Answers (stands c.args.agent.now) c.args.arrivals c.args.named) c.from_residual-in_err-text.result failure _ _
     c.from_residual-in_err-text.ensures.1 (follows (AreNames (map (λ f. f.now) c.args.named.modules.now)) _ c.in_ok-names.names _ _ _ _ c.in_ok-names.ensures
     (then_fails IsInputText _ failure _ _ c.in_err-text.ensures))
 
 pub returns-in_err-lines : goal.returns-in_err-lines
 returns-in_err-lines g c =
     let Answers = AnswersIt g.D.Device.held g.D.Device.failed g.D.Device.refuses (policy_of c.args.agent.now) (settings_of c.args.agent.now) in
-    let agent = stands c.args.agent.now 0 in
+    let agent = stands c.args.agent.now in
     let known = c.in_ok-names.names in
     let failure = c.in_err-lines.field-0.0 in
     failed (PrintsAnswers Answers agent c.args.arrivals c.args.named) c.from_residual-in_err-lines.result failure _ _
@@ -34,7 +34,7 @@ returns-in_err-lines g c =
 pub returns : goal.returns
 returns g c =
     let Answers = AnswersIt g.D.Device.held g.D.Device.failed g.D.Device.refuses (policy_of c.args.agent.now) (settings_of c.args.agent.now) in
-    let agent = stands c.args.agent.now 0 in
+    let agent = stands c.args.agent.now in
     let known = c.in_ok-names.names in
     let lines = c.in_ok-lines.lines in
     let named = subst (λ (ns : Option (List Definition)). AreAnswers Answers agent c.args.arrivals ns c.deref.result.now (Ok lines))

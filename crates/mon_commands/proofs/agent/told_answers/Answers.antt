@@ -3,4 +3,4 @@ use Rattle.mon_app.specs.Served.{stands}
 use Rattle.mon_commands.proofs.agent.told_answers.Goals as goal
 
 pub returns : goal.returns
-returns g c = (stands c.answer_lines.new.agent 0, c.as_ref.result, c.as_ref.ensures.value ∙ c.in_ok-labels.ensures, c.in_ok-answer_lines.ensures.printed)
+returns g c = (stands c.answer_lines.new.agent, c.as_ref.result, c.as_ref.ensures.value ∙ c.in_ok-labels.ensures, c.in_ok-answer_lines.ensures.printed)

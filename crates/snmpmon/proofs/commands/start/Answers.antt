@@ -1,22 +1,30 @@
-use Rattle.std.proofs.Common.{List, inl, inr, map, string_bytes, subst}
+use Rattle.std.proofs.Common.{◌∷◌, List, inl, inr, map, refl, string_bytes, subst}
 use Rattle.std.specs.Prelude.{String}
 use Rattle.std.specs.Global.{Global}
+use Rattle.mon_host.specs.AtHost.{AtHost, Listed, Unlisted}
+use Rattle.mon_host.specs.Log.{GoesOnBy}
 use Rattle.mon_host.specs.Reason.{why}
-use Rattle.snmpmon.specs.Start.{IsListedStart, IsStartWith, IsUnlistedStart}
+use Rattle.snmpmon.specs.Start.{IsListedStart, IsStart, IsStartWith, IsUnlisted, IsUnlistedStart}
+use Rattle.snmpmon.proofs.Runs.{called}
 use Rattle.snmpmon.proofs.commands.start.Goals as goal
 
 pub returns-in-Ok : goal.returns-in-Ok
 returns-in-Ok g c =
     let between = g.H.Host.log c.arguments.new.self in
     let after = g.H.Host.log c.start_with.new.host in
-    let start = subst (λ (ws : List (String Global)). IsStartWith (map string_bytes ws) between after c.start_with.result) c.as_slice.ensures.value c.start_with.ensures in
-    let listed : IsListedStart (g.H.Host.log c.args.host.now) after c.start_with.result =
-    record { words = map string_bytes c.in-Ok.words.items; between = between; listed = c.in-Ok.ensures; start = start } in
-    inl listed
+    let status = c.start_with.result in
+    let words = map string_bytes c.in-Ok.words.items in
+    let start = subst (λ (ws : List (String Global)). GoesOnBy (λ log. IsStartWith (map string_bytes ws) log status) between after)
+    c.as_slice.ensures.value c.start_with.ensures in
+    called (Listed words) (λ log. IsStartWith words log status) (λ log. IsStart log status) (g.H.Host.log c.args.host.now) between after (λ rest is.
+    let listed : IsListedStart (Listed words ∷ rest) status = record { words = words; rest = rest; start = is; log_is = refl } in
+    inl listed) c.in-Ok.ensures start
 
 pub returns-in-Err : goal.returns-in-Err
 returns-in-Err g c =
-    let after = g.H.Host.log c.end_unlisted.new.host in
-    let unlisted : IsUnlistedStart (g.H.Host.log c.args.host.now) after c.end_unlisted.result =
-    record { why = why c.in-Err.reason; between = g.H.Host.log c.arguments.new.self; unlisted = c.in-Err.ensures; end = c.end_unlisted.ensures } in
-    inr unlisted
+    let because = why c.in-Err.reason in
+    let status = c.end_unlisted.result in
+    called (Unlisted because) (λ log. IsUnlisted because.kind log status) (λ log. IsStart log status) (g.H.Host.log c.args.host.now)
+    (g.H.Host.log c.arguments.new.self) (g.H.Host.log c.end_unlisted.new.host) (λ rest is.
+    let unlisted : IsUnlistedStart (Unlisted because ∷ rest) status = record { why = because; rest = rest; end = is; log_is = refl } in
+    inr unlisted) c.in-Err.ensures c.end_unlisted.ensures
