@@ -8,6 +8,7 @@ pub mod Gives
 pub mod Input
 pub mod Line
 pub mod Meaning
+pub mod Network
 pub mod Offer
 pub mod Outcome
 pub mod Printed
