@@ -1,7 +1,8 @@
 mod Assigned
+mod Heard
 mod Meant
 mod Rehearsals
 mod Servings
 mod Steps
-mod Ways
 mod Walks
+mod Wires

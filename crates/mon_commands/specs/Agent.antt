@@ -1,25 +1,22 @@
 -- What `agent` and `answer` do.
-use Rattle.std.specs.Prelude.{◌≡◌, ◌⊎◌, ◌++◌, ℕ, ℤ, List, [], ◌∷◌, map, Option, Some, None, option_copied, Result, Ok, Err, String, codes, string_bytes}
+use Rattle.std.specs.Prelude.{◌≡◌, ◌⊎◌, ℕ, ℤ, List, map, Option, Some, None, option_copied, Result, Ok, Err, String, codes, string_bytes}
 use Rattle.std.specs.Global.{Global}
 use Rattle.std.specs.Borrow.{Bor}
-use Rattle.std.specs.Net.Text.{socket_text}
-use Rattle.std.specs.declared.net.socket_addr.SocketAddr.{SocketAddr}
 use Rattle.mon_agent.specs.State.{counters_of, device_of, policy_of, settings_of}
 use Rattle.mon_agent.specs.declared.agent.Agent.{Agent as AnyAgent}
 use Rattle.mon_agent.specs.declared.reply.Reply.{Reply}
 use Rattle.mon_answers.specs.Answered.{ArePrinted, lines_read}
 use Rattle.mon_app.specs.Served.{AnswersIt, Standing, stands}
-use Rattle.mon_app.specs.declared.fault.AppFault.{AppFault}
 use Rattle.mon_cli.specs.declared.meaning.AnswerArgs.{AnswerArgs}
 use Rattle.mon_cli.specs.declared.meaning.Named.{Named}
-use Rattle.mon_console.specs.Failure.{IsMemory, IsOfText, IsPlain, IsUnopened}
+use Rattle.mon_console.specs.Failure.{IsMemory, IsOfText, IsPlain}
 use Rattle.mon_console.specs.Files.{IsInputText, IsPrint, IsText}
 use Rattle.mon_console.specs.Naming.{AreNames}
 use Rattle.mon_console.specs.Printing.{shown_names}
 use Rattle.mon_console.specs.Settings.{IsRefused}
 use Rattle.mon_console.specs.declared.failure.Failure.{Failure}
-use Rattle.mon_faults.specs.declared.fault.Fault.TheVariants.{App, Device}
-use Rattle.mon_host.specs.AtHost.{AtHost, Noted}
+use Rattle.mon_faults.specs.declared.fault.Fault.TheVariants.{Device}
+use Rattle.mon_host.specs.AtHost.{AtHost}
 use Rattle.mon_host.specs.Then.{Quietly, Then}
 use Rattle.mon_mib.specs.Change.{IsOf, all_failures}
 use Rattle.mon_mib.specs.Counters.{no_counts}
@@ -35,8 +32,6 @@ use Rattle.mon_settings.specs.Agent.{agent_of}
 use Rattle.mon_settings.specs.Text.{IsRefusal, Says}
 use Rattle.mon_settings.specs.declared.agent.AgentSettings.{AgentSettings}
 use Rattle.mon_smi.specs.declared.definition.Definition.{Definition}
-use Rattle.mon_udp.specs.Addr.{addr_text}
-use Rattle.mon_udp.specs.declared.addr.Addr.{Addr}
 
 -- settings with these boots, if they are given
 abbrev pub with_boots : Option ℤ → AgentSettings → AgentSettings
@@ -83,13 +78,6 @@ IsFused told fuses (Ok agent) = IsFresh told (record {
   blown = 0;
 }) agent
 IsFused told fuses (Err failure) = IsNoDevice told failure
-
--- The agent listens, and one line says where; or it does not, and nothing is said.
-abbrev pub IsListening : {P : Type 0} → Addr → List AtHost → Result P Failure → Type 0
-IsListening listen log (Ok port) = (at : SocketAddr)
-    × (log ≡ Noted (codes "snmpmon: agent at " ++ socket_text at ++ 10 ∷ []) ∷ [])
-IsListening listen log (Err failure) = (log ≡ []) × ((fault : AppFault)
-    × (IsUnopened (Some (addr_text listen)) fault failure ⊎ IsPlain (App fault) failure))
 
 -- a moment of so many hundredths of a second; or it is out of range
 abbrev pub IsMomentOf : ℕ → Result ℕ Failure → Type 0

@@ -2,14 +2,12 @@
 use Rattle.std.specs.Prelude.{◌≡◌, ◌⊎◌, ℕ, pos, List, Bool, true, false, Result, Ok, Err, String, string_bytes}
 use Rattle.std.specs.Global.{Global}
 use Rattle.std.specs.Borrow.{Bor}
-use Rattle.mon_app.specs.AtWire.{AtWire}
+use Rattle.mon_app.specs.Network.{Agents, IsUnopened}
 use Rattle.mon_app.specs.Printed.{IsPrinted}
 use Rattle.mon_app.specs.Question.{Asked}
 use Rattle.mon_app.specs.declared.fault.AppFault.{AppFault}
-use Rattle.mon_app.specs.declared.fault.AppFault.TheVariants.{OutOfMemory, SocketFault}
 use Rattle.mon_app.specs.declared.question.Asking.{Asking}
 use Rattle.mon_app.specs.declared.question.Asking.TheVariants.{Get, GetBulk, GetNext, Set}
-use Rattle.mon_app.specs.declared.reason.SocketReason.{SocketReason}
 use Rattle.mon_ber.specs.declared.value.Value.{Value}
 use Rattle.mon_cli.specs.declared.meaning.BulkArgs.{BulkArgs}
 use Rattle.mon_cli.specs.declared.meaning.Request.{Request}
@@ -24,6 +22,7 @@ use Rattle.mon_faults.specs.declared.fault.Fault.TheVariants.{App}
 use Rattle.mon_host.specs.AtHost.{AtHost}
 use Rattle.mon_host.specs.Then.{Quietly, Then}
 use Rattle.mon_oid.specs.Oid.{dotted}
+use Rattle.mon_udp.specs.declared.addr.Addr.{Addr}
 use Rattle.mon_smi.specs.Labels.{name_text}
 use Rattle.mon_smi.specs.declared.definition.Definition.{Definition}
 
@@ -31,10 +30,6 @@ use Rattle.mon_smi.specs.declared.definition.Definition.{Definition}
 abbrev pub shown_if : Bool → List Definition → List ℕ → List ℕ
 shown_if true known oid = name_text known oid
 shown_if false known oid = dotted oid
-
--- why there is no wire to an agent: memory ran out, or a socket failed
-abbrev pub IsNoWire : AppFault → Type 0
-IsNoWire fault = (fault ≡ OutOfMemory) ⊎ ((reason : SocketReason) × (fault ≡ SocketFault reason))
 
 -- what is asked of an agent in a query about these variables
 abbrev pub question_about : Query → Asking → List (List ℕ) → Asked
@@ -49,59 +44,63 @@ question_about query asking names = record {
 abbrev pub question : Query → Asking → Asked
 question query asking = question_about query asking query.asked.items
 
--- the text of an agent's answer, which something at a wire explains, or its fault; or there was no
--- wire
-abbrev pub IsAnswerText : (List ℕ → List ℕ) → Asked → Result (String Global) AppFault → Type 0
-IsAnswerText show q (Ok text) =
-    (at_wire : List AtWire) × IsPrinted show string_bytes q at_wire (Ok text)
-IsAnswerText show q (Err fault) = IsNoWire fault ⊎ ((at_wire : List AtWire)
-    × IsPrinted show string_bytes q at_wire
+-- The text of the answer of the agent at an address: a wire was opened to it, and what happened there
+-- explains the text, or the fault; or no wire could be opened.
+abbrev pub IsAnswerText : Agents → Addr → (List ℕ → List ℕ) → Asked
+    → Result (String Global) AppFault → Type 0
+IsAnswerText agents at show q (Ok text) =
+    agents.Reached at (λ at_wire. IsPrinted show string_bytes q at_wire
+    (let r : Result (String Global) AppFault = Ok text in r))
+IsAnswerText agents at show q (Err fault) = (agents.Unreached at fault × IsUnopened fault)
+    ⊎ agents.Reached at (λ at_wire. IsPrinted show string_bytes q at_wire
     (let r : Result (String Global) AppFault = Err fault in r))
 
 -- the same of a query, where names are shown so
-abbrev pub IsAnsweredAs : (List ℕ → List ℕ) → Query → Asking
+abbrev pub IsAnsweredAs : Agents → (List ℕ → List ℕ) → Query → Asking
     → Result (String Global) Failure → Type 0
-IsAnsweredAs show query asking (Ok text) = IsAnswerText show (question query asking) (Ok text)
-IsAnsweredAs show query asking (Err failure) = IsMemory failure
+IsAnsweredAs agents show query asking (Ok text) =
+    IsAnswerText agents query.agent.address show (question query asking) (Ok text)
+IsAnsweredAs agents show query asking (Err failure) = IsMemory failure
     ⊎ ((fault : AppFault) × (failure.fault ≡ App fault)
     × IsUnanswered query.agent.word.now fault failure
-    × IsAnswerText show (question query asking) (Err fault))
+    × IsAnswerText agents query.agent.address show (question query asking) (Err fault))
 
 -- the same, where names are shown as the query asks
-abbrev pub IsAnswered : Query → Asking → Result (String Global) Failure → Type 0
-IsAnswered query = IsAnsweredAs (shown_if query.prints_names query.known) query
+abbrev pub IsAnswered : Agents → Query → Asking → Result (String Global) Failure → Type 0
+IsAnswered agents query = IsAnsweredAs agents (shown_if query.prints_names query.known) query
 
 -- the agent is asked, and the text of its answer is printed
-abbrev pub PrintsAnswer : Query → Asking → List AtHost → Result Unit Failure → Type 0
-PrintsAnswer query asking = Then (Quietly (IsAnswered query asking))
+abbrev pub PrintsAnswer : Agents → Query → Asking → List AtHost → Result Unit Failure → Type 0
+PrintsAnswer agents query asking = Then (Quietly (IsAnswered agents query asking))
     (λ text. IsPrint (string_bytes text))
 
 -- what the arguments ask is read, and the agent's answer is printed
-abbrev pub IsAsking : Request → Asking → List AtHost → Result Unit Failure → Type 0
-IsAsking request asking = Then (IsQuery request) (λ query. PrintsAnswer query asking)
+abbrev pub IsAsking : Agents → Request → Asking → List AtHost → Result Unit Failure → Type 0
+IsAsking agents request asking = Then (IsQuery request)
+    (λ query. PrintsAnswer agents query asking)
 
 -- the command `get`
-abbrev pub IsGetting : Request → List AtHost → Result Unit Failure → Type 0
-IsGetting request = IsAsking request Get
+abbrev pub IsGetting : Agents → Request → List AtHost → Result Unit Failure → Type 0
+IsGetting agents request = IsAsking agents request Get
 
 -- the command `next`
-abbrev pub IsGettingNext : Request → List AtHost → Result Unit Failure → Type 0
-IsGettingNext request = IsAsking request GetNext
+abbrev pub IsGettingNext : Agents → Request → List AtHost → Result Unit Failure → Type 0
+IsGettingNext agents request = IsAsking agents request GetNext
 
 -- the command `bulk`
-abbrev pub IsAskingMany : BulkArgs → List AtHost → Result Unit Failure → Type 0
-IsAskingMany words = IsAsking words.request (GetBulk (record {
+abbrev pub IsAskingMany : Agents → BulkArgs → List AtHost → Result Unit Failure → Type 0
+IsAskingMany agents words = IsAsking agents words.request (GetBulk (record {
   non_repeaters = words.non_repeaters;
   max_repetitions = words.max_repetitions;
 }))
 
 -- the agent is asked to assign a value that is lent
-abbrev pub PrintsAssigned : Query → Value → List AtHost → Result Unit Failure → Type 0
-PrintsAssigned query value log result =
-    (lent : Bor Value) × (lent.now ≡ value) × PrintsAnswer query (Set lent) log result
+abbrev pub PrintsAssigned : Agents → Query → Value → List AtHost → Result Unit Failure → Type 0
+PrintsAssigned agents query value log result =
+    (lent : Bor Value) × (lent.now ≡ value) × PrintsAnswer agents query (Set lent) log result
 
 -- The command `set`: the value is read after all else.
-abbrev pub IsSetting : SetArgs → List AtHost → Result Unit Failure → Type 0
-IsSetting words = Then (IsQuery words.request)
+abbrev pub IsSetting : Agents → SetArgs → List AtHost → Result Unit Failure → Type 0
+IsSetting agents words = Then (IsQuery words.request)
     (λ query. Then (Quietly (IsGivenValue words.kind.now words.value.now))
-    (λ value. PrintsAssigned query value))
+    (λ value. PrintsAssigned agents query value))

@@ -1,9 +1,12 @@
 -- What `agent` does.
-use Rattle.std.specs.Prelude.{◌≡◌, ◌⊎◌, ◌<◌, ◌++◌, ℕ, zero, suc, List, [], ◌∷◌, Result, Ok, Err}
+use Rattle.std.specs.Prelude.{◌≡◌, ◌⊎◌, ◌<◌, ◌++◌, ℕ, zero, suc, List, [], ◌∷◌, IsErrAnd, Some, Result, Ok, Err, codes}
+use Rattle.std.specs.Net.Text.{socket_text}
+use Rattle.std.specs.declared.net.socket_addr.SocketAddr.{SocketAddr}
 use Rattle.mon_agent.specs.State.{policy_of, settings_of}
 use Rattle.mon_agent.specs.declared.agent.Agent.{Agent}
 use Rattle.mon_agent.specs.declared.reply.Reply.{Reply}
 use Rattle.mon_app.specs.AtPort.{AtPort}
+use Rattle.mon_app.specs.Network.{IsUnopened as IsOfOpening, Ports}
 use Rattle.mon_app.specs.Served.{AnswersIt, IsEnd, IsTurn, Standing, Takes, stands}
 use Rattle.mon_app.specs.declared.fault.AppFault.{AppFault}
 use Rattle.mon_app.specs.declared.fault.AppFault.TheVariants as faults
@@ -11,14 +14,16 @@ use Rattle.mon_app.specs.declared.reason.SocketReason.{SocketReason}
 use Rattle.mon_app.specs.declared.serving.Served.{Served}
 use Rattle.mon_app.specs.declared.serving.Served.TheVariants.{Answered, Untaken}
 use Rattle.mon_cli.specs.declared.meaning.AgentArgs.{AgentArgs}
-use Rattle.mon_commands.specs.Agent.{AreAgentSettings, IsListening, IsSimulated}
-use Rattle.mon_console.specs.Failure.{IsMemory, IsPlain, first_line}
+use Rattle.mon_commands.specs.Agent.{AreAgentSettings, IsSimulated}
+use Rattle.mon_console.specs.Failure.{IsMemory, IsPlain, IsUnopened, first_line}
 use Rattle.mon_console.specs.declared.failure.Failure.{Failure}
 use Rattle.mon_faults.specs.declared.fault.Fault.TheVariants.{App}
 use Rattle.mon_host.specs.AtHost.{AtHost, Noted}
 use Rattle.mon_host.specs.Then.{Quietly, Then}
 use Rattle.mon_mib.specs.Change.{IsOf}
 use Rattle.mon_mib.specs.Sim.{Sim, held_of, indexes_of}
+use Rattle.mon_udp.specs.Addr.{addr_text}
+use Rattle.mon_udp.specs.declared.addr.Addr.{Addr}
 
 -- what is said of a datagram: a line if memory ran out for it
 abbrev pub untaken_lines : Served → List AtHost
@@ -88,15 +93,36 @@ abbrev pub SimAnswers : Agent Sim → Standing Sim → Standing Sim → List ℕ
 SimAnswers agent = AnswersIt held_of (λ s. s.failures)
     (λ s change. ¬ (IsOf (indexes_of s.interfaces) change)) (policy_of agent) (settings_of agent)
 
--- an agent is served so many datagrams, which something at a port explains
-abbrev pub IsServedFor : ℕ → Agent Sim → List AtHost → Result Unit Failure → Type 0
-IsServedFor count agent log result = (after : Standing Sim) × (at_port : List AtPort)
+-- what is said of where an agent listens
+abbrev pub port_lines : SocketAddr → List AtHost
+port_lines at = Noted (codes "snmpmon: agent at " ++ socket_text at ++ 10 ∷ []) ∷ []
+
+-- no port could be opened at an address, which the failure says
+abbrev pub IsDeafFor : (Addr → AppFault → Type 0) → Addr → Failure → Type 0
+IsDeafFor Deaf listen failure = (fault : AppFault) × Deaf listen fault × IsOfOpening fault
+    × IsUnopened (Some (addr_text listen)) fault failure
+
+-- an agent is served so many datagrams, and this happens at its port meanwhile
+abbrev pub IsServedBy : ℕ → Agent Sim → List AtPort → List AtHost → Result Unit Failure → Type 0
+IsServedBy count agent at_port log result = (after : Standing Sim)
     × IsServing (SimAnswers agent) count (stands agent) after at_port log result
 
--- The command `agent`: the settings are read, a line says where the agent listens, and then it is
--- served.
-abbrev pub IsServingAgent : AgentArgs → List AtHost → Result Unit Failure → Type 0
-IsServingAgent words = Then (AreAgentSettings words.settings.now words.boots)
+-- A port was opened at an address, one line says where it stands, and an agent is served so many
+-- datagrams at it.
+pub record IsHeard (ports : Ports) (listen : Addr) (count : ℕ) (agent : Agent Sim) (log : List AtHost)
+    (result : Result Unit Failure) : Type 0 where
+  pub at : SocketAddr
+  pub rest : List AtHost
+  pub served : ports.Served listen at (λ at_port. IsServedBy count agent at_port rest result)
+  pub log_is : log ≡ port_lines at ++ rest
+
+-- the same, or no port could be opened, and nothing is said
+abbrev pub IsServedAt : Ports → Addr → ℕ → Agent Sim → List AtHost → Result Unit Failure → Type 0
+IsServedAt ports listen count agent log result = IsHeard ports listen count agent log result
+    ⊎ ((log ≡ []) × IsErrAnd result (IsDeafFor ports.Deaf listen))
+
+-- The command `agent`: the settings are read, and then the agent is served at their address.
+abbrev pub IsServingAgent : Ports → AgentArgs → List AtHost → Result Unit Failure → Type 0
+IsServingAgent ports words = Then (AreAgentSettings words.settings.now words.boots)
     (λ told. Then (Quietly (IsSimulated told))
-    (λ agent. Then (IsListening {P = Unit {0}} told.listen)
-    (λ port. IsServedFor words.count agent)))
+    (λ agent. IsServedAt ports told.listen words.count agent))

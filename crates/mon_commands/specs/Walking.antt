@@ -1,6 +1,6 @@
 -- What `walk` does.
 use Rattle.std.specs.Prelude.{◌≡◌, ◌⊎◌, ◌<◌, ◌≤◌, ℕ, pos, List, [], ◌∷◌, IsErrAnd, Result, Ok, Err, codes}
-use Rattle.mon_app.specs.AtWire.{AtWire}
+use Rattle.mon_app.specs.Network.{Agents, IsUnopened}
 use Rattle.mon_app.specs.Question.{Asked}
 use Rattle.mon_app.specs.Walk.{IsWalk, asking_by}
 use Rattle.mon_app.specs.declared.fault.WalkFault.{WalkFault}
@@ -8,17 +8,19 @@ use Rattle.mon_app.specs.declared.fault.WalkFault.TheVariants as faults
 use Rattle.mon_app.specs.declared.walking.Stride.{Stride}
 use Rattle.mon_app.specs.declared.walking.Stride.TheVariants.{Bulk, Next}
 use Rattle.mon_cli.specs.declared.meaning.WalkArgs.{WalkArgs}
-use Rattle.mon_commands.specs.Client.{IsNoWire, shown_if}
+use Rattle.mon_commands.specs.Client.{shown_if}
 use Rattle.mon_commands.specs.Query.{IsQuery}
 use Rattle.mon_commands.specs.declared.query.Query.{Query}
 use Rattle.mon_console.specs.Agents.{IsUnanswered}
 use Rattle.mon_console.specs.Failure.{IsOfStream}
+use Rattle.mon_console.specs.declared.agents.AgentAt.{AgentAt}
 use Rattle.mon_console.specs.Files.{IsUndone}
 use Rattle.mon_console.specs.declared.failure.Failure.{Failure}
 use Rattle.mon_faults.specs.declared.fault.Fault.TheVariants.{App}
 use Rattle.mon_host.specs.AtHost.{AtHost}
 use Rattle.mon_host.specs.Reason.{why}
 use Rattle.mon_host.specs.Then.{Then}
+use Rattle.mon_udp.specs.declared.addr.Addr.{Addr}
 
 -- By which request a walk asks for so many variables at once: by GetNext for none, and for more than
 -- a GetBulk can ask for.
@@ -35,17 +37,18 @@ next_question stride community turn name = record {
   names = name ∷ [];
 }
 
--- why a walk has no wire to its agent
-abbrev pub IsWalkWithout : WalkFault → Type 0
-IsWalkWithout (faults.App fault) = IsNoWire fault
-IsWalkWithout (faults.Output reason) = ⊥
+-- why a walk has no wire to the agent at an address
+abbrev pub IsWalkWithout : Agents → Addr → WalkFault → Type 0
+IsWalkWithout agents at (faults.App fault) = agents.Unreached at fault × IsUnopened fault
+IsWalkWithout agents at (faults.Output reason) = ⊥
 
--- what a walk prints from a start on, which something at a wire explains; or there was no wire
-abbrev pub IsWalkAt : (List ℕ → List ℕ) → Stride → List ℕ → List ℕ → List AtHost
+-- What a walk prints from a start on: a wire was opened to the agent at an address, and what happened
+-- there explains it; or no wire could be opened.
+abbrev pub IsWalkAt : Agents → Addr → (List ℕ → List ℕ) → Stride → List ℕ → List ℕ → List AtHost
     → Result Unit WalkFault → Type 0
-IsWalkAt show stride community start log result =
-    ((at_wire : List AtWire) × IsWalk show (next_question stride community) start at_wire log result)
-    ⊎ ((log ≡ []) × IsErrAnd result IsWalkWithout)
+IsWalkAt agents at show stride community start log result =
+    agents.Reached at (λ at_wire. IsWalk show (next_question stride community) start at_wire log result)
+    ⊎ ((log ≡ []) × IsErrAnd result (IsWalkWithout agents at))
 
 -- the failure of a walk through an agent: the agent's, or that of standard output
 abbrev pub IsWalkFailure : List ℕ → WalkFault → Failure → Type 0
@@ -55,28 +58,29 @@ IsWalkFailure agent (faults.Output reason) failure =
     IsOfStream (codes "standard output") (why reason) failure
 
 -- the same of a walk through an agent, where identifiers are shown so
-abbrev pub IsShown : (List ℕ → List ℕ) → List ℕ → Stride → List ℕ → List ℕ → List AtHost
+abbrev pub IsShown : Agents → (List ℕ → List ℕ) → AgentAt → Stride → List ℕ → List ℕ → List AtHost
     → Result Unit Failure → Type 0
-IsShown show agent stride community start log (Ok done) =
-    IsWalkAt show stride community start log (Ok done)
-IsShown show agent stride community start log (Err failure) = (fault : WalkFault)
-    × IsWalkFailure agent fault failure
-    × IsWalkAt show stride community start log (let r : Result Unit WalkFault = Err fault in r)
+IsShown agents show agent stride community start log (Ok done) =
+    IsWalkAt agents agent.address show stride community start log (Ok done)
+IsShown agents show agent stride community start log (Err failure) = (fault : WalkFault)
+    × IsWalkFailure agent.word.now fault failure
+    × IsWalkAt agents agent.address show stride community start log
+    (let r : Result Unit WalkFault = Err fault in r)
 
 -- The same of a query, where identifiers are shown as it asks, for which memory may run out. A walk
 -- is from one name: of any other number of them nothing is done.
-abbrev pub IsWalkOf : Query → Stride → List (List ℕ) → List AtHost → Result Unit Failure → Type 0
-IsWalkOf query stride (start ∷ []) log result = IsUndone log result
-    ⊎ IsShown (shown_if query.prints_names query.known) query.agent.word.now stride
+abbrev pub IsWalkOf : Agents → Query → Stride → List (List ℕ) → List AtHost → Result Unit Failure → Type 0
+IsWalkOf agents query stride (start ∷ []) log result = IsUndone log result
+    ⊎ IsShown agents (shown_if query.prints_names query.known) query.agent stride
     query.community.now start log result
-IsWalkOf query stride names log result = (log ≡ []) × (result ≡ Ok tt)
+IsWalkOf agents query stride names log result = (log ≡ []) × (result ≡ Ok tt)
 
 -- a walk by the request that its arguments ask for
-abbrev pub IsWalkBy : ℕ → Query → List AtHost → Result Unit Failure → Type 0
-IsWalkBy bulk query log result = (stride : Stride) × IsStride bulk stride
-    × IsWalkOf query stride query.asked.items log result
+abbrev pub IsWalkBy : Agents → ℕ → Query → List AtHost → Result Unit Failure → Type 0
+IsWalkBy agents bulk query log result = (stride : Stride) × IsStride bulk stride
+    × IsWalkOf agents query stride query.asked.items log result
 
 -- The command `walk`: what the arguments ask is read, and then each variable is printed as soon as
 -- it is answered.
-abbrev pub IsWalking : WalkArgs → List AtHost → Result Unit Failure → Type 0
-IsWalking words = Then (IsQuery words.request) (IsWalkBy words.bulk)
+abbrev pub IsWalking : Agents → WalkArgs → List AtHost → Result Unit Failure → Type 0
+IsWalking agents words = Then (IsQuery words.request) (IsWalkBy agents words.bulk)

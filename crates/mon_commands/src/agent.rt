@@ -3,17 +3,18 @@
 ghost use Rattle.std.specs.Prelude.{◌≡◌, IfErr, IfOk, Some, option_copied};
 ghost use Rattle.mon_agent.specs.State.{policy_of, settings_of};
 ghost use Rattle.mon_app.specs.AtPort.{Happens};
+ghost use Rattle.mon_app.specs.Network.{ports_by};
 ghost use Rattle.mon_app.specs.Served.{AnswersIt, stands};
 ghost use Rattle.mon_console.specs.Failure.{IsUnopened};
 ghost use Rattle.mon_console.specs.Printing.{shown_names};
 ghost use Rattle.mon_host.specs.Log.{GoesOnBy};
 ghost use Rattle.mon_udp.specs.Addr.{addr_text};
-ghost use Rattle.mon_commands.specs.Agent.{AreAgentSettings, AreAnswers, IsAgentIn, IsAnswering, IsFused, IsListening, IsMomentOf, IsSimulated, PrintsAnswers, with_boots};
-ghost use Rattle.mon_commands.specs.Serving.{IsNextServed, IsServing, IsServingAgent, untaken_lines};
+ghost use Rattle.mon_commands.specs.Agent.{AreAgentSettings, AreAnswers, IsAgentIn, IsAnswering, IsFused, IsMomentOf, IsSimulated, PrintsAnswers, with_boots};
+ghost use Rattle.mon_commands.specs.Serving.{IsDeafFor, IsNextServed, IsServedAt, IsServing, IsServingAgent, port_lines, untaken_lines};
 
 use mon_agent::Agent;
 use mon_answers::{Scene, answer_lines};
-use mon_app::{AppFault, Port, Served, SocketPort, serve_one};
+use mon_app::{AppFault, Listens, Port, Served, serve_one};
 use mon_cli::{AgentArgs, AnswerArgs, Named};
 use mon_console::{Failure, names_of, print, read_input_text, read_text, settings_failure};
 use mon_host::Host;
@@ -22,26 +23,83 @@ use mon_settings::{AgentSettings, SettingsKind, read_agent};
 use mon_smi::{Labels, Names};
 use mon_udp::{Addr, datagram_buffer};
 use std::alloc::{AllocError, Global};
-use std::net::Net;
-use std::rt::Clock;
+use std::net::SocketAddr;
 
 /// The greatest time of a device's life, in hundredths of a second.
 const MOMENTS: &str = "a moment up to 214748364799";
 
 /// Serves the agent of the settings, as many datagrams as the arguments say.
-pub fn serve_agent<R: Clock + Net + AllocGlobal, H: Host>(
-    rt: &R,
+pub fn serve_agent<L: Listens, H: Host>(
+    alloc: Global,
     host: &mut H,
+    net: &L,
     words: AgentArgs<'_>,
 ) -> Result<(), Failure>
-    ensures { GoesOnBy (λ log. IsServingAgent words.entry log result)
-        (H.log host.old) (H.log host.new) }
+    ensures { GoesOnBy (λ log. IsServingAgent (ports_by (L.has_opened net.now)
+        (L.has_failed net.now) L.Port.told L.Port.failures)
+        words.entry log result) (H.log host.old) (H.log host.new) }
 {
-    let told = told_of(rt.alloc(), host, words.settings, words.boots)?;
-    let listen = told.listen;
+    let told = told_of(alloc, host, words.settings, words.boots)?;
+    let service = Service {
+        listen: told.listen,
+        count: words.count,
+    };
     let mut agent = simulated(told)?;
-    let mut port = open_port(rt, host, listen)?;
-    serve_all(rt.alloc(), host, &mut port, &mut agent, words.count)
+    serve_at(alloc, host, net, service, &mut agent)
+}
+
+/// Where an agent is served, and how many datagrams.
+#[derive(Clone, Copy)]
+struct Service {
+    listen: Addr,
+    count: u32,
+}
+
+/// The agent of the settings over a device in memory.
+fn simulated(told: AgentSettings) -> Result<Agent<SimDevice>, Failure>
+    ensures { IsSimulated told result }
+{
+    let device = SimDevice::new(told.interfaces, told.texts)?;
+    Ok(Agent::new(told.policy, told.settings, device))
+}
+
+/// Opens a port for the agent, says where it stands, and serves the agent at it.
+fn serve_at<L: Listens, H: Host>(
+    alloc: Global,
+    host: &mut H,
+    net: &L,
+    service: Service,
+    agent: &mut Agent<SimDevice>,
+) -> Result<(), Failure>
+    ensures { GoesOnBy (λ log. IsServedAt (ports_by (L.has_opened net.now)
+        (L.has_failed net.now) L.Port.told L.Port.failures)
+        service.listen service.count agent.old log result) (H.log host.old) (H.log host.new) }
+{
+    let (mut port, at) = listen_at(alloc, net, service.listen)?;
+    tell_port(host, at);
+    serve_all(alloc, host, &mut port, agent, service.count)
+}
+
+/// Opens a port at an address, and returns where it stands too.
+fn listen_at<L: Listens>(
+    alloc: Global,
+    net: &L,
+    listen: Addr,
+) -> Result<(L::Port, SocketAddr), Failure>
+    ensures opened { IfOk result (λ given. L.has_opened net.now listen given.0 given.1) }
+    ensures unopened { IfErr result (IsDeafFor (L.has_failed net.now) listen) }
+{
+    match net.listen(listen) {
+        Ok(given) => Ok(given),
+        Err(fault) => Err(port_failure(alloc, listen, fault)),
+    }
+}
+
+/// Says where an agent listens.
+fn tell_port<H: Host>(host: &mut H, at: SocketAddr)
+    ensures { GoesOnBy (λ log. log ≡ port_lines at) (H.log host.old) (H.log host.new) }
+{
+    host.note(format_args!("snmpmon: agent at {at}\n"));
 }
 
 /// Serves the agent so many datagrams, and tells each for which memory ran out.
@@ -93,42 +151,6 @@ fn tell_untaken<H: Host>(host: &mut H, served: Served)
     match served {
         Served::Answered => {}
         Served::Untaken => Failure::from(AppFault::OutOfMemory).tell(host),
-    }
-}
-
-/// The agent of the settings over a device in memory.
-fn simulated(told: AgentSettings) -> Result<Agent<SimDevice>, Failure>
-    ensures { IsSimulated told result }
-{
-    let device = SimDevice::new(told.interfaces, told.texts)?;
-    Ok(Agent::new(told.policy, told.settings, device))
-}
-
-/// Listens at an address, and says so.
-fn open_port<'a, R: Clock + Net + AllocGlobal, H: Host>(
-    rt: &'a R,
-    host: &mut H,
-    listen: Addr,
-) -> Result<SocketPort<'a, R>, Failure>
-    ensures { GoesOnBy (λ log. IsListening listen log result) (H.log host.old) (H.log host.new) }
-{
-    let port = listen_at(rt, listen)?;
-    let at = port.address()?;
-    host.note(format_args!("snmpmon: agent at {at}\n"));
-    Ok(port)
-}
-
-/// Opens the port at an address.
-fn listen_at<R: Clock + Net + AllocGlobal>(
-    rt: &R,
-    listen: Addr,
-) -> Result<SocketPort<'_, R>, Failure>
-    ensures { IfErr result (λ failure. (fault : AppFault)
-        × IsUnopened (Some (addr_text listen)) fault failure) }
-{
-    match SocketPort::open(rt, listen) {
-        Ok(port) => Ok(port),
-        Err(fault) => Err(port_failure(rt.alloc(), listen, fault)),
     }
 }
 

@@ -1,32 +1,31 @@
 //! The client command `walk`.
 
-ghost use Rattle.mon_commands.specs.Client.{shown_if};
+ghost use Rattle.mon_app.specs.Network.{agents_by};
 ghost use Rattle.mon_commands.specs.Walking.{IsShown, IsStride, IsWalkAt, IsWalkFailure, IsWalkOf, IsWalking};
 ghost use Rattle.mon_host.specs.Log.{GoesOnBy};
 
-use crate::client::open_wire;
 use crate::query::{Query, query_of};
-use mon_app::{Stride, WalkFault, WalkPlan};
+use mon_app::{Opens, Stride, WalkFault, WalkPlan};
 use mon_cli::WalkArgs;
 use mon_console::{AgentAt, Failure, answer_failure};
 use mon_host::Host;
 use mon_smi::{InNumbers, NameTexts};
-use mon_udp::Addr;
 use std::alloc::Global;
-use std::net::Net;
-use std::rt::Clock;
 
 /// Walks through the variables under the name, and prints each as soon as it is answered. It ends
 /// at the first line that cannot be printed.
-pub fn walk<R: Clock + Net + AllocGlobal, H: Host>(
-    rt: &R,
+pub fn walk<N: Opens, H: Host>(
+    alloc: Global,
     host: &mut H,
+    net: &N,
     words: WalkArgs<'_, '_>,
 ) -> Result<(), Failure>
-    ensures { GoesOnBy (λ log. IsWalking words.entry log result) (H.log host.old) (H.log host.new) }
+    ensures { GoesOnBy (λ log. IsWalking (agents_by (N.has_opened net.now)
+        (N.has_failed net.now) N.Wire.told)
+        words.entry log result) (H.log host.old) (H.log host.new) }
 {
-    let query = query_of(rt.alloc(), host, words.request)?;
-    walk_query(rt, host, &query, stride_of(words.bulk))
+    let query = query_of(alloc, host, words.request)?;
+    walk_query(alloc, host, net, &query, stride_of(words.bulk))
 }
 
 /// By which request a walk asks for so many variables at once: 0 for GetNext.
@@ -39,16 +38,25 @@ fn stride_of(bulk: u32) -> Stride
     }
 }
 
+/// A walk, and the agent through which it goes.
+#[derive(Clone, Copy)]
+struct Route<'a> {
+    agent: AgentAt<'a>,
+    plan: WalkPlan<'a>,
+}
+
 /// Walks through the variables under the name of the query, and prints a line for each. Of any other
 /// number of names it does nothing.
-fn walk_query<R: Clock + Net + AllocGlobal, H: Host>(
-    rt: &R,
+fn walk_query<N: Opens, H: Host>(
+    alloc: Global,
     host: &mut H,
+    net: &N,
     query: &Query<'_>,
     stride: Stride,
 ) -> Result<(), Failure>
-    ensures { GoesOnBy (λ log. IsWalkOf query.now stride query.now.asked.items log result)
-        (H.log host.old) (H.log host.new) }
+    ensures { GoesOnBy (λ log. IsWalkOf (agents_by (N.has_opened net.now)
+        (N.has_failed net.now) N.Wire.told)
+        query.now stride query.now.asked.items log result) (H.log host.old) (H.log host.new) }
 {
     if query.asked.len() != 1 {
         return Ok(());
@@ -58,49 +66,52 @@ fn walk_query<R: Clock + Net + AllocGlobal, H: Host>(
         start: &query.asked[0],
         stride,
     };
+    let route = Route {
+        agent: query.agent,
+        plan,
+    };
     if query.prints_names {
-        walk_shown(
-            rt,
-            host,
-            query.agent,
-            &plan,
-            &query.known.labels(rt.alloc())?,
-        )
+        walk_shown(alloc, host, net, &route, &query.known.labels(alloc)?)
     } else {
-        walk_shown(rt, host, query.agent, &plan, &InNumbers)
+        walk_shown(alloc, host, net, &route, &InNumbers)
     }
 }
 
 /// Walks as planned, and prints a line for each variable, names in this way.
-fn walk_shown<R: Clock + Net + AllocGlobal, S: NameTexts, H: Host>(
-    rt: &R,
+fn walk_shown<N: Opens, S: NameTexts, H: Host>(
+    alloc: Global,
     host: &mut H,
-    agent: AgentAt<'_>,
-    plan: &WalkPlan<'_>,
+    net: &N,
+    route: &Route<'_>,
     names: &S,
 ) -> Result<(), Failure>
-    ensures { GoesOnBy (λ log. IsShown (S.shown names.now) agent.entry.word.now plan.now.stride
-        plan.now.community.now plan.now.start.now log result) (H.log host.old) (H.log host.new) }
+    ensures { GoesOnBy (λ log. IsShown (agents_by (N.has_opened net.now)
+        (N.has_failed net.now) N.Wire.told)
+        (S.shown names.now) route.now.agent route.now.plan.stride route.now.plan.community.now
+        route.now.plan.start.now log result) (H.log host.old) (H.log host.new) }
 {
-    match walk_agent(rt, host, agent.address, plan, names) {
+    match walk_agent(alloc, host, net, route, names) {
         Ok(()) => Ok(()),
-        Err(fault) => Err(walk_failure(rt.alloc(), agent.word, fault)),
+        Err(fault) => Err(walk_failure(alloc, route.agent.word, fault)),
     }
 }
 
 /// Opens a wire to the agent and walks by it as planned.
-fn walk_agent<R: Clock + Net + AllocGlobal, S: NameTexts, H: Host>(
-    rt: &R,
+fn walk_agent<N: Opens, S: NameTexts, H: Host>(
+    alloc: Global,
     host: &mut H,
-    agent: Addr,
-    plan: &WalkPlan<'_>,
+    net: &N,
+    route: &Route<'_>,
     names: &S,
 ) -> Result<(), WalkFault>
-    ensures { GoesOnBy (λ log. IsWalkAt (S.shown names.now) plan.now.stride plan.now.community.now
-        plan.now.start.now log result) (H.log host.old) (H.log host.new) }
+    ensures { GoesOnBy (λ log. IsWalkAt (agents_by (N.has_opened net.now)
+        (N.has_failed net.now) N.Wire.told)
+        route.now.agent.address (S.shown names.now) route.now.plan.stride
+        route.now.plan.community.now route.now.plan.start.now log result)
+        (H.log host.old) (H.log host.new) }
 {
-    let mut wire = open_wire(rt, agent)?;
-    mon_app::walk(rt.alloc(), host, &mut wire, plan, names)
+    let mut wire = net.open(route.agent.address)?;
+    mon_app::walk(alloc, host, &mut wire, &route.plan, names)
 }
 
 /// Why a walk through this agent failed.

@@ -1,6 +1,7 @@
 -- A command, what comes before it, and the end of the program after it.
 use Rattle.std.proofs.Common.{◌≡◌, ◌∙◌, List, ℕ, [], ◌∷◌, ◌++◌, refl, sym, ap, subst, inr, codes}
 use Rattle.std.specs.Prelude.{Bool, true, IsErrAnd, Option, Some, Result, Ok, Err}
+use Rattle.mon_app.specs.Network.{Agents, Ports}
 use Rattle.mon_cli.specs.declared.meaning.Asked.{Asked}
 use Rattle.mon_console.specs.Failure.{IsMemory}
 use Rattle.mon_console.specs.Files.{IsPrint}
@@ -20,11 +21,11 @@ ends What given status before between after done end = record {
   on = goes_on done.more end.more before between after done.on end.on;
 }
 
-pub runs : (asked : Asked) (reads : Bool) (given : Result Unit Failure) (status : ℕ) (start before between after : Option (List AtHost))
-    → reads ≡ reads_input asked → GoesOnBy (IsBefore reads) start before → GoesOnBy (λ log. Does asked log given) before between
-    → GoesOnBy (λ log. IsEnd given log status) between after → GoesOnBy (λ log. IsRunFor asked log status) start after
-runs asked reads given status start before between after is first done end =
-    let run = ends (Does asked) given status before between after done end in
+pub runs : (agents : Agents) (ports : Ports) (asked : Asked) (reads : Bool) (given : Result Unit Failure) (status : ℕ) (start before between after : Option (List AtHost))
+    → reads ≡ reads_input asked → GoesOnBy (IsBefore reads) start before → GoesOnBy (λ log. Does agents ports asked log given) before between
+    → GoesOnBy (λ log. IsEnd given log status) between after → GoesOnBy (λ log. IsRunFor agents ports asked log status) start after
+runs agents ports asked reads given status start before between after is first done end =
+    let run = ends (Does agents ports asked) given status before between after done end in
     record {
       more = first.more ++ run.more;
       holds = record {

@@ -8,6 +8,7 @@ use Rattle.clap.specs.declared.parser.matches.ArgMatches.{ArgMatches}
 use Rattle.clap.specs.declared.error.Error.{Error}
 use Rattle.clap.specs.declared.error.kind.ErrorKind.{ErrorKind as UsageKind}
 use Rattle.clap.specs.declared.error.kind.ErrorKind.TheVariants as usage
+use Rattle.mon_app.specs.Network.{Agents, Ports}
 use Rattle.mon_cli.specs.Asked.{AsksFor, LacksInterval, LacksRounds, is_on}
 use Rattle.mon_cli.specs.Program.{IsParseOf, Reads}
 use Rattle.mon_cli.specs.declared.meaning.Asked.{Asked}
@@ -80,24 +81,24 @@ IsUsage usage.DisplayVersion log status = IsRun IsShown log status
 IsUsage _ log status = (line : List ℕ) × IsRefused line log status
 
 -- what a command does
-abbrev pub Does : Asked → List AtHost → Result Unit Failure → Type 0
-Does asked.Version log result = IsPrint (codes "snmpmon 0.1.0\n") log result
-Does (asked.Replay words) log result = IsRecording words log result
-Does (asked.Get request) log result = IsGetting request log result
-Does (asked.Next request) log result = IsGettingNext request log result
-Does (asked.Bulk words) log result = IsAskingMany words log result
-Does (asked.Walk words) log result = IsWalking words log result
-Does (asked.Set words) log result = IsSetting words log result
-Does (asked.Settings words) log result = AreSettings words log result
-Does (asked.Agent words) log result = IsServingAgent words log result
-Does (asked.Answer words) log result = IsAnswering words log result
-Does (asked.Mib words) log result =
+abbrev pub Does : Agents → Ports → Asked → List AtHost → Result Unit Failure → Type 0
+Does agents ports asked.Version log result = IsPrint (codes "snmpmon 0.1.0\n") log result
+Does agents ports (asked.Replay words) log result = IsRecording words log result
+Does agents ports (asked.Get request) log result = IsGetting agents request log result
+Does agents ports (asked.Next request) log result = IsGettingNext agents request log result
+Does agents ports (asked.Bulk words) log result = IsAskingMany agents words log result
+Does agents ports (asked.Walk words) log result = IsWalking agents words log result
+Does agents ports (asked.Set words) log result = IsSetting agents words log result
+Does agents ports (asked.Settings words) log result = AreSettings agents words log result
+Does agents ports (asked.Agent words) log result = IsServingAgent ports words log result
+Does agents ports (asked.Answer words) log result = IsAnswering words log result
+Does agents ports (asked.Mib words) log result =
     IsMib words.file.now (map (λ f. f.now) words.modules.now) log result
-Does (asked.Station words) log result = IsStation words log result
-Does (asked.Report words) log result = IsReportCommand words.settings.now
+Does agents ports (asked.Station words) log result = IsStation words log result
+Does agents ports (asked.Report words) log result = IsReportCommand words.settings.now
     (option_map (λ l. l.now) words.labels) words.printed log result
-Does asked.SelfTest log result = IsSelfTest log result
-Does (asked.Rehearse words) log result = IsRehearsing words log result
+Does agents ports asked.SelfTest log result = IsSelfTest log result
+Does agents ports (asked.Rehearse words) log result = IsRehearsing words log result
 
 -- whether a command reads lines from standard input
 abbrev pub reads_input : Asked → Bool
@@ -122,11 +123,11 @@ IsBefore true log = Hints log
 IsBefore false log = log ≡ []
 
 -- the command is run; first comes the line at a terminal, if it reads from one
-pub record IsRunFor (asked : Asked) (log : List AtHost) (status : ℕ) : Type 0 where
+pub record IsRunFor (agents : Agents) (ports : Ports) (asked : Asked) (log : List AtHost) (status : ℕ) : Type 0 where
   pub begin : List AtHost
   pub before : IsBefore (reads_input asked) begin
   pub rest : List AtHost
-  pub run : IsRun (Does asked) rest status
+  pub run : IsRun (Does agents ports asked) rest status
   pub log_is : log ≡ begin ++ rest
 
 -- what is said of a station without rounds
@@ -140,10 +141,10 @@ no_interval =
     codes "snmpmon: station wants --interval SECONDS with --phase; see snmpmon station --help\n"
 
 -- The command is run, unless a station lacks something, which one line says.
-pub record IsStartOf (asked : Asked) (log : List AtHost) (status : ℕ) : Type 0 where
+pub record IsStartOf (agents : Agents) (ports : Ports) (asked : Asked) (log : List AtHost) (status : ℕ) : Type 0 where
   pub rounds : LacksRounds asked → IsRefused no_rounds log status
   pub interval : ¬ (LacksRounds asked) → LacksInterval asked → IsRefused no_interval log status
-  pub run : ¬ (LacksRounds asked) → ¬ (LacksInterval asked) → IsRunFor asked log status
+  pub run : ¬ (LacksRounds asked) → ¬ (LacksInterval asked) → IsRunFor agents ports asked log status
 
 -- what arguments ask for, by the rows that the command line makes of them
 pub record IsAskedBy (words : List Text) (a : Asked) : Type 0 where
@@ -153,15 +154,15 @@ pub record IsAskedBy (words : List Text) (a : Asked) : Type 0 where
       (rows_of (found_of matches)) (subcommand_rows_of matches) a
 
 -- what the program does with its arguments: it starts the command, or says why there is none
-abbrev pub IsStartWith : List Text → List AtHost → ℕ → Type 0
-IsStartWith words log status = ((a : Asked) × IsAskedBy words a × IsStartOf a log status)
+abbrev pub IsStartWith : Agents → Ports → List Text → List AtHost → ℕ → Type 0
+IsStartWith agents ports words log status = ((a : Asked) × IsAskedBy words a × IsStartOf agents ports a log status)
     ⊎ ((e : Error) × Reads words (Err e) × IsUsage (kind_of e) log status)
 
 -- the arguments were listed, and the program does what they say
-pub record IsListedStart (log : List AtHost) (status : ℕ) : Type 0 where
+pub record IsListedStart (agents : Agents) (ports : Ports) (log : List AtHost) (status : ℕ) : Type 0 where
   pub words : List Text
   pub rest : List AtHost
-  pub start : IsStartWith words rest status
+  pub start : IsStartWith agents ports words rest status
   pub log_is : log ≡ Listed words ∷ rest
 
 -- the arguments could not be listed, for this reason
@@ -171,6 +172,7 @@ pub record IsUnlistedStart (log : List AtHost) (status : ℕ) : Type 0 where
   pub end : IsUnlisted why.kind rest status
   pub log_is : log ≡ Unlisted why ∷ rest
 
--- A whole run: what is done from the first call to the last, and the exit status.
-abbrev pub IsStart : List AtHost → ℕ → Type 0
-IsStart log status = IsListedStart log status ⊎ IsUnlistedStart log status
+-- A whole run: what is done from the first call to the last, and the exit status. Agents are reached and
+-- ports opened by a network.
+abbrev pub IsStart : Agents → Ports → List AtHost → ℕ → Type 0
+IsStart agents ports log status = IsListedStart agents ports log status ⊎ IsUnlistedStart log status

@@ -2,12 +2,14 @@
 
 ghost use Rattle.std.specs.Prelude.{◌≡◌, map, string_bytes};
 ghost use Rattle.clap.specs.Values.{kind_of};
+ghost use Rattle.mon_app.specs.Network.{agents_by, ports_by};
 ghost use Rattle.mon_cli.specs.Asked.{IsWithin};
 ghost use Rattle.mon_host.specs.Log.{GoesOnBy};
 ghost use Rattle.mon_host.specs.Reason.{why};
 ghost use Rattle.snmpmon.specs.Start.{Does, Hints, IsBefore, IsEnd, IsRefused, IsRun, IsRunFor, IsShown, IsStart, IsStartOf, IsStartWith, IsUnlisted, IsUsage, reads_input};
 
 use clap::error::ErrorKind;
+use mon_app::{Listens, Opens};
 use mon_cli::{Asked, VERSION, read, read_command};
 use mon_commands::{
     bulk, get, next, print_answers, print_names, print_recorded, print_rehearsal, run_self_test,
@@ -39,11 +41,18 @@ const NO_INTERVAL: &str =
     "snmpmon: station wants --interval SECONDS with --phase; see snmpmon station --help\n";
 
 /// Runs the command that the arguments name, and returns the exit status.
-pub fn start<R: Clock + Files<File = File> + Net + AllocGlobal, H: Host>(rt: &R, host: &mut H) -> u8
-    ensures { GoesOnBy (λ log. IsStart log result) (H.log host.old) (H.log host.new) }
+pub fn start<R: Clock + Files<File = File> + Net + AllocGlobal, N: Opens + Listens, H: Host>(
+    rt: &R,
+    net: &N,
+    host: &mut H,
+) -> u8
+    ensures { GoesOnBy (λ log. IsStart (agents_by (N.Opens.has_opened net.now)
+        (N.Opens.has_failed net.now) N.Wire.told) (ports_by (N.Listens.has_opened net.now)
+        (N.Listens.has_failed net.now) N.Port.told N.Port.failures)
+        log result) (H.log host.old) (H.log host.new) }
 {
     match host.arguments() {
-        Ok(words) => start_with(rt, host, words.as_slice()),
+        Ok(words) => start_with(rt, net, host, words.as_slice()),
         Err(reason) => end_unlisted(host, reason),
     }
 }
@@ -68,16 +77,20 @@ fn refuse<H: Host>(host: &mut H, line: &str) -> u8
 }
 
 /// Runs the command that these arguments name, and returns the exit status.
-fn start_with<R: Clock + Files<File = File> + Net + AllocGlobal, H: Host>(
+fn start_with<R: Clock + Files<File = File> + Net + AllocGlobal, N: Opens + Listens, H: Host>(
     rt: &R,
+    net: &N,
     host: &mut H,
     words: &[String],
 ) -> u8
-    ensures { GoesOnBy (λ log. IsStartWith (map string_bytes words.now) log result)
+    ensures { GoesOnBy (λ log. IsStartWith (agents_by (N.Opens.has_opened net.now)
+        (N.Opens.has_failed net.now) N.Wire.told) (ports_by (N.Listens.has_opened net.now)
+        (N.Listens.has_failed net.now) N.Port.told N.Port.failures)
+        (map string_bytes words.now) log result)
         (H.log host.old) (H.log host.new) }
 {
     match read(rt.alloc(), words) {
-        Ok(matches) => start_command(rt, host, read_command(&matches)),
+        Ok(matches) => start_command(rt, net, host, read_command(&matches)),
         Err(error) => end_usage(rt.alloc(), host, &error),
     }
 }
@@ -116,13 +129,17 @@ fn show<H: Host>(alloc: Global, host: &mut H, error: &clap::Error) -> Result<(),
 }
 
 /// Runs a command if it lacks nothing, and returns the exit status.
-fn start_command<R: Clock + Files<File = File> + Net + AllocGlobal, H: Host>(
+fn start_command<R: Clock + Files<File = File> + Net + AllocGlobal, N: Opens + Listens, H: Host>(
     rt: &R,
+    net: &N,
     host: &mut H,
     asked: Asked<'_, '_>,
 ) -> u8
     requires { IsWithin asked }
-    ensures { GoesOnBy (λ log. IsStartOf asked.entry log result)
+    ensures { GoesOnBy (λ log. IsStartOf (agents_by (N.Opens.has_opened net.now)
+        (N.Opens.has_failed net.now) N.Wire.told) (ports_by (N.Listens.has_opened net.now)
+        (N.Listens.has_failed net.now) N.Port.told N.Port.failures)
+        asked.entry log result)
         (H.log host.old) (H.log host.new) }
 {
     if asked.lacks_rounds() {
@@ -131,21 +148,25 @@ fn start_command<R: Clock + Files<File = File> + Net + AllocGlobal, H: Host>(
     if asked.lacks_interval() {
         return refuse(host, NO_INTERVAL);
     }
-    run_to_end(rt, host, asked)
+    run_to_end(rt, net, host, asked)
 }
 
 /// Runs a command, and returns the exit status.
-fn run_to_end<R: Clock + Files<File = File> + Net + AllocGlobal, H: Host>(
+fn run_to_end<R: Clock + Files<File = File> + Net + AllocGlobal, N: Opens + Listens, H: Host>(
     rt: &R,
+    net: &N,
     host: &mut H,
     asked: Asked<'_, '_>,
 ) -> u8
     requires { IsWithin asked }
-    ensures { GoesOnBy (λ log. IsRunFor asked.entry log result)
+    ensures { GoesOnBy (λ log. IsRunFor (agents_by (N.Opens.has_opened net.now)
+        (N.Opens.has_failed net.now) N.Wire.told) (ports_by (N.Listens.has_opened net.now)
+        (N.Listens.has_failed net.now) N.Port.told N.Port.failures)
+        asked.entry log result)
         (H.log host.old) (H.log host.new) }
 {
     prepare(host, reads_input(&asked));
-    let done = run(rt, host, asked);
+    let done = run(rt, net, host, asked);
     end(host, done)
 }
 
@@ -194,25 +215,29 @@ fn end<H: Host>(host: &mut H, done: Result<(), Failure>) -> u8
 }
 
 /// Does what the arguments ask for.
-fn run<R: Clock + Files<File = File> + Net + AllocGlobal, H: Host>(
+fn run<R: Clock + Files<File = File> + Net + AllocGlobal, N: Opens + Listens, H: Host>(
     rt: &R,
+    net: &N,
     host: &mut H,
     asked: Asked<'_, '_>,
 ) -> Result<(), Failure>
     requires { IsWithin asked }
-    ensures { GoesOnBy (λ log. Does asked.entry log result) (H.log host.old) (H.log host.new) }
+    ensures { GoesOnBy (λ log. Does (agents_by (N.Opens.has_opened net.now)
+        (N.Opens.has_failed net.now) N.Wire.told) (ports_by (N.Listens.has_opened net.now)
+        (N.Listens.has_failed net.now) N.Port.told N.Port.failures)
+        asked.entry log result) (H.log host.old) (H.log host.new) }
 {
     let alloc = rt.alloc();
     match asked {
         Asked::Version => print(alloc, host, VERSION.as_bytes()),
         Asked::Replay(words) => print_recorded(alloc, host, words),
-        Asked::Get(request) => get(rt, host, request),
-        Asked::Next(request) => next(rt, host, request),
-        Asked::Bulk(words) => bulk(rt, host, words),
-        Asked::Walk(words) => walk(rt, host, words),
-        Asked::Set(words) => set(rt, host, words),
-        Asked::Settings(words) => print_settings(rt, host, words),
-        Asked::Agent(words) => serve_agent(rt, host, words),
+        Asked::Get(request) => get(alloc, host, net, request),
+        Asked::Next(request) => next(alloc, host, net, request),
+        Asked::Bulk(words) => bulk(alloc, host, net, words),
+        Asked::Walk(words) => walk(alloc, host, net, words),
+        Asked::Set(words) => set(alloc, host, net, words),
+        Asked::Settings(words) => print_settings(alloc, host, net, words),
+        Asked::Agent(words) => serve_agent(alloc, host, net, words),
         Asked::Answer(words) => print_answers(alloc, host, words),
         Asked::Mib(words) => print_names(alloc, host, words),
         Asked::Station(words) => run_station(rt, host, words),

@@ -7,11 +7,12 @@
 
 mod commands;
 
+use mon_app::SystemNetwork;
 use mon_host::System;
 use std::io::IsTerminal;
 use std::process::ExitCode;
 
 fn main(rt: HostRuntime) -> ExitCode {
     let mut host = System::new(&rt, rt.stdin().is_terminal());
-    ExitCode::from(commands::start(&rt, &mut host))
+    ExitCode::from(commands::start(&rt, &SystemNetwork::new(&rt), &mut host))
 }
