@@ -1,7 +1,10 @@
 pub mod Counting
 pub mod Groups
 pub mod Made
+pub mod Peers
 pub mod Percentages
+pub mod Refusals
 pub mod Sequences
 pub mod Turns
+pub mod Wanted
 pub mod Writing

@@ -5,6 +5,7 @@ pub mod Kinds
 pub mod Named
 pub mod Parts
 pub mod Percent
+pub mod Refused
 pub mod Replies
 pub mod Settings
 pub mod Source
