@@ -10,6 +10,7 @@ use Rattle.mon_settings_commands.specs.Named.{IsFirstNoPeer, NamesSome}
 use Rattle.mon_settings_commands.specs.Percent.{GivesPercentage, GivesSome, IsNoPercentage}
 use Rattle.mon_settings_commands.specs.Refused.{IsAddress, IsCommunity, IsNoAddress, IsNoCommunity, OrLater}
 use Rattle.mon_settings_commands.specs.Source.{peers_named}
+use Rattle.mon_settings_commands.specs.Surveyed.{IsSurveyed}
 use Rattle.mon_settings_commands.specs.declared.asking.Survey.{Survey}
 use Rattle.mon_settings_commands.specs.declared.settings.Asked.{Asked}
 
@@ -46,6 +47,7 @@ count_lines agent (Some number) count = if number == count then [] else
 
 -- An agent is asked: nothing is printed, read or replaced. If it answered all, at most one line is
 -- said, of its ifNumber.
-abbrev pub IsAsking : List ℕ → List AtHost → Result Survey Failure → Type 0
-IsAsking agent log (Ok survey) = log ≡ count_lines agent survey.number (count_of survey.answers)
-IsAsking agent log (Err failure) = log ≡ []
+abbrev pub IsAsking : Asked → List AtHost → Result Survey Failure → Type 0
+IsAsking asked log (Ok survey) = IsSurveyed asked (Ok survey)
+    × (log ≡ count_lines asked.agent.word.now survey.number (count_of survey.answers))
+IsAsking asked log (Err failure) = IsSurveyed asked (Err failure) × (log ≡ [])
