@@ -2,7 +2,7 @@
 use Rattle.std.proofs.Common.{◌≡◌, ◌+◌, ◌++◌, ◌∷◌, ◌<◌, ◌≤◌, ℕ, List, [], length, map, take, refl, sym, ap, ◌∙◌, inl, inr, append_assoc, subst}
 use Rattle.std.proofs.Math.ListN.{get_or}
 use Rattle.std.specs.Prelude.{Option, Some, None}
-use Rattle.std.proofs.lemmas.List.{append-nil, map-append, take_all, take_more}
+use Rattle.std.proofs.lemmas.List.{map-append, take_all, take_more}
 use Rattle.mon_survey.specs.declared.options.Peer.{Peer}
 use Rattle.mon_udp.specs.Addr.{addr_of, addr_text}
 use Rattle.mon_udp.specs.declared.addr.Addr.{Addr}

@@ -1,7 +1,13 @@
 pub mod Counting
+pub mod Exchanged
 pub mod Groups
+pub mod Lines
 pub mod Made
+pub mod Peers
 pub mod Percentages
+pub mod Refusals
 pub mod Sequences
+pub mod Turning
 pub mod Turns
+pub mod Wanted
 pub mod Writing

@@ -1,14 +1,13 @@
 -- The options and texts of settings.
-use Rattle.std.proofs.Common.{◌≡◌, ◌≤◌, ◌<◌, ◌+◌, ◌^◌, ◌++◌, ◌∙◌, List, ℕ, [], length, map, refl, sym, ap, subst}
-use Rattle.std.specs.Prelude.{Option, Some, None, Result, Ok, Err, OnOk, codes, option_copied, string_bytes}
+use Rattle.std.proofs.Common.{◌≡◌, ◌≤◌, ◌++◌, ◌∙◌, List, ℕ, [], sym, ap, subst}
+use Rattle.std.specs.Prelude.{Result, Ok, Err, OnOk, codes, option_copied, string_bytes}
 use Rattle.mon_cli.specs.declared.meaning.SettingsArgs.{SettingsArgs}
 use Rattle.mon_console.specs.declared.failure.Failure.{Failure}
-use Rattle.mon_smi.specs.declared.definition.Definition.{Definition}
 use Rattle.mon_survey.specs.declared.options.Options.{Options}
 use Rattle.mon_survey.specs.declared.options.Peer.{Peer}
-use Rattle.mon_settings_commands.specs.Named.{file_name}
+use Rattle.mon_settings_commands.specs.Named.{file_name, given_or}
 use Rattle.mon_settings_commands.specs.Source.{Source, peers_named}
-use Rattle.mon_settings_commands.specs.Texts.{AreOptions, ArePeers, AreTexts, IsCounted, given_or}
+use Rattle.mon_settings_commands.specs.Texts.{AreOptions, ArePeers, AreTexts, IsCounted}
 use Rattle.mon_settings_commands.specs.declared.settings.Texts.{Texts}
 
 -- the texts of options are those that were made

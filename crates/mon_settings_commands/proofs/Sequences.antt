@@ -17,7 +17,7 @@ abbrev pub AfterSurvey : SettingsArgs → Asked → Existing → String Global �
 AfterSurvey words asked existing old survey = IsLonger (source words asked existing.names survey) existing (string_bytes old)
 
 abbrev pub AfterOld : SettingsArgs → Asked → Existing → String Global → List AtHost → Result Unit Failure → Type 0
-AfterOld words asked existing old = Then (IsAsking asked.agent.word.now) (AfterSurvey words asked existing old)
+AfterOld words asked existing old = Then (IsAsking asked) (AfterSurvey words asked existing old)
 
 abbrev pub AfterExisting : SettingsArgs → Asked → Existing → List AtHost → Result Unit Failure → Type 0
 AfterExisting words asked existing = Then (AreOldLabels (option_copied words.labels)) (AfterOld words asked existing)

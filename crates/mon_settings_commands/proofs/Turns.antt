@@ -31,6 +31,6 @@ pub quietly_then : {A B : Type 0} → (Gives : Result A Failure → Type 0) (Sec
 quietly_then Gives Second value result now end gives second = then_follows (Quietly Gives) Second (Ok value) result now now end (quietly Gives (Ok value) now gives) second
 
 -- a step that was done, or memory ran out before it
-pub or_memory : {A : Type 0} → (Step : List AtHost → Result A Failure → Type 0) (log : List AtHost) (r : Result A Failure) → Step log r → OrMemory Step log r
+pub or_memory : {A C : Type 0} → (Step : List C → Result A Failure → Type 0) (log : List C) (r : Result A Failure) → Step log r → OrMemory Step log r
 or_memory Step log (Ok value) step = step
 or_memory Step log (Err failure) step = inr step

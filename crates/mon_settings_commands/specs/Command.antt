@@ -30,12 +30,12 @@ AreNewTexts s = AreTextsFor s (option_copied s.words.split)
 -- New settings: modules are read, the agent is asked, and texts are written.
 abbrev pub AreNewSettings : SettingsArgs → Asked → List AtHost → Result Unit Failure → Type 0
 AreNewSettings words asked = Then (AreNames (map (λ m. m.now) words.modules.now)) (λ names.
-    Then (IsAsking asked.agent.word.now) (λ survey. AreNewTexts (source words asked names survey)))
+    Then (IsAsking asked) (λ survey. AreNewTexts (source words asked names survey)))
 
 -- Settings that are there with more targets: they and the old labels are read before the agent is asked.
 abbrev pub AreLongerSettings : SettingsArgs → Asked → List ℕ → List AtHost → Result Unit Failure → Type 0
 AreLongerSettings words asked path = Then (Quietly (IsAlone words)) (λ done. Then (IsExisting path) (λ existing.
-    Then (AreOldLabels (option_copied words.labels)) (λ old. Then (IsAsking asked.agent.word.now) (λ survey.
+    Then (AreOldLabels (option_copied words.labels)) (λ old. Then (IsAsking asked) (λ survey.
     IsLonger (source words asked existing.names survey) existing (string_bytes old)))))
 
 -- new settings, or those in a file with more targets

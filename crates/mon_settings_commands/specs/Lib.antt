@@ -1,11 +1,15 @@
 pub mod Appended
 pub mod Asked
 pub mod Command
+pub mod Engine
+pub mod Exchange
 pub mod Kinds
 pub mod Named
 pub mod Parts
 pub mod Percent
-pub mod Replies
+pub mod Refused
 pub mod Settings
 pub mod Source
+pub mod Surveyed
 pub mod Texts
+pub mod Walked

@@ -1,5 +1,5 @@
 -- The settings of several stations, a file each.
-use Rattle.std.specs.Prelude.{◌≡◌, ◌<◌, ◌≤◌, ◌⊎◌, ◌+◌, ℕ, List, [], ◌∷◌, ◌++◌, Option, Some, None, Result, Ok, Err, String, codes, decimal, length, map, slice_get, string_bytes}
+use Rattle.std.specs.Prelude.{◌≡◌, ◌⊎◌, ◌+◌, ℕ, List, [], ◌∷◌, ◌++◌, Some, Result, Ok, Err, String, codes, decimal, length, map, string_bytes}
 use Rattle.std.specs.Global.{Global, Vec}
 use Rattle.mon_console.specs.Files.{IsPrint, IsWrite}
 use Rattle.mon_console.specs.Failure.{IsMemory}

@@ -1,10 +1,8 @@
 -- The settings that the command `settings` prints.
-use Rattle.std.specs.Prelude.{◌≡◌, ◌⊎◌, ℕ, List, [], ◌∷◌, ◌++◌, Option, Some, None, Result, Ok, Err, String, length, map, option_copied, string_bytes}
+use Rattle.std.specs.Prelude.{◌≡◌, ◌⊎◌, ℕ, List, [], Option, Some, None, Result, Ok, Err, String, length, option_copied, string_bytes}
 use Rattle.std.specs.Global.{Global}
 use Rattle.hex.specs.Hex.{encode_lower}
-use Rattle.mon_cli.specs.declared.meaning.SettingsArgs.{SettingsArgs}
 use Rattle.mon_console.specs.Files.{IsPrint, IsReplacing}
-use Rattle.mon_console.specs.Naming.{AreNames}
 use Rattle.mon_console.specs.declared.failure.Failure.{Failure}
 use Rattle.mon_host.specs.AtHost.{AtHost}
 use Rattle.mon_host.specs.Then.{Quietly, Then}
@@ -14,10 +12,8 @@ use Rattle.mon_survey.specs.Meant.{IsFault, IsSettingsText}
 use Rattle.mon_survey.specs.declared.choice.Choice.{Choice}
 use Rattle.mon_survey.specs.declared.fault.SurveyFault.{SurveyFault}
 use Rattle.mon_survey.specs.declared.options.Options.{Options}
-use Rattle.mon_settings_commands.specs.Asked.{IsAsking}
 use Rattle.mon_settings_commands.specs.Source.{IsChoice, IsOfSurvey, Source}
 use Rattle.mon_settings_commands.specs.Texts.{AreOptions, IsOfOptions}
-use Rattle.mon_settings_commands.specs.declared.settings.Asked.{Asked}
 
 -- by how much a group's ports and the number of its file are counted up
 abbrev pub up_of : Option ℕ → ℕ

@@ -4,7 +4,6 @@ use Rattle.mon_cli.specs.declared.meaning.SettingsArgs.{SettingsArgs}
 use Rattle.mon_console.specs.Failure.{IsMemory}
 use Rattle.mon_console.specs.declared.failure.Failure.{Failure}
 use Rattle.mon_faults.specs.Fault.{innermost_of}
-use Rattle.mon_host.specs.AtHost.{AtHost}
 use Rattle.mon_smi.specs.declared.definition.Definition.{Definition}
 use Rattle.mon_survey.specs.Fault.{name_of, number_of}
 use Rattle.mon_survey.specs.declared.choice.Choice.{Choice}
@@ -42,6 +41,6 @@ pub record IsOfSurvey (fault : SurveyFault) (failure : Failure) : Type 0 where
   pub name : (innermost_of failure.fault).name ≡ name_of fault
 
 -- this step, or nothing was done since memory ran out before it
-abbrev pub OrMemory : {A : Type 0} → (List AtHost → Result A Failure → Type 0) → List AtHost → Result A Failure → Type 0
+abbrev pub OrMemory : {A C : Type 0} → (List C → Result A Failure → Type 0) → List C → Result A Failure → Type 0
 OrMemory Step log (Ok value) = Step log (Ok value)
 OrMemory Step log (Err failure) = ((log ≡ []) × IsMemory failure) ⊎ Step log (Err failure)

@@ -1,5 +1,5 @@
 -- The texts that options give: where a station and its peers are, and its file.
-use Rattle.std.specs.Prelude.{◌≡◌, ◌<◌, ◌≤◌, ◌⊎◌, ℕ, ◌+◌, List, [], ◌∷◌, Option, Some, None, option_copied, string_bytes, codes}
+use Rattle.std.specs.Prelude.{◌≡◌, ◌<◌, ◌≤◌, ◌⊎◌, ℕ, ◌+◌, List, [], ◌∷◌, Some, None, option_copied, string_bytes, codes}
 use Rattle.mon_app.specs.declared.fault.AppFault.TheVariants.{BadText}
 use Rattle.mon_cli.specs.declared.meaning.SettingsArgs.{SettingsArgs}
 use Rattle.mon_console.specs.Failure.{IsMemory}
@@ -9,7 +9,7 @@ use Rattle.mon_survey.specs.declared.options.Options.{Options}
 use Rattle.mon_survey.specs.declared.options.Peer.{Peer}
 use Rattle.mon_udp.specs.Addr.{addr_of, addr_text}
 use Rattle.mon_udp.specs.declared.addr.Addr.{Addr}
-use Rattle.mon_settings_commands.specs.Named.{NamesPeer, file_name}
+use Rattle.mon_settings_commands.specs.Named.{NamesPeer, file_name, given_or}
 use Rattle.mon_settings_commands.specs.Source.{Source, peers_named}
 use Rattle.mon_settings_commands.specs.declared.settings.Texts.{Texts}
 
@@ -34,11 +34,6 @@ ArePeers up [] [] = Unit {0}
 ArePeers up (text ∷ texts) (peer ∷ peers) = IsPeer up text peer × ArePeers up texts peers
 ArePeers up [] (peer ∷ peers) = ⊥
 ArePeers up (text ∷ texts) [] = ⊥
-
--- an option's text, or this one if it is left out
-abbrev pub given_or : List ℕ → Option (List ℕ) → List ℕ
-given_or other None = other
-given_or other (Some text) = text
 
 -- the texts that the arguments give: where a station listens, its file and its peers, counted up
 pub record AreTexts (words : SettingsArgs) (up : ℕ) (t : Texts) : Type 0 where

@@ -1,11 +1,20 @@
 //! Questions to one agent: its engine, and the cells of its tables of interfaces.
 
-ghost use Rattle.std.specs.Prelude.{◌≡◌, ◌≢◌, IfErr, IfOk, false, pos};
-ghost use Rattle.mon_ber.specs.declared.value.Value.TheVariants.{EndOfMibView};
-ghost use Rattle.mon_oid.specs.Oid.{IsPrefix};
+ghost use Rattle.std.specs.Prelude.{◌≡◌, ◌∷◌, ◌++◌, ◌<◌, ◌≤◌, [], IfErr, IfOk, IsTrue, MatchBool, MatchResult, Ok, OnOk, codes, string_bytes};
+ghost use Rattle.mon_app.specs.Printed.{bindings_in};
+ghost use Rattle.mon_app.specs.Walk.{IsPast, IsUnderStart};
+ghost use Rattle.mon_app.specs.declared.question.Asking.TheVariants.{Get};
+ghost use Rattle.mon_console.specs.Failure.{IsMemory};
 ghost use Rattle.mon_host.specs.Log.{GoesOnBy};
+ghost use Rattle.mon_pdu.specs.declared.message.Body.TheVariants as bodies;
+ghost use Rattle.mon_survey.specs.Column.{column_name, columns};
+ghost use Rattle.mon_survey.specs.Plan.{needs};
+ghost use Rattle.mon_survey.specs.declared.fault.SurveyFault.TheVariants.{NoEngine};
 ghost use Rattle.mon_settings_commands.specs.Asked.{IsAsking, count_lines};
-ghost use Rattle.mon_settings_commands.specs.Replies.{bindings_in, index_in, status_in};
+ghost use Rattle.mon_settings_commands.specs.Engine.{HasEngine, HasNoEngine, IsEngineStill, IsFirstAsked, IsHead, IsHeadIn, IsSameEngine, count_in, first_names, number_in};
+ghost use Rattle.mon_settings_commands.specs.Exchange.{AsksBy, IsMadeOf, IsQuestion, next_id};
+ghost use Rattle.mon_settings_commands.specs.Surveyed.{AreWalked, IsSurvey, IsSurveyed, IsUnwired, IsWalkIf};
+ghost use Rattle.mon_settings_commands.specs.Walked.{ArePut, IsPut, IsReplyPut, IsTurn, IsUnending, IsWalk, place_of, stand, turned, unending_line, with_cells};
 
 use crate::failing::survey_failure;
 use crate::settings::Asked;
@@ -14,8 +23,8 @@ use mon_ber::Value;
 use mon_console::{Failure, Fault, answer_failure};
 use mon_host::Host;
 use mon_oid::Oid;
-use mon_pdu::{Binding, Body, Message};
-use mon_survey::{Answers, Column, Kinds, SurveyFault, columns, engine_of};
+use mon_pdu::{Binding, Bindings, Body, Message, Pdu};
+use mon_survey::{Answers, Column, SurveyFault, columns, engine_of};
 use std::alloc::{AllocError, Global};
 use std::net::Net;
 use std::rt::Clock;
@@ -27,15 +36,20 @@ const REPETITIONS: i32 = 32;
 /// How many variables a walk takes of a column at most.
 const MAX_CELLS: u32 = 65_536;
 
-/// snmpEngineID.0, snmpEngineBoots.0 and snmpEngineTime.0 (RFC 3411 section 5).
-const ENGINE_GROUP: [[u32; 11]; 3] = [
-    [1, 3, 6, 1, 6, 3, 10, 2, 1, 1, 0],
-    [1, 3, 6, 1, 6, 3, 10, 2, 1, 2, 0],
-    [1, 3, 6, 1, 6, 3, 10, 2, 1, 3, 0],
-];
+/// snmpEngineID.0 (RFC 3411 section 5).
+const ENGINE_ID: [u32; 11] = [1, 3, 6, 1, 6, 3, 10, 2, 1, 1, 0];
+
+/// snmpEngineBoots.0 (RFC 3411 section 5).
+const ENGINE_BOOTS: [u32; 11] = [1, 3, 6, 1, 6, 3, 10, 2, 1, 2, 0];
+
+/// snmpEngineTime.0 (RFC 3411 section 5).
+const ENGINE_TIME: [u32; 11] = [1, 3, 6, 1, 6, 3, 10, 2, 1, 3, 0];
 
 /// ifNumber.0 (RFC 2863 section 6).
 const IF_NUMBER: [u32; 9] = [1, 3, 6, 1, 2, 1, 2, 1, 0];
+
+/// The highest request-id.
+const MAX_ID: u32 = 0x7fff_ffff;
 
 /// What the agent answered.
 #[derive(Drop)]
@@ -53,11 +67,10 @@ pub(crate) fn ask_agent<R: Clock + Net + AllocGlobal, H: Host>(
     host: &mut H,
     asked: Asked<'_>,
 ) -> Result<Survey, Failure>
-    ensures { GoesOnBy (λ log. IsAsking asked.entry.agent.word.now log result)
+    ensures { GoesOnBy (λ log. IsAsking asked.entry log result)
         (H.log host.old) (H.log host.new) }
 {
-    let mut asker = Asker::open(rt, asked)?;
-    let survey = asker.survey(rt.alloc(), asked.kinds)?;
+    let survey = survey_at(rt, asked)?;
     let count = survey.answers.count();
     tell_count(host, asked.agent.word, survey.number, count);
     Ok(survey)
@@ -78,6 +91,132 @@ fn tell_count<H: Host>(host: &mut H, agent: &str, number: Option<u32>, count: us
     }
 }
 
+/// Asks the agent for its engine and its interfaces, from a socket of its own.
+fn survey_at<R: Clock + Net + AllocGlobal>(rt: &R, asked: Asked<'_>) -> Result<Survey, Failure>
+    ensures { IsSurveyed asked.entry result }
+{
+    let mut asker = open(rt, asked)?;
+    survey_by(rt.alloc(), &mut asker, asked)
+}
+
+/// Asks an agent question after question.
+#[derive(Drop)]
+struct Asker<W> {
+    wire: W,
+    /// The request-id of the last question, 0 before the first.
+    last_id: u32,
+}
+
+/// Opens a socket to ask the agent from.
+fn open<'a, R: Clock + Net + AllocGlobal>(
+    rt: &'a R,
+    asked: Asked<'_>,
+) -> Result<Asker<SocketWire<'a, R>>, Failure>
+    ensures first { IfOk result (λ asker. asker.last_id ≡ 0) }
+    ensures refused { IfErr result (IsUnwired asked.entry.agent.word.now) }
+{
+    match SocketWire::open(rt, asked.agent.address) {
+        Ok(wire) => Ok(Asker { wire, last_id: 0 }),
+        Err(AppFault::SocketFault { reason }) => {
+            let fault = AppFault::SocketFault { reason };
+            Err(answer_failure(rt.alloc(), asked.agent.word, fault))
+        }
+        Err(_) => {
+            let fault = AppFault::OutOfMemory;
+            Err(answer_failure(rt.alloc(), asked.agent.word, fault))
+        }
+    }
+}
+
+/// Returns the request-id after this one; 0 follows the highest.
+fn next_id(id: u32) -> u32
+    ensures next { result ≡ next_id id }
+    ensures small { result ≤ 0x7fff_ffff }
+{
+    if id < MAX_ID { id + 1 } else { 0 }
+}
+
+/// Asks, and returns the variable bindings of the reply.
+fn ask<W: Wire>(
+    alloc: Global,
+    asker: &mut Asker<W>,
+    asked: Asked<'_>,
+    asking: Asking<'_>,
+    names: &[Oid],
+) -> Result<Vec<Binding>, Failure>
+    ensures { AsksBy (λ log. IsQuestion asked.entry.agent.word.now asking.entry names.now log result)
+        asked.entry.community.now asker.old.last_id asker.new.last_id
+        (W.told asker.old.wire) (W.told asker.new.wire) }
+{
+    let id = next_id(asker.last_id);
+    asker.last_id = id;
+    let question = Question {
+        asking,
+        request_id: id as i32,
+        community: asked.community,
+        names,
+    };
+    match send_request(alloc, &mut asker.wire, &question) {
+        Ok(message) => bindings_of(alloc, asked.agent.word, message),
+        Err(fault) => Err(answer_failure(alloc, asked.agent.word, fault)),
+    }
+}
+
+/// The variable bindings of a reply without an error.
+fn bindings_of(alloc: Global, agent: &str, message: Message) -> Result<Vec<Binding>, Failure>
+    ensures { IsMadeOf agent.now (bindings_in message.body) result }
+{
+    match bindings_in(message) {
+        Ok(bindings) => Ok(bindings.into_vec()),
+        Err(fault) => Err(answer_failure(alloc, agent, fault)),
+    }
+}
+
+/// The variable bindings of a reply; `AgentStatus` where it has an error status.
+fn bindings_in(message: Message) -> Result<Bindings, AppFault>
+    ensures { result ≡ bindings_in message.body }
+{
+    let Message { body, .. } = message;
+    match body {
+        Body::Pdu(pdu) => fine(pdu),
+        Body::Bulk(bulk) => Ok(bulk.bindings),
+    }
+}
+
+/// The variable bindings of a response without an error.
+fn fine(pdu: Pdu) -> Result<Bindings, AppFault>
+    ensures { result ≡ bindings_in (bodies.Pdu pdu) }
+{
+    if pdu.error_status != 0 {
+        return Err(AppFault::AgentStatus {
+            status: pdu.error_status,
+            index: pdu.error_index,
+        });
+    }
+    Ok(pdu.bindings)
+}
+
+/// Returns what the agent answers.
+fn survey_by<W: Wire>(
+    alloc: Global,
+    asker: &mut Asker<W>,
+    asked: Asked<'_>,
+) -> Result<Survey, Failure>
+    ensures { AsksBy (λ log. IsSurvey asked.entry.agent.word.now asked.entry.kinds log result)
+        asked.entry.community.now asker.old.last_id asker.new.last_id
+        (W.told asker.old.wire) (W.told asker.new.wire) }
+{
+    let Head { engine, number } = first(alloc, asker, asked)?;
+    let mut answers = Answers::new(alloc);
+    walk_columns(alloc, asker, asked, &mut answers)?;
+    require_engine(alloc, asker, asked, engine.as_slice())?;
+    Ok(Survey {
+        engine,
+        number,
+        answers,
+    })
+}
+
 /// What the agent answers first: its engine id, and its ifNumber where it has one.
 #[derive(Drop)]
 struct Head {
@@ -85,212 +224,235 @@ struct Head {
     number: Option<u32>,
 }
 
-/// Asks one agent question after question.
-#[derive(Drop)]
-struct Asker<'a, W> {
-    wire: W,
-    agent: &'a str,
-    community: &'a [u8],
-    /// How many questions there were, the last one's request-id.
-    asked: u32,
+/// Returns the agent's engine id and its ifNumber.
+fn first<W: Wire>(alloc: Global, asker: &mut Asker<W>, asked: Asked<'_>) -> Result<Head, Failure>
+    ensures { AsksBy (λ log. IsHead asked.entry.agent.word.now log result)
+        asked.entry.community.now asker.old.last_id asker.new.last_id
+        (W.told asker.old.wire) (W.told asker.new.wire) }
+{
+    let bindings = ask_first(alloc, asker, asked)?;
+    head_in(alloc, asked.agent.word, &bindings)
 }
 
-impl<'a, R: Clock + Net> Asker<'a, SocketWire<'a, R>> {
-    /// Opens a socket to ask the agent from.
-    fn open(rt: &'a R, asked: Asked<'a>) -> Result<Self, Failure>
-    where
-        R: AllocGlobal,
-    {
-        match SocketWire::open(rt, asked.agent.address) {
-            Ok(wire) => Ok(Asker {
-                wire,
-                agent: asked.agent.word,
-                community: asked.community,
-                asked: 0,
-            }),
-            Err(fault) => Err(answer_failure(rt.alloc(), asked.agent.word, fault)),
-        }
+/// Asks for the engine group once more. `EngineChanged` if the agent has another engine id than
+/// this one, with which the walk began.
+fn require_engine<W: Wire>(
+    alloc: Global,
+    asker: &mut Asker<W>,
+    asked: Asked<'_>,
+    engine: &[u8],
+) -> Result<(), Failure>
+    ensures { AsksBy (λ log. IsSameEngine asked.entry.agent.word.now engine.now log result)
+        asked.entry.community.now asker.old.last_id asker.new.last_id
+        (W.told asker.old.wire) (W.told asker.new.wire) }
+{
+    let bindings = ask_first(alloc, asker, asked)?;
+    still_engine(alloc, asked.agent.word, engine, &bindings)
+}
+
+/// Asks for the engine group and ifNumber.
+fn ask_first<W: Wire>(
+    alloc: Global,
+    asker: &mut Asker<W>,
+    asked: Asked<'_>,
+) -> Result<Vec<Binding>, Failure>
+    ensures { AsksBy (λ log. IsFirstAsked asked.entry.agent.word.now log result)
+        asked.entry.community.now asker.old.last_id asker.new.last_id
+        (W.told asker.old.wire) (W.told asker.new.wire) }
+{
+    let names = first_names(alloc)?;
+    ask(alloc, asker, asked, Asking::Get, &names)
+}
+
+/// Returns the engine id and the ifNumber in the answers.
+fn head_in(alloc: Global, agent: &str, bindings: &[Binding]) -> Result<Head, Failure>
+    ensures { IsHeadIn bindings.now result }
+{
+    match engine_in(bindings) {
+        Ok(engine) => Ok(Head {
+            engine: Vec::from_slice(alloc, engine)?,
+            number: number_in(bindings),
+        }),
+        Err(fault) => Err(survey_failure(alloc, agent, fault)),
     }
 }
 
-impl<W: Wire> Asker<'_, W> {
-    /// Asks, and returns the variable bindings of the reply.
-    fn ask(
-        &mut self,
-        alloc: Global,
-        asking: Asking<'_>,
-        names: &[Oid],
-    ) -> Result<Vec<Binding>, Failure> {
-        self.asked = self.asked.wrapping_add(1) & 0x7fff_ffff;
-        let question = Question {
-            asking,
-            request_id: self.asked as i32,
-            community: self.community,
-            names,
-        };
-        match send_request(alloc, &mut self.wire, &question) {
-            Ok(message) => bindings_of(alloc, self.agent, message),
-            Err(fault) => Err(answer_failure(alloc, self.agent, fault)),
-        }
+/// Requires that the engine id in the answers is this one.
+fn still_engine(
+    alloc: Global,
+    agent: &str,
+    engine: &[u8],
+    bindings: &[Binding],
+) -> Result<(), Failure>
+    ensures { IsEngineStill engine.now bindings.now result }
+{
+    match engine_in(bindings) {
+        Ok(now) if now == engine => Ok(()),
+        Ok(_) => Err(survey_failure(alloc, agent, SurveyFault::EngineChanged)),
+        Err(fault) => Err(survey_failure(alloc, agent, fault)),
     }
+}
 
-    /// Returns what the agent answers, for these kinds of counters.
-    fn survey(&mut self, alloc: Global, kinds: Kinds) -> Result<Survey, Failure> {
-        let Head { engine, number } = self.first(alloc)?;
-        let mut survey = Survey {
-            engine,
-            number,
-            answers: Answers::new(alloc),
-        };
-        self.walk_columns(alloc, kinds, &mut survey.answers)?;
-        self.require_engine(alloc, survey.engine.as_slice())?;
-        Ok(survey)
+/// Takes what the agent answers of its interfaces: the cells of the columns that are needed.
+fn walk_columns<W: Wire>(
+    alloc: Global,
+    asker: &mut Asker<W>,
+    asked: Asked<'_>,
+    answers: &mut Answers,
+) -> Result<(), Failure>
+    ensures { AsksBy (λ log. AreWalked asked.entry.agent.word.now asked.entry.kinds columns answers.old log (with_cells answers.new result))
+        asked.entry.community.now asker.old.last_id asker.new.last_id
+        (W.told asker.old.wire) (W.told asker.new.wire) }
+{
+    let columns = columns();
+    for column in columns.as_slice() {
+        walk_if_needed(alloc, asker, asked, *column, answers)?;
     }
+    Ok(())
+}
 
-    /// Asks for the engine group once more. `EngineChanged` if the agent has another engine id than
-    /// this one, with which the walk began.
-    fn require_engine(&mut self, alloc: Global, engine: &[u8]) -> Result<(), Failure> {
-        let bindings = self.ask_first(alloc)?;
-        match engine_in(&bindings) {
-            Ok(now) if now == engine => Ok(()),
-            Ok(_) => Err(survey_failure(alloc, self.agent, SurveyFault::EngineChanged)),
-            Err(fault) => Err(survey_failure(alloc, self.agent, fault)),
-        }
-    }
-
-    /// Returns the agent's engine id and its ifNumber.
-    fn first(&mut self, alloc: Global) -> Result<Head, Failure> {
-        let bindings = self.ask_first(alloc)?;
-        self.head_in(alloc, &bindings)
-    }
-
-    /// Asks for the engine group and ifNumber.
-    fn ask_first(&mut self, alloc: Global) -> Result<Vec<Binding>, Failure> {
-        let names = first_names(alloc)?;
-        self.ask(alloc, Asking::Get, &names)
-    }
-
-    /// Returns the engine id and the ifNumber in the answers.
-    fn head_in(&self, alloc: Global, bindings: &[Binding]) -> Result<Head, Failure> {
-        match engine_in(bindings) {
-            Ok(engine) => Ok(Head {
-                engine: Vec::from_slice(alloc, engine)?,
-                number: number_in(bindings),
-            }),
-            Err(fault) => Err(survey_failure(alloc, self.agent, fault)),
-        }
-    }
-
-    /// Takes what the agent answers of its interfaces, for these kinds of counters.
-    fn walk_columns(
-        &mut self,
-        alloc: Global,
-        kinds: Kinds,
-        answers: &mut Answers,
-    ) -> Result<(), Failure> {
-        for column in columns() {
-            if kinds.needs(column) {
-                self.walk(alloc, column, answers)?;
-            }
-        }
+/// Takes the cells of a column, if it is needed.
+fn walk_if_needed<W: Wire>(
+    alloc: Global,
+    asker: &mut Asker<W>,
+    asked: Asked<'_>,
+    column: Column,
+    answers: &mut Answers,
+) -> Result<(), Failure>
+    ensures { AsksBy (λ log. IsWalkIf (needs asked.entry.kinds column) asked.entry.agent.word.now column answers.old log (with_cells answers.new result))
+        asked.entry.community.now asker.old.last_id asker.new.last_id
+        (W.told asker.old.wire) (W.told asker.new.wire) }
+{
+    if asked.kinds.needs(column) {
+        walk(alloc, asker, asked, column, answers)
+    } else {
         Ok(())
     }
+}
 
-    /// Takes the cells of a column.
-    fn walk(
-        &mut self,
-        alloc: Global,
-        column: Column,
-        answers: &mut Answers,
-    ) -> Result<(), Failure> {
-        let mut place = Place::at(alloc, column)?;
-        // Each step takes a variable at least, so there are no more steps than variables.
-        for _ in 0..MAX_CELLS {
-            if !self.step(alloc, &mut place, answers)? {
-                return Ok(());
-            }
+/// Takes the cells of a column.
+fn walk<W: Wire>(
+    alloc: Global,
+    asker: &mut Asker<W>,
+    asked: Asked<'_>,
+    column: Column,
+    answers: &mut Answers,
+) -> Result<(), Failure>
+    ensures { AsksBy (λ log. IsWalk asked.entry.agent.word.now column answers.old log (with_cells answers.new result))
+        asked.entry.community.now asker.old.last_id asker.new.last_id
+        (W.told asker.old.wire) (W.told asker.new.wire) }
+{
+    let mut place = Place::at(alloc, column)?;
+    // Each step takes a variable at least, so there are no more steps than variables.
+    for _ in 0..MAX_CELLS {
+        if !step(alloc, asker, asked, &mut place, answers)? {
+            return Ok(());
         }
-        Err(self.unending(alloc, &place))
     }
+    Err(unending(alloc, asked.agent.word, &place.start))
+}
 
-    /// Asks for the cells after the last one and takes them. Returns `false` at the end of the column.
-    fn step(
-        &mut self,
-        alloc: Global,
-        place: &mut Place,
-        answers: &mut Answers,
-    ) -> Result<bool, Failure> {
-        let asking = Asking::GetBulk(Repeats {
-            non_repeaters: 0,
-            max_repetitions: REPETITIONS,
-        });
-        let mut bindings = self.ask(alloc, asking, slice::from_ref(&place.last))?;
-        self.take(alloc, place, &mut bindings, answers)
+/// Asks for the cells after the last one and takes them. Returns `false` at the end of the column.
+fn step<W: Wire>(
+    alloc: Global,
+    asker: &mut Asker<W>,
+    asked: Asked<'_>,
+    place: &mut Place,
+    answers: &mut Answers,
+) -> Result<bool, Failure>
+    ensures { AsksBy (λ log. IsTurn asked.entry.agent.word.now (stand place.old answers.old) log (turned (stand place.new answers.new) result))
+        asked.entry.community.now asker.old.last_id asker.new.last_id
+        (W.told asker.old.wire) (W.told asker.new.wire) }
+{
+    let asking = Asking::GetBulk(Repeats {
+        non_repeaters: 0,
+        max_repetitions: REPETITIONS,
+    });
+    let mut bindings = ask(alloc, asker, asked, asking, slice::from_ref(&place.last))?;
+    take(alloc, asked.agent.word, place, &mut bindings, answers)
+}
+
+/// Takes the cells of a reply. Returns `false` at the end of the column.
+fn take(
+    alloc: Global,
+    agent: &str,
+    place: &mut Place,
+    bindings: &mut [Binding],
+    answers: &mut Answers,
+) -> Result<bool, Failure>
+    ensures { IsReplyPut agent.now (stand place.old answers.old) bindings.old (turned (stand place.new answers.new) result) }
+{
+    if bindings.is_empty() {
+        return Err(answer_failure(alloc, agent, AppFault::NotIncreasing));
     }
+    take_all(alloc, agent, place, bindings, answers)
+}
 
-    /// Takes the cells of a reply. Returns `false` at the end of the column.
-    fn take(
-        &self,
-        alloc: Global,
-        place: &mut Place,
-        bindings: &mut [Binding],
-        answers: &mut Answers,
-    ) -> Result<bool, Failure> {
-        if bindings.is_empty() {
-            return Err(answer_failure(alloc, self.agent, AppFault::NotIncreasing));
-        }
-        for binding in bindings.iter_mut() {
-            if !self.put(alloc, place, binding, answers)? {
-                return Ok(false);
-            }
-        }
-        Ok(true)
-    }
-
-    /// Takes a cell, which becomes the last one. Returns `false` if it is past the column.
-    ///
-    /// # Errors
-    /// That of a walk without an end, if there were as many as a walk takes at most.
-    fn put(
-        &self,
-        alloc: Global,
-        place: &mut Place,
-        binding: &mut Binding,
-        answers: &mut Answers,
-    ) -> Result<bool, Failure> {
-        if is_past(&place.start, binding) {
+/// Takes cells. Returns `false` at the end of the column.
+fn take_all(
+    alloc: Global,
+    agent: &str,
+    place: &mut Place,
+    bindings: &mut [Binding],
+    answers: &mut Answers,
+) -> Result<bool, Failure>
+    ensures { ArePut agent.now (stand place.old answers.old) bindings.old (turned (stand place.new answers.new) result) }
+{
+    for binding in bindings.iter_mut() {
+        if !put(alloc, agent, place, binding, answers)? {
             return Ok(false);
         }
-        if !place.last.compare(&binding.name).is_lt() {
-            return Err(answer_failure(alloc, self.agent, AppFault::NotIncreasing));
-        }
-        if place.taken >= MAX_CELLS {
-            return Err(self.unending(alloc, place));
-        }
-        place.taken += 1;
-        let value = mem::replace(&mut binding.value, Value::Null);
-        match answers.take(&binding.name, value) {
-            Ok(()) => {
-                mem::swap(&mut place.last, &mut binding.name);
-                Ok(true)
-            }
-            Err(fault) => Err(survey_failure(alloc, self.agent, fault)),
-        }
     }
+    Ok(true)
+}
 
-    /// A walk that found no end: the failure names the column that it was in.
-    fn unending(&self, alloc: Global, place: &Place) -> Failure
-        ensures { result.fault ≡ Fault.App AppFault.Timeout }
-    {
-        Failure::said(
-            Fault::App(AppFault::Timeout),
-            unending_text(alloc, self.agent, &place.start),
-        )
+/// Takes a cell, which becomes the last one. Returns `false` if it is past the column.
+///
+/// # Errors
+/// That of a walk without an end, if there were as many as a walk takes at most.
+fn put(
+    alloc: Global,
+    agent: &str,
+    place: &mut Place,
+    binding: &mut Binding,
+    answers: &mut Answers,
+) -> Result<bool, Failure>
+    ensures { IsPut agent.now (stand place.old answers.old) binding.old (turned (stand place.new answers.new) result) }
+{
+    if is_past(&place.start, binding) {
+        return Ok(false);
     }
+    if !place.last.compare(&binding.name).is_lt() {
+        return Err(answer_failure(alloc, agent, AppFault::NotIncreasing));
+    }
+    if place.taken >= MAX_CELLS {
+        return Err(unending(alloc, agent, &place.start));
+    }
+    place.taken += 1;
+    let value = mem::replace(&mut binding.value, Value::Null);
+    match answers.take(&binding.name, value) {
+        Ok(()) => {
+            mem::swap(&mut place.last, &mut binding.name);
+            Ok(true)
+        }
+        Err(fault) => Err(survey_failure(alloc, agent, fault)),
+    }
+}
+
+/// A walk that found no end: the failure names the column that it was in.
+fn unending(alloc: Global, agent: &str, column: &Oid) -> Failure
+    ensures { IsUnending agent.now column.now result }
+{
+    Failure::said(
+        Fault::App(AppFault::Timeout),
+        unending_text(alloc, agent, column),
+    )
 }
 
 /// Returns what is said of a column that has no end.
-fn unending_text(alloc: Global, agent: &str, column: &Oid) -> Result<String, AllocError> {
+fn unending_text(alloc: Global, agent: &str, column: &Oid) -> Result<String, AllocError>
+    ensures { IfOk result (λ text. string_bytes text ≡ unending_line agent.now column.now) }
+{
     let name = column.text(alloc)?;
     format!(in alloc; "{agent}: no end of {name} after {MAX_CELLS} variables")
 }
@@ -308,7 +470,10 @@ struct Place {
 
 impl Place {
     /// Returns the start of a column.
-    fn at(alloc: Global, column: Column) -> Result<Self, Failure> {
+    fn at(alloc: Global, column: Column) -> Result<Self, Failure>
+        ensures place { IfOk result (λ place. place ≡ place_of column) }
+        ensures refused { IfErr result IsMemory }
+    {
         let start = column_name(alloc, column)?;
         let last = start.try_clone(alloc)?;
         Ok(Place {
@@ -321,37 +486,15 @@ impl Place {
 
 /// Returns `true` if the variable is not under the start, or there is none.
 fn is_past(start: &Oid, binding: &Binding) -> bool
-    ensures under { result ≡ false → IsPrefix start.now binding.now.name }
-    ensures present { result ≡ false → binding.now.value ≢ EndOfMibView }
-    ensures past { IsPrefix start.now binding.now.name → binding.now.value ≢ EndOfMibView → result ≡ false }
+    ensures { MatchBool result (IsPast start.now binding.now) (IsUnderStart start.now binding.now) }
 {
     matches!(binding.value, Value::EndOfMibView) || !start.is_prefix_of(&binding.name)
 }
 
-/// The variable bindings of a reply without an error.
-fn bindings_of(alloc: Global, agent: &str, message: Message) -> Result<Vec<Binding>, Failure>
-    ensures bindings { IfOk result (λ bindings. bindings.items ≡ bindings_in message.body) }
-    ensures accepted { IfOk result (λ _. status_in message.body ≡ pos 0) }
-    ensures refused { IfErr result (λ _. status_in message.body ≢ pos 0) }
-    ensures fault { IfErr result (λ failure. failure.fault ≡ Fault.App (AppFault.AgentStatus (status_in message.body) (index_in message.body))) }
-{
-    let Message { body, .. } = message;
-    match body {
-        Body::Pdu(pdu) if pdu.error_status == 0 => Ok(pdu.bindings.into_vec()),
-        Body::Pdu(pdu) => Err(answer_failure(
-            alloc,
-            agent,
-            AppFault::AgentStatus {
-                status: pdu.error_status,
-                index: pdu.error_index,
-            },
-        )),
-        Body::Bulk(bulk) => Ok(bulk.bindings.into_vec()),
-    }
-}
-
 /// The engine id in the answers to the three names of the group, which come first.
-fn engine_in(bindings: &[Binding]) -> Result<&[u8], SurveyFault> {
+fn engine_in(bindings: &[Binding]) -> Result<&[u8], SurveyFault>
+    ensures { MatchResult result (λ engine. HasEngine bindings.now engine.now) (λ fault. (fault ≡ NoEngine) × HasNoEngine bindings.now) }
+{
     let [id, boots, time, _number] = bindings else {
         return Err(SurveyFault::NoEngine);
     };
@@ -359,34 +502,52 @@ fn engine_in(bindings: &[Binding]) -> Result<&[u8], SurveyFault> {
 }
 
 /// The ifNumber in the answers, which comes after the group.
-fn number_in(bindings: &[Binding]) -> Option<u32> {
+fn number_in(bindings: &[Binding]) -> Option<u32>
+    ensures { result ≡ number_in bindings.now }
+{
     let [_id, _boots, _time, number] = bindings else {
         return None;
     };
-    match &number.value {
+    count_in(&number.value)
+}
+
+/// Returns the number of an integer from 0 on.
+fn count_in(value: &Value) -> Option<u32>
+    ensures { result ≡ count_in value.now }
+{
+    match value {
         Value::Integer(count) => u32::try_from(*count).ok(),
         _ => None,
     }
 }
 
 /// The names that are asked for first: those of the snmpEngine group, and ifNumber.
-fn first_names(alloc: Global) -> Result<Vec<Oid>, Failure> {
+fn first_names(alloc: Global) -> Result<Vec<Oid>, Failure>
+    ensures names { IfOk result (λ names. names.items ≡ first_names) }
+    ensures refused { IfErr result IsMemory }
+{
     let mut names = Vec::new(alloc);
-    for parts in &ENGINE_GROUP {
-        add_name(alloc, &mut names, parts.as_slice())?;
-    }
+    add_name(alloc, &mut names, ENGINE_ID.as_slice())?;
+    add_name(alloc, &mut names, ENGINE_BOOTS.as_slice())?;
+    add_name(alloc, &mut names, ENGINE_TIME.as_slice())?;
     add_name(alloc, &mut names, IF_NUMBER.as_slice())?;
     Ok(names)
 }
 
 /// Adds the name of these numbers.
-fn add_name(alloc: Global, names: &mut Vec<Oid>, parts: &[u32]) -> Result<(), Failure> {
+fn add_name(alloc: Global, names: &mut Vec<Oid>, parts: &[u32]) -> Result<(), Failure>
+    ensures added { OnOk result (names.new.items ≡ names.old.items ++ parts.now ∷ []) }
+    ensures refused { IfErr result IsMemory }
+{
     let name = name_of(alloc, parts)?;
     Ok(names.push(name)?)
 }
 
 /// The name of these numbers.
-fn name_of(alloc: Global, parts: &[u32]) -> Result<Oid, Failure> {
+fn name_of(alloc: Global, parts: &[u32]) -> Result<Oid, Failure>
+    ensures name { IfOk result (λ name. name ≡ parts.now) }
+    ensures refused { IfErr result IsMemory }
+{
     match Oid::from_parts(alloc, parts) {
         Ok(name) => Ok(name),
         Err(_) => Err(Failure::from(AppFault::OutOfMemory)),
@@ -394,7 +555,10 @@ fn name_of(alloc: Global, parts: &[u32]) -> Result<Oid, Failure> {
 }
 
 /// The name of a column.
-fn column_name(alloc: Global, column: Column) -> Result<Oid, Failure> {
+fn column_name(alloc: Global, column: Column) -> Result<Oid, Failure>
+    ensures name { IfOk result (λ name. name ≡ column_name column) }
+    ensures refused { IfErr result IsMemory }
+{
     match column.name(alloc) {
         Ok(name) => Ok(name),
         Err(_) => Err(Failure::from(AppFault::OutOfMemory)),

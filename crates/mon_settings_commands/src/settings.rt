@@ -1,21 +1,23 @@
 //! The command `settings`: asks an agent for its engine, walks its tables of interfaces, and prints the
 //! settings of a station that polls it.
 
-ghost use Rattle.std.specs.Prelude.{◌≡◌, ◌<◌, ◌≤◌, [], IfErr, IfOk, OnOk, option_copied, string_bytes};
+ghost use Rattle.std.specs.Prelude.{◌≡◌, ◌<◌, ◌≤◌, [], IfErr, IfOk, OnOk, string_bytes};
 ghost use Rattle.mon_host.specs.Log.{GoesOnBy};
 ghost use Rattle.mon_settings_commands.specs.Appended.{IsAlone, IsAppendedOf, IsLonger};
 ghost use Rattle.mon_settings_commands.specs.Asked.{IsAsked};
 ghost use Rattle.mon_settings_commands.specs.Command.{AreLongerSettings, AreNewSettings, AreNewTexts, AreSettings};
 ghost use Rattle.mon_settings_commands.specs.Settings.{IsSettingsOf, IsWhole, up_of};
 ghost use Rattle.mon_settings_commands.specs.Source.{source_in};
-ghost use Rattle.mon_settings_commands.specs.Texts.{AreTexts, IsOfOptions, given_or};
+ghost use Rattle.mon_settings_commands.specs.Texts.{AreTexts, IsOfOptions};
 
 use crate::asking::{Survey, ask_agent};
 use crate::existing::{Existing, existing_in};
 use crate::failing::{survey_failure, together_failure};
 use crate::labelling::{old_labels, write_labels};
 use crate::parts::write_parts;
-use crate::words::{kinds_of, percent_of, put_address, put_file, put_peers, require_peers};
+use crate::words::{
+    given_or, kinds_of, percent_of, put_address, put_file, put_peers, require_peers,
+};
 use mon_cli::SettingsArgs;
 use mon_console::{AgentAt, Failure, agent_at, community, names_of, print};
 use mon_host::Host;
@@ -249,16 +251,6 @@ impl Texts {
         put_address(alloc, &mut self.listen, given_or(words.listen, LISTEN), up)?;
         put_file(&mut self.file, given_or(words.file, FILE), up)?;
         put_peers(alloc, &mut self.peers, words.peers, up)
-    }
-}
-
-/// Returns what an option gives, or another text if it is left out.
-fn given_or<'a>(given: Option<&'a str>, other: &'a str) -> &'a str
-    ensures { result.now ≡ given_or other.now (option_copied given.entry) }
-{
-    match given {
-        Some(text) => text,
-        None => other,
     }
 }
 

@@ -1,15 +1,15 @@
 //! What the options of `settings` say.
 
-ghost use Rattle.std.specs.Prelude.{◌≡◌, ◌≢◌, ◌+◌, ◌++◌, ◌∷◌, ◌<◌, ◌≤◌, ◌^◌, ℕ, List, [], IfErr, IfNone, IfOk, IfSome, None, OnOk, Some, false, map, option_copied, string_bytes, true};
-ghost use Rattle.mon_settings_commands.specs.Kinds.{kind_word, with_kind};
-ghost use Rattle.mon_settings_commands.specs.Named.{NamesPeer, file_name};
-ghost use Rattle.mon_settings_commands.specs.Percent.{GivesNone, GivesPercentage, IsPercentage, MeansPercentage};
+ghost use Rattle.std.specs.Prelude.{◌≡◌, ◌≢◌, ◌+◌, ◌++◌, ◌∷◌, ◌<◌, ◌≤◌, ◌^◌, ℕ, List, [], All, IfErr, IfNone, IfOk, IfSome, None, OnOk, Some, codes, false, map, option_copied, string_bytes, true};
+ghost use Rattle.mon_console.specs.Failure.{IsOfText};
+ghost use Rattle.mon_settings_commands.specs.Kinds.{AreKinds, IsFirstNoKind, kind_word, kind_words, with_kind, words_in};
+ghost use Rattle.mon_settings_commands.specs.Named.{IsFirstNoPeer, IsNoPeer, NamesPeer, NamesSome, file_name, given_or};
+ghost use Rattle.mon_settings_commands.specs.Percent.{GivesPercentage, IsNoPercentage, IsPercentage, MeansPercentage};
 ghost use Rattle.mon_survey.specs.declared.counter.Kind.{Kind};
 ghost use Rattle.mon_settings_commands.specs.Texts.{ArePeers, IsOfOptions, IsPeer, moved_up};
 ghost use Rattle.mon_udp.specs.Addr.{addr_of, addr_text};
 
-use mon_app::AppFault;
-use mon_console::{Failure, Fault};
+use mon_console::Failure;
 use mon_survey::{Kinds, Peer};
 use mon_udp::Addr;
 use std::alloc::{AllocError, Global};
@@ -59,9 +59,28 @@ pub(crate) fn put_file(place: &mut String, file: &str, up: u32) -> Result<(), Al
     write!(place, "{file}-{number}")
 }
 
-/// The kinds of counters that a text names; octets and errors if there is none.
+/// Returns what an option gives, or another text if it is left out.
+pub(crate) fn given_or<'a>(given: Option<&'a str>, other: &'a str) -> &'a str
+    ensures { result.now ≡ given_or other.now (option_copied given.entry) }
+{
+    match given {
+        Some(text) => text,
+        None => other,
+    }
+}
+
+/// The kinds of counters that an option names; octets and errors if it is left out.
 pub(crate) fn kinds_of(alloc: Global, only: Option<&str>) -> Result<Kinds, Failure>
-    ensures { IfErr result (λ failure. failure.fault ≡ Fault.App AppFault.BadText) }
+    ensures kinds { IfOk result (AreKinds (kind_words (option_copied only.entry))) }
+    ensures refused { IfErr result (IsFirstNoKind (kind_words (option_copied only.entry))) }
+{
+    kinds_in(alloc, given_or(only, "octets,errors"))
+}
+
+/// The kinds of counters that a text names, with commas between them.
+fn kinds_in(alloc: Global, text: &str) -> Result<Kinds, Failure>
+    ensures kinds { IfOk result (AreKinds (words_in text.now)) }
+    ensures refused { IfErr result (IsFirstNoKind (words_in text.now)) }
 {
     let mut kinds = Kinds {
         octets: false,
@@ -69,7 +88,7 @@ pub(crate) fn kinds_of(alloc: Global, only: Option<&str>) -> Result<Kinds, Failu
         errors: false,
         discards: false,
     };
-    for word in only.unwrap_or("octets,errors").split(',') {
+    for word in text.split(',') {
         if !add_kind(&mut kinds, word) {
             return Err(Failure::text(alloc, word, "octets, packets, errors or discards"));
         }
@@ -79,9 +98,8 @@ pub(crate) fn kinds_of(alloc: Global, only: Option<&str>) -> Result<Kinds, Failu
 
 /// Adds the kind of counters that a word names. Returns `false` if it names none.
 fn add_kind(kinds: &mut Kinds, word: &str) -> bool
-    ensures known { (kind : Kind) → word.now ≡ kind_word kind → result ≡ true }
-    ensures kinds { (kind : Kind) → word.now ≡ kind_word kind → kinds.new ≡ with_kind kind kinds.old }
-    ensures unknown { ((kind : Kind) → word.now ≢ kind_word kind) → result ≡ false }
+    ensures named { result ≡ true → (kind : Kind) × (word.now ≡ kind_word kind) × (kinds.new ≡ with_kind kind kinds.old) }
+    ensures unknown { result ≡ false → (kind : Kind) → word.now ≢ kind_word kind }
 {
     match word {
         "octets" => kinds.octets = true,
@@ -96,7 +114,7 @@ fn add_kind(kinds: &mut Kinds, word: &str) -> bool
 /// Returns the percentage that an option gives, with a percent sign or without; 0 if it is left out.
 pub(crate) fn percent_of(alloc: Global, text: Option<&str>) -> Result<u8, Failure>
     ensures given { IfOk result (GivesPercentage (option_copied text.entry)) }
-    ensures refused { IfErr result (λ f. (f.fault ≡ Fault.App AppFault.BadText) × GivesNone (option_copied text.entry)) }
+    ensures refused { IfErr result (IsNoPercentage (option_copied text.entry)) }
 {
     let Some(text) = text else {
         return Ok(0);
@@ -137,7 +155,8 @@ fn number_to_100(text: &str) -> Option<u8>
 
 /// Requires that each text names a peer.
 pub(crate) fn require_peers(alloc: Global, words: &[&str]) -> Result<(), Failure>
-    ensures { IfErr result (λ failure. failure.fault ≡ Fault.App AppFault.BadText) }
+    ensures named { IfOk result (λ _. All NamesSome (map (λ text. text.now) words.now)) }
+    ensures refused { IfErr result (IsFirstNoPeer (map (λ text. text.now) words.now)) }
 {
     for word in words {
         peer_at(alloc, word)?;
@@ -175,7 +194,7 @@ fn put_peer(alloc: Global, peers: &mut Vec<Peer>, word: &str, up: u32) -> Result
 /// Returns the number and the address of the peer that a text names, as `2=10.0.0.2:16101`.
 fn peer_at<'a>(alloc: Global, word: &'a str) -> Result<(u32, &'a str), Failure>
     ensures named { IfOk result (λ peer. NamesPeer word.now peer.0 peer.1.now) }
-    ensures refused { IfErr result (λ failure. failure.fault ≡ Fault.App AppFault.BadText) }
+    ensures refused { IfErr result (IsNoPeer word.now) }
 {
     let Some((number, address)) = word.split_once('=') else {
         return Err(peer_failure(alloc, word));
@@ -187,7 +206,7 @@ fn peer_at<'a>(alloc: Global, word: &'a str) -> Result<(u32, &'a str), Failure>
 }
 
 fn peer_failure(alloc: Global, word: &str) -> Failure
-    ensures { result.fault ≡ Fault.App AppFault.BadText }
+    ensures { IsOfText word.now (codes "a station's number and address, N=a.b.c.d:port,") result }
 {
     Failure::text(
         alloc,

@@ -1,4 +1,4 @@
-use Rattle.std.proofs.Common.{List, ℕ, map, string_bytes, subst}
+use Rattle.std.proofs.Common.{List, map, string_bytes, subst}
 use Rattle.std.specs.Global.{Global}
 use Rattle.std.specs.Prelude.{Ok, String}
 use Rattle.mon_console.specs.Naming.{AreNames}

@@ -1,9 +1,8 @@
-use Rattle.std.proofs.Common.{◌+◌, ◌≡◌, ◌∙◌, ◌++◌, ◌∷◌, [], List, ℕ, ap, arith, inl, inr, length, refl, subst, sym}
+use Rattle.std.proofs.Common.{List, ap, inl, inr, length, subst, sym}
 use Rattle.std.specs.Global.{Global, Vec}
-use Rattle.std.specs.Prelude.{Err, Ok, Result, Some, String}
+use Rattle.std.specs.Prelude.{Result, String}
 use Rattle.mon_console.specs.declared.failure.Failure.{Failure}
-use Rattle.mon_settings_commands.specs.Parts.{AreGroupsFrom, ArePartTexts, HasGroups}
-use Rattle.mon_settings_commands.specs.Settings.{IsSettingsOf}
+use Rattle.mon_settings_commands.specs.Parts.{AreGroupsFrom, ArePartTexts}
 use Rattle.mon_settings_commands.specs.Source.{source_in}
 use Rattle.mon_settings_commands.proofs.Groups.{all_groups, one_group_more}
 use Rattle.mon_settings_commands.proofs.Turns.{failure_is}

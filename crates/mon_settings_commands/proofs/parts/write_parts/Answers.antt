@@ -1,4 +1,4 @@
-use Rattle.std.proofs.Common.{List, ℕ, [], map, string_bytes, subst}
+use Rattle.std.proofs.Common.{List, [], map, string_bytes, subst}
 use Rattle.std.specs.Global.{Global, Vec}
 use Rattle.std.specs.Prelude.{Ok, String}
 use Rattle.mon_host.specs.Log.{GoesOnBy}

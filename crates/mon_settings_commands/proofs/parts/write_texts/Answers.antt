@@ -1,4 +1,4 @@
-use Rattle.std.proofs.Common.{arith, map, string_bytes}
+use Rattle.std.proofs.Common.{map, string_bytes}
 use Rattle.std.specs.Global.{Global}
 use Rattle.std.specs.Prelude.{String}
 use Rattle.mon_settings_commands.proofs.Turns.{failure_is}

@@ -1,4 +1,4 @@
-use Rattle.std.proofs.Common.{◌∙◌, List, ℕ, ap, inr, length, refl, string_bytes, subst}
+use Rattle.std.proofs.Common.{◌∙◌, List, ℕ, ap, inr, string_bytes, subst}
 use Rattle.mon_settings.specs.StationAccepted.{station_view}
 use Rattle.mon_survey.specs.Appended.{IsAppendFault, IsAppendedText}
 use Rattle.mon_settings.specs.declared.station.StationSettings.{StationSettings}

@@ -42,7 +42,7 @@ returns-in_err-survey g c =
     quietly_then (IsAlone words) (AfterAlone words asked path) c.in_ok-require_alone.field-0 r before end c.in_ok-require_alone.ensures
     (then_follows (IsExisting path) (AfterExisting words asked) (Ok existing) r before read end c.in_ok-existing.ensures
     (then_follows (AreOldLabels (option_copied words.labels)) (AfterOld words asked existing) (Ok old) r read labelled end c.in_ok-old.ensures
-    (fails (IsAsking asked.agent.word.now) (AfterSurvey words asked existing old) c.in_err-survey.field-0.0 r labelled end c.from_residual-in_err-survey.ensures.1 c.in_err-survey.ensures)))
+    (fails (IsAsking asked) (AfterSurvey words asked existing old) c.in_err-survey.field-0.0 r labelled end c.from_residual-in_err-survey.ensures.1 c.in_err-survey.ensures)))
 
 pub returns : goal.returns
 returns g c =
@@ -61,5 +61,5 @@ returns g c =
     quietly_then (IsAlone words) (AfterAlone words asked path) c.in_ok-require_alone.field-0 r before end c.in_ok-require_alone.ensures
     (then_follows (IsExisting path) (AfterExisting words asked) (Ok existing) r before read end c.in_ok-existing.ensures
     (then_follows (AreOldLabels (option_copied words.labels)) (AfterOld words asked existing) (Ok old) r read labelled end c.in_ok-old.ensures
-    (then_follows (IsAsking asked.agent.word.now) (AfterSurvey words asked existing old) (Ok survey) r labelled surveyed end c.in_ok-survey.ensures
+    (then_follows (IsAsking asked) (AfterSurvey words asked existing old) (Ok survey) r labelled surveyed end c.in_ok-survey.ensures
     (subst (λ (o : List ℕ). GoesOnBy (λ log. IsLonger (source words asked existing.names survey) existing o log r) surveyed end) c.as_str.ensures.value c.print_longer.ensures))))

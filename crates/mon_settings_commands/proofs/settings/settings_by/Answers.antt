@@ -1,4 +1,4 @@
-use Rattle.std.proofs.Common.{◌∙◌, List, ℕ, ap, inr, length, refl, string_bytes, subst}
+use Rattle.std.proofs.Common.{◌∙◌, List, ℕ, ap, inr, length, string_bytes, subst}
 use Rattle.mon_survey.specs.Appended.{shown_by}
 use Rattle.mon_survey.specs.Meant.{IsFault, IsSettingsText}
 use Rattle.mon_survey.specs.declared.answers.Cell.{Cell}

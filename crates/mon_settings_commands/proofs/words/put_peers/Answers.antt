@@ -1,4 +1,4 @@
-use Rattle.std.proofs.Common.{Bor, List, ℕ, [], refl, sym}
+use Rattle.std.proofs.Common.{Bor, List, ℕ, [], sym}
 use Rattle.std.specs.Prelude.{}
 use Rattle.std.proofs.lemmas.List.{append-nil}
 use Rattle.mon_settings_commands.proofs.Counting.{put_all, put_on}

@@ -1,7 +1,6 @@
-use Rattle.std.proofs.Common.{◌++◌, ◌∙◌, ◌+◌, ◌<◌, ◌^◌, List, ℕ, [], ap, arith, string_bytes, subst}
-use Rattle.std.specs.Prelude.{codes, option_copied}
+use Rattle.std.proofs.Common.{◌++◌, ◌∙◌, ◌+◌, ◌<◌, ◌^◌, List, ℕ, ap, arith, string_bytes, subst}
 use Rattle.mon_settings_commands.specs.Named.{file_name}
-use Rattle.mon_settings_commands.specs.Texts.{IsCounted, given_or}
+use Rattle.mon_settings_commands.specs.Texts.{IsCounted}
 use Rattle.mon_settings_commands.proofs.Counting.{counted}
 use Rattle.mon_settings_commands.proofs.Made.{put}
 use Rattle.mon_settings_commands.proofs.settings.Texts.put.Goals as goal

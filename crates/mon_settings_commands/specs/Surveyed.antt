@@ -1,0 +1,62 @@
+-- What the command `settings` asks of an agent.
+use Rattle.std.specs.Prelude.{◌≡◌, ◌⊎◌, ℕ, List, [], ◌∷◌, Bool, true, false, Result, Ok, Err}
+use Rattle.mon_app.specs.AtWire.{AtWire}
+use Rattle.mon_app.specs.declared.fault.AppFault.{AppFault}
+use Rattle.mon_app.specs.declared.fault.AppFault.TheVariants.{OutOfMemory, SocketFault}
+use Rattle.mon_app.specs.declared.reason.SocketReason.{SocketReason}
+use Rattle.mon_console.specs.Agents.{IsUnanswered}
+use Rattle.mon_console.specs.declared.failure.Failure.{Failure}
+use Rattle.mon_faults.specs.declared.fault.Fault.TheVariants.{App}
+use Rattle.mon_host.specs.Then.{Quietly, Then}
+use Rattle.mon_survey.specs.Column.{columns}
+use Rattle.mon_survey.specs.Plan.{needs}
+use Rattle.mon_survey.specs.declared.answers.Cell.{Cell}
+use Rattle.mon_survey.specs.declared.choice.Kinds.{Kinds}
+use Rattle.mon_survey.specs.declared.column.Column.{Column}
+use Rattle.mon_settings_commands.specs.Engine.{IsHead, IsSameEngine}
+use Rattle.mon_settings_commands.specs.Exchange.{AreExplained, Exchange}
+use Rattle.mon_settings_commands.specs.Walked.{IsWalk}
+use Rattle.mon_settings_commands.specs.declared.asking.Head.{Head}
+use Rattle.mon_settings_commands.specs.declared.asking.Survey.{Survey}
+use Rattle.mon_settings_commands.specs.declared.settings.Asked.{Asked}
+
+-- a column is walked if it is needed
+abbrev pub IsWalkIf : Bool → List ℕ → Column → List Cell → List Exchange → Result (List Cell) Failure → Type 0
+IsWalkIf true agent column cells = IsWalk agent column cells
+IsWalkIf false agent column cells = Quietly (λ result. result ≡ Ok cells)
+
+-- Of these columns those that the kinds need are walked, in their order. The cells of each come
+-- after those before.
+abbrev pub AreWalked : List ℕ → Kinds → List Column → List Cell → List Exchange → Result (List Cell) Failure → Type 0
+AreWalked agent kinds [] cells = Quietly (λ result. result ≡ Ok cells)
+AreWalked agent kinds (column ∷ columns) cells = Then (IsWalkIf (needs kinds column) agent column cells) (λ more. AreWalked agent kinds columns more)
+
+-- what an agent answered, once its engine is the same after the walk
+abbrev pub IsSurveyOf : List ℕ → Head → List Cell → List Exchange → Result Survey Failure → Type 0
+IsSurveyOf agent head cells = Then (IsSameEngine agent head.engine.items)
+    (λ done. Quietly (λ result. result ≡ Ok (record { engine = head.engine; number = head.number; answers = cells })))
+
+-- A survey: the agent is asked for its engine, for the columns that the kinds need, and for its
+-- engine once more.
+abbrev pub IsSurvey : List ℕ → Kinds → List Exchange → Result Survey Failure → Type 0
+IsSurvey agent kinds = Then (IsHead agent) (λ head. Then (AreWalked agent kinds columns []) (λ cells. IsSurveyOf agent head cells))
+
+-- there was no wire to an agent: memory ran out, or a socket failed
+pub record IsUnwired (agent : List ℕ) (failure : Failure) : Type 0 where
+  pub fault : AppFault
+  pub why : (fault ≡ OutOfMemory) ⊎ ((reason : SocketReason) × (fault ≡ SocketFault reason))
+  pub is : failure.fault ≡ App fault
+  pub said : IsUnanswered agent fault failure
+
+-- a survey that something at a wire explains; the first request-id is 1
+pub record IsExplained (asked : Asked) (result : Result Survey Failure) : Type 0 where
+  pub exchanges : List Exchange
+  pub survey : IsSurvey asked.agent.word.now asked.kinds exchanges result
+  pub last : ℕ
+  pub at_wire : List AtWire
+  pub explained : AreExplained asked.community.now 0 exchanges last at_wire
+
+-- what an agent answered; or why there is no answer, or why there was no wire
+abbrev pub IsSurveyed : Asked → Result Survey Failure → Type 0
+IsSurveyed asked (Ok survey) = IsExplained asked (Ok survey)
+IsSurveyed asked (Err failure) = IsUnwired asked.agent.word.now failure ⊎ IsExplained asked (Err failure)
