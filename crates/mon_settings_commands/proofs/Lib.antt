@@ -1,3 +1,4 @@
+mod Reached
 pub mod Counting
 pub mod Exchanged
 pub mod Groups

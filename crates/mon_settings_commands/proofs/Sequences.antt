@@ -2,6 +2,7 @@
 use Rattle.std.proofs.Common.{List, ℕ, string_bytes}
 use Rattle.std.specs.Global.{Global}
 use Rattle.std.specs.Prelude.{Result, String, option_copied}
+use Rattle.mon_app.specs.Network.{Agents}
 use Rattle.mon_cli.specs.declared.meaning.SettingsArgs.{SettingsArgs}
 use Rattle.mon_console.specs.declared.failure.Failure.{Failure}
 use Rattle.mon_host.specs.AtHost.{AtHost}
@@ -16,11 +17,11 @@ use Rattle.mon_settings_commands.specs.declared.settings.Asked.{Asked}
 abbrev pub AfterSurvey : SettingsArgs → Asked → Existing → String Global → Survey → List AtHost → Result Unit Failure → Type 0
 AfterSurvey words asked existing old survey = IsLonger (source words asked existing.names survey) existing (string_bytes old)
 
-abbrev pub AfterOld : SettingsArgs → Asked → Existing → String Global → List AtHost → Result Unit Failure → Type 0
-AfterOld words asked existing old = Then (IsAsking asked) (AfterSurvey words asked existing old)
+abbrev pub AfterOld : Agents → SettingsArgs → Asked → Existing → String Global → List AtHost → Result Unit Failure → Type 0
+AfterOld agents words asked existing old = Then (IsAsking agents asked) (AfterSurvey words asked existing old)
 
-abbrev pub AfterExisting : SettingsArgs → Asked → Existing → List AtHost → Result Unit Failure → Type 0
-AfterExisting words asked existing = Then (AreOldLabels (option_copied words.labels)) (AfterOld words asked existing)
+abbrev pub AfterExisting : Agents → SettingsArgs → Asked → Existing → List AtHost → Result Unit Failure → Type 0
+AfterExisting agents words asked existing = Then (AreOldLabels (option_copied words.labels)) (AfterOld agents words asked existing)
 
-abbrev pub AfterAlone : SettingsArgs → Asked → List ℕ → Unit {0} → List AtHost → Result Unit Failure → Type 0
-AfterAlone words asked path done = Then (IsExisting path) (AfterExisting words asked)
+abbrev pub AfterAlone : Agents → SettingsArgs → Asked → List ℕ → Unit {0} → List AtHost → Result Unit Failure → Type 0
+AfterAlone agents words asked path done = Then (IsExisting path) (AfterExisting agents words asked)

@@ -1,5 +1,6 @@
 -- Whom the command `settings` asks, and what it says of the answers.
 use Rattle.std.specs.Prelude.{◌≡◌, ◌++◌, ◌==◌, ◌∷◌, ℕ, List, [], All, Option, Some, None, Result, Ok, Err, codes, decimal, option_copied, if◌then◌else◌}
+use Rattle.mon_app.specs.Network.{Agents}
 use Rattle.mon_cli.specs.declared.meaning.SettingsArgs.{SettingsArgs}
 use Rattle.mon_console.specs.declared.failure.Failure.{Failure}
 use Rattle.mon_host.specs.AtHost.{AtHost, Noted}
@@ -47,7 +48,7 @@ count_lines agent (Some number) count = if number == count then [] else
 
 -- An agent is asked: nothing is printed, read or replaced. If it answered all, at most one line is
 -- said, of its ifNumber.
-abbrev pub IsAsking : Asked → List AtHost → Result Survey Failure → Type 0
-IsAsking asked log (Ok survey) = IsSurveyed asked (Ok survey)
+abbrev pub IsAsking : Agents → Asked → List AtHost → Result Survey Failure → Type 0
+IsAsking agents asked log (Ok survey) = IsSurveyed agents asked (Ok survey)
     × (log ≡ count_lines asked.agent.word.now survey.number (count_of survey.answers))
-IsAsking asked log (Err failure) = IsSurveyed asked (Err failure) × (log ≡ [])
+IsAsking agents asked log (Err failure) = IsSurveyed agents asked (Err failure) × (log ≡ [])

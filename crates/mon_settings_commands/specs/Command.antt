@@ -1,5 +1,6 @@
 -- The command `settings`.
 use Rattle.std.specs.Prelude.{ℕ, List, Option, Some, None, Result, map, option_copied, string_bytes}
+use Rattle.mon_app.specs.Network.{Agents}
 use Rattle.mon_cli.specs.declared.meaning.SettingsArgs.{SettingsArgs}
 use Rattle.mon_console.specs.Naming.{AreNames}
 use Rattle.mon_console.specs.declared.failure.Failure.{Failure}
@@ -28,21 +29,21 @@ abbrev pub AreNewTexts : Source → List AtHost → Result Unit Failure → Type
 AreNewTexts s = AreTextsFor s (option_copied s.words.split)
 
 -- New settings: modules are read, the agent is asked, and texts are written.
-abbrev pub AreNewSettings : SettingsArgs → Asked → List AtHost → Result Unit Failure → Type 0
-AreNewSettings words asked = Then (AreNames (map (λ m. m.now) words.modules.now)) (λ names.
-    Then (IsAsking asked) (λ survey. AreNewTexts (source words asked names survey)))
+abbrev pub AreNewSettings : Agents → SettingsArgs → Asked → List AtHost → Result Unit Failure → Type 0
+AreNewSettings agents words asked = Then (AreNames (map (λ m. m.now) words.modules.now)) (λ names.
+    Then (IsAsking agents asked) (λ survey. AreNewTexts (source words asked names survey)))
 
 -- Settings that are there with more targets: they and the old labels are read before the agent is asked.
-abbrev pub AreLongerSettings : SettingsArgs → Asked → List ℕ → List AtHost → Result Unit Failure → Type 0
-AreLongerSettings words asked path = Then (Quietly (IsAlone words)) (λ done. Then (IsExisting path) (λ existing.
-    Then (AreOldLabels (option_copied words.labels)) (λ old. Then (IsAsking asked) (λ survey.
+abbrev pub AreLongerSettings : Agents → SettingsArgs → Asked → List ℕ → List AtHost → Result Unit Failure → Type 0
+AreLongerSettings agents words asked path = Then (Quietly (IsAlone words)) (λ done. Then (IsExisting path) (λ existing.
+    Then (AreOldLabels (option_copied words.labels)) (λ old. Then (IsAsking agents asked) (λ survey.
     IsLonger (source words asked existing.names survey) existing (string_bytes old)))))
 
 -- new settings, or those in a file with more targets
-abbrev pub AreSettingsFor : SettingsArgs → Asked → Option (List ℕ) → List AtHost → Result Unit Failure → Type 0
-AreSettingsFor words asked None = AreNewSettings words asked
-AreSettingsFor words asked (Some path) = AreLongerSettings words asked path
+abbrev pub AreSettingsFor : Agents → SettingsArgs → Asked → Option (List ℕ) → List AtHost → Result Unit Failure → Type 0
+AreSettingsFor agents words asked None = AreNewSettings agents words asked
+AreSettingsFor agents words asked (Some path) = AreLongerSettings agents words asked path
 
 -- The command: its arguments are read before anything is done.
-abbrev pub AreSettings : SettingsArgs → List AtHost → Result Unit Failure → Type 0
-AreSettings words = Then (Quietly (IsAsked words)) (λ asked. AreSettingsFor words asked (option_copied words.append))
+abbrev pub AreSettings : Agents → SettingsArgs → List AtHost → Result Unit Failure → Type 0
+AreSettings agents words = Then (Quietly (IsAsked words)) (λ asked. AreSettingsFor agents words asked (option_copied words.append))

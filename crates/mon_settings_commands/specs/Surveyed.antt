@@ -1,10 +1,10 @@
 -- What the command `settings` asks of an agent.
 use Rattle.std.specs.Prelude.{◌≡◌, ◌⊎◌, ℕ, List, [], ◌∷◌, Bool, true, false, Result, Ok, Err}
 use Rattle.mon_app.specs.AtWire.{AtWire}
+use Rattle.mon_app.specs.Network.{Agents, IsUnopened}
 use Rattle.mon_app.specs.declared.fault.AppFault.{AppFault}
-use Rattle.mon_app.specs.declared.fault.AppFault.TheVariants.{OutOfMemory, SocketFault}
-use Rattle.mon_app.specs.declared.reason.SocketReason.{SocketReason}
 use Rattle.mon_console.specs.Agents.{IsUnanswered}
+use Rattle.mon_console.specs.declared.agents.AgentAt.{AgentAt}
 use Rattle.mon_console.specs.declared.failure.Failure.{Failure}
 use Rattle.mon_faults.specs.declared.fault.Fault.TheVariants.{App}
 use Rattle.mon_host.specs.Then.{Quietly, Then}
@@ -41,22 +41,24 @@ IsSurveyOf agent head cells = Then (IsSameEngine agent head.engine.items)
 abbrev pub IsSurvey : List ℕ → Kinds → List Exchange → Result Survey Failure → Type 0
 IsSurvey agent kinds = Then (IsHead agent) (λ head. Then (AreWalked agent kinds columns []) (λ cells. IsSurveyOf agent head cells))
 
--- there was no wire to an agent: memory ran out, or a socket failed
-pub record IsUnwired (agent : List ℕ) (failure : Failure) : Type 0 where
+-- no wire could be opened to an agent: memory ran out, or a socket failed
+pub record IsUnwired (agents : Agents) (agent : AgentAt) (failure : Failure) : Type 0 where
   pub fault : AppFault
-  pub why : (fault ≡ OutOfMemory) ⊎ ((reason : SocketReason) × (fault ≡ SocketFault reason))
+  pub unreached : agents.Unreached agent.address fault
+  pub why : IsUnopened fault
   pub is : failure.fault ≡ App fault
-  pub said : IsUnanswered agent fault failure
+  pub said : IsUnanswered agent.word.now fault failure
 
--- a survey that something at a wire explains; the first request-id is 1
-pub record IsExplained (asked : Asked) (result : Result Survey Failure) : Type 0 where
+-- what happened at a wire explains a survey; the first request-id is 1
+pub record IsExplained (asked : Asked) (result : Result Survey Failure) (at_wire : List AtWire) : Type 0 where
   pub exchanges : List Exchange
   pub survey : IsSurvey asked.agent.word.now asked.kinds exchanges result
   pub last : ℕ
-  pub at_wire : List AtWire
   pub explained : AreExplained asked.community.now 0 exchanges last at_wire
 
--- what an agent answered; or why there is no answer, or why there was no wire
-abbrev pub IsSurveyed : Asked → Result Survey Failure → Type 0
-IsSurveyed asked (Ok survey) = IsExplained asked (Ok survey)
-IsSurveyed asked (Err failure) = IsUnwired asked.agent.word.now failure ⊎ IsExplained asked (Err failure)
+-- A wire was opened to an agent, and what happened there explains what it answered, or why there is
+-- no answer; or no wire could be opened.
+abbrev pub IsSurveyed : Agents → Asked → Result Survey Failure → Type 0
+IsSurveyed agents asked (Ok survey) = agents.Reached asked.agent.address (IsExplained asked (Ok survey))
+IsSurveyed agents asked (Err failure) = IsUnwired agents asked.agent failure
+    ⊎ agents.Reached asked.agent.address (IsExplained asked (Err failure))

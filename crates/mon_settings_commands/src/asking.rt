@@ -1,6 +1,7 @@
 //! Questions to one agent: its engine, and the cells of its tables of interfaces.
 
 ghost use Rattle.std.specs.Prelude.{◌≡◌, ◌∷◌, ◌++◌, ◌<◌, ◌≤◌, [], IfErr, IfOk, IsTrue, MatchBool, MatchResult, Ok, OnOk, codes, string_bytes};
+ghost use Rattle.mon_app.specs.Network.{agents_by};
 ghost use Rattle.mon_app.specs.Printed.{bindings_in};
 ghost use Rattle.mon_app.specs.Walk.{IsPast, IsUnderStart};
 ghost use Rattle.mon_app.specs.declared.question.Asking.TheVariants.{Get};
@@ -18,7 +19,7 @@ ghost use Rattle.mon_settings_commands.specs.Walked.{ArePut, IsPut, IsReplyPut, 
 
 use crate::failing::survey_failure;
 use crate::settings::Asked;
-use mon_app::{AppFault, Asking, Question, Repeats, SocketWire, Wire, send_request};
+use mon_app::{AppFault, Asking, Opens, Question, Repeats, Wire, send_request};
 use mon_ber::Value;
 use mon_console::{Failure, Fault, answer_failure};
 use mon_host::Host;
@@ -26,8 +27,6 @@ use mon_oid::Oid;
 use mon_pdu::{Binding, Bindings, Body, Message, Pdu};
 use mon_survey::{Answers, Column, SurveyFault, columns, engine_of};
 use std::alloc::{AllocError, Global};
-use std::net::Net;
-use std::rt::Clock;
 use std::{mem, slice};
 
 /// How many rounds a GetBulk asks for.
@@ -62,15 +61,16 @@ pub(crate) struct Survey {
 
 /// Asks the agent for its engine and its interfaces. Where its ifNumber is another number than that of
 /// ifTable's interfaces, a line on standard error says so.
-pub(crate) fn ask_agent<R: Clock + Net + AllocGlobal, H: Host>(
-    rt: &R,
+pub(crate) fn ask_agent<N: Opens, H: Host>(
+    alloc: Global,
     host: &mut H,
+    net: &N,
     asked: Asked<'_>,
 ) -> Result<Survey, Failure>
-    ensures { GoesOnBy (λ log. IsAsking asked.entry log result)
-        (H.log host.old) (H.log host.new) }
+    ensures { GoesOnBy (λ log. IsAsking (agents_by (N.has_opened net.now) (N.has_failed net.now) N.Wire.told)
+        asked.entry log result) (H.log host.old) (H.log host.new) }
 {
-    let survey = survey_at(rt, asked)?;
+    let survey = survey_at(alloc, net, asked)?;
     let count = survey.answers.count();
     tell_count(host, asked.agent.word, survey.number, count);
     Ok(survey)
@@ -91,12 +91,13 @@ fn tell_count<H: Host>(host: &mut H, agent: &str, number: Option<u32>, count: us
     }
 }
 
-/// Asks the agent for its engine and its interfaces, from a socket of its own.
-fn survey_at<R: Clock + Net + AllocGlobal>(rt: &R, asked: Asked<'_>) -> Result<Survey, Failure>
-    ensures { IsSurveyed asked.entry result }
+/// Asks the agent for its engine and its interfaces, by a wire of its own.
+fn survey_at<N: Opens>(alloc: Global, net: &N, asked: Asked<'_>) -> Result<Survey, Failure>
+    ensures { IsSurveyed (agents_by (N.has_opened net.now) (N.has_failed net.now) N.Wire.told)
+        asked.entry result }
 {
-    let mut asker = open(rt, asked)?;
-    survey_by(rt.alloc(), &mut asker, asked)
+    let mut asker = open(alloc, net, asked)?;
+    survey_by(alloc, &mut asker, asked)
 }
 
 /// Asks an agent question after question.
@@ -107,24 +108,15 @@ struct Asker<W> {
     last_id: u32,
 }
 
-/// Opens a socket to ask the agent from.
-fn open<'a, R: Clock + Net + AllocGlobal>(
-    rt: &'a R,
-    asked: Asked<'_>,
-) -> Result<Asker<SocketWire<'a, R>>, Failure>
+/// Opens a wire to ask the agent by.
+fn open<N: Opens>(alloc: Global, net: &N, asked: Asked<'_>) -> Result<Asker<N::Wire>, Failure>
     ensures first { IfOk result (λ asker. asker.last_id ≡ 0) }
-    ensures refused { IfErr result (IsUnwired asked.entry.agent.word.now) }
+    ensures opened { IfOk result (λ asker. N.has_opened net.now asked.entry.agent.address asker.wire) }
+    ensures refused { IfErr result (IsUnwired (agents_by (N.has_opened net.now) (N.has_failed net.now) N.Wire.told) asked.entry.agent) }
 {
-    match SocketWire::open(rt, asked.agent.address) {
+    match net.open(asked.agent.address) {
         Ok(wire) => Ok(Asker { wire, last_id: 0 }),
-        Err(AppFault::SocketFault { reason }) => {
-            let fault = AppFault::SocketFault { reason };
-            Err(answer_failure(rt.alloc(), asked.agent.word, fault))
-        }
-        Err(_) => {
-            let fault = AppFault::OutOfMemory;
-            Err(answer_failure(rt.alloc(), asked.agent.word, fault))
-        }
+        Err(fault) => Err(answer_failure(alloc, asked.agent.word, fault)),
     }
 }
 

@@ -2,6 +2,7 @@
 //! settings of a station that polls it.
 
 ghost use Rattle.std.specs.Prelude.{◌≡◌, ◌<◌, ◌≤◌, [], IfErr, IfOk, OnOk, string_bytes};
+ghost use Rattle.mon_app.specs.Network.{agents_by};
 ghost use Rattle.mon_host.specs.Log.{GoesOnBy};
 ghost use Rattle.mon_settings_commands.specs.Appended.{IsAlone, IsAppendedOf, IsLonger};
 ghost use Rattle.mon_settings_commands.specs.Asked.{IsAsked};
@@ -18,14 +19,13 @@ use crate::parts::write_parts;
 use crate::words::{
     given_or, kinds_of, percent_of, put_address, put_file, put_peers, require_peers,
 };
+use mon_app::Opens;
 use mon_cli::SettingsArgs;
 use mon_console::{AgentAt, Failure, agent_at, community, names_of, print};
 use mon_host::Host;
 use mon_smi::Names;
 use mon_survey::{Choice, Kinds, Options, Peer, Surveyed, append, settings};
 use std::alloc::Global;
-use std::net::Net;
-use std::rt::Clock;
 
 /// Where a station listens if the arguments do not say.
 const LISTEN: &str = "0.0.0.0:16101";
@@ -36,18 +36,26 @@ const FILE: &str = "station.mon";
 /// Prints the settings of a station that polls the agent that the arguments name, writes those of
 /// several stations, or prints settings that are there with the agent's targets at their end. Nothing
 /// is printed or written unless all was answered and each text was read back.
-pub fn print_settings<R: Clock + Net + AllocGlobal, H: Host>(
-    rt: &R,
+pub fn print_settings<N: Opens, H: Host>(
+    alloc: Global,
     host: &mut H,
+    net: &N,
     words: SettingsArgs<'_, '_>,
 ) -> Result<(), Failure>
-    ensures { GoesOnBy (λ log. AreSettings words.entry log result)
+    ensures { GoesOnBy (λ log. AreSettings (agents_by (N.has_opened net.now) (N.has_failed net.now) N.Wire.told)
+        words.entry log result)
         (H.log host.old) (H.log host.new) }
 {
-    let asked = asked_of(rt.alloc(), &words)?;
+    let asked = asked_of(alloc, &words)?;
     match words.append {
-        Some(path) => print_appended(rt, host, &words, asked, path),
-        None => print_new(rt, host, &words, asked),
+        Some(path) => {
+            let addition = Addition {
+                words: &words,
+                path,
+            };
+            print_appended(alloc, host, net, addition, asked)
+        }
+        None => print_new(alloc, host, net, &words, asked),
     }
 }
 
@@ -88,24 +96,26 @@ fn require_alone(alloc: Global, words: &SettingsArgs<'_, '_>) -> Result<(), Fail
 }
 
 /// Prints the settings of a station that polls the agent, or writes those of several.
-fn print_new<R: Clock + Net + AllocGlobal, H: Host>(
-    rt: &R,
+fn print_new<N: Opens, H: Host>(
+    alloc: Global,
     host: &mut H,
+    net: &N,
     words: &SettingsArgs<'_, '_>,
     asked: Asked<'_>,
 ) -> Result<(), Failure>
-    ensures { GoesOnBy (λ log. AreNewSettings words.now asked.entry log result)
+    ensures { GoesOnBy (λ log. AreNewSettings (agents_by (N.has_opened net.now) (N.has_failed net.now) N.Wire.told)
+        words.now asked.entry log result)
         (H.log host.old) (H.log host.new) }
 {
-    let names = names_of(rt.alloc(), host, words.modules)?;
-    let survey = ask_agent(rt, host, asked)?;
+    let names = names_of(alloc, host, words.modules)?;
+    let survey = ask_agent(alloc, host, net, asked)?;
     let ground = Ground {
         words,
         asked,
         names: &names,
         survey: &survey,
     };
-    write_new(rt.alloc(), host, &ground)
+    write_new(alloc, host, &ground)
 }
 
 /// Prints the settings of a station, or writes those of several into a folder.
@@ -138,28 +148,37 @@ fn print_whole<H: Host>(alloc: Global, host: &mut H, ground: &Ground<'_, '_>) ->
     print(alloc, host, text.as_bytes())
 }
 
+/// What arguments say of settings to which targets are added, and the path of these settings.
+#[derive(Clone, Copy)]
+struct Addition<'m, 'a> {
+    words: &'m SettingsArgs<'m, 'a>,
+    path: &'m str,
+}
+
 /// Prints settings that are there with the agent's targets at their end.
-fn print_appended<R: Clock + Net + AllocGlobal, H: Host>(
-    rt: &R,
+fn print_appended<N: Opens, H: Host>(
+    alloc: Global,
     host: &mut H,
-    words: &SettingsArgs<'_, '_>,
+    net: &N,
+    addition: Addition<'_, '_>,
     asked: Asked<'_>,
-    path: &str,
 ) -> Result<(), Failure>
-    ensures { GoesOnBy (λ log. AreLongerSettings words.now asked.entry path.now log result)
+    ensures { GoesOnBy (λ log. AreLongerSettings (agents_by (N.has_opened net.now) (N.has_failed net.now) N.Wire.told)
+        addition.entry.words.now asked.entry addition.entry.path.now log result)
         (H.log host.old) (H.log host.new) }
 {
-    require_alone(rt.alloc(), words)?;
-    let existing = existing_in(rt.alloc(), host, path)?;
-    let old = old_labels(rt.alloc(), host, words.labels)?;
-    let survey = ask_agent(rt, host, asked)?;
+    let Addition { words, path } = addition;
+    require_alone(alloc, words)?;
+    let existing = existing_in(alloc, host, path)?;
+    let old = old_labels(alloc, host, words.labels)?;
+    let survey = ask_agent(alloc, host, net, asked)?;
     let ground = Ground {
         words,
         asked,
         names: &existing.names,
         survey: &survey,
     };
-    print_longer(rt.alloc(), host, &ground, &existing, old.as_str())
+    print_longer(alloc, host, &ground, &existing, old.as_str())
 }
 
 /// Prints settings with the agent's targets at their end, and writes labels after the old ones.

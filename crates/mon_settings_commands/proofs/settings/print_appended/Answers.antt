@@ -1,5 +1,6 @@
 use Rattle.std.proofs.Common.{List, ℕ, subst}
 use Rattle.std.specs.Prelude.{Ok, option_copied}
+use Rattle.mon_app.specs.Network.{agents_by}
 use Rattle.mon_host.specs.Log.{GoesOnBy}
 use Rattle.mon_host.proofs.Promised.{then_follows}
 use Rattle.mon_settings_commands.specs.Appended.{AreOldLabels, IsAlone, IsExisting, IsLonger}
@@ -10,28 +11,32 @@ use Rattle.mon_settings_commands.proofs.Turns.{fails, fails_quietly, quietly_the
 use Rattle.mon_settings_commands.proofs.settings.print_appended.Goals as goal
 
 pub returns-in_err-require_alone : goal.returns-in_err-require_alone
-returns-in_err-require_alone g c = fails_quietly (IsAlone c.args.words.now) (AfterAlone c.args.words.now c.args.asked c.args.path.now) c.in_err-require_alone.field-0.0 c.from_residual.result
+returns-in_err-require_alone g c =
+    let agents = agents_by (g.N.Opens.has_opened c.args.net.now) (g.N.Opens.has_failed c.args.net.now) g.N.Wire.Wire.told in
+    fails_quietly (IsAlone c.args.addition.words.now) (AfterAlone agents c.args.addition.words.now c.args.asked c.args.addition.path.now) c.in_err-require_alone.field-0.0 c.from_residual.result
     (g.H.Host.log c.args.host.now) c.from_residual.ensures.1 c.in_err-require_alone.ensures
 
 pub returns-in_err-old : goal.returns-in_err-old
 returns-in_err-old g c =
-    let words = c.args.words.now in
+    let agents = agents_by (g.N.Opens.has_opened c.args.net.now) (g.N.Opens.has_failed c.args.net.now) g.N.Wire.Wire.told in
+    let words = c.args.addition.words.now in
     let asked = c.args.asked in
-    let path = c.args.path.now in
+    let path = c.args.addition.path.now in
     let before = g.H.Host.log c.args.host.now in
     let read = g.H.Host.log c.existing_in.new.host in
     let end = g.H.Host.log c.old_labels.new.host in
     let existing = c.in_ok-existing.existing in
     let r = c.from_residual-in_err-old.result in
-    quietly_then (IsAlone words) (AfterAlone words asked path) c.in_ok-require_alone.field-0 r before end c.in_ok-require_alone.ensures
-    (then_follows (IsExisting path) (AfterExisting words asked) (Ok existing) r before read end c.in_ok-existing.ensures
-    (fails (AreOldLabels (option_copied words.labels)) (AfterOld words asked existing) c.in_err-old.field-0.0 r read end c.from_residual-in_err-old.ensures.1 c.in_err-old.ensures))
+    quietly_then (IsAlone words) (AfterAlone agents words asked path) c.in_ok-require_alone.field-0 r before end c.in_ok-require_alone.ensures
+    (then_follows (IsExisting path) (AfterExisting agents words asked) (Ok existing) r before read end c.in_ok-existing.ensures
+    (fails (AreOldLabels (option_copied words.labels)) (AfterOld agents words asked existing) c.in_err-old.field-0.0 r read end c.from_residual-in_err-old.ensures.1 c.in_err-old.ensures))
 
 pub returns-in_err-survey : goal.returns-in_err-survey
 returns-in_err-survey g c =
-    let words = c.args.words.now in
+    let agents = agents_by (g.N.Opens.has_opened c.args.net.now) (g.N.Opens.has_failed c.args.net.now) g.N.Wire.Wire.told in
+    let words = c.args.addition.words.now in
     let asked = c.args.asked in
-    let path = c.args.path.now in
+    let path = c.args.addition.path.now in
     let before = g.H.Host.log c.args.host.now in
     let read = g.H.Host.log c.existing_in.new.host in
     let labelled = g.H.Host.log c.old_labels.new.host in
@@ -39,16 +44,17 @@ returns-in_err-survey g c =
     let existing = c.in_ok-existing.existing in
     let old = c.in_ok-old.old in
     let r = c.from_residual-in_err-survey.result in
-    quietly_then (IsAlone words) (AfterAlone words asked path) c.in_ok-require_alone.field-0 r before end c.in_ok-require_alone.ensures
-    (then_follows (IsExisting path) (AfterExisting words asked) (Ok existing) r before read end c.in_ok-existing.ensures
-    (then_follows (AreOldLabels (option_copied words.labels)) (AfterOld words asked existing) (Ok old) r read labelled end c.in_ok-old.ensures
-    (fails (IsAsking asked) (AfterSurvey words asked existing old) c.in_err-survey.field-0.0 r labelled end c.from_residual-in_err-survey.ensures.1 c.in_err-survey.ensures)))
+    quietly_then (IsAlone words) (AfterAlone agents words asked path) c.in_ok-require_alone.field-0 r before end c.in_ok-require_alone.ensures
+    (then_follows (IsExisting path) (AfterExisting agents words asked) (Ok existing) r before read end c.in_ok-existing.ensures
+    (then_follows (AreOldLabels (option_copied words.labels)) (AfterOld agents words asked existing) (Ok old) r read labelled end c.in_ok-old.ensures
+    (fails (IsAsking agents asked) (AfterSurvey words asked existing old) c.in_err-survey.field-0.0 r labelled end c.from_residual-in_err-survey.ensures.1 c.in_err-survey.ensures)))
 
 pub returns : goal.returns
 returns g c =
-    let words = c.args.words.now in
+    let agents = agents_by (g.N.Opens.has_opened c.args.net.now) (g.N.Opens.has_failed c.args.net.now) g.N.Wire.Wire.told in
+    let words = c.args.addition.words.now in
     let asked = c.args.asked in
-    let path = c.args.path.now in
+    let path = c.args.addition.path.now in
     let before = g.H.Host.log c.args.host.now in
     let read = g.H.Host.log c.existing_in.new.host in
     let labelled = g.H.Host.log c.old_labels.new.host in
@@ -58,8 +64,8 @@ returns g c =
     let old = c.in_ok-old.old in
     let survey = c.in_ok-survey.survey in
     let r = c.print_longer.result in
-    quietly_then (IsAlone words) (AfterAlone words asked path) c.in_ok-require_alone.field-0 r before end c.in_ok-require_alone.ensures
-    (then_follows (IsExisting path) (AfterExisting words asked) (Ok existing) r before read end c.in_ok-existing.ensures
-    (then_follows (AreOldLabels (option_copied words.labels)) (AfterOld words asked existing) (Ok old) r read labelled end c.in_ok-old.ensures
-    (then_follows (IsAsking asked) (AfterSurvey words asked existing old) (Ok survey) r labelled surveyed end c.in_ok-survey.ensures
+    quietly_then (IsAlone words) (AfterAlone agents words asked path) c.in_ok-require_alone.field-0 r before end c.in_ok-require_alone.ensures
+    (then_follows (IsExisting path) (AfterExisting agents words asked) (Ok existing) r before read end c.in_ok-existing.ensures
+    (then_follows (AreOldLabels (option_copied words.labels)) (AfterOld agents words asked existing) (Ok old) r read labelled end c.in_ok-old.ensures
+    (then_follows (IsAsking agents asked) (AfterSurvey words asked existing old) (Ok survey) r labelled surveyed end c.in_ok-survey.ensures
     (subst (λ (o : List ℕ). GoesOnBy (λ log. IsLonger (source words asked existing.names survey) existing o log r) surveyed end) c.as_str.ensures.value c.print_longer.ensures))))
