@@ -1,8 +1,10 @@
 mod Changes
+mod Joined
 mod Notes
 mod Openings
 mod Rounding
 mod Quiets
 mod Rereads
+mod Running
 mod Steps
 mod Texts

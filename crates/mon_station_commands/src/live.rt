@@ -1,14 +1,15 @@
 //! A running station: what it works with, and a round of it.
 
-ghost use Rattle.std.specs.Prelude.{◌≡◌, ◌≤◌, IfOk, IfSome, Some, is_some, length, option_map, string_bytes};
+ghost use Rattle.std.specs.Prelude.{◌≡◌, ◌≤◌, IfErr, IfOk, IfSome, None, Some, is_some, length, option_map, string_bytes};
 ghost use Rattle.std.specs.Result.{result_ok};
 ghost use Rattle.mon_console.specs.Shown.{shown_by};
 ghost use Rattle.mon_disk.specs.Fault.{number_of};
 ghost use Rattle.mon_host.specs.AtHost.{IsNoted};
 ghost use Rattle.mon_host.specs.Log.{GoesOnBy};
-ghost use Rattle.mon_station_commands.specs.Opening.{last_of, unsaved_in};
+ghost use Rattle.mon_station_commands.specs.Opening.{IsNoStation, last_of, unsaved_in};
+ghost use Rattle.mon_station_commands.specs.Places.{IsNoSocket};
 ghost use Rattle.mon_station_commands.specs.Quiet.{AreQuiet};
-ghost use Rattle.mon_station_commands.specs.Steps.{OrMemory};
+ghost use Rattle.mon_station_commands.specs.Steps.{OrMemory, SomeOr};
 ghost use Rattle.mon_station_commands.specs.Telling.{AreChangesSaid, IsOpening, start_line};
 ghost use Rattle.mon_station.specs.State.{state_of};
 
@@ -155,7 +156,12 @@ pub(crate) fn open_transport<'a, W: Sends, S: Receiver + Drop>(
     settings: &StationSettings,
     socket: &'a W,
     receiver: io::Result<S>,
-) -> Result<Transport<S, SocketOutbox<'a, W>>, Failure> {
+) -> Result<Transport<S, SocketOutbox<'a, W>>, Failure>
+    ensures failed { SomeOr (IsNoSocket settings.now.listen) result }
+    ensures number { IfOk result (λ transport. transport.number ≡ settings.now.core.station) }
+    ensures peers { IfOk result (λ transport. transport.peers.items ≡ settings.now.core.peers) }
+    ensures engines { IfOk result (λ transport. length transport.engines.items ≡ length settings.now.core.targets) }
+{
     let receiver = or_socket_failure(alloc, settings.listen, receiver)?;
     let outbox = SocketOutbox::new(socket, addresses_of(alloc, settings)?);
     Ok(make_transport(alloc, settings, receiver, outbox)?)
@@ -218,11 +224,14 @@ pub(crate) fn start_station<H: Host, S: Receiver + Drop, O: Outbox + Drop>(
     place: Place,
     transport: Transport<S, O>,
 ) -> Result<Live<S, O>, Failure>
-    ensures { GoesOnBy (λ log. IsOpening transport.number place.at
+    ensures opening { GoesOnBy (λ log. IsOpening transport.number place.at
         (string_bytes setup.settings.file) (length transport.engines.items)
         (length transport.peers.items) (shown_by setup.reports.printing.names) log
         (option_map (λ live. state_of live.station.life) (result_ok result)))
         (H.log host.old) (H.log host.new) }
+    ensures failed { IfErr result IsNoStation }
+    ensures reports { IfOk result (λ live. live.reports ≡ setup.reports) }
+    ensures printed { IfOk result (λ live. live.unprinted ≡ None) }
 {
     let Setup { settings, reports } = setup;
     let StationSettings { core, file, .. } = settings;
@@ -274,7 +283,9 @@ fn open_station<S: Receiver + Drop, O: Outbox + Drop>(
     disk: FileDisk,
     file: &str,
     transport: &Transport<S, O>,
-) -> Result<Opened, Failure> {
+) -> Result<Opened, Failure>
+    ensures { IfErr result IsNoStation }
+{
     match Station::open(alloc, core, disk) {
         Ok(station) => Ok(watched(alloc, station, transport)?),
         Err((fault, disk)) => Err(unopened(alloc, file, fault, &disk)),
