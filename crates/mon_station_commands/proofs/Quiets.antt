@@ -1,5 +1,5 @@
 -- Quiet events, one after another.
-use Rattle.std.proofs.Common.{◌≡◌, ◌∙◌, ◌++◌, ◌∷◌, ◌&&◌, Bool, List, ℕ, [], ap, false, map, refl, subst, sym, take, true}
+use Rattle.std.proofs.Common.{◌≡◌, ◌∙◌, ◌++◌, ◌∷◌, ◌&&◌, Bool, List, ℕ, [], ap, append_assoc, false, inl, inr, map, refl, subst, sym, take, true}
 use Rattle.std.proofs.lemmas.List.Folds.{list_all-append}
 use Rattle.std.specs.List.{flat_map, list_all}
 use Rattle.std.specs.Prelude.{Option, Some, None, Result, Ok, Err}
@@ -7,10 +7,10 @@ use Rattle.std.specs.declared.alloc.AllocError.{AllocError}
 use Rattle.std.specs.declared.time.Instant.{Instant}
 use Rattle.mon_console.specs.Failure.{IsSecond, IsTold, IsToldMore}
 use Rattle.mon_console.specs.declared.failure.Failure.{Failure}
-use Rattle.mon_host.specs.AtHost.{AtHost, IsNoted, Noted}
+use Rattle.mon_host.specs.AtHost.{AtHost, IsNoted, Noted, Undated, Untimed}
 use Rattle.mon_host.specs.Log.{GoesOnBy}
 use Rattle.mon_host.proofs.Promised.{goes_on, stays, weaker}
-use Rattle.mon_station_commands.specs.Pace.{IsDate, IsPassed, IsTime}
+use Rattle.mon_station_commands.specs.Pace.{IsDate, IsPassed, IsStopped, IsTime, IsWait}
 use Rattle.mon_station_commands.specs.Quiet.{AreQuiet, is_quiet}
 use Rattle.mon_station_commands.specs.Telling.{AreChangesSaid, AreNoted, AreSaid, IsChangeSaid, text_lines}
 
@@ -97,3 +97,42 @@ quiet_to before after other is = subst (λ (t : Option (List AtHost)). GoesOnBy 
 -- changes of trouble
 pub changes : (round : ℕ) (before after : Option (List AtHost)) → GoesOnBy (AreChangesSaid round) before after → GoesOnBy AreQuiet before after
 changes round before after = weaker (AreChangesSaid round) AreQuiet before after (λ log said. are_noted (flat_map (text_lines round) said.0) log said.1)
+
+-- quiet events, and then a clock that failed
+pub are_stopped_on : (log rest : List AtHost) (failure : Failure) → AreQuiet log → IsStopped rest failure → IsStopped (log ++ rest) failure
+are_stopped_on log rest failure quiet stop = record {
+  begin = log ++ stop.begin;
+  quiet = are_quiet_on log stop.begin quiet stop.quiet;
+  why = stop.why;
+  clock = stop.clock;
+  failed = stop.failed;
+  failure_is = stop.failure_is;
+  log_is = ap (λ (l : List AtHost). log ++ l) stop.log_is ∙ sym (append_assoc log stop.begin (stop.clock ∷ []));
+}
+
+-- a clock that failed at once
+no_time : (log : List AtHost) (failure : Failure) → IsTime log (Err failure) → IsStopped log failure
+no_time log failure (why, is, of) = record { begin = []; quiet = refl; why = why; clock = Untimed why; failed = inl refl; failure_is = of; log_is = is }
+
+no_date : (log : List AtHost) (failure : Failure) → IsDate log (Err failure) → IsStopped log failure
+no_date log failure (why, is, of) = record { begin = []; quiet = refl; why = why; clock = Undated why; failed = inr refl; failure_is = of; log_is = is }
+
+module _ (failure : Failure) (before after : Option (List AtHost)) where
+  pub untimed : GoesOnBy (λ log. IsTime log (Err failure)) before after → GoesOnBy (λ log. IsStopped log failure) before after
+  untimed = weaker (λ log. IsTime log (Err failure)) (λ log. IsStopped log failure) before after (λ log is. no_time log failure is)
+
+  pub undated : GoesOnBy (λ log. IsDate log (Err failure)) before after → GoesOnBy (λ log. IsStopped log failure) before after
+  undated = weaker (λ log. IsDate log (Err failure)) (λ log. IsStopped log failure) before after (λ log is. no_date log failure is)
+
+pub stopped_on : (failure : Failure) (before between after : Option (List AtHost)) → GoesOnBy AreQuiet before between → GoesOnBy (λ log. IsStopped log failure) between after
+    → GoesOnBy (λ log. IsStopped log failure) before after
+stopped_on failure before between after one two = record {
+  more = one.more ++ two.more;
+  holds = are_stopped_on one.more two.more failure one.holds two.holds;
+  on = goes_on one.more two.more before between after one.on two.on;
+}
+
+-- a wait in which a clock failed
+pub no_wait : {T : Type 0} → (failure : Failure) (r : Result T Failure) (before after : Option (List AtHost)) → r ≡ Err failure → GoesOnBy (λ log. IsStopped log failure) before after
+    → GoesOnBy (λ log. IsWait log r) before after
+no_wait {T} failure r before after is stop = subst (λ (e : Result T Failure). GoesOnBy (λ log. IsWait log e) before after) (sym is) stop

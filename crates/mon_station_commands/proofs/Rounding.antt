@@ -1,6 +1,6 @@
 -- Rounds of a station, one after another.
-use Rattle.std.proofs.Common.{◌≡◌, ◌≢◌, ◌≤◌, ◌∙◌, ◌++◌, List, ℕ, [], zero, suc, ap, refl, subst, sym, append_assoc, arith, ◌<◌, ◌-◌, ◌⊎◌, inl, inr, ◌+◌, option_map, string_bytes}
-use Rattle.std.specs.Prelude.{IsErr, Option, Result, Ok, Err, String}
+use Rattle.std.proofs.Common.{◌≡◌, ◌≢◌, ◌≤◌, ◌++◌, List, ℕ, [], zero, suc, refl, subst, sym, arith, ◌<◌, ◌-◌, ◌⊎◌, inl, inr, ◌+◌, option_map, string_bytes}
+use Rattle.std.specs.Prelude.{Option, Result, Ok, Err, String}
 use Rattle.std.specs.Global.{Global}
 use Rattle.mon_console.specs.declared.failure.Failure.{Failure}
 use Rattle.mon_console.specs.declared.printing.Printing.{Printing}
@@ -10,8 +10,8 @@ use Rattle.mon_host.proofs.Promised.{goes_on, quietly, stays, then_fails, then_f
 use Rattle.mon_disk.specs.declared.fault.KeeperFault.{KeeperFault}
 use Rattle.mon_host.specs.Then.{Follows, Quietly}
 use Rattle.mon_station_commands.specs.Ending.{IsEnded}
+use Rattle.mon_station_commands.specs.Pace.{IsStopped}
 use Rattle.mon_station_commands.specs.Quiet.{AreQuiet}
-use Rattle.mon_station_commands.proofs.Quiets.{are_quiet_on}
 use Rattle.mon_station_commands.specs.Reporting.{IsOut, IsReported}
 use Rattle.mon_station_commands.specs.Steps.{IsKeptOf}
 use Rattle.mon_rounds.specs.Course.{IsDue}
@@ -27,10 +27,10 @@ round_is printing out moment unwritten before between after format first second 
 }
 
 -- a clock that failed
-pub round_fails : (printing : Printing) (out : Option (List ℕ)) (unwritten : Option Failure) (r : Result Unit Failure) (before after : Option (List AtHost)) → IsErr r
-    → GoesOnBy AreQuiet before after → GoesOnBy (λ log. IsRoundRun printing out log unwritten r) before after
-round_fails printing out unwritten (Ok done) before after is quiet = absurd (let never : ⊥ = cc in never)
-round_fails printing out unwritten (Err failure) before after is quiet = quiet
+pub round_fails : (printing : Printing) (out : Option (List ℕ)) (unwritten : Option Failure) (failure : Failure) (r : Result Unit Failure) (before after : Option (List AtHost))
+    → r ≡ Err failure → GoesOnBy (λ log. IsStopped log failure) before after → GoesOnBy (λ log. IsRoundRun printing out log unwritten r) before after
+round_fails printing out unwritten failure r before after is stop =
+    subst (λ (e : Result Unit Failure). GoesOnBy (λ log. IsRoundRun printing out log unwritten e) before after) (sym is) stop
 
 -- the last round
 pub last_is : (rounds : ℕ) (printing : Printing) (out : Option (List ℕ)) (unwritten : Option Failure) (r : Result Unit Failure) (before after : Option (List AtHost)) → rounds ≢ 0
@@ -86,38 +86,24 @@ module _ (every : ℕ) (p : Printing) (o : Option (List ℕ)) (start : Option Fa
   pub none_yet : (u : Option Failure) (t0 t1 : Option (List AtHost)) → u ≡ start → GoesOnBy AreQuiet t0 t1 → GoesOnBy (λ log. AreRounds every p o start zero log u) t0 t1
   none_yet u t0 t1 is quiet = record { more = quiet.more; holds = (quiet.holds, is); on = quiet.on }
 
-  are_quieter : (n : ℕ) (u0 u : Option Failure) (log more : List AtHost) → u ≡ u0 → AreRounds every p o start n log u0 → AreQuiet more → AreRounds every p o start n (log ++ more) u
-  are_quieter zero u0 u log more is (quiet, same) then = (are_quiet_on log more quiet then, is ∙ same)
-  are_quieter (suc n) u0 u log more is one then =
-      let l : List AtHost = (one.begin ++ one.ran) ++ one.told in
-      record {
-        before = one.before;
-        begin = one.begin;
-        earlier = one.earlier;
-        unwritten = one.unwritten;
-        ran = one.ran;
-        round_is = one.round_is;
-        told = one.told;
-        between = subst (λ (f : Option Failure). IsBetween (suc n) every p one.before one.told f) (sym is) one.between;
-        rest = one.rest ++ more;
-        quiet = are_quiet_on one.rest more one.quiet then;
-        log_is = ap (λ (m : List AtHost). m ++ more) one.log_is ∙ append_assoc l one.rest more;
-      }
-
-  -- quiet events after rounds
-  pub quieter : (n : ℕ) (u0 u : Option Failure) (t0 t1 t2 : Option (List AtHost)) → u ≡ u0 → GoesOnBy (λ log. AreRounds every p o start n log u0) t0 t1 → GoesOnBy AreQuiet t1 t2
-      → GoesOnBy (λ log. AreRounds every p o start n log u) t0 t2
-  quieter n u0 u t0 t1 t2 is first then = record {
-    more = first.more ++ then.more;
-    holds = are_quieter n u0 u first.more then.more is first.holds then.holds;
-    on = goes_on first.more then.more t0 t1 t2 first.on then.on;
-  }
-
   -- a clock failed after so many rounds
-  pub stopped : (rounds n : ℕ) (u w : Option Failure) (r : Result Unit Failure) (t0 t1 : Option (List AtHost)) → IsErr r → n ≤ rounds
-      → GoesOnBy (λ log. AreRounds every p o start n log u) t0 t1 → GoesOnBy (λ log. AreRun rounds every p o start log u w r) t0 t1
-  stopped rounds n u w (Ok done) t0 t1 is within ran = absurd (let never : ⊥ = cc in never)
-  stopped rounds n u w (Err failure) t0 t1 is within ran = record { more = ran.more; holds = (n, within, ran.holds); on = ran.on }
+  pub stopped : (rounds n : ℕ) (u0 u w : Option Failure) (failure : Failure) (r : Result Unit Failure) (t0 t1 t2 : Option (List AtHost)) → r ≡ Err failure → n ≤ rounds → u ≡ u0
+      → GoesOnBy (λ log. AreRounds every p o start n log u0) t0 t1 → GoesOnBy (λ log. IsStopped log failure) t1 t2 → GoesOnBy (λ log. AreRun rounds every p o start log u w r) t0 t2
+  stopped rounds n u0 u w failure r t0 t1 t2 is within same ran stop =
+      subst (λ (e : Result Unit Failure). GoesOnBy (λ log. AreRun rounds every p o start log u w e) t0 t2) (sym is)
+      record {
+        more = ran.more ++ stop.more;
+        holds = record {
+          ran = n;
+          within = within;
+          begin = ran.more;
+          earlier = subst (λ (f : Option Failure). AreRounds every p o start n ran.more f) (sym same) ran.holds;
+          rest = stop.more;
+          stopped = stop.holds;
+          log_is = refl;
+        };
+        on = goes_on ran.more stop.more t0 t1 t2 ran.on stop.on;
+      }
 
   -- the last round after the others
   pub all_run : (rounds n : ℕ) (u0 u w : Option Failure) (r : Result Unit Failure) (t0 t1 t2 : Option (List AtHost)) → n ≡ rounds - 1 → u ≡ u0
@@ -134,8 +120,7 @@ module _ (every : ℕ) (p : Printing) (o : Option (List ℕ)) (start : Option Fa
     on = goes_on first.more last.more t0 t1 t2 first.on last.on;
   }
   all_run rounds n u0 u w (Err failure) t0 t1 t2 count is first last =
-      let ran = quieter n u0 u t0 t1 t2 is first last in
-      record { more = ran.more; holds = (n, (let within : n ≤ rounds = grind arith in within), ran.holds); on = ran.on }
+      stopped rounds n u0 u w failure (Err failure) t0 t1 t2 refl (let within : n ≤ rounds = grind arith in within) is first last
 
   -- all of a run
   pub run_is : (rounds : ℕ) (u w : Option Failure) (unsaved : Option KeeperFault) (moment : Moment) (ran result : Result Unit Failure) (t0 t1 t2 : Option (List AtHost)) → moment.reports.printing ≡ p
@@ -201,3 +186,6 @@ all_run_as every p out start rounds n number p1 out1 u0 u w r t0 t1 t2 count so 
     all_run every p (option_map string_bytes out) start rounds n u0 u w r t0 t1 t2 (at_last n number rounds count so over) is first
     (subst (λ (q : Printing). GoesOnBy (λ log. IsLastRun rounds q (option_map string_bytes out) log w r) t1 t2) same
     (subst (λ (q : Option (String Global)). GoesOnBy (λ log. IsLastRun rounds p1 (option_map string_bytes q) log w r) t1 t2) sameo last))
+
+pub from_zero : (n : ℕ) → 0 ≤ n
+from_zero n = omega arith

@@ -13,7 +13,6 @@ is_quiet (Noted octets) = true
 is_quiet _ = false
 
 -- Nothing was printed, read, written or replaced: a clock was asked for the time, or lines were
--- sent
--- to standard error.
+-- sent to standard error.
 abbrev pub AreQuiet : List AtHost → Type 0
 AreQuiet log = list_all is_quiet log ≡ true

@@ -11,6 +11,7 @@ use Rattle.mon_rounds.specs.declared.course.Course.{Course}
 use Rattle.mon_rounds.specs.declared.freshness.Freshness.{Freshness}
 use Rattle.mon_station.specs.State.{State}
 use Rattle.mon_station_commands.specs.Ending.{IsEnded}
+use Rattle.mon_station_commands.specs.Pace.{IsStopped}
 use Rattle.mon_station_commands.specs.Quiet.{AreQuiet}
 use Rattle.mon_station_commands.specs.Reporting.{IsOut, IsReportOf, IsReported}
 use Rattle.mon_station_commands.specs.Steps.{IsKeptOf}
@@ -42,11 +43,11 @@ pub record IsRound (printing : Printing) (out : Option (List ℕ)) (log : List A
   pub written : IsOut out (IsReportAt moment) rest unwritten
   pub log_is : log ≡ begin ++ rest
 
--- A round was run; or a clock failed, and no report was made.
+-- A round was run; or a clock failed, which the failure says, and no report was made.
 abbrev pub IsRoundRun : Printing → (out : Option (List ℕ)) → List AtHost →
     (unwritten : Option Failure) → Result Unit Failure → Type 0
 IsRoundRun printing out log unwritten (Ok done) = IsRound printing out log unwritten
-IsRoundRun printing out log unwritten (Err failure) = AreQuiet log
+IsRoundRun printing out log unwritten (Err failure) = IsStopped log failure
 
 -- a report between two rounds is printed; `before` and `after` are what was kept of failures to
 -- print
@@ -80,8 +81,7 @@ pub record IsOneMore (Earlier : List AtHost → Option Failure
   pub log_is : log ≡ ((begin ++ ran) ++ told) ++ rest
 
 -- So many rounds were run, each with what is between it and the next. `unprinted` is what is kept
--- of
--- reports that could not be printed, and `start` what was kept before.
+-- of reports that could not be printed, and `start` what was kept before.
 abbrev pub AreRounds : (every : ℕ) → Printing → (out : Option (List ℕ)) →
     (start : Option Failure) → ℕ → List AtHost → (unprinted : Option Failure) → Type 0
 AreRounds every printing out start zero log unprinted = AreQuiet log × (unprinted ≡ start)
@@ -98,7 +98,7 @@ IsLast (suc n) printing out log unwritten = IsRound printing out log unwritten
 abbrev pub IsLastRun : (rounds : ℕ) → Printing → (out : Option (List ℕ)) → List AtHost
     → (unwritten : Option Failure) → Result Unit Failure → Type 0
 IsLastRun rounds printing out log unwritten (Ok done) = IsLast rounds printing out log unwritten
-IsLastRun rounds printing out log unwritten (Err failure) = AreQuiet log
+IsLastRun rounds printing out log unwritten (Err failure) = IsStopped log failure
 
 -- all rounds were run: those with another one after them, and the last
 pub record AreAll (rounds every : ℕ) (printing : Printing) (out : Option (List ℕ))
@@ -110,15 +110,26 @@ pub record AreAll (rounds every : ℕ) (printing : Printing) (out : Option (List
   pub last : IsLast rounds printing out rest unwritten
   pub log_is : log ≡ begin ++ rest
 
--- All rounds were run; or a clock failed after some of them, and nothing was printed or written
--- since.
+-- A clock failed after some of the rounds, which the failure says.
+pub record AreCutShort (rounds every : ℕ) (printing : Printing) (out : Option (List ℕ))
+    (start : Option Failure) (log : List AtHost) (unprinted : Option Failure) (failure : Failure)
+    : Type 0 where
+  pub ran : ℕ
+  pub within : ran ≤ rounds
+  pub begin : List AtHost
+  pub earlier : AreRounds every printing out start ran begin unprinted
+  pub rest : List AtHost
+  pub stopped : IsStopped rest failure
+  pub log_is : log ≡ begin ++ rest
+
+-- all rounds were run, or a clock failed
 abbrev pub AreRun : (rounds every : ℕ) → Printing → (out : Option (List ℕ)) →
     (start : Option Failure) → List AtHost → (unprinted unwritten : Option Failure)
     → Result Unit Failure → Type 0
 AreRun rounds every printing out start log unprinted unwritten (Ok done) =
     AreAll rounds every printing out start log unprinted unwritten
 AreRun rounds every printing out start log unprinted unwritten (Err failure) =
-    (ran : ℕ) × (ran ≤ rounds) × AreRounds every printing out start ran log unprinted
+    AreCutShort rounds every printing out start log unprinted failure
 
 -- after the rounds one report is printed, and the run ends as what was kept has it
 abbrev pub IsFinish : Moment → (unsaved : Option KeeperFault)

@@ -7,6 +7,7 @@ ghost use Rattle.mon_disk.specs.Fault.{number_of};
 ghost use Rattle.mon_host.specs.AtHost.{IsNoted};
 ghost use Rattle.mon_host.specs.Log.{GoesOnBy};
 ghost use Rattle.mon_station_commands.specs.Opening.{IsNoStation, last_of, unsaved_in};
+ghost use Rattle.mon_station_commands.specs.Pace.{IsWait};
 ghost use Rattle.mon_station_commands.specs.Places.{IsNoSocket};
 ghost use Rattle.mon_station_commands.specs.Quiet.{AreQuiet};
 ghost use Rattle.mon_station_commands.specs.Steps.{OrMemory, SomeOr};
@@ -325,7 +326,7 @@ pub(crate) fn run_span<H: Host, S: Shows + Drop, O: Outbox + Drop>(
     number: u32,
     span: Span,
 ) -> Result<(), Failure>
-    ensures quiet { GoesOnBy AreQuiet (H.log host.old) (H.log host.new) }
+    ensures quiet { GoesOnBy (λ log. IsWait log result) (H.log host.old) (H.log host.new) }
     ensures printing { live.new.reports.printing ≡ live.old.reports.printing }
     ensures out { live.new.reports.out ≡ live.old.reports.out }
     ensures printed { live.new.unprinted ≡ live.old.unprinted }

@@ -4,8 +4,7 @@ ghost use Rattle.std.specs.Prelude.{◌≡◌, ◌*◌, ◌%◌, ◌≤◌, ◌-
 ghost use Rattle.mon_host.specs.AtHost.{IsNoted};
 ghost use Rattle.mon_host.specs.Log.{GoesOnBy};
 ghost use Rattle.mon_rounds.specs.Grid.{share_of};
-ghost use Rattle.mon_station_commands.specs.Pace.{IsDate, IsPassed, IsTime};
-ghost use Rattle.mon_station_commands.specs.Quiet.{AreQuiet};
+ghost use Rattle.mon_station_commands.specs.Pace.{IsDate, IsPassed, IsTime, IsWait};
 ghost use Rattle.mon_station_commands.specs.Telling.{AreNoted, first_line, outrun_lines};
 
 use crate::live::{Live, Transport, run_span};
@@ -43,7 +42,7 @@ pub(crate) fn start_pace<H: Host, S: Shows + Drop, O: Outbox + Drop>(
     live: &mut Live<S, O>,
     timing: Timing,
 ) -> Result<Pace, Failure>
-    ensures quiet { GoesOnBy AreQuiet (H.log host.old) (H.log host.new) }
+    ensures quiet { GoesOnBy (λ log. IsWait log result) (H.log host.old) (H.log host.new) }
     ensures printing { live.new.reports.printing ≡ live.old.reports.printing }
     ensures out { live.new.reports.out ≡ live.old.reports.out }
     ensures printed { live.new.unprinted ≡ live.old.unprinted }
@@ -107,7 +106,7 @@ pub(crate) fn wait_for_next<H: Host, S: Shows + Drop, O: Outbox + Drop>(
     number: u32,
     pace: Pace,
 ) -> Result<Pace, Failure>
-    ensures quiet { GoesOnBy AreQuiet (H.log host.old) (H.log host.new) }
+    ensures quiet { GoesOnBy (λ log. IsWait log result) (H.log host.old) (H.log host.new) }
     ensures printing { live.new.reports.printing ≡ live.old.reports.printing }
     ensures out { live.new.reports.out ≡ live.old.reports.out }
     ensures printed { live.new.unprinted ≡ live.old.unprinted }
@@ -146,7 +145,7 @@ fn pause<H: Host, S: Shows + Drop, O: Outbox + Drop>(
     number: u32,
     pace: Pace,
 ) -> Result<(), Failure>
-    ensures quiet { GoesOnBy AreQuiet (H.log host.old) (H.log host.new) }
+    ensures quiet { GoesOnBy (λ log. IsWait log result) (H.log host.old) (H.log host.new) }
     ensures printing { live.new.reports.printing ≡ live.old.reports.printing }
     ensures out { live.new.reports.out ≡ live.old.reports.out }
     ensures printed { live.new.unprinted ≡ live.old.unprinted }

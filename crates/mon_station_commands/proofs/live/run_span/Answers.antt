@@ -1,16 +1,27 @@
 use Rattle.std.proofs.Common.{ap}
 use Rattle.mon_host.specs.Log.{GoesOnBy}
 use Rattle.mon_station_commands.specs.Quiet.{AreQuiet}
-use Rattle.mon_station_commands.proofs.Quiets.{failure, quiet_on, quiet_to, since, still}
+use Rattle.mon_station_commands.proofs.Quiets.{failure, no_wait, quiet_on, quiet_to, since, still, stopped_on, untimed}
+use Rattle.mon_station_commands.proofs.Steps.{failure_is}
 use Rattle.mon_station_commands.proofs.live.run_span.Goals as goal
 use Rattle.mon_station_commands.proofs.live.run_span.Goals.{in-Err, in-Err-told, in-Ok, in_default}
+
+pub returns-in_err-began-clause-quiet : goal.returns-in_err-began-clause-quiet
+returns-in_err-began-clause-quiet g c =
+    let start = g.H.Host.log c.args.host.now in
+    let began = g.H.Host.log c.passed.new.host in
+    let failure = c.in_err-began.field-0.0 in
+    no_wait failure c.from_residual.result start began (failure_is c.from_residual.result failure c.from_residual.ensures.1) (untimed failure start began c.in_err-began.ensures)
 
 pub returns-in_err-live-clause-quiet : goal.returns-in_err-live-clause-quiet
 returns-in_err-live-clause-quiet g c =
     let start = g.H.Host.log c.args.host.now in
     let began = g.H.Host.log c.passed.new.host in
     let ended = g.H.Host.log c.passed-2.new.host in
-    quiet_on start began ended (since start began _ c.passed.result c.passed.ensures) (since began ended _ c.passed-2.result c.passed-2.ensures)
+    let failure = c.in_err-live.field-0.0 in
+    let r = c.from_residual-in_err-live.result in
+    no_wait failure r start ended (failure_is r failure c.from_residual-in_err-live.ensures.1)
+    (stopped_on failure start began ended (since start began _ c.passed.result c.passed.ensures) (untimed failure began ended c.in_err-live.ensures))
 
 pub returns-clause-quiet : goal.returns-clause-quiet
 returns-clause-quiet g c =

@@ -1,5 +1,6 @@
 use Rattle.std.proofs.Common.{◌∙◌, refl}
-use Rattle.mon_station_commands.proofs.Quiets.{quiet_on, still, time}
+use Rattle.mon_station_commands.proofs.Quiets.{no_wait, quiet_on, still, stopped_on, time, untimed}
+use Rattle.mon_station_commands.proofs.Steps.{failure_is}
 use Rattle.mon_station_commands.proofs.pace.pause.Goals as goal
 
 pub loop-init : goal.loop-init
@@ -12,7 +13,7 @@ loop-preserved g c =
     let timed = g.H.Host.log c.now.new.host in
     let end = g.H.Host.log c.run_span.new.host in
     let inv = c.loop.invariant in (
-      quiet_on start timed end (quiet_on start before timed inv.0 (time before timed c.now.result c.now.ensures)) c.run_span.ensures.quiet,
+      quiet_on start timed end (quiet_on start before timed inv.0 (time before timed c.now.result c.now.ensures)) c.in_ok-run_span.ensures.quiet,
       c.run_span.ensures.printing ∙ inv.1,
       c.run_span.ensures.out ∙ inv.2,
       c.run_span.ensures.printed ∙ inv.3,
@@ -23,7 +24,10 @@ returns-in_err-now-clause-quiet g c =
     let start = g.H.Host.log c.args.host.now in
     let before = g.H.Host.log c.loop.host in
     let timed = g.H.Host.log c.now.new.host in
-    quiet_on start before timed c.loop.invariant.0 (time before timed c.now.result c.now.ensures)
+    let failure = c.in_err-now.field-0.0 in
+    let r = c.from_residual.result in
+    no_wait failure r start timed (failure_is r failure c.from_residual.ensures.1)
+    (stopped_on failure start before timed c.loop.invariant.0 (untimed failure before timed c.in_err-now.ensures))
 
 pub returns-in_err-now-clause-printing : goal.returns-in_err-now-clause-printing
 returns-in_err-now-clause-printing g c = c.loop.invariant.1
@@ -56,7 +60,10 @@ returns-in_err-run_span-clause-quiet g c =
     let before = g.H.Host.log c.loop.host in
     let timed = g.H.Host.log c.now.new.host in
     let end = g.H.Host.log c.run_span.new.host in
-    quiet_on start timed end (quiet_on start before timed c.loop.invariant.0 (time before timed c.now.result c.now.ensures)) c.run_span.ensures.quiet
+    let failure = c.in_err-run_span.field-0.0 in
+    let r = c.from_residual-in_err-run_span.result in
+    no_wait failure r start end (failure_is r failure c.from_residual-in_err-run_span.ensures.1)
+    (stopped_on failure start timed end (quiet_on start before timed c.loop.invariant.0 (time before timed c.now.result c.now.ensures)) c.in_err-run_span.ensures.quiet)
 
 pub returns-in_err-run_span-clause-printing : goal.returns-in_err-run_span-clause-printing
 returns-in_err-run_span-clause-printing g c = c.run_span.ensures.printing ∙ c.loop.invariant.1

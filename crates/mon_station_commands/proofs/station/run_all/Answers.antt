@@ -1,5 +1,7 @@
 use Rattle.std.proofs.Common.{◌∙◌, inl, inr, option_map, refl, string_bytes, suc}
-use Rattle.mon_station_commands.proofs.Rounding.{all_run_as, none_yet, one_more, one_on, quieter, stopped, within, within_less, within_one}
+use Rattle.mon_station_commands.proofs.Quiets.{still}
+use Rattle.mon_station_commands.proofs.Rounding.{all_run_as, from_zero, none_yet, one_more, one_on, stopped, within, within_less, within_one}
+use Rattle.mon_station_commands.proofs.Steps.{failure_is}
 use Rattle.mon_station_commands.proofs.station.run_all.Goals as goal
 
 pub loop-number-init : goal.loop-number-init
@@ -13,7 +15,7 @@ loop-number-init g c =
       0,
       refl,
       inr refl,
-      none_yet every printing out first c.start_pace.new.live.unprinted start (g.H.Host.log c.start_pace.new.host) c.start_pace.ensures.printed c.start_pace.ensures.quiet,
+      none_yet every printing out first c.start_pace.new.live.unprinted start (g.H.Host.log c.start_pace.new.host) c.start_pace.ensures.printed c.in_ok-pace.ensures.quiet,
       c.start_pace.ensures.printing,
       c.start_pace.ensures.out,
     )
@@ -36,7 +38,7 @@ loop-number-preserved g c =
     let more = one_more every printing c.args.live.now.reports.out first n c.loop-number.number c.loop-number.live.reports.printing c.run_round.new.live.reports.printing
     c.loop-number.live.reports.out c.run_round.new.live.unwritten c.loop-number.live.unprinted c.run_round.new.live.unprinted c.print_due.new.live.unprinted
     c.wait_for_next.new.live.unprinted c.in_ok-run_round.field-0 start before ran told end inv.1 inv.4 inv.5 format c.run_round.ensures.printed c.wait_for_next.ensures.printed inv.3
-    c.in_ok-run_round.ensures.run c.print_due.ensures.run c.wait_for_next.ensures.quiet in (
+    c.in_ok-run_round.ensures.run c.print_due.ensures.run c.in_ok-pace-2.ensures.quiet in (
       suc n,
       one_on n c.loop-number.number inv.1,
       inl (within_one n c.loop-number.number rounds inv.1 c.loop-number-test.true),
@@ -57,9 +59,11 @@ returns-in_err-run_round-clause-run g c =
     let n = inv.0 in
     let before = g.H.Host.log c.loop-number.host in
     let ran = g.H.Host.log c.run_round.new.host in
-    stopped every printing out first rounds n c.run_round.new.live.unprinted c.run_round.new.live.unwritten c.from_residual-in_err-run_round.result start ran
-    c.from_residual-in_err-run_round.ensures.0 (within n c.loop-number.number rounds inv.1 c.loop-number-test.true)
-    (quieter every printing out first n c.loop-number.live.unprinted c.run_round.new.live.unprinted start before ran c.run_round.ensures.printed inv.3 c.in_err-run_round.ensures.run)
+    let failure = c.in_err-run_round.field-0.0 in
+    let r = c.from_residual-in_err-run_round.result in
+    stopped every printing out first rounds n c.loop-number.live.unprinted c.run_round.new.live.unprinted c.run_round.new.live.unwritten failure r start before ran
+    (failure_is r failure c.from_residual-in_err-run_round.ensures.1) (within n c.loop-number.number rounds inv.1 c.loop-number-test.true) c.run_round.ensures.printed inv.3
+    c.in_err-run_round.ensures.run
 
 pub returns-in_err-pace-2-clause-run : goal.returns-in_err-pace-2-clause-run
 returns-in_err-pace-2-clause-run g c =
@@ -78,10 +82,13 @@ returns-in_err-pace-2-clause-run g c =
     let format = c.run_round.ensures.printing ∙ inv.4 in
     let more = one_more every printing c.args.live.now.reports.out first n c.loop-number.number c.loop-number.live.reports.printing c.run_round.new.live.reports.printing
     c.loop-number.live.reports.out c.run_round.new.live.unwritten c.loop-number.live.unprinted c.run_round.new.live.unprinted c.print_due.new.live.unprinted
-    c.wait_for_next.new.live.unprinted c.in_ok-run_round.field-0 start before ran told end inv.1 inv.4 inv.5 format c.run_round.ensures.printed c.wait_for_next.ensures.printed inv.3
-    c.in_ok-run_round.ensures.run c.print_due.ensures.run c.wait_for_next.ensures.quiet in
-    stopped every printing out first rounds (suc n) c.wait_for_next.new.live.unprinted c.wait_for_next.new.live.unwritten c.from_residual-in_err-pace-2.result start end
-    c.from_residual-in_err-pace-2.ensures.0 (within_less n c.loop-number.number rounds inv.1 c.loop-number-test.true) more
+    c.print_due.new.live.unprinted c.in_ok-run_round.field-0 start before ran told told inv.1 inv.4 inv.5 format c.run_round.ensures.printed refl inv.3
+    c.in_ok-run_round.ensures.run c.print_due.ensures.run (still told) in
+    let failure = c.in_err-pace-2.field-0.0 in
+    let r = c.from_residual-in_err-pace-2.result in
+    stopped every printing out first rounds (suc n) c.print_due.new.live.unprinted c.wait_for_next.new.live.unprinted c.wait_for_next.new.live.unwritten failure r start told end
+    (failure_is r failure c.from_residual-in_err-pace-2.ensures.1) (within_less n c.loop-number.number rounds inv.1 c.loop-number-test.true) c.wait_for_next.ensures.printed more
+    c.in_err-pace-2.ensures.quiet
 
 pub returns-clause-run : goal.returns-clause-run
 returns-clause-run g c =
@@ -116,3 +123,16 @@ returns-in_err-pace-2-clause-out g c = c.wait_for_next.ensures.out ∙ (c.print_
 
 pub returns-clause-out : goal.returns-clause-out
 returns-clause-out g c = c.run_last.ensures.out ∙ c.loop-number.invariant.5
+
+pub returns-in_err-pace-clause-run : goal.returns-in_err-pace-clause-run
+returns-in_err-pace-clause-run g c =
+    let every = c.args.timing.report_every in
+    let printing = c.args.live.now.reports.printing in
+    let out = option_map string_bytes c.args.live.now.reports.out in
+    let first = c.args.live.now.unprinted in
+    let start = g.H.Host.log c.args.host.now in
+    let failure = c.in_err-pace.field-0.0 in
+    let r = c.from_residual.result in
+    stopped every printing out first c.args.timing.rounds 0 first c.start_pace.new.live.unprinted c.start_pace.new.live.unwritten failure r start start
+    (g.H.Host.log c.start_pace.new.host) (failure_is r failure c.from_residual.ensures.1) (from_zero c.args.timing.rounds) c.start_pace.ensures.printed
+    (none_yet every printing out first first start start refl (still start)) c.in_err-pace.ensures.quiet
