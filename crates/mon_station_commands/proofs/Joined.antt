@@ -15,6 +15,7 @@ use Rattle.mon_console.specs.Shown.{shown_by}
 use Rattle.mon_console.specs.declared.failure.Failure.{Failure}
 use Rattle.mon_console.specs.declared.printing.Printing.{Printing}
 use Rattle.mon_disk.specs.declared.disk.DiskError.{DiskError}
+use Rattle.mon_disk.specs.declared.fault.KeeperFault.{KeeperFault}
 use Rattle.mon_disk.specs.declared.open_fault.OpenFault.{OpenFault}
 use Rattle.mon_host.specs.AtHost.{AtHost, IsNoted, Noted}
 use Rattle.mon_host.specs.Log.{GoesOnBy}
@@ -25,7 +26,7 @@ use Rattle.mon_station.specs.State.{State}
 use Rattle.mon_station_commands.specs.Opening.{IsNoStation, IsOfFile, IsOpenedOr}
 use Rattle.mon_station_commands.specs.Pace.{IsTime}
 use Rattle.mon_station_commands.specs.Places.{AreSavedIf, IsFile, IsHad, IsLookedAt, IsNoSocket, IsPlace, IsPlaceAt, IsShownOpened, IsSocket, IsSocketOr, IsUnseenOpened, IsWithout, MayBeThere}
-use Rattle.mon_station_commands.specs.Rounds.{IsRun}
+use Rattle.mon_station_commands.specs.Rounds.{IsRun, Kept, kept}
 use Rattle.mon_station_commands.specs.Station.{IsRunOf, IsSeen, IsStarted, IsUnseen, IsWebSaid, IsWhole}
 use Rattle.mon_station_commands.specs.Steps.{SomeOr, only}
 use Rattle.mon_station_commands.specs.Telling.{AreNoted, IsOpening, http_line, short_lines_of}
@@ -275,13 +276,14 @@ module _ (timing : Timing) (reports : Reports) (s : StationSettings) where
       (then_follows (IsWebSaid web) (λ (v : Unit {0}). IsRunOf timing reports) (Ok tt) r t1 t2 t3 said run))
 
   -- the rounds of a station whose reports are those of its arguments
-  pub run_of : (own : Reports) (before : Option Failure) (r : Result Unit Failure) (t0 t1 : Option (List AtHost)) → own.printing ≡ reports.printing → own.out ≡ reports.out → before ≡ None
-      → GoesOnBy (λ log. IsRun timing.rounds timing.report_every own.printing (option_map string_bytes own.out) before log r) t0 t1
+  pub run_of : (own : Reports) (before : Option Failure) (unsaved : Option KeeperFault) (r : Result Unit Failure) (t0 t1 : Option (List AtHost)) → own.printing ≡ reports.printing
+      → own.out ≡ reports.out → before ≡ None → unsaved ≡ None
+      → GoesOnBy (λ log. IsRun timing.rounds timing.report_every own.printing (option_map string_bytes own.out) (kept before unsaved) log r) t0 t1
       → GoesOnBy (λ log. IsRunOf timing reports log r) t0 t1
-  run_of own before r t0 t1 printing out none run =
-      subst (λ (p : Printing). GoesOnBy (λ log. IsRun timing.rounds timing.report_every p (option_map string_bytes reports.out) None log r) t0 t1) printing
-      (subst (λ (o : Option (String Global)). GoesOnBy (λ log. IsRun timing.rounds timing.report_every own.printing (option_map string_bytes o) None log r) t0 t1) out
-      (subst (λ (f : Option Failure). GoesOnBy (λ log. IsRun timing.rounds timing.report_every own.printing (option_map string_bytes own.out) f log r) t0 t1) none run))
+  run_of own before unsaved r t0 t1 printing out none nothing run =
+      subst (λ (p : Printing). GoesOnBy (λ log. IsRun timing.rounds timing.report_every p (option_map string_bytes reports.out) (kept None None) log r) t0 t1) printing
+      (subst (λ (o : Option (String Global)). GoesOnBy (λ log. IsRun timing.rounds timing.report_every own.printing (option_map string_bytes o) (kept None None) log r) t0 t1) out
+      (subst (λ (k : Kept). GoesOnBy (λ log. IsRun timing.rounds timing.report_every own.printing (option_map string_bytes own.out) k log r) t0 t1) (λ i. kept (none i) (nothing i)) run))
 
   -- a station without HTTP
   module _ where

@@ -1,3 +1,4 @@
+mod Accounts
 mod Changes
 mod Joined
 mod Notes

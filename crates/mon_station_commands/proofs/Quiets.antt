@@ -17,7 +17,7 @@ use Rattle.mon_station_commands.specs.Telling.{AreChangesSaid, AreNoted, AreSaid
 pub are_quiet_on : (log rest : List AtHost) → AreQuiet log → AreQuiet rest → AreQuiet (log ++ rest)
 are_quiet_on log rest one two = list_all-append is_quiet log rest ∙ (λ i. one i && two i)
 
-are_quiet_as : (log other : List AtHost) → other ≡ log → AreQuiet log → AreQuiet other
+pub are_quiet_as : (log other : List AtHost) → other ≡ log → AreQuiet log → AreQuiet other
 are_quiet_as log other is quiet = ap (λ (l : List AtHost). list_all is_quiet l) is ∙ quiet
 
 -- nothing was done
@@ -33,11 +33,11 @@ quiet_on before between after one two = record {
 }
 
 -- lines
-are_noted : (texts : List (Option (List ℕ))) (log : List AtHost) → AreNoted texts log → AreQuiet log
+pub are_noted : (texts : List (Option (List ℕ))) (log : List AtHost) → AreNoted texts log → AreQuiet log
 are_noted [] log is = are_quiet_as [] log is refl
 are_noted (text ∷ texts) log (octets, rest, is, later, log_is) = are_quiet_as (Noted octets ∷ rest) log log_is (are_noted texts rest later)
 
-are_said : (lines : List (List ℕ)) → AreQuiet (map Noted lines)
+pub are_said : (lines : List (List ℕ)) → AreQuiet (map Noted lines)
 are_said [] = refl
 are_said (line ∷ lines) = are_said lines
 
@@ -49,7 +49,7 @@ is_second : (more : Option (List ℕ)) (log : List AtHost) → IsSecond more log
 is_second (Some more) log is = are_quiet_as _ log is refl
 is_second None log (words, is) = are_quiet_as _ log is refl
 
-is_told_more : (memory : Bool) (more : Option (List ℕ)) (log : List AtHost) → IsToldMore memory more log → AreQuiet log
+pub is_told_more : (memory : Bool) (more : Option (List ℕ)) (log : List AtHost) → IsToldMore memory more log → AreQuiet log
 is_told_more true more log is = are_quiet_as [] log is refl
 is_told_more false more log is = is_second more log is
 

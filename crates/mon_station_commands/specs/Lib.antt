@@ -10,6 +10,7 @@ pub mod Reporting
 pub mod Rounds
 pub mod Saved
 pub mod Showing
+pub mod Spans
 pub mod Station
 pub mod Steps
 pub mod Telling

@@ -14,7 +14,7 @@ use Rattle.mon_station.specs.State.{State}
 use Rattle.mon_station_commands.specs.Checking.{IsCheck}
 use Rattle.mon_station_commands.specs.Opening.{IsNoStation}
 use Rattle.mon_station_commands.specs.Places.{IsDoor, IsNoSocket, IsShownOpened, IsUnseenOpened}
-use Rattle.mon_station_commands.specs.Rounds.{IsRun}
+use Rattle.mon_station_commands.specs.Rounds.{IsRun, kept}
 use Rattle.mon_station_commands.specs.Steps.{OrMemory, SomeOr}
 use Rattle.mon_station_commands.specs.Telling.{IsOpening, http_line}
 use Rattle.mon_station_commands.specs.declared.live.Reports.{Reports}
@@ -45,7 +45,7 @@ IsWebSaid (Some at) log result = (log ≡ Noted (http_line at) ∷ []) × (resul
 -- the rounds of a station that has begun
 abbrev pub IsRunOf : Timing → Reports → List AtHost → Result Unit Failure → Type 0
 IsRunOf timing reports = IsRun timing.rounds timing.report_every reports.printing
-    (option_map string_bytes reports.out) None
+    (option_map string_bytes reports.out) (kept None None)
 
 -- A station whose socket and file are open begins to receive. It says where it is, which alarms are
 -- raised, and where it serves HTTP, if it does. Then come its rounds.

@@ -46,6 +46,7 @@ pub(crate) fn start_pace<H: Host, S: Shows + Drop, O: Outbox + Drop>(
     ensures printing { live.new.reports.printing ≡ live.old.reports.printing }
     ensures out { live.new.reports.out ≡ live.old.reports.out }
     ensures printed { live.new.unprinted ≡ live.old.unprinted }
+    ensures saved { live.new.unsaved ≡ live.old.unsaved }
 {
     let interval = u64::from(timing.interval) * 1000;
     let left = match phase(&live.transport, timing) {
@@ -110,6 +111,7 @@ pub(crate) fn wait_for_next<H: Host, S: Shows + Drop, O: Outbox + Drop>(
     ensures printing { live.new.reports.printing ≡ live.old.reports.printing }
     ensures out { live.new.reports.out ≡ live.old.reports.out }
     ensures printed { live.new.unprinted ≡ live.old.unprinted }
+    ensures saved { live.new.unsaved ≡ live.old.unsaved }
 {
     if pace.interval == 0 {
         return Ok(pace);
@@ -149,6 +151,7 @@ fn pause<H: Host, S: Shows + Drop, O: Outbox + Drop>(
     ensures printing { live.new.reports.printing ≡ live.old.reports.printing }
     ensures out { live.new.reports.out ≡ live.old.reports.out }
     ensures printed { live.new.unprinted ≡ live.old.unprinted }
+    ensures saved { live.new.unsaved ≡ live.old.unsaved }
 {
     let due = Duration::from_millis(pace.due);
     for _ in 0..MOST_RESTS {

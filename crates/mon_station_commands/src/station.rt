@@ -9,7 +9,7 @@ ghost use Rattle.mon_station_commands.specs.Checking.{IsCheck};
 ghost use Rattle.mon_station_commands.specs.Ending.{IsEnded};
 ghost use Rattle.mon_station_commands.specs.Limits.{longest_gap};
 ghost use Rattle.mon_station_commands.specs.Places.{IsDoor, IsNoSocket, IsPlaceAt, IsShownOpened, IsUnseenOpened};
-ghost use Rattle.mon_station_commands.specs.Rounds.{AreRun, IsBetween, IsLastRun, IsRoundRun, IsRun};
+ghost use Rattle.mon_station_commands.specs.Rounds.{AreRun, IsBetween, IsLastRun, IsRoundRun, IsRun, kept};
 ghost use Rattle.mon_station_commands.specs.Station.{AreReports, IsRunning, IsSeen, IsSeenIf, IsStation, IsUnseen};
 ghost use Rattle.mon_station_commands.specs.Steps.{OrMemory, SomeOr, only};
 ghost use Rattle.mon_station_commands.specs.Telling.{http_line};
@@ -334,7 +334,7 @@ fn run_rounds<H: Host, S: Shows + Drop, O: Outbox + Drop>(
     timing: Timing,
 ) -> Result<(), Failure>
     ensures { GoesOnBy (λ log. IsRun timing.rounds timing.report_every live.old.reports.printing
-        (option_map string_bytes live.old.reports.out) live.old.unprinted
+        (option_map string_bytes live.old.reports.out) (kept live.old.unprinted live.old.unsaved)
         log result) (H.log host.old) (H.log host.new) }
 {
     run_all(alloc, host, live, timing)?;
@@ -351,7 +351,8 @@ fn run_all<H: Host, S: Shows + Drop, O: Outbox + Drop>(
 ) -> Result<(), Failure>
     ensures run { GoesOnBy (λ log. AreRun timing.rounds timing.report_every
         live.old.reports.printing (option_map string_bytes live.old.reports.out)
-        live.old.unprinted log live.new.unprinted live.new.unwritten result)
+        (kept live.old.unprinted live.old.unsaved) log
+        (kept live.new.unprinted live.new.unsaved) live.new.unwritten result)
         (H.log host.old) (H.log host.new) }
     ensures printing { live.new.reports.printing ≡ live.old.reports.printing }
     ensures out { live.new.reports.out ≡ live.old.reports.out }
@@ -373,7 +374,7 @@ fn run_last<H: Host, S: Shows + Drop, O: Outbox + Drop>(
     rounds: u32,
 ) -> Result<(), Failure>
     ensures run { GoesOnBy (λ log. IsLastRun rounds live.old.reports.printing
-        (option_map string_bytes live.old.reports.out) log
+        (option_map string_bytes live.old.reports.out) live.old.unsaved live.new.unsaved log
         live.new.unwritten result) (H.log host.old) (H.log host.new) }
     ensures printing { live.new.reports.printing ≡ live.old.reports.printing }
     ensures out { live.new.reports.out ≡ live.old.reports.out }
@@ -392,8 +393,9 @@ fn run_round<H: Host, S: Shows + Drop, O: Outbox + Drop>(
     live: &mut Live<S, O>,
     number: u32,
 ) -> Result<(), Failure>
-    ensures run { GoesOnBy (λ log. IsRoundRun live.old.reports.printing
-        (option_map string_bytes live.old.reports.out) log live.new.unwritten result)
+    ensures run { GoesOnBy (λ log. IsRoundRun number live.old.reports.printing
+        (option_map string_bytes live.old.reports.out) live.old.unsaved live.new.unsaved log
+        live.new.unwritten result)
         (H.log host.old) (H.log host.new) }
     ensures printing { live.new.reports.printing ≡ live.old.reports.printing }
     ensures out { live.new.reports.out ≡ live.old.reports.out }
@@ -416,6 +418,7 @@ fn print_due<H: Host, S: Shows + Drop, O: Outbox + Drop>(
         live.old.unprinted log live.new.unprinted) (H.log host.old) (H.log host.new) }
     ensures printing { live.new.reports.printing ≡ live.old.reports.printing }
     ensures out { live.new.reports.out ≡ live.old.reports.out }
+    ensures saved { live.new.unsaved ≡ live.old.unsaved }
 {
     if is_due(number, every) {
         print_between(alloc, host, live);
