@@ -7,7 +7,7 @@ use Rattle.std.specs.declared.alloc.AllocError.{AllocError}
 use Rattle.std.specs.declared.time.Instant.{Instant}
 use Rattle.mon_console.specs.Failure.{IsSecond, IsTold, IsToldMore}
 use Rattle.mon_console.specs.declared.failure.Failure.{Failure}
-use Rattle.mon_host.specs.AtHost.{AtHost, IsNoted, Noted, Undated, Untimed}
+use Rattle.mon_host.specs.AtHost.{AtHost, IsNoted, Noted, Undated, Untimed, Timed, Dated}
 use Rattle.mon_host.specs.Log.{GoesOnBy}
 use Rattle.mon_host.proofs.Promised.{goes_on, stays, weaker}
 use Rattle.mon_station_commands.specs.Pace.{IsDate, IsPassed, IsStopped, IsTime, IsWait}
@@ -53,17 +53,11 @@ pub is_told_more : (memory : Bool) (more : Option (List ℕ)) (log : List AtHost
 is_told_more true more log is = are_quiet_as [] log is refl
 is_told_more false more log is = is_second more log is
 
-is_time : (log : List AtHost) (r : Result Instant Failure) → IsTime log r → AreQuiet log
-is_time log (Ok now) is = are_quiet_as _ log is refl
-is_time log (Err failure) (why, is, of) = are_quiet_as _ log is refl
+is_passed : (origin : Instant) (passed : ℕ) (log : List AtHost) → IsPassed origin log (Ok passed) → AreQuiet log
+is_passed origin passed log (now, is, of) = are_quiet_as (Timed now ∷ []) log is refl
 
-is_passed : (origin : Instant) (log : List AtHost) (r : Result ℕ Failure) → IsPassed origin log r → AreQuiet log
-is_passed origin log (Ok passed) (now, is, of) = are_quiet_as _ log is refl
-is_passed origin log (Err failure) is = is_time log (Err failure) is
-
-is_date : (log : List AtHost) (r : Result ℕ Failure) → IsDate log r → AreQuiet log
-is_date log (Ok date) (now, is, of) = are_quiet_as _ log is refl
-is_date log (Err failure) (why, is, of) = are_quiet_as _ log is refl
+is_date : (date : ℕ) (log : List AtHost) → IsDate log (Ok date) → AreQuiet log
+is_date date log (now, is, of) = are_quiet_as (Dated now ∷ []) log is refl
 
 module _ (before after : Option (List AtHost)) where
   pub one_line : (text : Option (List ℕ)) → GoesOnBy (IsNoted text) before after → GoesOnBy AreQuiet before after
@@ -81,14 +75,14 @@ module _ (before after : Option (List AtHost)) where
   pub failure : (why : Failure) → GoesOnBy (IsTold why) before after → GoesOnBy AreQuiet before after
   failure why = weaker (IsTold why) AreQuiet before after (λ log is. are_quiet_as _ log is.log_is (is_told_more _ _ is.rest is.more))
 
-  pub time : (r : Result Instant Failure) → GoesOnBy (λ log. IsTime log r) before after → GoesOnBy AreQuiet before after
-  time r = weaker (λ log. IsTime log r) AreQuiet before after (λ log is. is_time log r is)
+  pub time : (now : Instant) → GoesOnBy (λ log. IsTime log (Ok now)) before after → GoesOnBy AreQuiet before after
+  time now = weaker (λ log. IsTime log (Ok now)) AreQuiet before after (λ log is. are_quiet_as (Timed now ∷ []) log is refl)
 
-  pub since : (origin : Instant) (r : Result ℕ Failure) → GoesOnBy (λ log. IsPassed origin log r) before after → GoesOnBy AreQuiet before after
-  since origin r = weaker (λ log. IsPassed origin log r) AreQuiet before after (λ log is. is_passed origin log r is)
+  pub since : (origin : Instant) (passed : ℕ) → GoesOnBy (λ log. IsPassed origin log (Ok passed)) before after → GoesOnBy AreQuiet before after
+  since origin passed = weaker (λ log. IsPassed origin log (Ok passed)) AreQuiet before after (is_passed origin passed)
 
-  pub date : (r : Result ℕ Failure) → GoesOnBy (λ log. IsDate log r) before after → GoesOnBy AreQuiet before after
-  date r = weaker (λ log. IsDate log r) AreQuiet before after (λ log is. is_date log r is)
+  pub date : (date : ℕ) → GoesOnBy (λ log. IsDate log (Ok date)) before after → GoesOnBy AreQuiet before after
+  date d = weaker (λ log. IsDate log (Ok d)) AreQuiet before after (is_date d)
 
 -- the same end by another name
 pub quiet_to : (before after other : Option (List AtHost)) → other ≡ after → GoesOnBy AreQuiet before after → GoesOnBy AreQuiet before other

@@ -18,7 +18,7 @@ returns-in_err-live-clause-timed g c =
     let failure = c.in_err-live.field-0.0 in
     let r = c.from_residual-in_err-live.result in
     not_timed failure r start ended (failure_is r failure c.from_residual-in_err-live.ensures.1)
-    (stopped_on failure start began ended (since start began _ c.passed.result c.passed.ensures) (untimed failure began ended c.in_err-live.ensures))
+    (stopped_on failure start began ended (since start began _ _ c.in_ok-began.ensures) (untimed failure began ended c.in_err-live.ensures))
 
 pub returns-in-Ok-clause-timed : goal.returns-in-Ok-clause-timed
 returns-in-Ok-clause-timed g c =

@@ -20,7 +20,7 @@ loop-preserved g c =
     let round = after.transport.rounds.round in
     let shown = shown_by c.loop.live.reports.printing.names in
     let inv = c.loop.invariant in (
-      quiet_on start timed end (quiet_on start before timed inv.0 (time before timed c.now.result c.now.ensures))
+      quiet_on start timed end (quiet_on start before timed inv.0 (time before timed _ c.in_ok-now.ensures))
           (span_quiet (IsOfRun round.targets round.events after.run) shown c.args.number false c.loop.live.unsaved after.unsaved (Ok c.in_ok-run_span.field-0) timed end
           c.in_ok-run_span.ensures.run),
       c.run_span.ensures.printing ∙ inv.1,
@@ -53,7 +53,7 @@ returns-then-left-eq0-clause-quiet g c =
     let start = g.H.Host.log c.args.host.now in
     let before = g.H.Host.log c.loop.host in
     let timed = g.H.Host.log c.now.new.host in
-    quiet_on start before timed c.loop.invariant.0 (time before timed c.now.result c.now.ensures)
+    quiet_on start before timed c.loop.invariant.0 (time before timed _ c.in_ok-now.ensures)
 
 pub returns-then-left-eq0-clause-printing : goal.returns-then-left-eq0-clause-printing
 returns-then-left-eq0-clause-printing g c = c.loop.invariant.1
@@ -76,7 +76,7 @@ returns-in_err-run_span-clause-quiet g c =
     let failure = c.in_err-run_span.field-0.0 in
     let r = c.from_residual-in_err-run_span.result in
     no_wait failure r start end (failure_is r failure c.from_residual-in_err-run_span.ensures.1)
-    (stopped_on failure start timed end (quiet_on start before timed c.loop.invariant.0 (time before timed c.now.result c.now.ensures))
+    (stopped_on failure start timed end (quiet_on start before timed c.loop.invariant.0 (time before timed _ c.in_ok-now.ensures))
     (span_quiet (IsOfRun round.targets round.events after.run) shown c.args.number false c.loop.live.unsaved after.unsaved (Err failure) timed end c.in_err-run_span.ensures.run))
 
 pub returns-in_err-run_span-clause-printing : goal.returns-in_err-run_span-clause-printing

@@ -17,7 +17,7 @@ returns-in_err-passed-clause-quiet g c =
     elim c.match-phase.branch [
       | in-Some+in_ok-time-in-Some w ↦
           quiet_to start (g.H.Host.log w.wall_time.new.host) phased (ap (λ h. g.H.Host.log h) w.host-is)
-          (date start (g.H.Host.log w.wall_time.new.host) w.wall_time.result w.wall_time.ensures)
+          (date start (g.H.Host.log w.wall_time.new.host) _ w.in_ok-time-in-Some.ensures)
       | in_default-2 w ↦ quiet_to start start phased (ap (λ h. g.H.Host.log h) w.host-is) (still start)
       | in_default w ↦ quiet_to start start phased (ap (λ h. g.H.Host.log h) w.host-is) (still start)
     ] in
@@ -34,11 +34,11 @@ returns-in_err-pause-clause-quiet g c =
     elim c.match-phase.branch [
       | in-Some+in_ok-time-in-Some w ↦
           quiet_to start (g.H.Host.log w.wall_time.new.host) phased (ap (λ h. g.H.Host.log h) w.host-is)
-          (date start (g.H.Host.log w.wall_time.new.host) w.wall_time.result w.wall_time.ensures)
+          (date start (g.H.Host.log w.wall_time.new.host) _ w.in_ok-time-in-Some.ensures)
       | in_default-2 w ↦ quiet_to start start phased (ap (λ h. g.H.Host.log h) w.host-is) (still start)
       | in_default w ↦ quiet_to start start phased (ap (λ h. g.H.Host.log h) w.host-is) (still start)
     ] in
-    let two = quiet_on start phased timed one (since phased timed _ c.passed.result c.passed.ensures) in
+    let two = quiet_on start phased timed one (since phased timed _ _ c.in_ok-passed.ensures) in
     let told = g.H.Host.log c.tell_first.new.host in
     let end = g.H.Host.log c.pause.new.host in
     let failure = c.in_err-pause.field-0.0 in
@@ -55,11 +55,11 @@ returns-clause-quiet g c =
     elim c.match-phase.branch [
       | in-Some+in_ok-time-in-Some w ↦
           quiet_to start (g.H.Host.log w.wall_time.new.host) phased (ap (λ h. g.H.Host.log h) w.host-is)
-          (date start (g.H.Host.log w.wall_time.new.host) w.wall_time.result w.wall_time.ensures)
+          (date start (g.H.Host.log w.wall_time.new.host) _ w.in_ok-time-in-Some.ensures)
       | in_default-2 w ↦ quiet_to start start phased (ap (λ h. g.H.Host.log h) w.host-is) (still start)
       | in_default w ↦ quiet_to start start phased (ap (λ h. g.H.Host.log h) w.host-is) (still start)
     ] in
-    let two = quiet_on start phased timed one (since phased timed _ c.passed.result c.passed.ensures) in
+    let two = quiet_on start phased timed one (since phased timed _ _ c.in_ok-passed.ensures) in
     let end = g.H.Host.log c.if-left-gt0.host in
     let three : GoesOnBy AreQuiet timed end =
     elim c.if-left-gt0.branch [
