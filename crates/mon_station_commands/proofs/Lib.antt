@@ -1,8 +1,11 @@
+mod Accounts
 mod Changes
+mod Joined
 mod Notes
 mod Openings
 mod Rounding
 mod Quiets
 mod Rereads
+mod Running
 mod Steps
 mod Texts

@@ -1,5 +1,5 @@
 -- Quiet events, one after another.
-use Rattle.std.proofs.Common.{◌≡◌, ◌∙◌, ◌++◌, ◌∷◌, ◌&&◌, Bool, List, ℕ, [], ap, false, map, refl, subst, sym, take, true}
+use Rattle.std.proofs.Common.{◌≡◌, ◌∙◌, ◌++◌, ◌∷◌, ◌&&◌, Bool, List, ℕ, [], ap, append_assoc, false, inl, inr, map, refl, subst, sym, take, true}
 use Rattle.std.proofs.lemmas.List.Folds.{list_all-append}
 use Rattle.std.specs.List.{flat_map, list_all}
 use Rattle.std.specs.Prelude.{Option, Some, None, Result, Ok, Err}
@@ -7,17 +7,17 @@ use Rattle.std.specs.declared.alloc.AllocError.{AllocError}
 use Rattle.std.specs.declared.time.Instant.{Instant}
 use Rattle.mon_console.specs.Failure.{IsSecond, IsTold, IsToldMore}
 use Rattle.mon_console.specs.declared.failure.Failure.{Failure}
-use Rattle.mon_host.specs.AtHost.{AtHost, IsNoted, Noted}
+use Rattle.mon_host.specs.AtHost.{AtHost, IsNoted, Noted, Undated, Untimed, Timed, Dated}
 use Rattle.mon_host.specs.Log.{GoesOnBy}
 use Rattle.mon_host.proofs.Promised.{goes_on, stays, weaker}
-use Rattle.mon_station_commands.specs.Pace.{IsDate, IsPassed, IsTime}
+use Rattle.mon_station_commands.specs.Pace.{IsDate, IsPassed, IsStopped, IsTime, IsWait}
 use Rattle.mon_station_commands.specs.Quiet.{AreQuiet, is_quiet}
 use Rattle.mon_station_commands.specs.Telling.{AreChangesSaid, AreNoted, AreSaid, IsChangeSaid, text_lines}
 
 pub are_quiet_on : (log rest : List AtHost) → AreQuiet log → AreQuiet rest → AreQuiet (log ++ rest)
 are_quiet_on log rest one two = list_all-append is_quiet log rest ∙ (λ i. one i && two i)
 
-are_quiet_as : (log other : List AtHost) → other ≡ log → AreQuiet log → AreQuiet other
+pub are_quiet_as : (log other : List AtHost) → other ≡ log → AreQuiet log → AreQuiet other
 are_quiet_as log other is quiet = ap (λ (l : List AtHost). list_all is_quiet l) is ∙ quiet
 
 -- nothing was done
@@ -33,11 +33,11 @@ quiet_on before between after one two = record {
 }
 
 -- lines
-are_noted : (texts : List (Option (List ℕ))) (log : List AtHost) → AreNoted texts log → AreQuiet log
+pub are_noted : (texts : List (Option (List ℕ))) (log : List AtHost) → AreNoted texts log → AreQuiet log
 are_noted [] log is = are_quiet_as [] log is refl
 are_noted (text ∷ texts) log (octets, rest, is, later, log_is) = are_quiet_as (Noted octets ∷ rest) log log_is (are_noted texts rest later)
 
-are_said : (lines : List (List ℕ)) → AreQuiet (map Noted lines)
+pub are_said : (lines : List (List ℕ)) → AreQuiet (map Noted lines)
 are_said [] = refl
 are_said (line ∷ lines) = are_said lines
 
@@ -49,21 +49,15 @@ is_second : (more : Option (List ℕ)) (log : List AtHost) → IsSecond more log
 is_second (Some more) log is = are_quiet_as _ log is refl
 is_second None log (words, is) = are_quiet_as _ log is refl
 
-is_told_more : (memory : Bool) (more : Option (List ℕ)) (log : List AtHost) → IsToldMore memory more log → AreQuiet log
+pub is_told_more : (memory : Bool) (more : Option (List ℕ)) (log : List AtHost) → IsToldMore memory more log → AreQuiet log
 is_told_more true more log is = are_quiet_as [] log is refl
 is_told_more false more log is = is_second more log is
 
-is_time : (log : List AtHost) (r : Result Instant Failure) → IsTime log r → AreQuiet log
-is_time log (Ok now) is = are_quiet_as _ log is refl
-is_time log (Err failure) (why, is, of) = are_quiet_as _ log is refl
+is_passed : (origin : Instant) (passed : ℕ) (log : List AtHost) → IsPassed origin log (Ok passed) → AreQuiet log
+is_passed origin passed log (now, is, of) = are_quiet_as (Timed now ∷ []) log is refl
 
-is_passed : (origin : Instant) (log : List AtHost) (r : Result ℕ Failure) → IsPassed origin log r → AreQuiet log
-is_passed origin log (Ok passed) (now, is, of) = are_quiet_as _ log is refl
-is_passed origin log (Err failure) is = is_time log (Err failure) is
-
-is_date : (log : List AtHost) (r : Result ℕ Failure) → IsDate log r → AreQuiet log
-is_date log (Ok date) (now, is, of) = are_quiet_as _ log is refl
-is_date log (Err failure) (why, is, of) = are_quiet_as _ log is refl
+is_date : (date : ℕ) (log : List AtHost) → IsDate log (Ok date) → AreQuiet log
+is_date date log (now, is, of) = are_quiet_as (Dated now ∷ []) log is refl
 
 module _ (before after : Option (List AtHost)) where
   pub one_line : (text : Option (List ℕ)) → GoesOnBy (IsNoted text) before after → GoesOnBy AreQuiet before after
@@ -81,14 +75,14 @@ module _ (before after : Option (List AtHost)) where
   pub failure : (why : Failure) → GoesOnBy (IsTold why) before after → GoesOnBy AreQuiet before after
   failure why = weaker (IsTold why) AreQuiet before after (λ log is. are_quiet_as _ log is.log_is (is_told_more _ _ is.rest is.more))
 
-  pub time : (r : Result Instant Failure) → GoesOnBy (λ log. IsTime log r) before after → GoesOnBy AreQuiet before after
-  time r = weaker (λ log. IsTime log r) AreQuiet before after (λ log is. is_time log r is)
+  pub time : (now : Instant) → GoesOnBy (λ log. IsTime log (Ok now)) before after → GoesOnBy AreQuiet before after
+  time now = weaker (λ log. IsTime log (Ok now)) AreQuiet before after (λ log is. are_quiet_as (Timed now ∷ []) log is refl)
 
-  pub since : (origin : Instant) (r : Result ℕ Failure) → GoesOnBy (λ log. IsPassed origin log r) before after → GoesOnBy AreQuiet before after
-  since origin r = weaker (λ log. IsPassed origin log r) AreQuiet before after (λ log is. is_passed origin log r is)
+  pub since : (origin : Instant) (passed : ℕ) → GoesOnBy (λ log. IsPassed origin log (Ok passed)) before after → GoesOnBy AreQuiet before after
+  since origin passed = weaker (λ log. IsPassed origin log (Ok passed)) AreQuiet before after (is_passed origin passed)
 
-  pub date : (r : Result ℕ Failure) → GoesOnBy (λ log. IsDate log r) before after → GoesOnBy AreQuiet before after
-  date r = weaker (λ log. IsDate log r) AreQuiet before after (λ log is. is_date log r is)
+  pub date : (date : ℕ) → GoesOnBy (λ log. IsDate log (Ok date)) before after → GoesOnBy AreQuiet before after
+  date d = weaker (λ log. IsDate log (Ok d)) AreQuiet before after (is_date d)
 
 -- the same end by another name
 pub quiet_to : (before after other : Option (List AtHost)) → other ≡ after → GoesOnBy AreQuiet before after → GoesOnBy AreQuiet before other
@@ -97,3 +91,42 @@ quiet_to before after other is = subst (λ (t : Option (List AtHost)). GoesOnBy 
 -- changes of trouble
 pub changes : (round : ℕ) (before after : Option (List AtHost)) → GoesOnBy (AreChangesSaid round) before after → GoesOnBy AreQuiet before after
 changes round before after = weaker (AreChangesSaid round) AreQuiet before after (λ log said. are_noted (flat_map (text_lines round) said.0) log said.1)
+
+-- quiet events, and then a clock that failed
+pub are_stopped_on : (log rest : List AtHost) (failure : Failure) → AreQuiet log → IsStopped rest failure → IsStopped (log ++ rest) failure
+are_stopped_on log rest failure quiet stop = record {
+  begin = log ++ stop.begin;
+  quiet = are_quiet_on log stop.begin quiet stop.quiet;
+  why = stop.why;
+  clock = stop.clock;
+  failed = stop.failed;
+  failure_is = stop.failure_is;
+  log_is = ap (λ (l : List AtHost). log ++ l) stop.log_is ∙ sym (append_assoc log stop.begin (stop.clock ∷ []));
+}
+
+-- a clock that failed at once
+no_time : (log : List AtHost) (failure : Failure) → IsTime log (Err failure) → IsStopped log failure
+no_time log failure (why, is, of) = record { begin = []; quiet = refl; why = why; clock = Untimed why; failed = inl refl; failure_is = of; log_is = is }
+
+no_date : (log : List AtHost) (failure : Failure) → IsDate log (Err failure) → IsStopped log failure
+no_date log failure (why, is, of) = record { begin = []; quiet = refl; why = why; clock = Undated why; failed = inr refl; failure_is = of; log_is = is }
+
+module _ (failure : Failure) (before after : Option (List AtHost)) where
+  pub untimed : GoesOnBy (λ log. IsTime log (Err failure)) before after → GoesOnBy (λ log. IsStopped log failure) before after
+  untimed = weaker (λ log. IsTime log (Err failure)) (λ log. IsStopped log failure) before after (λ log is. no_time log failure is)
+
+  pub undated : GoesOnBy (λ log. IsDate log (Err failure)) before after → GoesOnBy (λ log. IsStopped log failure) before after
+  undated = weaker (λ log. IsDate log (Err failure)) (λ log. IsStopped log failure) before after (λ log is. no_date log failure is)
+
+pub stopped_on : (failure : Failure) (before between after : Option (List AtHost)) → GoesOnBy AreQuiet before between → GoesOnBy (λ log. IsStopped log failure) between after
+    → GoesOnBy (λ log. IsStopped log failure) before after
+stopped_on failure before between after one two = record {
+  more = one.more ++ two.more;
+  holds = are_stopped_on one.more two.more failure one.holds two.holds;
+  on = goes_on one.more two.more before between after one.on two.on;
+}
+
+-- a wait in which a clock failed
+pub no_wait : {T : Type 0} → (failure : Failure) (r : Result T Failure) (before after : Option (List AtHost)) → r ≡ Err failure → GoesOnBy (λ log. IsStopped log failure) before after
+    → GoesOnBy (λ log. IsWait log r) before after
+no_wait {T} failure r before after is stop = subst (λ (e : Result T Failure). GoesOnBy (λ log. IsWait log e) before after) (sym is) stop

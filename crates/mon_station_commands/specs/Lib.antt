@@ -4,10 +4,13 @@ pub mod Figures
 pub mod Limits
 pub mod Opening
 pub mod Pace
+pub mod Places
 pub mod Quiet
 pub mod Reporting
 pub mod Rounds
 pub mod Saved
 pub mod Showing
+pub mod Spans
+pub mod Station
 pub mod Steps
 pub mod Telling

@@ -1,20 +1,26 @@
 -- What a station does from its first round to its last one.
-use Rattle.std.specs.Prelude.{◌≡◌, ◌⊎◌, ◌≤◌, ◌-◌, ℕ, zero, suc, List, [], ◌++◌, Option, Result, Ok, Err}
+use Rattle.std.specs.Prelude.{◌≡◌, ◌⊎◌, ◌≤◌, ◌-◌, ℕ, zero, suc, true, List, [], ◌++◌, Option, Result, Ok, Err}
 use Rattle.std.specs.Global.{Vec}
+use Rattle.mon_console.specs.Shown.{shown_by}
 use Rattle.mon_console.specs.declared.failure.Failure.{Failure}
 use Rattle.mon_console.specs.declared.printing.Printing.{Printing}
 use Rattle.mon_disk.specs.declared.fault.KeeperFault.{KeeperFault}
 use Rattle.mon_host.specs.AtHost.{AtHost}
 use Rattle.mon_host.specs.Then.{Follows, Quietly, Then}
 use Rattle.mon_rounds.specs.Course.{IsDue}
+use Rattle.mon_rounds.specs.Order.{RoundEvent}
 use Rattle.mon_rounds.specs.declared.course.Course.{Course}
 use Rattle.mon_rounds.specs.declared.freshness.Freshness.{Freshness}
 use Rattle.mon_station.specs.State.{State}
+use Rattle.mon_station.specs.declared.running.Run.{Run}
 use Rattle.mon_station_commands.specs.Ending.{IsEnded}
+use Rattle.mon_station_commands.specs.Pace.{IsStopped}
 use Rattle.mon_station_commands.specs.Quiet.{AreQuiet}
 use Rattle.mon_station_commands.specs.Reporting.{IsOut, IsReportOf, IsReported}
+use Rattle.mon_station_commands.specs.Spans.{IsOfRun, IsSpan}
 use Rattle.mon_station_commands.specs.Steps.{IsKeptOf}
 use Rattle.mon_station_commands.specs.declared.live.Reports.{Reports}
+use Rattle.mon_udp.specs.declared.addr.Addr.{Addr}
 
 -- what a station is at a time at which it reports
 pub record Moment : Type 0 where
@@ -30,23 +36,39 @@ pub record Moment : Type 0 where
 abbrev pub IsReportAt : Moment → List ℕ → Type 0
 IsReportAt m = IsReportOf m.state m.course m.fresh m.peers m.engines m.now m.reports
 
--- A round, of which nothing is printed or written but its report: to the file for reports, if there
--- is one. `unwritten` is why it could not be written.
-pub record IsRound (printing : Printing) (out : Option (List ℕ)) (log : List AtHost)
-    (unwritten : Option Failure) : Type 0 where
+-- what a station keeps of what failed: of reports between two rounds, and of the last save
+pub record Kept : Type 0 where
+  pub unprinted : Option Failure
+  pub unsaved : Option KeeperFault
+
+-- these two
+abbrev pub kept : Option Failure → Option KeeperFault → Kept
+kept unprinted unsaved = record { unprinted = unprinted; unsaved = unsaved }
+
+-- A round. Its lines are said, and its report is written to the file for reports, if there is one.
+-- `before` and `after` are what is kept of the last save, and `unwritten` is why the report could not be
+-- written.
+pub record IsRound (round : ℕ) (printing : Printing) (out : Option (List ℕ))
+    (before after : Option KeeperFault) (log : List AtHost) (unwritten : Option Failure)
+    : Type 0 where
+  pub targets : List Addr
+  pub events : List RoundEvent
+  pub run : Run
   pub begin : List AtHost
-  pub quiet : AreQuiet begin
+  pub said : IsSpan (IsOfRun targets events run) (shown_by printing.names) round true before after begin
   pub moment : Moment
   pub format : moment.reports.printing ≡ printing
   pub rest : List AtHost
   pub written : IsOut out (IsReportAt moment) rest unwritten
   pub log_is : log ≡ begin ++ rest
 
--- A round was run; or a clock failed, and no report was made.
-abbrev pub IsRoundRun : Printing → (out : Option (List ℕ)) → List AtHost →
-    (unwritten : Option Failure) → Result Unit Failure → Type 0
-IsRoundRun printing out log unwritten (Ok done) = IsRound printing out log unwritten
-IsRoundRun printing out log unwritten (Err failure) = AreQuiet log
+-- A round was run; or a clock failed, which the failure says, and no report was made.
+abbrev pub IsRoundRun : (round : ℕ) → Printing → (out : Option (List ℕ))
+    → (before after : Option KeeperFault) → List AtHost → (unwritten : Option Failure)
+    → Result Unit Failure → Type 0
+IsRoundRun round printing out before after log unwritten (Ok done) =
+    IsRound round printing out before after log unwritten
+IsRoundRun round printing out before after log unwritten (Err failure) = IsStopped log failure
 
 -- a report between two rounds is printed; `before` and `after` are what was kept of failures to
 -- print
@@ -54,7 +76,7 @@ pub record IsPrinted (printing : Printing) (before : Option Failure)
     (log : List AtHost) (after : Option Failure) : Type 0 where
   pub moment : Moment
   pub format : moment.reports.printing ≡ printing
-  pub kept : IsKeptOf (IsReported (IsReportAt moment)) before log after
+  pub kept_is : IsKeptOf (IsReported (IsReportAt moment)) before log after
 
 -- after a round a report is printed if it is due
 abbrev pub IsBetween : (round every : ℕ) → Printing → Option Failure → List AtHost
@@ -64,80 +86,91 @@ IsBetween round every printing before log after =
     ⊎ ((¬ (IsDue round every)) × (log ≡ []) × (after ≡ before))
 
 -- after earlier ones a round more, the report after it, and the wait for the next one
-pub record IsOneMore (Earlier : List AtHost → Option Failure
-    → Type 0) (round every : ℕ) (printing : Printing) (out : Option (List ℕ))
-    (log : List AtHost) (unprinted : Option Failure) : Type 0 where
-  pub before : Option Failure
+pub record IsOneMore (Earlier : List AtHost → Kept → Type 0) (round every : ℕ) (printing : Printing)
+    (out : Option (List ℕ)) (log : List AtHost) (after : Kept) : Type 0 where
+  pub before : Kept
   pub begin : List AtHost
   pub earlier : Earlier begin before
   pub unwritten : Option Failure
   pub ran : List AtHost
-  pub round_is : IsRound printing out ran unwritten
+  pub round_is : IsRound round printing out before.unsaved after.unsaved ran unwritten
   pub told : List AtHost
-  pub between : IsBetween round every printing before told unprinted
+  pub between : IsBetween round every printing before.unprinted told after.unprinted
   pub rest : List AtHost
   pub quiet : AreQuiet rest
   pub log_is : log ≡ ((begin ++ ran) ++ told) ++ rest
 
--- So many rounds were run, each with what is between it and the next. `unprinted` is what is kept
--- of
--- reports that could not be printed, and `start` what was kept before.
-abbrev pub AreRounds : (every : ℕ) → Printing → (out : Option (List ℕ)) →
-    (start : Option Failure) → ℕ → List AtHost → (unprinted : Option Failure) → Type 0
-AreRounds every printing out start zero log unprinted = AreQuiet log × (unprinted ≡ start)
-AreRounds every printing out start (suc n) log unprinted =
-    IsOneMore (AreRounds every printing out start n) (suc n) every printing out log unprinted
+-- So many rounds were run, each with what is between it and the next. `start` and `after` are what is
+-- kept of what failed, before and after them.
+abbrev pub AreRounds : (every : ℕ) → Printing → (out : Option (List ℕ)) → (start : Kept) → ℕ
+    → List AtHost → (after : Kept) → Type 0
+AreRounds every printing out start zero log after = AreQuiet log × (after ≡ start)
+AreRounds every printing out start (suc n) log after =
+    IsOneMore (AreRounds every printing out start n) (suc n) every printing out log after
 
 -- the last of so many rounds, if there are any
-abbrev pub IsLast : (rounds : ℕ) → Printing → (out : Option (List ℕ)) → List AtHost →
-    (unwritten : Option Failure) → Type 0
-IsLast zero printing out log unwritten = log ≡ []
-IsLast (suc n) printing out log unwritten = IsRound printing out log unwritten
+abbrev pub IsLast : (rounds : ℕ) → Printing → (out : Option (List ℕ))
+    → (before after : Option KeeperFault) → List AtHost → (unwritten : Option Failure) → Type 0
+IsLast zero printing out before after log unwritten = (log ≡ []) × (after ≡ before)
+IsLast (suc n) printing out before after log unwritten =
+    IsRound (suc n) printing out before after log unwritten
 
 -- the last of so many rounds, in which a clock may fail
-abbrev pub IsLastRun : (rounds : ℕ) → Printing → (out : Option (List ℕ)) → List AtHost
-    → (unwritten : Option Failure) → Result Unit Failure → Type 0
-IsLastRun rounds printing out log unwritten (Ok done) = IsLast rounds printing out log unwritten
-IsLastRun rounds printing out log unwritten (Err failure) = AreQuiet log
+abbrev pub IsLastRun : (rounds : ℕ) → Printing → (out : Option (List ℕ))
+    → (before after : Option KeeperFault) → List AtHost → (unwritten : Option Failure)
+    → Result Unit Failure → Type 0
+IsLastRun rounds printing out before after log unwritten (Ok done) =
+    IsLast rounds printing out before after log unwritten
+IsLastRun rounds printing out before after log unwritten (Err failure) = IsStopped log failure
 
 -- all rounds were run: those with another one after them, and the last
-pub record AreAll (rounds every : ℕ) (printing : Printing) (out : Option (List ℕ))
-    (start : Option Failure)
-    (log : List AtHost) (unprinted unwritten : Option Failure) : Type 0 where
+pub record AreAll (rounds every : ℕ) (printing : Printing) (out : Option (List ℕ)) (start : Kept)
+    (log : List AtHost) (after : Kept) (unwritten : Option Failure) : Type 0 where
+  pub before : Kept
   pub begin : List AtHost
-  pub earlier : AreRounds every printing out start (rounds - 1) begin unprinted
+  pub earlier : AreRounds every printing out start (rounds - 1) begin before
   pub rest : List AtHost
-  pub last : IsLast rounds printing out rest unwritten
+  pub last : IsLast rounds printing out before.unsaved after.unsaved rest unwritten
+  pub same : after.unprinted ≡ before.unprinted
   pub log_is : log ≡ begin ++ rest
 
--- All rounds were run; or a clock failed after some of them, and nothing was printed or written
--- since.
-abbrev pub AreRun : (rounds every : ℕ) → Printing → (out : Option (List ℕ)) →
-    (start : Option Failure) → List AtHost → (unprinted unwritten : Option Failure)
-    → Result Unit Failure → Type 0
-AreRun rounds every printing out start log unprinted unwritten (Ok done) =
-    AreAll rounds every printing out start log unprinted unwritten
-AreRun rounds every printing out start log unprinted unwritten (Err failure) =
-    (ran : ℕ) × (ran ≤ rounds) × AreRounds every printing out start ran log unprinted
+-- A clock failed after some of the rounds, which the failure says.
+pub record AreCutShort (rounds every : ℕ) (printing : Printing) (out : Option (List ℕ))
+    (start : Kept) (log : List AtHost) (failure : Failure) : Type 0 where
+  pub ran : ℕ
+  pub within : ran ≤ rounds
+  pub after : Kept
+  pub begin : List AtHost
+  pub earlier : AreRounds every printing out start ran begin after
+  pub rest : List AtHost
+  pub stopped : IsStopped rest failure
+  pub log_is : log ≡ begin ++ rest
+
+-- all rounds were run, or a clock failed
+abbrev pub AreRun : (rounds every : ℕ) → Printing → (out : Option (List ℕ)) → (start : Kept)
+    → List AtHost → (after : Kept) → (unwritten : Option Failure) → Result Unit Failure → Type 0
+AreRun rounds every printing out start log after unwritten (Ok done) =
+    AreAll rounds every printing out start log after unwritten
+AreRun rounds every printing out start log after unwritten (Err failure) =
+    AreCutShort rounds every printing out start log failure
 
 -- after the rounds one report is printed, and the run ends as what was kept has it
-abbrev pub IsFinish : Moment → (unsaved : Option KeeperFault)
-    → (unprinted unwritten : Option Failure) → List AtHost → Result Unit Failure → Type 0
-IsFinish moment unsaved unprinted unwritten =
-    Then (IsReported (IsReportAt moment)) (λ done. Quietly (IsEnded unsaved unprinted unwritten))
+abbrev pub IsFinish : Moment → Kept → (unwritten : Option Failure) → List AtHost
+    → Result Unit Failure → Type 0
+IsFinish moment after unwritten = Then (IsReported (IsReportAt moment))
+    (λ done. Quietly (IsEnded after.unsaved after.unprinted unwritten))
 
 -- A station's run from its first round on: so many rounds, each with its report, and at the end one
 -- report more. Nothing but these reports is printed or written, and nothing is read.
-pub record IsRun (rounds every : ℕ) (printing : Printing) (out : Option (List ℕ))
-    (start : Option Failure) (log : List AtHost) (result : Result Unit Failure) : Type 0 where
-  pub unprinted : Option Failure
+pub record IsRun (rounds every : ℕ) (printing : Printing) (out : Option (List ℕ)) (start : Kept)
+    (log : List AtHost) (result : Result Unit Failure) : Type 0 where
+  pub after : Kept
   pub unwritten : Option Failure
-  pub unsaved : Option KeeperFault
   pub ran : Result Unit Failure
   pub begin : List AtHost
-  pub rounds_are : AreRun rounds every printing out start begin unprinted unwritten ran
+  pub rounds_are : AreRun rounds every printing out start begin after unwritten ran
   pub moment : Moment
   pub format : moment.reports.printing ≡ printing
   pub rest : List AtHost
-  pub finish : Follows (λ done. IsFinish moment unsaved unprinted unwritten) ran rest result
+  pub finish : Follows (λ done. IsFinish moment after unwritten) ran rest result
   pub log_is : log ≡ begin ++ rest

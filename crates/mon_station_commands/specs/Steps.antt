@@ -33,3 +33,13 @@ pub record IsKeptOf (Step : List AtHost → Result Unit Failure → Type 0) (bef
   pub failure : Option Failure
   pub tried : IsTried Step log failure
   pub kept : after ≡ kept_after before failure
+
+-- what a step gave, of which only this is said
+abbrev pub only : {A B F : Type 0} → (A → B) → Result A F → Result B F
+only part (Ok value) = Ok (part value)
+only part (Err failure) = Err failure
+
+-- some value, or a failure of which this holds
+abbrev pub SomeOr : {A : Type 0} → (Failure → Type 0) → Result A Failure → Type 0
+SomeOr Holds (Ok value) = Unit {0}
+SomeOr Holds (Err failure) = Holds failure

@@ -1,20 +1,22 @@
 //! A running station: what it works with, and a round of it.
 
-ghost use Rattle.std.specs.Prelude.{◌≡◌, ◌≤◌, IfOk, IfSome, Some, is_some, length, option_map, string_bytes};
+ghost use Rattle.std.specs.Prelude.{◌≡◌, ◌≤◌, IfErr, IfOk, IfSome, None, Some, is_some, length, option_map, string_bytes};
 ghost use Rattle.std.specs.Result.{result_ok};
 ghost use Rattle.mon_console.specs.Shown.{shown_by};
 ghost use Rattle.mon_disk.specs.Fault.{number_of};
 ghost use Rattle.mon_host.specs.AtHost.{IsNoted};
 ghost use Rattle.mon_host.specs.Log.{GoesOnBy};
-ghost use Rattle.mon_station_commands.specs.Opening.{last_of, unsaved_in};
-ghost use Rattle.mon_station_commands.specs.Quiet.{AreQuiet};
-ghost use Rattle.mon_station_commands.specs.Steps.{OrMemory};
+ghost use Rattle.mon_station_commands.specs.Opening.{IsNoStation, last_of, unsaved_in};
+ghost use Rattle.mon_station_commands.specs.Places.{IsNoSocket};
+ghost use Rattle.mon_station_commands.specs.Spans.{AreAlarms, AreChanges, AreTroubles, IsAccountOf, IsOfRun, IsReportOr, IsSavedAfter, IsSpanRun, IsTimedRun, is_round};
+ghost use Rattle.mon_station_commands.specs.Steps.{OrMemory, SomeOr};
 ghost use Rattle.mon_station_commands.specs.Telling.{AreChangesSaid, IsOpening, start_line};
 ghost use Rattle.mon_station.specs.State.{state_of};
 
 use crate::limits::greatest_tries;
 use crate::opening::{or_socket_failure, unopened};
 use crate::pace::passed;
+use crate::printing::said;
 use crate::showing::show_span;
 use crate::telling::{tell_alarms, tell_change, tell_notices, tell_raised};
 use mon_console::{Failure, Printing};
@@ -27,7 +29,7 @@ use mon_rounds::{
     Spell, Troubles, polled_targets,
 };
 use mon_settings::StationSettings;
-use mon_station::{Outbox, Run, Station};
+use mon_station::{Outbox, Run, Station, StationFault};
 use mon_web_receiver::Shows;
 use std::alloc::{AllocError, Global};
 use std::io;
@@ -155,7 +157,12 @@ pub(crate) fn open_transport<'a, W: Sends, S: Receiver + Drop>(
     settings: &StationSettings,
     socket: &'a W,
     receiver: io::Result<S>,
-) -> Result<Transport<S, SocketOutbox<'a, W>>, Failure> {
+) -> Result<Transport<S, SocketOutbox<'a, W>>, Failure>
+    ensures failed { SomeOr (IsNoSocket settings.now.listen) result }
+    ensures number { IfOk result (λ transport. transport.number ≡ settings.now.core.station) }
+    ensures peers { IfOk result (λ transport. transport.peers.items ≡ settings.now.core.peers) }
+    ensures engines { IfOk result (λ transport. length transport.engines.items ≡ length settings.now.core.targets) }
+{
     let receiver = or_socket_failure(alloc, settings.listen, receiver)?;
     let outbox = SocketOutbox::new(socket, addresses_of(alloc, settings)?);
     Ok(make_transport(alloc, settings, receiver, outbox)?)
@@ -218,11 +225,15 @@ pub(crate) fn start_station<H: Host, S: Receiver + Drop, O: Outbox + Drop>(
     place: Place,
     transport: Transport<S, O>,
 ) -> Result<Live<S, O>, Failure>
-    ensures { GoesOnBy (λ log. IsOpening transport.number place.at
+    ensures opening { GoesOnBy (λ log. IsOpening transport.number place.at
         (string_bytes setup.settings.file) (length transport.engines.items)
         (length transport.peers.items) (shown_by setup.reports.printing.names) log
         (option_map (λ live. state_of live.station.life) (result_ok result)))
         (H.log host.old) (H.log host.new) }
+    ensures failed { IfErr result IsNoStation }
+    ensures reports { IfOk result (λ live. live.reports ≡ setup.reports) }
+    ensures printed { IfOk result (λ live. live.unprinted ≡ None) }
+    ensures saved { IfOk result (λ live. live.unsaved ≡ None) }
 {
     let Setup { settings, reports } = setup;
     let StationSettings { core, file, .. } = settings;
@@ -274,7 +285,9 @@ fn open_station<S: Receiver + Drop, O: Outbox + Drop>(
     disk: FileDisk,
     file: &str,
     transport: &Transport<S, O>,
-) -> Result<Opened, Failure> {
+) -> Result<Opened, Failure>
+    ensures { IfErr result IsNoStation }
+{
     match Station::open(alloc, core, disk) {
         Ok(station) => Ok(watched(alloc, station, transport)?),
         Err((fault, disk)) => Err(unopened(alloc, file, fault, &disk)),
@@ -314,10 +327,34 @@ pub(crate) fn run_span<H: Host, S: Shows + Drop, O: Outbox + Drop>(
     number: u32,
     span: Span,
 ) -> Result<(), Failure>
-    ensures quiet { GoesOnBy AreQuiet (H.log host.old) (H.log host.new) }
+    ensures run { GoesOnBy (λ log. IsSpanRun (IsOfRun live.new.transport.rounds.round.targets
+        live.new.transport.rounds.round.events live.new.run) (shown_by live.old.reports.printing.names)
+        number (is_round span) live.old.unsaved live.new.unsaved log result) (H.log host.old) (H.log host.new) }
     ensures printing { live.new.reports.printing ≡ live.old.reports.printing }
     ensures out { live.new.reports.out ≡ live.old.reports.out }
     ensures printed { live.new.unprinted ≡ live.old.unprinted }
+{
+    let ran = run_timed(alloc, host, live, span)?;
+    let told = report_run(alloc, host, live, number, ran);
+    let _ = said(host, told);
+    show_span(alloc, live, span);
+    Ok(())
+}
+
+/// Runs a round or the time after it, and returns which it was and how long it took.
+fn run_timed<H: Host, S: Receiver + Drop, O: Outbox + Drop>(
+    alloc: Global,
+    host: &mut H,
+    live: &mut Live<S, O>,
+    span: Span,
+) -> Result<Result<Spell, StationFault>, Failure>
+    ensures timed { GoesOnBy (λ log. IsTimedRun log result) (H.log host.old) (H.log host.new) }
+    ensures span { IfOk result (λ ran. IfOk ran (λ spell. spell.span ≡ span)) }
+    ensures fault { IfOk result (λ ran. IfErr ran (λ fault. fault ≡ StationFault.OutOfMemory)) }
+    ensures printing { live.new.reports.printing ≡ live.old.reports.printing }
+    ensures out { live.new.reports.out ≡ live.old.reports.out }
+    ensures printed { live.new.unprinted ≡ live.old.unprinted }
+    ensures saved { live.new.unsaved ≡ live.old.unsaved }
 {
     let began = passed(alloc, host, live.origin)?;
     let ran = live.transport.rounds.run(
@@ -333,15 +370,34 @@ pub(crate) fn run_span<H: Host, S: Shows + Drop, O: Outbox + Drop>(
         ended: live.ended,
         took: live.ended.saturating_sub(began),
     };
-    let told = match ran {
-        Ok(()) => report_round(alloc, host, live, number, spell),
-        Err(fault) => Err(Failure::from(fault)),
-    };
-    if let Err(failure) = told {
-        failure.tell(host);
+    match ran {
+        Ok(()) => Ok(Ok(spell)),
+        Err(fault) => Ok(Err(fault)),
     }
-    show_span(alloc, live, span);
-    Ok(())
+}
+
+/// Adds what was run to what is known of the station, and prints its notices; or returns why nothing
+/// was run.
+fn report_run<H: Host, S: Receiver + Drop, O: Outbox + Drop>(
+    alloc: Global,
+    host: &mut H,
+    live: &mut Live<S, O>,
+    number: u32,
+    ran: Result<Spell, StationFault>,
+) -> Result<(), Failure>
+    ensures account { GoesOnBy (λ log. IsAccountOf ran (IsOfRun live.old.transport.rounds.round.targets
+        live.old.transport.rounds.round.events live.old.run) (shown_by live.old.reports.printing.names)
+        number live.old.unsaved live.new.unsaved log result) (H.log host.old) (H.log host.new) }
+    ensures printing { live.new.reports.printing ≡ live.old.reports.printing }
+    ensures out { live.new.reports.out ≡ live.old.reports.out }
+    ensures printed { live.new.unprinted ≡ live.old.unprinted }
+    ensures round { live.new.transport.rounds.round ≡ live.old.transport.rounds.round }
+    ensures ran { live.new.run ≡ live.old.run }
+{
+    match ran {
+        Ok(spell) => report_round(alloc, host, live, number, spell),
+        Err(fault) => Err(Failure::from(fault)),
+    }
 }
 
 /// Adds what a round did to what is known of the station, and prints its notices.
@@ -352,19 +408,74 @@ fn report_round<H: Host, S: Receiver + Drop, O: Outbox + Drop>(
     number: u32,
     spell: Spell,
 ) -> Result<(), Failure>
-    ensures quiet { GoesOnBy AreQuiet (H.log host.old) (H.log host.new) }
+    ensures account { GoesOnBy (λ log. IsReportOr (IsOfRun live.old.transport.rounds.round.targets
+        live.old.transport.rounds.round.events live.old.run) (shown_by live.old.reports.printing.names)
+        number (is_round spell.span) live.old.unsaved live.new.unsaved log result)
+        (H.log host.old) (H.log host.new) }
     ensures printing { live.new.reports.printing ≡ live.old.reports.printing }
     ensures out { live.new.reports.out ≡ live.old.reports.out }
     ensures printed { live.new.unprinted ≡ live.old.unprinted }
+    ensures round { live.new.transport.rounds.round ≡ live.old.transport.rounds.round }
+    ensures ran { live.new.run ≡ live.old.run }
 {
     let report = RoundReport::of(alloc, live.transport.rounds.round(), &live.run)?;
     live.course.add(&report);
     live.freshness.add(spell, &report, live.station.board());
     tell_notices(host, live, number, &report);
-    if spell.span == Span::Round {
-        live.unsaved = save_fault(&report);
-        report_troubles(alloc, host, live, number)?;
+    live.unsaved = unsaved_after(live.unsaved, spell.span, &report);
+    tell_changes(alloc, host, live, number, spell.span)
+}
+
+/// Returns why the last save failed, if it did, after this report.
+fn unsaved_after(
+    before: Option<KeeperFault>,
+    span: Span,
+    report: &RoundReport,
+) -> Option<KeeperFault>
+    ensures { IsSavedAfter (is_round span) report.now before result }
+{
+    match span {
+        Span::Round => save_fault(report),
+        Span::Between(_) => before,
     }
+}
+
+/// Prints what changed in a round or after it: troubles and alarms.
+fn tell_changes<H: Host, S: Receiver + Drop, O: Outbox + Drop>(
+    alloc: Global,
+    host: &mut H,
+    live: &mut Live<S, O>,
+    number: u32,
+    span: Span,
+) -> Result<(), Failure>
+    ensures said { GoesOnBy (λ log. AreChanges (shown_by live.old.reports.printing.names) number
+        (is_round span) log result) (H.log host.old) (H.log host.new) }
+    ensures printing { live.new.reports.printing ≡ live.old.reports.printing }
+    ensures out { live.new.reports.out ≡ live.old.reports.out }
+    ensures printed { live.new.unprinted ≡ live.old.unprinted }
+    ensures saved { live.new.unsaved ≡ live.old.unsaved }
+    ensures round { live.new.transport.rounds.round ≡ live.old.transport.rounds.round }
+    ensures ran { live.new.run ≡ live.old.run }
+{
+    tell_troubles(alloc, host, live, number, span)?;
+    tell_alarm_changes(alloc, host, live)
+}
+
+/// Prints the alarms that changed.
+fn tell_alarm_changes<H: Host, S: Receiver + Drop, O: Outbox + Drop>(
+    alloc: Global,
+    host: &mut H,
+    live: &mut Live<S, O>,
+) -> Result<(), Failure>
+    ensures said { GoesOnBy (λ log. AreAlarms (shown_by live.old.reports.printing.names) log result)
+        (H.log host.old) (H.log host.new) }
+    ensures printing { live.new.reports.printing ≡ live.old.reports.printing }
+    ensures out { live.new.reports.out ≡ live.old.reports.out }
+    ensures printed { live.new.unprinted ≡ live.old.unprinted }
+    ensures saved { live.new.unsaved ≡ live.old.unsaved }
+    ensures round { live.new.transport.rounds.round ≡ live.old.transport.rounds.round }
+    ensures ran { live.new.run ≡ live.old.run }
+{
     let board = live.station.board();
     let changes = live.course.take_changes(alloc, board)?;
     tell_alarms(
@@ -375,6 +486,28 @@ fn report_round<H: Host, S: Receiver + Drop, O: Outbox + Drop>(
         changes.as_slice(),
     )?;
     Ok(())
+}
+
+/// Prints the troubles that begin or end, after a round.
+fn tell_troubles<H: Host, S: Receiver + Drop, O: Outbox + Drop>(
+    alloc: Global,
+    host: &mut H,
+    live: &mut Live<S, O>,
+    number: u32,
+    span: Span,
+) -> Result<(), Failure>
+    ensures said { GoesOnBy (λ log. AreTroubles (is_round span) number log result) (H.log host.old) (H.log host.new) }
+    ensures printing { live.new.reports.printing ≡ live.old.reports.printing }
+    ensures out { live.new.reports.out ≡ live.old.reports.out }
+    ensures printed { live.new.unprinted ≡ live.old.unprinted }
+    ensures saved { live.new.unsaved ≡ live.old.unsaved }
+    ensures round { live.new.transport.rounds.round ≡ live.old.transport.rounds.round }
+    ensures ran { live.new.run ≡ live.old.run }
+{
+    match span {
+        Span::Round => report_troubles(alloc, host, live, number),
+        Span::Between(_) => Ok(()),
+    }
 }
 
 /// Prints what went wrong with targets, peers and instances in a round, and what is right again.
@@ -389,6 +522,9 @@ fn report_troubles<H: Host, S: Receiver + Drop, O: Outbox + Drop>(
     ensures printing { live.new.reports.printing ≡ live.old.reports.printing }
     ensures out { live.new.reports.out ≡ live.old.reports.out }
     ensures printed { live.new.unprinted ≡ live.old.unprinted }
+    ensures saved { live.new.unsaved ≡ live.old.unsaved }
+    ensures round { live.new.transport.rounds.round ≡ live.old.transport.rounds.round }
+    ensures ran { live.new.run ≡ live.old.run }
 {
     let limit = live.reports.stale_after;
     let changes = live.troubles.take_changes(alloc, &live.freshness, limit)?;

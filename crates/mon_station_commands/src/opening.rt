@@ -1,9 +1,11 @@
 //! The file and the socket of a station.
 
-ghost use Rattle.std.specs.Prelude.{◌≡◌, ◌↔◌, ◌<◌, ◌≤◌, IsTrue, Ok, codes, option_map};
+ghost use Rattle.std.specs.Prelude.{◌≡◌, ◌↔◌, ◌<◌, ◌≤◌, ◌++◌, IsTrue, codes, false, option_map};
+ghost use Rattle.mon_console.specs.Failure.{HasLine};
 ghost use Rattle.mon_faults.specs.Fault.{innermost_of, station_fault};
 ghost use Rattle.mon_host.specs.Log.{GoesOnBy};
-ghost use Rattle.mon_station_commands.specs.Opening.{IsFaultOf};
+ghost use Rattle.mon_station_commands.specs.Opening.{IsOfFile, IsOpenedOr};
+ghost use Rattle.mon_station_commands.specs.Places.{AreSavedIf, IsFile, IsHad, IsLookedAt, IsSocketOr, IsWithout, MayBeThere};
 ghost use Rattle.mon_station_commands.specs.Saved.{AreLooks, IsBoardIn, IsLook, IsReportCommand, IsSameHead, IsSavedIn, IsSavedReport, IsSteadyRead};
 ghost use Rattle.mon_station_commands.specs.Telling.{AreNoted, short_lines, short_lines_of};
 
@@ -34,15 +36,67 @@ pub(crate) fn or_no_socket<T: Drop, H: Host>(
     host: &mut H,
     settings: &StationSettings,
     given: io::Result<T>,
-) -> Result<T, Failure> {
+) -> Result<T, Failure>
+    ensures { GoesOnBy (λ log. IsSocketOr settings.now given log result) (H.log host.old) (H.log host.new) }
+{
     match given {
         Ok(socket) => Ok(socket),
-        Err(error) => {
-            if host.is_there(settings.file.as_str()).unwrap_or(true) {
-                saved_in(alloc, host, settings)?;
-            }
-            Err(Failure::socket(alloc, settings.listen, error))
-        }
+        Err(error) => Err(without_socket(alloc, host, settings, error)),
+    }
+}
+
+/// Returns why there is no socket, after this error: a fault of the file of the settings, or the error.
+fn without_socket<H: Host>(
+    alloc: Global,
+    host: &mut H,
+    settings: &StationSettings,
+    error: io::Error,
+) -> Failure
+    ensures { GoesOnBy (λ log. IsWithout settings.now error log result) (H.log host.old) (H.log host.new) }
+{
+    match look_at_file(alloc, host, settings) {
+        Ok(()) => Failure::socket(alloc, settings.listen, error),
+        Err(failure) => failure,
+    }
+}
+
+/// Reads the windows in the file of the settings, if it may be there.
+fn look_at_file<H: Host>(
+    alloc: Global,
+    host: &mut H,
+    settings: &StationSettings,
+) -> Result<(), Failure>
+    ensures { GoesOnBy (λ log. IsLookedAt settings.now log result) (H.log host.old) (H.log host.new) }
+{
+    let there = may_be_there(host, &settings.file);
+    read_if(alloc, host, settings, there)
+}
+
+/// Returns `true` if a file is at this path, or if that can't be told.
+fn may_be_there<H: Host>(host: &mut H, path: &str) -> bool
+    ensures { GoesOnBy (λ log. MayBeThere path.now log result) (H.log host.old) (H.log host.new) }
+{
+    match host.is_there(path) {
+        Ok(there) => there,
+        Err(_) => true,
+    }
+}
+
+/// Reads the windows in the file of the settings, if it is there.
+fn read_if<H: Host>(
+    alloc: Global,
+    host: &mut H,
+    settings: &StationSettings,
+    there: bool,
+) -> Result<(), Failure>
+    ensures { GoesOnBy (λ log. AreSavedIf there settings.now log result) (H.log host.old) (H.log host.new) }
+{
+    if !there {
+        return Ok(());
+    }
+    match saved_in(alloc, host, settings) {
+        Ok(_) => Ok(()),
+        Err(failure) => Err(failure),
     }
 }
 
@@ -51,7 +105,9 @@ pub(crate) fn open_file<R: Files<File = File> + AllocGlobal, H: Host>(
     rt: &R,
     host: &mut H,
     settings: &StationSettings,
-) -> Result<FileDisk, Failure> {
+) -> Result<FileDisk, Failure>
+    ensures { GoesOnBy (λ log. IsFile settings.now log result) (H.log host.old) (H.log host.new) }
+{
     let mut disk = or_file_failure(
         rt.alloc(),
         &settings.file,
@@ -216,7 +272,7 @@ fn or_file_failure<T: Drop>(
     path: &str,
     given: Result<T, OpenFault>,
 ) -> Result<T, Failure>
-    ensures { (value : T) → given ≡ Ok value → result ≡ Ok value }
+    ensures { IsOpenedOr path.now given result }
 {
     match given {
         Ok(value) => Ok(value),
@@ -226,7 +282,7 @@ fn or_file_failure<T: Drop>(
 
 /// Returns why a station's file could not be opened.
 fn opening_failure(alloc: Global, path: &str, fault: OpenFault) -> Failure
-    ensures { IsFaultOf fault result.fault }
+    ensures { IsOfFile path.now fault result }
 {
     match fault {
         OpenFault::InUse => in_use(alloc, path),
@@ -239,6 +295,8 @@ fn in_use(alloc: Global, path: &str) -> Failure
     ensures part { (innermost_of result.fault).part ≡ codes "mon_disk" }
     ensures number { (innermost_of result.fault).number ≡ 7 }
     ensures name { (innermost_of result.fault).name ≡ codes "InUse" }
+    ensures more { HasLine (path.now ++ codes ": another process has the file open as a station's") result.more }
+    ensures whole { result.is_cut ≡ false }
 {
     let innermost = Innermost::new("mon_disk", OpenFault::IN_USE_NUMBER, OpenFault::IN_USE_NAME);
     Failure::said(
@@ -253,7 +311,7 @@ pub(crate) fn or_socket_failure<T: Drop>(
     listen: Addr,
     given: io::Result<T>,
 ) -> Result<T, Failure>
-    ensures { (value : T) → given ≡ Ok value → result ≡ Ok value }
+    ensures { IsHad listen given result }
 {
     match given {
         Ok(value) => Ok(value),

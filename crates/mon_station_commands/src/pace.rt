@@ -4,8 +4,7 @@ ghost use Rattle.std.specs.Prelude.{◌≡◌, ◌*◌, ◌%◌, ◌≤◌, ◌-
 ghost use Rattle.mon_host.specs.AtHost.{IsNoted};
 ghost use Rattle.mon_host.specs.Log.{GoesOnBy};
 ghost use Rattle.mon_rounds.specs.Grid.{share_of};
-ghost use Rattle.mon_station_commands.specs.Pace.{IsDate, IsPassed, IsTime};
-ghost use Rattle.mon_station_commands.specs.Quiet.{AreQuiet};
+ghost use Rattle.mon_station_commands.specs.Pace.{IsDate, IsPassed, IsTime, IsWait};
 ghost use Rattle.mon_station_commands.specs.Telling.{AreNoted, first_line, outrun_lines};
 
 use crate::live::{Live, Transport, run_span};
@@ -43,10 +42,11 @@ pub(crate) fn start_pace<H: Host, S: Shows + Drop, O: Outbox + Drop>(
     live: &mut Live<S, O>,
     timing: Timing,
 ) -> Result<Pace, Failure>
-    ensures quiet { GoesOnBy AreQuiet (H.log host.old) (H.log host.new) }
+    ensures quiet { GoesOnBy (λ log. IsWait log result) (H.log host.old) (H.log host.new) }
     ensures printing { live.new.reports.printing ≡ live.old.reports.printing }
     ensures out { live.new.reports.out ≡ live.old.reports.out }
     ensures printed { live.new.unprinted ≡ live.old.unprinted }
+    ensures saved { live.new.unsaved ≡ live.old.unsaved }
 {
     let interval = u64::from(timing.interval) * 1000;
     let left = match phase(&live.transport, timing) {
@@ -107,10 +107,11 @@ pub(crate) fn wait_for_next<H: Host, S: Shows + Drop, O: Outbox + Drop>(
     number: u32,
     pace: Pace,
 ) -> Result<Pace, Failure>
-    ensures quiet { GoesOnBy AreQuiet (H.log host.old) (H.log host.new) }
+    ensures quiet { GoesOnBy (λ log. IsWait log result) (H.log host.old) (H.log host.new) }
     ensures printing { live.new.reports.printing ≡ live.old.reports.printing }
     ensures out { live.new.reports.out ≡ live.old.reports.out }
     ensures printed { live.new.unprinted ≡ live.old.unprinted }
+    ensures saved { live.new.unsaved ≡ live.old.unsaved }
 {
     if pace.interval == 0 {
         return Ok(pace);
@@ -146,10 +147,11 @@ fn pause<H: Host, S: Shows + Drop, O: Outbox + Drop>(
     number: u32,
     pace: Pace,
 ) -> Result<(), Failure>
-    ensures quiet { GoesOnBy AreQuiet (H.log host.old) (H.log host.new) }
+    ensures quiet { GoesOnBy (λ log. IsWait log result) (H.log host.old) (H.log host.new) }
     ensures printing { live.new.reports.printing ≡ live.old.reports.printing }
     ensures out { live.new.reports.out ≡ live.old.reports.out }
     ensures printed { live.new.unprinted ≡ live.old.unprinted }
+    ensures saved { live.new.unsaved ≡ live.old.unsaved }
 {
     let due = Duration::from_millis(pace.due);
     for _ in 0..MOST_RESTS {

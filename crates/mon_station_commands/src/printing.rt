@@ -77,7 +77,7 @@ fn try_print<H: Host, S: Receiver + Drop, O: Outbox + Drop>(
 }
 
 /// Says a failure, if there is one, and returns it.
-fn said<H: Host>(host: &mut H, done: Result<(), Failure>) -> Option<Failure>
+pub(crate) fn said<H: Host>(host: &mut H, done: Result<(), Failure>) -> Option<Failure>
     ensures { GoesOnBy (λ log. IsSaidOf done log result) (H.log host.old) (H.log host.new) }
 {
     match done {

@@ -31,6 +31,9 @@ pub(crate) fn show_span<S: Shows + Drop, O: Outbox + Drop>(
     ensures printing { live.new.reports.printing ≡ live.old.reports.printing }
     ensures out { live.new.reports.out ≡ live.old.reports.out }
     ensures printed { live.new.unprinted ≡ live.old.unprinted }
+    ensures saved { live.new.unsaved ≡ live.old.unsaved }
+    ensures round { live.new.transport.rounds.round ≡ live.old.transport.rounds.round }
+    ensures ran { live.new.run ≡ live.old.run }
 {
     if span == Span::Round {
         let ended = live.ended;
@@ -48,6 +51,9 @@ pub(crate) fn show<S: Shows + Drop, O: Outbox + Drop>(alloc: Global, live: &mut 
     ensures printing { live.new.reports.printing ≡ live.old.reports.printing }
     ensures out { live.new.reports.out ≡ live.old.reports.out }
     ensures printed { live.new.unprinted ≡ live.old.unprinted }
+    ensures saved { live.new.unsaved ≡ live.old.unsaved }
+    ensures round { live.new.transport.rounds.round ≡ live.old.transport.rounds.round }
+    ensures ran { live.new.run ≡ live.old.run }
 {
     if live.transport.rounds.receiver().is_shown() {
         let before = live.transport.rounds.receiver_mut().take_texts();

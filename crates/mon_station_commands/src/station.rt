@@ -1,6 +1,6 @@
 //! The command `station`.
 
-ghost use Rattle.std.specs.Prelude.{◌≡◌, IfErr, IfOk, IfSome, IsOk, None, Ok, OnOk, Some, map, option_copied, option_map, string_bytes, true};
+ghost use Rattle.std.specs.Prelude.{◌≡◌, IfErr, IfOk, IsOk, None, OnOk, Some, map, option_copied, option_map, string_bytes};
 ghost use Rattle.mon_disk.specs.declared.fault.KeeperFault.{KeeperFault};
 ghost use Rattle.mon_faults.specs.declared.fault.Fault.TheVariants.{Keeper};
 ghost use Rattle.mon_host.specs.AtHost.{IsNoted};
@@ -8,9 +8,11 @@ ghost use Rattle.mon_host.specs.Log.{GoesOnBy};
 ghost use Rattle.mon_station_commands.specs.Checking.{IsCheck};
 ghost use Rattle.mon_station_commands.specs.Ending.{IsEnded};
 ghost use Rattle.mon_station_commands.specs.Limits.{longest_gap};
-ghost use Rattle.mon_station_commands.specs.Rounds.{AreRun, IsBetween, IsLastRun, IsRoundRun, IsRun};
+ghost use Rattle.mon_station_commands.specs.Places.{IsDoor, IsNoSocket, IsPlaceAt, IsShownOpened, IsUnseenOpened};
+ghost use Rattle.mon_station_commands.specs.Rounds.{AreRun, IsBetween, IsLastRun, IsRoundRun, IsRun, kept};
+ghost use Rattle.mon_station_commands.specs.Station.{AreReports, IsRunning, IsSeen, IsSeenIf, IsStation, IsUnseen};
+ghost use Rattle.mon_station_commands.specs.Steps.{OrMemory, SomeOr, only};
 ghost use Rattle.mon_station_commands.specs.Telling.{http_line};
-ghost use Rattle.mon_udp.specs.Addr.{addr_of};
 
 use crate::limits::print_limits;
 use crate::live::{Live, Place, Reports, Setup, open_transport, run_span, start_station};
@@ -40,15 +42,23 @@ pub fn run_station<R: Clock + Files<File = File> + Net + AllocGlobal, H: Host>(
     host: &mut H,
     words: StationArgs<'_, '_>,
 ) -> Result<(), Failure>
-    // Where only the limits are asked for, no station is opened.
-    ensures { words.entry.checks ≡ true → GoesOnBy (λ log. IsCheck words.entry.settings.now
-        (option_map (λ l. l.now) words.entry.labels) words.entry.printed
-        words.entry.timing.interval log result) (H.log host.old) (H.log host.new) }
+    ensures { GoesOnBy (λ log. IsStation words.entry log result) (H.log host.old) (H.log host.new) }
+{
+    if words.checks {
+        return check_station(rt.alloc(), host, words);
+    }
+    run_words(rt, host, words)
+}
+
+/// Runs the station of the settings.
+fn run_words<R: Clock + Files<File = File> + Net + AllocGlobal, H: Host>(
+    rt: &R,
+    host: &mut H,
+    words: StationArgs<'_, '_>,
+) -> Result<(), Failure>
+    ensures { GoesOnBy (λ log. IsRunning words.entry log result) (H.log host.old) (H.log host.new) }
 {
     let alloc = rt.alloc();
-    if words.checks {
-        return check_station(alloc, host, words);
-    }
     let door = door_of(alloc, words.http)?;
     let (settings, printing) = read_labelled_station(
         alloc,
@@ -59,6 +69,20 @@ pub fn run_station<R: Clock + Files<File = File> + Net + AllocGlobal, H: Host>(
     )?;
     let reports = reports_of(alloc, words, &settings, printing)?;
     let setup = Setup { settings, reports };
+    run_by(rt, host, setup, words, door)
+}
+
+/// Runs a station that serves HTTP if there is an address for it.
+fn run_by<R: Clock + Files<File = File> + Net + AllocGlobal, H: Host>(
+    rt: &R,
+    host: &mut H,
+    setup: Setup,
+    words: StationArgs<'_, '_>,
+    door: Option<Addr>,
+) -> Result<(), Failure>
+    ensures { GoesOnBy (λ log. IsSeenIf door words.entry.timing setup.reports setup.settings log result)
+        (H.log host.old) (H.log host.new) }
+{
     match door {
         None => run_unseen(rt, host, setup, words.timing),
         Some(at) => {
@@ -78,7 +102,9 @@ fn reports_of(
     words: StationArgs<'_, '_>,
     settings: &StationSettings,
     printing: Printing,
-) -> Result<Reports, Failure> {
+) -> Result<Reports, Failure>
+    ensures { OrMemory (AreReports words.entry printing) result }
+{
     let instances = if printing.is_plain() {
         settings.core.watch().instances().len()
     } else {
@@ -130,7 +156,10 @@ fn run_unseen<R: Clock + Files<File = File> + Net + AllocGlobal, H: Host>(
     host: &mut H,
     setup: Setup,
     timing: Timing,
-) -> Result<(), Failure> {
+) -> Result<(), Failure>
+    ensures { GoesOnBy (λ log. IsUnseen timing setup.reports setup.settings log result)
+        (H.log host.old) (H.log host.new) }
+{
     let alloc = rt.alloc();
     let (socket, place) = open_unseen(rt, host, &setup.settings)?;
     let receiver = SocketReceiver::new(rt, alloc, &socket);
@@ -144,7 +173,10 @@ fn open_unseen<R: Files<File = File> + Net + AllocGlobal, H: Host>(
     rt: &R,
     host: &mut H,
     settings: &StationSettings,
-) -> Result<(Socket, Place), Failure> {
+) -> Result<(Socket, Place), Failure>
+    ensures { GoesOnBy (λ log. IsUnseenOpened settings.now log (only (λ r. r.1.at) result))
+        (H.log host.old) (H.log host.new) }
+{
     let given = Socket::open(rt, settings.listen);
     let socket = or_no_socket(rt.alloc(), host, settings, given)?;
     let place = open_place(rt, host, settings, socket.address())?;
@@ -158,7 +190,10 @@ fn run_shown<R: Clock + Files<File = File> + Net + AllocGlobal, H: Host>(
     setup: Setup,
     timing: Timing,
     front: Front<'_, '_>,
-) -> Result<(), Failure> {
+) -> Result<(), Failure>
+    ensures { GoesOnBy (λ log. IsSeen front.entry.at timing setup.reports setup.settings log result)
+        (H.log host.old) (H.log host.new) }
+{
     let Shown {
         socket,
         place,
@@ -198,7 +233,10 @@ fn open_shown<R: Files<File = File> + Net + AllocGlobal, H: Host>(
     settings: &StationSettings,
     front: Front<'_, '_>,
     timing: Timing,
-) -> Result<Shown, Failure> {
+) -> Result<Shown, Failure>
+    ensures { GoesOnBy (λ log. IsShownOpened settings.now front.entry.at log
+        (only (λ shown. (shown.place.at, shown.at)) result)) (H.log host.old) (H.log host.new) }
+{
     let given = PolledSocket::open(rt, settings.listen);
     let socket = or_no_socket(rt.alloc(), host, settings, given)?;
     let (web, at) = open_web(rt, front, timing)?;
@@ -217,7 +255,10 @@ fn open_place<R: Files<File = File> + AllocGlobal, H: Host>(
     host: &mut H,
     settings: &StationSettings,
     address: io::Result<SocketAddr>,
-) -> Result<Place, Failure> {
+) -> Result<Place, Failure>
+    ensures { GoesOnBy (λ log. IsPlaceAt address settings.now log (only (λ place. place.at) result))
+        (H.log host.old) (H.log host.new) }
+{
     let disk = open_file(rt, host, settings)?;
     let at = or_socket_failure(rt.alloc(), settings.listen, address)?;
     let origin = now(rt.alloc(), host)?;
@@ -229,7 +270,11 @@ fn open_web<R: Net + AllocGlobal>(
     rt: &R,
     front: Front<'_, '_>,
     timing: Timing,
-) -> Result<(Web, SocketAddr), Failure> {
+) -> Result<(Web, SocketAddr), Failure>
+    ensures failed { SomeOr (IsNoSocket front.entry.at) result }
+    ensures names { IfOk result (λ web. map string_bytes web.0.table.site.names.items ≡ map (λ t. t.now) front.entry.hosts.now) }
+    ensures limit { IfOk result (λ web. web.0.table.site.limit ≡ longest_gap timing.interval) }
+{
     let (alloc, at) = (rt.alloc(), front.at);
     let door = or_socket_failure(alloc, at, Door::open(rt, at.socket()))?;
     let place = or_socket_failure(alloc, at, door.address())?;
@@ -262,16 +307,21 @@ fn longest_gap(interval: u32) -> u64
 
 /// Returns the address that `--http` gives, if it is given.
 fn door_of(alloc: Global, text: Option<&str>) -> Result<Option<Addr>, Failure>
-    ensures none { text.entry ≡ None → result ≡ Ok None }
-    ensures given { IfOk result (λ door. IfSome (option_copied text.entry) (λ text. door ≡ addr_of text)) }
-    ensures refused { IfErr result (λ _. IfSome (option_copied text.entry) (λ text. addr_of text ≡ None)) }
+    ensures { IsDoor (option_copied text.entry) result }
 {
     match text {
-        Some(text) => match Addr::parse(text) {
-            Some(address) => Ok(Some(address)),
-            None => Err(Failure::text(alloc, text, "an address, a.b.c.d:port,")),
-        },
+        Some(text) => door_at(alloc, text),
         None => Ok(None),
+    }
+}
+
+/// Returns the address for HTTP that a text writes.
+fn door_at(alloc: Global, text: &str) -> Result<Option<Addr>, Failure>
+    ensures { IsDoor (Some text.now) result }
+{
+    match Addr::parse(text) {
+        Some(address) => Ok(Some(address)),
+        None => Err(Failure::text(alloc, text, "an address, a.b.c.d:port,")),
     }
 }
 
@@ -284,7 +334,7 @@ fn run_rounds<H: Host, S: Shows + Drop, O: Outbox + Drop>(
     timing: Timing,
 ) -> Result<(), Failure>
     ensures { GoesOnBy (λ log. IsRun timing.rounds timing.report_every live.old.reports.printing
-        (option_map string_bytes live.old.reports.out) live.old.unprinted
+        (option_map string_bytes live.old.reports.out) (kept live.old.unprinted live.old.unsaved)
         log result) (H.log host.old) (H.log host.new) }
 {
     run_all(alloc, host, live, timing)?;
@@ -301,7 +351,8 @@ fn run_all<H: Host, S: Shows + Drop, O: Outbox + Drop>(
 ) -> Result<(), Failure>
     ensures run { GoesOnBy (λ log. AreRun timing.rounds timing.report_every
         live.old.reports.printing (option_map string_bytes live.old.reports.out)
-        live.old.unprinted log live.new.unprinted live.new.unwritten result)
+        (kept live.old.unprinted live.old.unsaved) log
+        (kept live.new.unprinted live.new.unsaved) live.new.unwritten result)
         (H.log host.old) (H.log host.new) }
     ensures printing { live.new.reports.printing ≡ live.old.reports.printing }
     ensures out { live.new.reports.out ≡ live.old.reports.out }
@@ -323,7 +374,7 @@ fn run_last<H: Host, S: Shows + Drop, O: Outbox + Drop>(
     rounds: u32,
 ) -> Result<(), Failure>
     ensures run { GoesOnBy (λ log. IsLastRun rounds live.old.reports.printing
-        (option_map string_bytes live.old.reports.out) log
+        (option_map string_bytes live.old.reports.out) live.old.unsaved live.new.unsaved log
         live.new.unwritten result) (H.log host.old) (H.log host.new) }
     ensures printing { live.new.reports.printing ≡ live.old.reports.printing }
     ensures out { live.new.reports.out ≡ live.old.reports.out }
@@ -342,8 +393,9 @@ fn run_round<H: Host, S: Shows + Drop, O: Outbox + Drop>(
     live: &mut Live<S, O>,
     number: u32,
 ) -> Result<(), Failure>
-    ensures run { GoesOnBy (λ log. IsRoundRun live.old.reports.printing
-        (option_map string_bytes live.old.reports.out) log live.new.unwritten result)
+    ensures run { GoesOnBy (λ log. IsRoundRun number live.old.reports.printing
+        (option_map string_bytes live.old.reports.out) live.old.unsaved live.new.unsaved log
+        live.new.unwritten result)
         (H.log host.old) (H.log host.new) }
     ensures printing { live.new.reports.printing ≡ live.old.reports.printing }
     ensures out { live.new.reports.out ≡ live.old.reports.out }
@@ -366,6 +418,7 @@ fn print_due<H: Host, S: Shows + Drop, O: Outbox + Drop>(
         live.old.unprinted log live.new.unprinted) (H.log host.old) (H.log host.new) }
     ensures printing { live.new.reports.printing ≡ live.old.reports.printing }
     ensures out { live.new.reports.out ≡ live.old.reports.out }
+    ensures saved { live.new.unsaved ≡ live.old.unsaved }
 {
     if is_due(number, every) {
         print_between(alloc, host, live);
@@ -398,7 +451,7 @@ fn ended<S: Receiver + Drop, O: Outbox + Drop>(
 
 /// Returns the file for each round's report, if there is one.
 fn out_of(alloc: Global, path: Option<&str>) -> Result<Option<String>, Failure>
-    ensures { IfOk result (λ out. option_map string_bytes out ≡ option_copied path.entry) }
+    ensures { OrMemory (λ out. option_map string_bytes out ≡ option_copied path.entry) result }
 {
     match path {
         Some(path) => Ok(Some(String::from_str(alloc, path)?)),

@@ -103,8 +103,8 @@ BUGS = {
     ),
     "serves_no_http": (
         "src/station.rt",
-        "            Some(address) => Ok(Some(address)),",
-        "            Some(_) => Ok(None),",
+        "        Some(address) => Ok(Some(address)),",
+        "        Some(_) => Ok(None),",
     ),
     "writes_no_reports": (
         "src/station.rt",
@@ -344,10 +344,102 @@ BUGS = {
         "            failure.tell(host);",
         "",
     ),
+    "a_file_that_cannot_be_looked_for_is_none": (
+        "src/opening.rt",
+        "        Ok(there) => there,\n        Err(_) => true,",
+        "        Ok(there) => there,\n        Err(_) => false,",
+    ),
+    "no_file_before_a_socket_fails": (
+        "src/opening.rt",
+        "    match look_at_file(alloc, host, settings) {",
+        "    let _ = host;\n    let looked: Result<(), Failure> = Ok(());\n    match looked {",
+    ),
+    "a_file_is_read_if_none_is_there": (
+        "src/opening.rt",
+        "    if !there {",
+        "    if there {",
+    ),
+    "a_socket_fails_at_port_0": (
+        "src/opening.rt",
+        "        Err(error) => Err(Failure::socket(alloc, listen, error)),",
+        "        Err(error) => Err(Failure::socket(alloc, Addr { octets: listen.octets, port: 0 }, error)),",
+    ),
+    "a_file_in_use_without_its_path": (
+        "src/opening.rt",
+        "\"{path}: another process has the file open as a station's\"",
+        "\"another process has the file open as a station's\"",
+    ),
+    "a_wrong_address_serves_no_http": (
+        "src/station.rt",
+        "        None => Err(Failure::text(alloc, text, \"an address, a.b.c.d:port,\")),",
+        "        None => {\n            let _ = alloc;\n            Ok(None)\n        }",
+    ),
+    "runs_without_labels": (
+        "src/station.rt",
+        "        words.settings,\n        words.labels,\n        words.printed,\n    )?;\n    let reports",
+        "        words.settings,\n        None,\n        words.printed,\n    )?;\n    let reports",
+    ),
+    "reports_of_another_interval": (
+        "src/station.rt",
+        "        interval: words.timing.interval,\n",
+        "        interval: words.stale_after,\n",
+    ),
+    "http_is_not_said": (
+        "src/station.rt",
+        "    tell_http(host, at);\n",
+        "    let _ = at;\n",
+    ),
+    "a_station_without_rounds": (
+        "src/station.rt",
+        "    let mut live = start_station(alloc, host, setup, place, transport)?;\n    run_rounds(alloc, host, &mut live, timing)",
+        "    let live = start_station(alloc, host, setup, place, transport)?;\n    let _ = (live, timing);\n    Ok(())",
+    ),
+    "the_last_save_is_forgotten": (
+        "src/station.rt",
+        "    run_all(alloc, host, live, timing)?;\n",
+        "    run_all(alloc, host, live, timing)?;\n    live.unsaved = None;\n",
+    ),
+    "a_failed_clock_ends_the_wait": (
+        "src/pace.rt",
+        "        let left = left_of(due, now(alloc, host)?.duration_since(live.origin));",
+        "        let Ok(time) = now(alloc, host) else {\n            return Ok(());\n        };\n        let left = left_of(due, time.duration_since(live.origin));",
+    ),
+    "the_save_before_is_kept": (
+        "src/live.rt",
+        "        Span::Round => save_fault(report),\n",
+        "        Span::Round => {\n            let _ = save_fault(report);\n            before\n        }\n",
+    ),
+    "notices_of_the_next_round": (
+        "src/live.rt",
+        "    tell_notices(host, live, number, &report);\n",
+        "    tell_notices(host, live, number.wrapping_add(1), &report);\n",
+    ),
+    "troubles_of_the_next_round": (
+        "src/live.rt",
+        "        Span::Round => report_troubles(alloc, host, live, number),",
+        "        Span::Round => report_troubles(alloc, host, live, number.wrapping_add(1)),",
+    ),
+    "a_failed_account_is_not_said": (
+        "src/live.rt",
+        "    let _ = said(host, told);\n",
+        "    let _ = told;\n    let _ = said(host, Ok(()));\n",
+    ),
+    "a_failed_clock_is_passed_over": (
+        "src/live.rt",
+        "    let began = passed(alloc, host, live.origin)?;",
+        "    let began = passed(alloc, host, live.origin).unwrap_or(0);",
+    ),
+    "a_station_does_not_say_where_it_is": (
+        "src/live.rt",
+        "    tell_start(host, opened.station.incarnation(), &transport, at, &file);\n",
+        "    let _ = at;\n",
+    ),
 }
 
 # Those that break a promise as a whole, each with its function: tests/bodies tries them in the gate.
 PROMISES = {
     "forgets_an_unwritten_report": "printing::write_out",
     "ends_well_with_an_unwritten_report": "station::ended",
+    "the_last_save_is_forgotten": "station::run_rounds",
+    "no_file_before_a_socket_fails": "opening::without_socket",
 }

@@ -1,59 +1,24 @@
-use Rattle.std.proofs.Common.{ap}
-use Rattle.mon_host.specs.Log.{GoesOnBy}
-use Rattle.mon_station_commands.specs.Quiet.{AreQuiet}
-use Rattle.mon_station_commands.proofs.Quiets.{changes, lines, quiet_on, quiet_to, said, still}
+use Rattle.std.proofs.Common.{◌∙◌}
+use Rattle.mon_console.specs.Shown.{shown_by}
+use Rattle.mon_rounds.specs.Noted.{notices_of}
+use Rattle.mon_station_commands.specs.Spans.{IsOfRun, is_round}
+use Rattle.mon_station_commands.proofs.Accounts.{reported, unreported}
 use Rattle.mon_station_commands.proofs.live.report_round.Goals as goal
-use Rattle.mon_station_commands.proofs.live.report_round.Goals.{else-eq, then-eq+in_ok-report_troubles}
 
-pub returns-in_err-report_troubles-clause-quiet : goal.returns-in_err-report_troubles-clause-quiet
-returns-in_err-report_troubles-clause-quiet g c =
-    let start = g.H.Host.log c.args.host.now in
-    let noted = g.H.Host.log c.tell_notices.new.host in
-    let end = g.H.Host.log c.report_troubles.new.host in
-    quiet_on start noted end (lines start noted _ c.tell_notices.ensures) (changes c.args.number noted end c.report_troubles.ensures.said)
+pub returns-in_err-report-clause-account : goal.returns-in_err-report-clause-account
+returns-in_err-report-clause-account g c =
+    let live = c.args.live.now in
+    let round = live.transport.rounds.round in
+    unreported (IsOfRun round.targets round.events live.run) (shown_by live.reports.printing.names) c.args.number (is_round c.args.spell.span) live.unsaved live.unsaved
+    c.from_residual.result (g.H.Host.log c.args.host.now) c.from_residual.ensures.1 (λ i. live.unsaved)
 
-pub returns-in_err-changes-clause-quiet : goal.returns-in_err-changes-clause-quiet
-returns-in_err-changes-clause-quiet g c =
-    let start = g.H.Host.log c.args.host.now in
-    let noted = g.H.Host.log c.tell_notices.new.host in
-    let troubled = g.H.Host.log c.if-eq.host in
-    let after : GoesOnBy AreQuiet noted troubled =
-    elim c.if-eq.branch [
-      | then-eq+in_ok-report_troubles w ↦
-          quiet_to noted (g.H.Host.log w.report_troubles.new.host) troubled (ap (λ h. g.H.Host.log h) w.host-is)
-          (changes c.args.number noted (g.H.Host.log w.report_troubles.new.host) w.report_troubles.ensures.said)
-      | else-eq w ↦ quiet_to noted noted troubled (ap (λ h. g.H.Host.log h) w.host-is) (still noted)
-    ] in
-    quiet_on start noted troubled (lines start noted _ c.tell_notices.ensures) after
-
-pub returns-in_err-tell_alarms-clause-quiet : goal.returns-in_err-tell_alarms-clause-quiet
-returns-in_err-tell_alarms-clause-quiet g c =
-    let start = g.H.Host.log c.args.host.now in
-    let noted = g.H.Host.log c.tell_notices.new.host in
-    let troubled = g.H.Host.log c.if-eq.host in
-    let end = g.H.Host.log c.tell_alarms.new.host in
-    let after : GoesOnBy AreQuiet noted troubled =
-    elim c.if-eq.branch [
-      | then-eq+in_ok-report_troubles w ↦
-          quiet_to noted (g.H.Host.log w.report_troubles.new.host) troubled (ap (λ h. g.H.Host.log h) w.host-is)
-          (changes c.args.number noted (g.H.Host.log w.report_troubles.new.host) w.report_troubles.ensures.said)
-      | else-eq w ↦ quiet_to noted noted troubled (ap (λ h. g.H.Host.log h) w.host-is) (still noted)
-    ] in
-    quiet_on start troubled end (quiet_on start noted troubled (lines start noted _ c.tell_notices.ensures) after)
-    (said troubled end _ c.tell_alarms.result c.tell_alarms.ensures)
-
-pub returns-clause-quiet : goal.returns-clause-quiet
-returns-clause-quiet g c =
-    let start = g.H.Host.log c.args.host.now in
-    let noted = g.H.Host.log c.tell_notices.new.host in
-    let troubled = g.H.Host.log c.if-eq.host in
-    let end = g.H.Host.log c.tell_alarms.new.host in
-    let after : GoesOnBy AreQuiet noted troubled =
-    elim c.if-eq.branch [
-      | then-eq+in_ok-report_troubles w ↦
-          quiet_to noted (g.H.Host.log w.report_troubles.new.host) troubled (ap (λ h. g.H.Host.log h) w.host-is)
-          (changes c.args.number noted (g.H.Host.log w.report_troubles.new.host) w.report_troubles.ensures.said)
-      | else-eq w ↦ quiet_to noted noted troubled (ap (λ h. g.H.Host.log h) w.host-is) (still noted)
-    ] in
-    quiet_on start troubled end (quiet_on start noted troubled (lines start noted _ c.tell_notices.ensures) after)
-    (said troubled end _ c.tell_alarms.result c.tell_alarms.ensures)
+pub returns-clause-account : goal.returns-clause-account
+returns-clause-account g c =
+    let live = c.args.live.now in
+    let round = live.transport.rounds.round in
+    let is = c.in_ok-report.ensures in
+    reported (IsOfRun round.targets round.events live.run) (shown_by live.reports.printing.names) c.args.number c.in_ok-report.report (is_round c.args.spell.span)
+    live.unsaved c.unsaved_after-live.result c.tell_changes.new.live.unsaved c.tell_changes.result (g.H.Host.log c.args.host.now) (g.H.Host.log c.tell_notices.new.host)
+    (g.H.Host.log c.tell_changes.new.host)
+    record { noticed = is.notices ∙ (λ i. notices_of (c.round.ensures i).targets (c.round.ensures i).events live.run.answers.items); sources = is.source; sends = is.sends }
+    c.tell_changes.ensures.saved c.tell_notices.ensures c.unsaved_after-live.ensures c.tell_changes.ensures.said

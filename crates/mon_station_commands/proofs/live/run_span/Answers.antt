@@ -1,34 +1,37 @@
-use Rattle.std.proofs.Common.{ap}
-use Rattle.mon_host.specs.Log.{GoesOnBy}
-use Rattle.mon_station_commands.specs.Quiet.{AreQuiet}
-use Rattle.mon_station_commands.proofs.Quiets.{failure, quiet_on, quiet_to, since, still}
+use Rattle.std.proofs.Common.{◌∙◌}
+use Rattle.mon_console.specs.Shown.{shown_by}
+use Rattle.mon_station_commands.specs.Spans.{IsOfRun, is_round}
+use Rattle.mon_station_commands.proofs.Accounts.{span_is, span_of, span_shown, span_stops}
+use Rattle.mon_station_commands.proofs.Steps.{failure_is}
 use Rattle.mon_station_commands.proofs.live.run_span.Goals as goal
-use Rattle.mon_station_commands.proofs.live.run_span.Goals.{in-Err, in-Err-told, in-Ok, in_default}
 
-pub returns-in_err-live-clause-quiet : goal.returns-in_err-live-clause-quiet
-returns-in_err-live-clause-quiet g c =
-    let start = g.H.Host.log c.args.host.now in
-    let began = g.H.Host.log c.passed.new.host in
-    let ended = g.H.Host.log c.passed-2.new.host in
-    quiet_on start began ended (since start began _ c.passed.result c.passed.ensures) (since began ended _ c.passed-2.result c.passed-2.ensures)
+pub returns-in_err-ran-clause-run : goal.returns-in_err-ran-clause-run
+returns-in_err-ran-clause-run g c =
+    let live = c.args.live.now in
+    let after = c.run_timed.new.live in
+    let round = after.transport.rounds.round in
+    let failure = c.in_err-ran.field-0.0 in
+    let r = c.from_residual.result in
+    span_stops (IsOfRun round.targets round.events after.run) (shown_by live.reports.printing.names) c.args.number (is_round c.args.span) live.unsaved after.unsaved failure r
+    (g.H.Host.log c.args.host.now) (g.H.Host.log c.run_timed.new.host) (failure_is r failure c.from_residual.ensures.1) c.run_timed.ensures.saved c.in_err-ran.ensures.timed
 
-pub returns-clause-quiet : goal.returns-clause-quiet
-returns-clause-quiet g c =
+pub returns-clause-run : goal.returns-clause-run
+returns-clause-run g c =
+    let live = c.args.live.now in
+    let ran = c.run_timed.new.live in
+    let told = c.report_run-told.new.live in
+    let end = c.show_span.new.live in
     let start = g.H.Host.log c.args.host.now in
-    let began = g.H.Host.log c.passed.new.host in
-    let ended = g.H.Host.log c.passed-2.new.host in
-    let told = g.H.Host.log c.match-ran.host in
-    let end = g.H.Host.log c.match-told.host in
-    let one : GoesOnBy AreQuiet ended told =
-    elim c.match-ran.branch [
-      | in-Ok w ↦ quiet_to ended (g.H.Host.log w.report_round-told.new.host) told (ap (λ h. g.H.Host.log h) w.host-is) w.report_round-told.ensures.quiet
-      | in-Err w ↦ quiet_to ended ended told (ap (λ h. g.H.Host.log h) w.host-is) (still ended)
-    ] in
-    let two : GoesOnBy AreQuiet told end =
-    elim c.match-told.branch [
-      | in-Err-told w ↦
-          quiet_to told (g.H.Host.log w.tell.new.host) end (ap (λ h. g.H.Host.log h) w.host-is) (failure told (g.H.Host.log w.tell.new.host) _ w.tell.ensures)
-      | in_default w ↦ quiet_to told told end (ap (λ h. g.H.Host.log h) w.host-is) (still told)
-    ] in
-    let timed = quiet_on start began ended (since start began _ c.passed.result c.passed.ensures) (since began ended _ c.passed-2.result c.passed-2.ensures) in
-    quiet_on start told end (quiet_on start ended told timed one) two
+    let timed = g.H.Host.log c.run_timed.new.host in
+    let reported = g.H.Host.log c.report_run-told.new.host in
+    let said = g.H.Host.log c.said.new.host in
+    let round = ran.transport.rounds.round in
+    let last = end.transport.rounds.round in
+    let same = c.show_span.ensures.round ∙ c.report_run-told.ensures.round in
+    span_of round.targets last.targets round.events last.events ran.run end.run (shown_by live.reports.printing.names) c.args.number (is_round c.args.span)
+    live.unsaved end.unsaved start said (λ i. (same i).targets) (λ i. (same i).events) (c.show_span.ensures.ran ∙ c.report_run-told.ensures.ran)
+    (span_shown (IsOfRun round.targets round.events ran.run) (shown_by ran.reports.printing.names) (shown_by live.reports.printing.names) c.args.number (is_round c.args.span)
+    live.unsaved end.unsaved start said (λ i. shown_by (c.run_timed.ensures.printing i).names)
+    (span_is (IsOfRun round.targets round.events ran.run) (shown_by ran.reports.printing.names) c.args.number c.args.span c.in_ok-ran.ran live.unsaved ran.unsaved
+    told.unsaved end.unsaved c.report_run-told.result c.said.result start timed reported said c.in_ok-ran.ensures.span c.in_ok-ran.ensures.fault
+    c.run_timed.ensures.saved c.show_span.ensures.saved c.in_ok-ran.ensures.timed c.report_run-told.ensures.account c.said.ensures))

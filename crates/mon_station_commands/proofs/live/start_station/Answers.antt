@@ -8,14 +8,14 @@ use Rattle.mon_station_commands.specs.Telling.{start_line}
 use Rattle.mon_station_commands.proofs.Openings.{none_of, opened, unopened}
 use Rattle.mon_station_commands.proofs.live.start_station.Goals as goal
 
-pub returns-in_err-opened : goal.returns-in_err-opened
-returns-in_err-opened g c =
+pub returns-in_err-opened-clause-opening : goal.returns-in_err-opened-clause-opening
+returns-in_err-opened-clause-opening g c =
     let t = c.args.transport in
     unopened t.number c.args.place.at (string_bytes c.args.setup.settings.file) (length t.engines.items) (length t.peers.items)
     (shown_by c.args.setup.reports.printing.names) _ (g.H.Host.log c.args.host.now) (none_of _ c.from_residual.result c.from_residual.ensures.0)
 
-pub returns-in_err-tell_raised : goal.returns-in_err-tell_raised
-returns-in_err-tell_raised g c =
+pub returns-in_err-tell_raised-clause-opening : goal.returns-in_err-tell_raised-clause-opening
+returns-in_err-tell_raised-clause-opening g c =
     let t = c.args.transport in
     let at = c.args.place.at in
     let start = g.H.Host.log c.args.host.now in
@@ -27,8 +27,8 @@ returns-in_err-tell_raised g c =
     c.incarnation.result (Err c.in_err-tell_raised.field-0.0) _ start said (g.H.Host.log c.tell_raised.new.host) c.incarnation.ensures
     (none_of _ c.from_residual-in_err-tell_raised.result c.from_residual-in_err-tell_raised.ensures.0) line c.in_err-tell_raised.ensures
 
-pub returns : goal.returns
-returns g c =
+pub returns-clause-opening : goal.returns-clause-opening
+returns-clause-opening g c =
     let t = c.args.transport in
     let at = c.args.place.at in
     let start = g.H.Host.log c.args.host.now in

@@ -1,9 +1,14 @@
-use Rattle.std.proofs.Common.{◌∙◌, refl}
-use Rattle.mon_station_commands.proofs.Quiets.{quiet_on, still, time}
+use Rattle.std.proofs.Common.{◌∙◌, false, refl}
+use Rattle.std.specs.Prelude.{Ok, Err}
+use Rattle.mon_console.specs.Shown.{shown_by}
+use Rattle.mon_station_commands.specs.Spans.{IsOfRun}
+use Rattle.mon_station_commands.proofs.Accounts.{between_kept, span_quiet}
+use Rattle.mon_station_commands.proofs.Quiets.{no_wait, quiet_on, still, stopped_on, time, untimed}
+use Rattle.mon_station_commands.proofs.Steps.{failure_is}
 use Rattle.mon_station_commands.proofs.pace.pause.Goals as goal
 
 pub loop-init : goal.loop-init
-loop-init g c = (still (g.H.Host.log c.args.host.now), refl, refl, refl)
+loop-init g c = (still (g.H.Host.log c.args.host.now), refl, refl, refl, refl)
 
 pub loop-preserved : goal.loop-preserved
 loop-preserved g c =
@@ -11,11 +16,17 @@ loop-preserved g c =
     let before = g.H.Host.log c.loop.host in
     let timed = g.H.Host.log c.now.new.host in
     let end = g.H.Host.log c.run_span.new.host in
+    let after = c.run_span.new.live in
+    let round = after.transport.rounds.round in
+    let shown = shown_by c.loop.live.reports.printing.names in
     let inv = c.loop.invariant in (
-      quiet_on start timed end (quiet_on start before timed inv.0 (time before timed c.now.result c.now.ensures)) c.run_span.ensures.quiet,
+      quiet_on start timed end (quiet_on start before timed inv.0 (time before timed _ c.in_ok-now.ensures))
+          (span_quiet (IsOfRun round.targets round.events after.run) shown c.args.number false c.loop.live.unsaved after.unsaved (Ok c.in_ok-run_span.field-0) timed end
+          c.in_ok-run_span.ensures.run),
       c.run_span.ensures.printing ∙ inv.1,
       c.run_span.ensures.out ∙ inv.2,
       c.run_span.ensures.printed ∙ inv.3,
+      between_kept (IsOfRun round.targets round.events after.run) shown c.args.number c.loop.live.unsaved after.unsaved c.run_span.result timed end c.run_span.ensures.run ∙ inv.4,
     )
 
 pub returns-in_err-now-clause-quiet : goal.returns-in_err-now-clause-quiet
@@ -23,7 +34,10 @@ returns-in_err-now-clause-quiet g c =
     let start = g.H.Host.log c.args.host.now in
     let before = g.H.Host.log c.loop.host in
     let timed = g.H.Host.log c.now.new.host in
-    quiet_on start before timed c.loop.invariant.0 (time before timed c.now.result c.now.ensures)
+    let failure = c.in_err-now.field-0.0 in
+    let r = c.from_residual.result in
+    no_wait failure r start timed (failure_is r failure c.from_residual.ensures.1)
+    (stopped_on failure start before timed c.loop.invariant.0 (untimed failure before timed c.in_err-now.ensures))
 
 pub returns-in_err-now-clause-printing : goal.returns-in_err-now-clause-printing
 returns-in_err-now-clause-printing g c = c.loop.invariant.1
@@ -39,7 +53,7 @@ returns-then-left-eq0-clause-quiet g c =
     let start = g.H.Host.log c.args.host.now in
     let before = g.H.Host.log c.loop.host in
     let timed = g.H.Host.log c.now.new.host in
-    quiet_on start before timed c.loop.invariant.0 (time before timed c.now.result c.now.ensures)
+    quiet_on start before timed c.loop.invariant.0 (time before timed _ c.in_ok-now.ensures)
 
 pub returns-then-left-eq0-clause-printing : goal.returns-then-left-eq0-clause-printing
 returns-then-left-eq0-clause-printing g c = c.loop.invariant.1
@@ -56,7 +70,14 @@ returns-in_err-run_span-clause-quiet g c =
     let before = g.H.Host.log c.loop.host in
     let timed = g.H.Host.log c.now.new.host in
     let end = g.H.Host.log c.run_span.new.host in
-    quiet_on start timed end (quiet_on start before timed c.loop.invariant.0 (time before timed c.now.result c.now.ensures)) c.run_span.ensures.quiet
+    let after = c.run_span.new.live in
+    let round = after.transport.rounds.round in
+    let shown = shown_by c.loop.live.reports.printing.names in
+    let failure = c.in_err-run_span.field-0.0 in
+    let r = c.from_residual-in_err-run_span.result in
+    no_wait failure r start end (failure_is r failure c.from_residual-in_err-run_span.ensures.1)
+    (stopped_on failure start timed end (quiet_on start before timed c.loop.invariant.0 (time before timed _ c.in_ok-now.ensures))
+    (span_quiet (IsOfRun round.targets round.events after.run) shown c.args.number false c.loop.live.unsaved after.unsaved (Err failure) timed end c.in_err-run_span.ensures.run))
 
 pub returns-in_err-run_span-clause-printing : goal.returns-in_err-run_span-clause-printing
 returns-in_err-run_span-clause-printing g c = c.run_span.ensures.printing ∙ c.loop.invariant.1
@@ -78,3 +99,19 @@ returns-clause-out g c = c.loop.invariant.2
 
 pub returns-clause-printed : goal.returns-clause-printed
 returns-clause-printed g c = c.loop.invariant.3
+
+pub returns-in_err-now-clause-saved : goal.returns-in_err-now-clause-saved
+returns-in_err-now-clause-saved g c = c.loop.invariant.4
+
+pub returns-then-left-eq0-clause-saved : goal.returns-then-left-eq0-clause-saved
+returns-then-left-eq0-clause-saved g c = c.loop.invariant.4
+
+pub returns-in_err-run_span-clause-saved : goal.returns-in_err-run_span-clause-saved
+returns-in_err-run_span-clause-saved g c =
+    let after = c.run_span.new.live in
+    let round = after.transport.rounds.round in
+    between_kept (IsOfRun round.targets round.events after.run) (shown_by c.loop.live.reports.printing.names) c.args.number c.loop.live.unsaved after.unsaved c.run_span.result
+    (g.H.Host.log c.now.new.host) (g.H.Host.log c.run_span.new.host) c.run_span.ensures.run ∙ c.loop.invariant.4
+
+pub returns-clause-saved : goal.returns-clause-saved
+returns-clause-saved g c = c.loop.invariant.4

@@ -1,19 +1,23 @@
 use Rattle.std.proofs.Common.{◌∙◌, inl, inr, option_map, refl, string_bytes, suc}
-use Rattle.mon_station_commands.proofs.Rounding.{all_run_as, none_yet, one_more, one_on, quieter, stopped, within, within_less, within_one}
+use Rattle.mon_station_commands.specs.Rounds.{kept}
+use Rattle.mon_station_commands.proofs.Quiets.{still}
+use Rattle.mon_station_commands.proofs.Rounding.{all_run_as, from_zero, kept_same, none_yet, one_more, one_on, stopped, within, within_less, within_one}
+use Rattle.mon_station_commands.proofs.Steps.{failure_is}
 use Rattle.mon_station_commands.proofs.station.run_all.Goals as goal
 
 pub loop-number-init : goal.loop-number-init
 loop-number-init g c =
     let every = c.args.timing.report_every in
-    let rounds = c.args.timing.rounds in
-    let printing = c.args.live.now.reports.printing in
-    let out = option_map string_bytes c.args.live.now.reports.out in
-    let first = c.args.live.now.unprinted in
+    let live = c.args.live.now in
+    let after = c.start_pace.new.live in
+    let out = option_map string_bytes live.reports.out in
+    let first = kept live.unprinted live.unsaved in
     let start = g.H.Host.log c.args.host.now in (
       0,
       refl,
       inr refl,
-      none_yet every printing out first c.start_pace.new.live.unprinted start (g.H.Host.log c.start_pace.new.host) c.start_pace.ensures.printed c.start_pace.ensures.quiet,
+      none_yet every live.reports.printing out first (kept after.unprinted after.unsaved) start (g.H.Host.log c.start_pace.new.host)
+          (kept_same after.unprinted live.unprinted after.unsaved live.unsaved c.start_pace.ensures.printed c.start_pace.ensures.saved) c.in_ok-pace.ensures.quiet,
       c.start_pace.ensures.printing,
       c.start_pace.ensures.out,
     )
@@ -22,9 +26,8 @@ pub loop-number-preserved : goal.loop-number-preserved
 loop-number-preserved g c =
     let every = c.args.timing.report_every in
     let rounds = c.args.timing.rounds in
-    let printing = c.args.live.now.reports.printing in
-    let out = option_map string_bytes c.args.live.now.reports.out in
-    let first = c.args.live.now.unprinted in
+    let live = c.args.live.now in
+    let first = kept live.unprinted live.unsaved in
     let start = g.H.Host.log c.args.host.now in
     let inv = c.loop-number.invariant in
     let n = inv.0 in
@@ -32,11 +35,15 @@ loop-number-preserved g c =
     let ran = g.H.Host.log c.run_round.new.host in
     let told = g.H.Host.log c.print_due.new.host in
     let end = g.H.Host.log c.wait_for_next.new.host in
+    let one = c.loop-number.live in
+    let two = c.run_round.new.live in
+    let three = c.print_due.new.live in
+    let four = c.wait_for_next.new.live in
     let format = c.run_round.ensures.printing ∙ inv.4 in
-    let more = one_more every printing c.args.live.now.reports.out first n c.loop-number.number c.loop-number.live.reports.printing c.run_round.new.live.reports.printing
-    c.loop-number.live.reports.out c.run_round.new.live.unwritten c.loop-number.live.unprinted c.run_round.new.live.unprinted c.print_due.new.live.unprinted
-    c.wait_for_next.new.live.unprinted c.in_ok-run_round.field-0 start before ran told end inv.1 inv.4 inv.5 format c.run_round.ensures.printed c.wait_for_next.ensures.printed inv.3
-    c.in_ok-run_round.ensures.run c.print_due.ensures.run c.wait_for_next.ensures.quiet in (
+    let more = one_more every live.reports.printing live.reports.out first n c.loop-number.number one.reports.printing two.reports.printing one.reports.out two.unwritten
+    one.unprinted two.unprinted three.unprinted four.unprinted one.unsaved two.unsaved four.unsaved c.in_ok-run_round.field-0 start before ran told end inv.1 inv.4 inv.5 format
+    c.run_round.ensures.printed c.wait_for_next.ensures.printed (c.wait_for_next.ensures.saved ∙ c.print_due.ensures.saved) inv.3 c.in_ok-run_round.ensures.run
+    c.print_due.ensures.run c.in_ok-pace-2.ensures.quiet in (
       suc n,
       one_on n c.loop-number.number inv.1,
       inl (within_one n c.loop-number.number rounds inv.1 c.loop-number-test.true),
@@ -49,25 +56,28 @@ pub returns-in_err-run_round-clause-run : goal.returns-in_err-run_round-clause-r
 returns-in_err-run_round-clause-run g c =
     let every = c.args.timing.report_every in
     let rounds = c.args.timing.rounds in
-    let printing = c.args.live.now.reports.printing in
-    let out = option_map string_bytes c.args.live.now.reports.out in
-    let first = c.args.live.now.unprinted in
+    let live = c.args.live.now in
+    let out = option_map string_bytes live.reports.out in
     let start = g.H.Host.log c.args.host.now in
     let inv = c.loop-number.invariant in
     let n = inv.0 in
+    let one = c.loop-number.live in
+    let two = c.run_round.new.live in
     let before = g.H.Host.log c.loop-number.host in
     let ran = g.H.Host.log c.run_round.new.host in
-    stopped every printing out first rounds n c.run_round.new.live.unprinted c.run_round.new.live.unwritten c.from_residual-in_err-run_round.result start ran
-    c.from_residual-in_err-run_round.ensures.0 (within n c.loop-number.number rounds inv.1 c.loop-number-test.true)
-    (quieter every printing out first n c.loop-number.live.unprinted c.run_round.new.live.unprinted start before ran c.run_round.ensures.printed inv.3 c.in_err-run_round.ensures.run)
+    let failure = c.in_err-run_round.field-0.0 in
+    let r = c.from_residual-in_err-run_round.result in
+    stopped every live.reports.printing out (kept live.unprinted live.unsaved) rounds n (kept one.unprinted one.unsaved) (kept two.unprinted two.unsaved) two.unwritten failure r
+    start before ran (failure_is r failure c.from_residual-in_err-run_round.ensures.1) (within n c.loop-number.number rounds inv.1 c.loop-number-test.true) inv.3
+    c.in_err-run_round.ensures.run
 
 pub returns-in_err-pace-2-clause-run : goal.returns-in_err-pace-2-clause-run
 returns-in_err-pace-2-clause-run g c =
     let every = c.args.timing.report_every in
     let rounds = c.args.timing.rounds in
-    let printing = c.args.live.now.reports.printing in
-    let out = option_map string_bytes c.args.live.now.reports.out in
-    let first = c.args.live.now.unprinted in
+    let live = c.args.live.now in
+    let out = option_map string_bytes live.reports.out in
+    let first = kept live.unprinted live.unsaved in
     let start = g.H.Host.log c.args.host.now in
     let inv = c.loop-number.invariant in
     let n = inv.0 in
@@ -75,29 +85,34 @@ returns-in_err-pace-2-clause-run g c =
     let ran = g.H.Host.log c.run_round.new.host in
     let told = g.H.Host.log c.print_due.new.host in
     let end = g.H.Host.log c.wait_for_next.new.host in
+    let one = c.loop-number.live in
+    let two = c.run_round.new.live in
+    let three = c.print_due.new.live in
+    let four = c.wait_for_next.new.live in
     let format = c.run_round.ensures.printing ∙ inv.4 in
-    let more = one_more every printing c.args.live.now.reports.out first n c.loop-number.number c.loop-number.live.reports.printing c.run_round.new.live.reports.printing
-    c.loop-number.live.reports.out c.run_round.new.live.unwritten c.loop-number.live.unprinted c.run_round.new.live.unprinted c.print_due.new.live.unprinted
-    c.wait_for_next.new.live.unprinted c.in_ok-run_round.field-0 start before ran told end inv.1 inv.4 inv.5 format c.run_round.ensures.printed c.wait_for_next.ensures.printed inv.3
-    c.in_ok-run_round.ensures.run c.print_due.ensures.run c.wait_for_next.ensures.quiet in
-    stopped every printing out first rounds (suc n) c.wait_for_next.new.live.unprinted c.wait_for_next.new.live.unwritten c.from_residual-in_err-pace-2.result start end
-    c.from_residual-in_err-pace-2.ensures.0 (within_less n c.loop-number.number rounds inv.1 c.loop-number-test.true) more
+    let more = one_more every live.reports.printing live.reports.out first n c.loop-number.number one.reports.printing two.reports.printing one.reports.out two.unwritten
+    one.unprinted two.unprinted three.unprinted three.unprinted one.unsaved two.unsaved three.unsaved c.in_ok-run_round.field-0 start before ran told told inv.1 inv.4 inv.5 format
+    c.run_round.ensures.printed refl c.print_due.ensures.saved inv.3 c.in_ok-run_round.ensures.run c.print_due.ensures.run (still told) in
+    let failure = c.in_err-pace-2.field-0.0 in
+    let r = c.from_residual-in_err-pace-2.result in
+    stopped every live.reports.printing out first rounds (suc n) (kept three.unprinted three.unsaved) (kept four.unprinted four.unsaved) four.unwritten failure r start told end
+    (failure_is r failure c.from_residual-in_err-pace-2.ensures.1) (within_less n c.loop-number.number rounds inv.1 c.loop-number-test.true) more c.in_err-pace-2.ensures.quiet
 
 pub returns-clause-run : goal.returns-clause-run
 returns-clause-run g c =
     let every = c.args.timing.report_every in
     let rounds = c.args.timing.rounds in
-    let printing = c.args.live.now.reports.printing in
-    let out = option_map string_bytes c.args.live.now.reports.out in
-    let first = c.args.live.now.unprinted in
+    let live = c.args.live.now in
     let start = g.H.Host.log c.args.host.now in
     let inv = c.loop-number.invariant in
     let n = inv.0 in
+    let one = c.loop-number.live in
+    let two = c.run_last.new.live in
     let before = g.H.Host.log c.loop-number.host in
     let end = g.H.Host.log c.run_last.new.host in
-    all_run_as every printing c.args.live.now.reports.out first rounds n c.loop-number.number c.loop-number.live.reports.printing c.loop-number.live.reports.out c.loop-number.live.unprinted
-    c.run_last.new.live.unprinted c.run_last.new.live.unwritten c.run_last.result start before end inv.1 inv.2 c.loop-number-test.false inv.4 inv.5 c.run_last.ensures.printed inv.3
-    c.run_last.ensures.run
+    all_run_as every live.reports.printing live.reports.out (kept live.unprinted live.unsaved) rounds n c.loop-number.number one.reports.printing one.reports.out
+    (kept one.unprinted one.unsaved) (kept two.unprinted two.unsaved) two.unwritten c.run_last.result start before end inv.1 inv.2 c.loop-number-test.false inv.4 inv.5
+    c.run_last.ensures.printed inv.3 c.run_last.ensures.run
 
 pub returns-in_err-run_round-clause-printing : goal.returns-in_err-run_round-clause-printing
 returns-in_err-run_round-clause-printing g c = c.run_round.ensures.printing ∙ c.loop-number.invariant.4
@@ -116,3 +131,17 @@ returns-in_err-pace-2-clause-out g c = c.wait_for_next.ensures.out ∙ (c.print_
 
 pub returns-clause-out : goal.returns-clause-out
 returns-clause-out g c = c.run_last.ensures.out ∙ c.loop-number.invariant.5
+
+pub returns-in_err-pace-clause-run : goal.returns-in_err-pace-clause-run
+returns-in_err-pace-clause-run g c =
+    let live = c.args.live.now in
+    let after = c.start_pace.new.live in
+    let first = kept live.unprinted live.unsaved in
+    let every = c.args.timing.report_every in
+    let out = option_map string_bytes live.reports.out in
+    let start = g.H.Host.log c.args.host.now in
+    let failure = c.in_err-pace.field-0.0 in
+    let r = c.from_residual.result in
+    stopped every live.reports.printing out first c.args.timing.rounds 0 first (kept after.unprinted after.unsaved) after.unwritten failure r start start
+    (g.H.Host.log c.start_pace.new.host) (failure_is r failure c.from_residual.ensures.1) (from_zero c.args.timing.rounds)
+    (none_yet every live.reports.printing out first first start start refl (still start)) c.in_err-pace.ensures.quiet

@@ -1,0 +1,69 @@
+-- The command `station`, from its arguments on.
+use Rattle.std.proofs.Common.{◌≡◌, List, option_map, subst, sym}
+use Rattle.std.specs.Prelude.{Option, Result, Ok, Err, option_copied}
+use Rattle.mon_cli.specs.declared.meaning.StationArgs.{StationArgs}
+use Rattle.mon_console.specs.Labelled.{IsLabelled}
+use Rattle.mon_console.specs.declared.failure.Failure.{Failure}
+use Rattle.mon_console.specs.declared.printing.Printing.{Printing}
+use Rattle.mon_host.specs.AtHost.{AtHost}
+use Rattle.mon_host.specs.Log.{GoesOnBy}
+use Rattle.mon_host.specs.Then.{Quietly, Then}
+use Rattle.mon_host.proofs.Promised.{quietly, then_fails, then_follows}
+use Rattle.mon_settings.specs.declared.station.StationSettings.{StationSettings}
+use Rattle.mon_station_commands.specs.Places.{IsDoor}
+use Rattle.mon_station_commands.specs.Station.{AreReports, IsRunning, IsSeenIf}
+use Rattle.mon_station_commands.specs.Steps.{OrMemory}
+use Rattle.mon_station_commands.specs.declared.live.Reports.{Reports}
+use Rattle.mon_udp.specs.declared.addr.Addr.{Addr}
+
+module _ (words : StationArgs) where
+  abbrev Gives : Result (Option Addr) Failure → Type 0
+  Gives = IsDoor (option_copied words.http)
+
+  abbrev Reads : List AtHost → Result (StationSettings × Printing) Failure → Type 0
+  Reads = IsLabelled words.settings.now (option_map (λ l. l.now) words.labels) words.printed
+
+  abbrev Makes : Printing → Result Reports Failure → Type 0
+  Makes printing = OrMemory (AreReports words printing)
+
+  abbrev AfterReports : Option Addr → StationSettings → Reports → List AtHost → Result Unit Failure → Type 0
+  AfterReports door s reports = IsSeenIf door words.timing reports s
+
+  abbrev AfterSettings : Option Addr → StationSettings × Printing → List AtHost → Result Unit Failure → Type 0
+  AfterSettings door both = Then (Quietly (Makes both.1)) (AfterReports door both.0)
+
+  abbrev AfterDoor : Option Addr → List AtHost → Result Unit Failure → Type 0
+  AfterDoor door = Then Reads (AfterSettings door)
+
+  pub no_door : (failure : Failure) (r : Result Unit Failure) (t : Option (List AtHost)) → r ≡ Err failure → Gives (Err failure) → GoesOnBy (λ log. IsRunning words log r) t t
+  no_door failure r t is why =
+      subst (λ (e : Result Unit Failure). GoesOnBy (λ log. IsRunning words log e) t t) (sym is)
+      (then_fails (Quietly Gives) AfterDoor failure t t (quietly Gives (Err failure) t why))
+
+  after_door : (door : Option Addr) (r : Result Unit Failure) (t0 t1 : Option (List AtHost)) → Gives (Ok door) → GoesOnBy (λ log. AfterDoor door log r) t0 t1
+      → GoesOnBy (λ log. IsRunning words log r) t0 t1
+  after_door door r t0 t1 given rest = then_follows (Quietly Gives) AfterDoor (Ok door) r t0 t0 t1 (quietly Gives (Ok door) t0 given) rest
+
+  pub no_settings : (door : Option Addr) (failure : Failure) (r : Result Unit Failure) (t0 t1 : Option (List AtHost)) → r ≡ Err failure → Gives (Ok door)
+      → GoesOnBy (λ log. Reads log (Err failure)) t0 t1 → GoesOnBy (λ log. IsRunning words log r) t0 t1
+  no_settings door failure r t0 t1 is given why =
+      subst (λ (e : Result Unit Failure). GoesOnBy (λ log. IsRunning words log e) t0 t1) (sym is)
+      (after_door door (Err failure) t0 t1 given (then_fails Reads (AfterSettings door) failure t0 t1 why))
+
+  after_settings : (door : Option Addr) (both : StationSettings × Printing) (r : Result Unit Failure) (t0 t1 t2 : Option (List AtHost)) → Gives (Ok door)
+      → GoesOnBy (λ log. Reads log (Ok both)) t0 t1 → GoesOnBy (λ log. AfterSettings door both log r) t1 t2 → GoesOnBy (λ log. IsRunning words log r) t0 t2
+  after_settings door both r t0 t1 t2 given read rest = after_door door r t0 t2 given (then_follows Reads (AfterSettings door) (Ok both) r t0 t1 t2 read rest)
+
+  pub no_reports : (door : Option Addr) (s : StationSettings) (printing : Printing) (failure : Failure) (r : Result Unit Failure) (t0 t1 : Option (List AtHost)) → r ≡ Err failure
+      → Gives (Ok door) → GoesOnBy (λ log. Reads log (Ok (s, printing))) t0 t1 → Makes printing (Err failure) → GoesOnBy (λ log. IsRunning words log r) t0 t1
+  no_reports door s printing failure r t0 t1 is given read why =
+      subst (λ (e : Result Unit Failure). GoesOnBy (λ log. IsRunning words log e) t0 t1) (sym is)
+      (after_settings door (s, printing) (Err failure) t0 t1 t1 given read
+      (then_fails (Quietly (Makes printing)) (AfterReports door s) failure t1 t1 (quietly (Makes printing) (Err failure) t1 why)))
+
+  pub words_run : (door : Option Addr) (s : StationSettings) (printing : Printing) (reports : Reports) (r : Result Unit Failure) (t0 t1 t2 : Option (List AtHost))
+      → Gives (Ok door) → GoesOnBy (λ log. Reads log (Ok (s, printing))) t0 t1 → Makes printing (Ok reports)
+      → GoesOnBy (λ log. IsSeenIf door words.timing reports s log r) t1 t2 → GoesOnBy (λ log. IsRunning words log r) t0 t2
+  words_run door s printing reports r t0 t1 t2 given read made run =
+      after_settings door (s, printing) r t0 t1 t2 given read
+      (then_follows (Quietly (Makes printing)) (AfterReports door s) (Ok reports) r t1 t1 t2 (quietly (Makes printing) (Ok reports) t1 made) run)

@@ -1,0 +1,21 @@
+use Rattle.std.proofs.Common.{subst, sym}
+use Rattle.std.specs.Prelude.{Ok, Result}
+use Rattle.mon_console.specs.declared.failure.Failure.{Failure}
+use Rattle.mon_host.specs.Log.{GoesOnBy}
+use Rattle.mon_rounds.specs.declared.round.Span.{Span}
+use Rattle.mon_station_commands.specs.Spans.{AreTroubles, is_round}
+use Rattle.mon_station_commands.proofs.Accounts.{no_troubles, troubles}
+use Rattle.mon_station_commands.proofs.live.tell_troubles.Goals as goal
+
+pub returns-in-Round-clause-said : goal.returns-in-Round-clause-said
+returns-in-Round-clause-said g c =
+    let start = g.H.Host.log c.args.host.now in
+    let end = g.H.Host.log c.report_troubles.new.host in
+    subst (λ (s : Span). GoesOnBy (λ log. AreTroubles (is_round s) c.args.number log c.report_troubles.result) start end) (sym c.in-Round.is)
+    (troubles c.args.number c.report_troubles.result start end c.report_troubles.ensures.said c.report_troubles.ensures.memory)
+
+pub returns-in-Between-clause-said : goal.returns-in-Between-clause-said
+returns-in-Between-clause-said g c =
+    let start = g.H.Host.log c.args.host.now in
+    subst (λ (s : Span). GoesOnBy (λ log. AreTroubles (is_round s) c.args.number log (let r : Result Unit Failure = Ok tt in r)) start start) (sym c.in-Between.is)
+    (no_troubles c.args.number start)

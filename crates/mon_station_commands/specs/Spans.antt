@@ -1,0 +1,129 @@
+-- What is said of a round, or of the time after it.
+use Rattle.std.specs.Prelude.{◌≡◌, ◌⊎◌, ◌≤◌, ℕ, Bool, true, false, IsErrAnd, List, [], ◌∷◌, ◌++◌, Option, Some, None, Result, Ok, Err, map}
+use Rattle.std.specs.declared.time.Instant.{Instant}
+use Rattle.mon_alarms.specs.declared.change.AlarmChange.{AlarmChange}
+use Rattle.mon_board.specs.Watch.{Watch}
+use Rattle.mon_console.specs.Failure.{IsMemory, IsPlain}
+use Rattle.mon_console.specs.declared.failure.Failure.{Failure}
+use Rattle.mon_disk.specs.Fault.{number_of}
+use Rattle.mon_disk.specs.declared.fault.KeeperFault.{KeeperFault}
+use Rattle.mon_faults.specs.Fault.{station_fault}
+use Rattle.mon_host.specs.AtHost.{AtHost, Noted, Timed}
+use Rattle.mon_host.specs.Then.{Then}
+use Rattle.mon_rounds.specs.Noted.{notices_of}
+use Rattle.mon_rounds.specs.Order.{RoundEvent}
+use Rattle.mon_rounds.specs.declared.freshness.Spell.{Spell}
+use Rattle.mon_rounds.specs.declared.reporting.RoundReport.{RoundReport}
+use Rattle.mon_rounds.specs.declared.round.Span.{Span}
+use Rattle.mon_rounds.specs.declared.round.Span.TheVariants.{Between, Round}
+use Rattle.mon_station.specs.declared.fault.StationFault.{StationFault}
+use Rattle.mon_station.specs.declared.fault.StationFault.TheVariants.{OutOfMemory}
+use Rattle.mon_station.specs.declared.running.Run.{Run}
+use Rattle.mon_station_commands.specs.Opening.{last_of, unsaved_in}
+use Rattle.mon_station_commands.specs.Pace.{IsStopped}
+use Rattle.mon_station_commands.specs.Steps.{IsTried, OrMemory}
+use Rattle.mon_station_commands.specs.Telling.{AreChangesSaid, AreNoted, alarm_note, round_lines}
+use Rattle.mon_udp.specs.declared.addr.Addr.{Addr}
+
+-- whether a span is a round, and not the time between two
+abbrev pub is_round : Span → Bool
+is_round Round = true
+is_round (Between milliseconds) = false
+
+-- The report of a run with these targets and events, as far as lines are made of it.
+pub record IsOfRun (targets : List Addr) (events : List RoundEvent) (run : Run) (report : RoundReport)
+    : Type 0 where
+  pub noticed : report.notices.items ≡ notices_of targets events run.answers.items
+  pub sources : report.source_faults ≡ run.source_faults
+  pub sends : report.send_faults ≡ run.send_faults
+
+-- the fault of a save, by its number in a notice, if there is one
+abbrev pub IsUnsavedBy : Option ℕ → Option KeeperFault → Type 0
+IsUnsavedBy None unsaved = unsaved ≡ None
+IsUnsavedBy (Some number) None = ⊥
+IsUnsavedBy (Some number) (Some fault) = 1 ≤ number → number ≤ 6 → number_of fault ≡ number
+
+-- What is kept of the last save: after a round what its last notice says, else what it was.
+abbrev pub IsSavedAfter : (whole : Bool) → RoundReport → (before after : Option KeeperFault) → Type 0
+IsSavedAfter true report before after = IsUnsavedBy (unsaved_in (last_of report.notices.items)) after
+IsSavedAfter false report before after = after ≡ before
+
+-- after a round troubles that begin or end are said; memory may run out
+abbrev pub AreTroubles : (whole : Bool) → (round : ℕ) → List AtHost → Result Unit Failure → Type 0
+AreTroubles true round log result = AreChangesSaid round log × OrMemory (λ done. Unit {0}) result
+AreTroubles false round log result = (log ≡ []) × (result ≡ Ok tt)
+
+-- alarms that changed are said, a line each; memory may run out
+abbrev pub AreAlarms : (shown : List ℕ → List ℕ) → List AtHost → Result Unit Failure → Type 0
+AreAlarms shown log result = ((watch : Watch) × (changes : List AlarmChange)
+    × (log ≡ map Noted (map (alarm_note shown watch) changes))) × OrMemory (λ done. Unit {0}) result
+
+-- what is said after the lines of a round: troubles and alarms that changed
+abbrev pub AreChanges : (shown : List ℕ → List ℕ) → (round : ℕ) → (whole : Bool) → List AtHost
+    → Result Unit Failure → Type 0
+AreChanges shown round whole = Then (AreTroubles whole round) (λ (said : Unit {0}). AreAlarms shown)
+
+-- A report was made. Its lines are said, and what changed. `before` and `after` are what is kept of the
+-- last save.
+pub record IsReportSaid (IsReport : RoundReport → Type 0) (shown : List ℕ → List ℕ) (round : ℕ)
+    (whole : Bool) (before after : Option KeeperFault) (log : List AtHost)
+    (result : Result Unit Failure) : Type 0 where
+  pub report : RoundReport
+  pub report_is : IsReport report
+  pub begin : List AtHost
+  pub noted : AreNoted (round_lines round report) begin
+  pub saved : IsSavedAfter whole report before after
+  pub rest : List AtHost
+  pub changed : AreChanges shown round whole rest result
+  pub log_is : log ≡ begin ++ rest
+
+-- memory ran out before anything was said, and the failure is one of these
+abbrev pub IsNoReport : (Failure → Type 0) → List AtHost → Result Unit Failure → Type 0
+IsNoReport IsWhy log result = (log ≡ []) × IsErrAnd result IsWhy
+
+-- The account of what was run: its report is said, unless there was no memory for that.
+abbrev pub IsReportOr : (IsReport : RoundReport → Type 0) → (shown : List ℕ → List ℕ) → (round : ℕ)
+    → (whole : Bool) → (before after : Option KeeperFault) → List AtHost → Result Unit Failure → Type 0
+IsReportOr IsReport shown round whole before after log result =
+    (IsNoReport IsMemory log result × (after ≡ before))
+    ⊎ IsReportSaid IsReport shown round whole before after log result
+
+-- The account of a spell; or there was no memory to run it.
+abbrev pub IsAccountOf : Result Spell StationFault → (IsReport : RoundReport → Type 0)
+    → (shown : List ℕ → List ℕ) → (round : ℕ) → (before after : Option KeeperFault) → List AtHost
+    → Result Unit Failure → Type 0
+IsAccountOf (Ok spell) IsReport shown round before after log result =
+    IsReportOr IsReport shown round (is_round spell.span) before after log result
+IsAccountOf (Err fault) IsReport shown round before after log result =
+    IsNoReport (IsPlain (station_fault fault)) log result × (after ≡ before)
+
+-- the account of a span; or there was no memory to run it
+abbrev pub IsAccount : (IsReport : RoundReport → Type 0) → (shown : List ℕ → List ℕ) → (round : ℕ)
+    → (whole : Bool) → (before after : Option KeeperFault) → List AtHost → Result Unit Failure → Type 0
+IsAccount IsReport shown round whole before after log result =
+    IsReportOr IsReport shown round whole before after log result
+    ⊎ (IsNoReport (IsPlain (station_fault OutOfMemory)) log result × (after ≡ before))
+
+-- A span was run between two looks at the clock. Then its account is given, and a failure of that is
+-- said.
+pub record IsSpan (IsReport : RoundReport → Type 0) (shown : List ℕ → List ℕ) (round : ℕ)
+    (whole : Bool) (before after : Option KeeperFault) (log : List AtHost) : Type 0 where
+  pub began : Instant
+  pub ended : Instant
+  pub rest : List AtHost
+  pub failure : Option Failure
+  pub account : IsTried (IsAccount IsReport shown round whole before after) rest failure
+  pub log_is : log ≡ Timed began ∷ Timed ended ∷ rest
+
+-- a span was run; or a clock failed, and no account was given
+abbrev pub IsSpanRun : (IsReport : RoundReport → Type 0) → (shown : List ℕ → List ℕ) → (round : ℕ)
+    → (whole : Bool) → (before after : Option KeeperFault) → List AtHost → Result Unit Failure → Type 0
+IsSpanRun IsReport shown round whole before after log (Ok done) =
+    IsSpan IsReport shown round whole before after log
+IsSpanRun IsReport shown round whole before after log (Err failure) =
+    IsStopped log failure × (after ≡ before)
+
+-- the clock was looked at twice; or it failed
+abbrev pub IsTimedRun : {T : Type 0} → List AtHost → Result T Failure → Type 0
+IsTimedRun log (Ok ran) = (began ended : Instant) × (log ≡ Timed began ∷ Timed ended ∷ [])
+IsTimedRun log (Err failure) = IsStopped log failure

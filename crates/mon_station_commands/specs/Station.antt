@@ -1,0 +1,90 @@
+-- The command `station`: what is read, opened and said before the first round, and then the rounds.
+use Rattle.std.specs.Prelude.{◌≡◌, ℕ, Bool, true, false, List, [], ◌∷◌, Option, Some, None, Result, Ok, Err, length, option_copied, option_map, string_bytes}
+use Rattle.std.specs.declared.net.socket_addr.SocketAddr.{SocketAddr}
+use Rattle.mon_cli.specs.declared.meaning.StationArgs.{StationArgs}
+use Rattle.mon_cli.specs.declared.meaning.Timing.{Timing}
+use Rattle.mon_console.specs.Labelled.{IsLabelled}
+use Rattle.mon_console.specs.Shown.{shown_by}
+use Rattle.mon_console.specs.declared.failure.Failure.{Failure}
+use Rattle.mon_console.specs.declared.printing.Printing.{Printing}
+use Rattle.mon_host.specs.AtHost.{AtHost, Noted}
+use Rattle.mon_host.specs.Then.{Quietly, Then}
+use Rattle.mon_settings.specs.declared.station.StationSettings.{StationSettings}
+use Rattle.mon_station.specs.State.{State}
+use Rattle.mon_station_commands.specs.Checking.{IsCheck}
+use Rattle.mon_station_commands.specs.Opening.{IsNoStation}
+use Rattle.mon_station_commands.specs.Places.{IsDoor, IsNoSocket, IsShownOpened, IsUnseenOpened}
+use Rattle.mon_station_commands.specs.Rounds.{IsRun, kept}
+use Rattle.mon_station_commands.specs.Steps.{OrMemory, SomeOr}
+use Rattle.mon_station_commands.specs.Telling.{IsOpening, http_line}
+use Rattle.mon_station_commands.specs.declared.live.Reports.{Reports}
+use Rattle.mon_udp.specs.declared.addr.Addr.{Addr}
+
+-- How the reports of a station are printed, and what else the arguments say of them.
+pub record AreReports (words : StationArgs) (printing : Printing) (reports : Reports) : Type 0 where
+  pub printed : reports.printing ≡ printing
+  pub out : option_map string_bytes reports.out ≡ option_copied words.out
+  pub stale_after : reports.stale_after ≡ words.stale_after
+  pub interval : reports.interval ≡ words.timing.interval
+
+-- The station of settings begins at this address, and says so; or there is none, or no memory for the
+-- lines of its alarms.
+abbrev pub IsStarted : (shown : List ℕ → List ℕ) → StationSettings → SocketAddr → List AtHost
+    → Result Unit Failure → Type 0
+IsStarted shown s at log (Ok done) = (state : State)
+    × IsOpening s.core.station at (string_bytes s.file) (length s.core.targets) (length s.core.peers) shown
+    log (Some state)
+IsStarted shown s at log (Err failure) = IsOpening s.core.station at (string_bytes s.file)
+    (length s.core.targets) (length s.core.peers) shown log None × IsNoStation failure
+
+-- the line of where HTTP is served, if it is
+abbrev pub IsWebSaid : Option SocketAddr → List AtHost → Result Unit Failure → Type 0
+IsWebSaid None log result = (log ≡ []) × (result ≡ Ok tt)
+IsWebSaid (Some at) log result = (log ≡ Noted (http_line at) ∷ []) × (result ≡ Ok tt)
+
+-- the rounds of a station that has begun
+abbrev pub IsRunOf : Timing → Reports → List AtHost → Result Unit Failure → Type 0
+IsRunOf timing reports = IsRun timing.rounds timing.report_every reports.printing
+    (option_map string_bytes reports.out) (kept None None)
+
+-- A station whose socket and file are open begins to receive. It says where it is, which alarms are
+-- raised, and where it serves HTTP, if it does. Then come its rounds.
+abbrev pub IsWhole : Timing → Reports → StationSettings → SocketAddr → (web : Option SocketAddr)
+    → List AtHost → Result Unit Failure → Type 0
+IsWhole timing reports s at web = Then (Quietly (SomeOr (IsNoSocket s.listen))) (λ (heard : Unit {0}).
+    Then (IsStarted (shown_by reports.printing.names) s at) (λ (started : Unit {0}).
+    Then (IsWebSaid web) (λ (said : Unit {0}). IsRunOf timing reports)))
+
+-- a station that serves no HTTP, from its opening on
+abbrev pub IsUnseen : Timing → Reports → StationSettings → List AtHost → Result Unit Failure → Type 0
+IsUnseen timing reports s = Then (IsUnseenOpened s) (λ at. IsWhole timing reports s at None)
+
+-- a station that serves HTTP at an address, from its opening on
+abbrev pub IsSeen : Addr → Timing → Reports → StationSettings → List AtHost → Result Unit Failure
+    → Type 0
+IsSeen door timing reports s =
+    Then (IsShownOpened s door) (λ both. IsWhole timing reports s both.0 (Some both.1))
+
+-- a station that serves HTTP if there is an address for it
+abbrev pub IsSeenIf : Option Addr → Timing → Reports → StationSettings → List AtHost
+    → Result Unit Failure → Type 0
+IsSeenIf None timing reports s log result = IsUnseen timing reports s log result
+IsSeenIf (Some door) timing reports s log result = IsSeen door timing reports s log result
+
+-- A station is run: the address for HTTP is read, then the settings, the modules and the labels. Then
+-- it is opened.
+abbrev pub IsRunning : StationArgs → List AtHost → Result Unit Failure → Type 0
+IsRunning words = Then (Quietly (IsDoor (option_copied words.http))) (λ door.
+    Then (IsLabelled words.settings.now (option_map (λ l. l.now) words.labels) words.printed) (λ both.
+    Then (Quietly (OrMemory (AreReports words both.1))) (λ reports.
+    IsSeenIf door words.timing reports both.0)))
+
+-- only what limits a station is printed, or it is run
+abbrev pub IsStationIf : (checks : Bool) → StationArgs → List AtHost → Result Unit Failure → Type 0
+IsStationIf true words log result = IsCheck words.settings.now (option_map (λ l. l.now) words.labels)
+    words.printed words.timing.interval log result
+IsStationIf false words log result = IsRunning words log result
+
+-- the command `station`
+abbrev pub IsStation : StationArgs → List AtHost → Result Unit Failure → Type 0
+IsStation words = IsStationIf words.checks words
