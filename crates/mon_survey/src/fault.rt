@@ -27,9 +27,10 @@ pub enum SurveyFault {
     /// Memory was refused.
     #[error("out of memory")]
     OutOfMemory,
-    /// The agent has no snmpEngine group (RFC 3411 section 5), whose boots and time stamp each
-    /// sample, or an engine id that is not 5 to 32 octets.
-    #[error("the agent has no snmpEngine group, whose boots and time stamp each sample")]
+    /// What the agent shows this community is no snmpEngine group (RFC 3411 section 5), whose boots
+    /// and time stamp each sample: it is absent, hidden by a view, or its engine id is not 5 to 32
+    /// octets, or its boots or time is no number from 0 on.
+    #[error("the snmpEngine group is absent, invalid or hidden from this community: permit 1.3.6.1.6.3.10.2.1, whose boots and time stamp samples, and for interfaces 1.3.6.1.2.1.2 and 1.3.6.1.2.1.31")]
     NoEngine,
     /// A name does not come after the one before it.
     #[error("the agent's answers do not rise")]
