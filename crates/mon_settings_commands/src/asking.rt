@@ -112,6 +112,7 @@ fn open<'a, R: Clock + Net + AllocGlobal>(
     rt: &'a R,
     asked: Asked<'_>,
 ) -> Result<Asker<SocketWire<'a, R>>, Failure>
+    ensures agent { IfOk result (λ asker. asker.wire.agent ≡ asked.entry.agent.address) }
     ensures first { IfOk result (λ asker. asker.last_id ≡ 0) }
     ensures refused { IfErr result (IsUnwired asked.entry.agent.word.now) }
 {
