@@ -49,7 +49,7 @@ start_of_put agent s now (b ∷ bs) (inl (last, put)) = absurd last
 start_of_put agent s now (b ∷ bs) (inr (next, one, put)) = start_of_put agent next now bs put ∙ one.start
 
 start_of_reply : (agent : List ℕ) (s now : Stand) (bs : List Binding) → IsReplyPut agent s bs (Ok (On now)) → now.place.start ≡ s.place.start
-start_of_reply agent s now [] (failure, is, of) = absurd (let never : ⊥ = cc in never)
+start_of_reply agent s now [] put = absurd put
 start_of_reply agent s now (b ∷ bs) put = start_of_put agent s now (b ∷ bs) put
 
 start_of_given : (agent : List ℕ) (s now : Stand) (given : Result (Vec Binding) Failure) (rest : List Exchange)
@@ -100,7 +100,7 @@ module _ (agent community : List ℕ) (column : Column) (cells : List Cell) wher
         walked = walked;
         others = [];
         log_is = sym (append-nil es);
-        ended = inr (full, refl, (failure, refl, subst (λ (start : List ℕ). IsUnending agent start failure) (start_of_turns agent (stand (place_of column) cells) now n es walked) said));
+        ended = inr (full, refl, subst (λ (start : List ℕ). IsUnending agent start failure) (start_of_turns agent (stand (place_of column) cells) now n es walked) said);
       }) at
 
 -- whatever becomes of the columns that are left becomes of all of them

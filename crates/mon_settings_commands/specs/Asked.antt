@@ -32,7 +32,8 @@ IsRefused words failure =
     (OrLater (IsNoCommunity words.community.now failure) (IsCommunity words.community.now)
     (OrLater (IsFirstNoKind (kind_words (option_copied words.only)) failure)
     (All IsKindWord (kind_words (option_copied words.only)))
-    (OrLater (IsNoPercentage (option_copied words.thresholds) failure) (GivesSome (option_copied words.thresholds))
+    (OrLater (IsNoPercentage (option_copied words.thresholds) failure)
+    (GivesSome (option_copied words.thresholds))
     (IsFirstNoPeer (peers_named words) failure))))
 
 -- What the arguments say of the agent; or why they are refused.

@@ -14,10 +14,13 @@ use Rattle.mon_settings_commands.specs.Exchange.{Exchange, IsQuestion}
 use Rattle.mon_settings_commands.specs.Source.{IsOfSurvey, OrMemory}
 use Rattle.mon_settings_commands.specs.declared.asking.Head.{Head}
 
--- snmpEngineID.0, snmpEngineBoots.0 and snmpEngineTime.0 (RFC 3411 section 5), and ifNumber.0 (RFC 2863 section 6)
+-- snmpEngineID.0, snmpEngineBoots.0 and snmpEngineTime.0 (RFC 3411 section 5), and ifNumber.0 (RFC
+-- 2863 section 6)
 abbrev pub first_names : List (List ℕ)
-first_names = (1 ∷ 3 ∷ 6 ∷ 1 ∷ 6 ∷ 3 ∷ 10 ∷ 2 ∷ 1 ∷ 1 ∷ 0 ∷ []) ∷ (1 ∷ 3 ∷ 6 ∷ 1 ∷ 6 ∷ 3 ∷ 10 ∷ 2 ∷ 1 ∷ 2 ∷ 0 ∷ [])
-    ∷ (1 ∷ 3 ∷ 6 ∷ 1 ∷ 6 ∷ 3 ∷ 10 ∷ 2 ∷ 1 ∷ 3 ∷ 0 ∷ []) ∷ (1 ∷ 3 ∷ 6 ∷ 1 ∷ 2 ∷ 1 ∷ 2 ∷ 1 ∷ 0 ∷ []) ∷ []
+first_names = (1 ∷ 3 ∷ 6 ∷ 1 ∷ 6 ∷ 3 ∷ 10 ∷ 2 ∷ 1 ∷ 1 ∷ 0 ∷ [])
+    ∷ (1 ∷ 3 ∷ 6 ∷ 1 ∷ 6 ∷ 3 ∷ 10 ∷ 2 ∷ 1 ∷ 2 ∷ 0 ∷ [])
+    ∷ (1 ∷ 3 ∷ 6 ∷ 1 ∷ 6 ∷ 3 ∷ 10 ∷ 2 ∷ 1 ∷ 3 ∷ 0 ∷ [])
+    ∷ (1 ∷ 3 ∷ 6 ∷ 1 ∷ 2 ∷ 1 ∷ 2 ∷ 1 ∷ 0 ∷ []) ∷ []
 
 -- the agent is asked for these four, if memory is left for their names
 abbrev pub IsFirstAsked : List ℕ → List Exchange → Result (Vec Binding) Failure → Type 0
@@ -49,7 +52,8 @@ IsHeadIn bindings (Err failure) = IsMemory failure ⊎ (HasNoEngine bindings × 
 
 -- the agent is asked for the four, and its engine id and its ifNumber are read
 abbrev pub IsHead : List ℕ → List Exchange → Result Head Failure → Type 0
-IsHead agent = Then (IsFirstAsked agent) (λ bindings. Quietly (IsHeadIn bindings.items))
+IsHead agent = Then (IsFirstAsked agent)
+    (λ bindings. Quietly (IsHeadIn bindings.items))
 
 -- the engine id is still this one; or there is none, or another one
 abbrev pub IsEngineStill : List ℕ → List Binding → Result Unit Failure → Type 0
@@ -59,4 +63,5 @@ IsEngineStill engine bindings (Err failure) = (HasNoEngine bindings × IsOfSurve
 
 -- the agent is asked for the four once more, and its engine id has to be the same
 abbrev pub IsSameEngine : List ℕ → List ℕ → List Exchange → Result Unit Failure → Type 0
-IsSameEngine agent engine = Then (IsFirstAsked agent) (λ bindings. Quietly (IsEngineStill engine bindings.items))
+IsSameEngine agent engine = Then (IsFirstAsked agent)
+    (λ bindings. Quietly (IsEngineStill engine bindings.items))

@@ -24,17 +24,24 @@ next_id id = if nat_lt id 2147483647 then id + 1 else 0
 
 -- the question of an exchange, in a community and under a request-id
 abbrev pub question_of : List ℕ → ℕ → Exchange → Question
-question_of community id e = record { asking = e.asking; request_id = pos id; community = community; names = e.names }
+question_of community id e = record {
+  asking = e.asking;
+  request_id = pos id;
+  community = community;
+  names = e.names;
+}
 
 -- Exchanges in their order, each explained by what happened at the wire. Their request-ids go on from
 -- the last one before them, and this is the last one after them.
 abbrev pub AreExplained : List ℕ → ℕ → List Exchange → ℕ → List AtWire → Type 0
 AreExplained community id [] last log = (log ≡ []) × (last ≡ id)
-AreExplained community id (e ∷ es) last log = (begin : List AtWire) × (rest : List AtWire) × (log ≡ begin ++ rest)
-    × IsQuestionAnswered (question_of community (next_id id) e) begin e.answer × AreExplained community (next_id id) es last rest
+AreExplained community id (e ∷ es) last log = (begin : List AtWire) × (rest : List AtWire)
+    × (log ≡ begin ++ rest) × IsQuestionAnswered (question_of community (next_id id) e) begin e.answer
+    × AreExplained community (next_id id) es last rest
 
 -- Questions were asked, of which this holds. Their request-ids go on from one to the last one.
-pub record AsksBy (Holds : List Exchange → Type 0) (community : List ℕ) (id last : ℕ) (before after : Option (List AtWire)) : Type 0 where
+pub record AsksBy (Holds : List Exchange → Type 0) (community : List ℕ) (id last : ℕ)
+    (before after : Option (List AtWire)) : Type 0 where
   pub exchanges : List Exchange
   pub holds : Holds exchanges
   pub explained : GoesOnBy (AreExplained community id exchanges last) before after

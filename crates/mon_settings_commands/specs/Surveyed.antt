@@ -29,17 +29,24 @@ IsWalkIf false agent column cells = Quietly (λ result. result ≡ Ok cells)
 -- after those before.
 abbrev pub AreWalked : List ℕ → Kinds → List Column → List Cell → List Exchange → Result (List Cell) Failure → Type 0
 AreWalked agent kinds [] cells = Quietly (λ result. result ≡ Ok cells)
-AreWalked agent kinds (column ∷ columns) cells = Then (IsWalkIf (needs kinds column) agent column cells) (λ more. AreWalked agent kinds columns more)
+AreWalked agent kinds (column ∷ columns) cells = Then (IsWalkIf (needs kinds column) agent column cells)
+    (λ more. AreWalked agent kinds columns more)
 
 -- what an agent answered, once its engine is the same after the walk
 abbrev pub IsSurveyOf : List ℕ → Head → List Cell → List Exchange → Result Survey Failure → Type 0
 IsSurveyOf agent head cells = Then (IsSameEngine agent head.engine.items)
-    (λ done. Quietly (λ result. result ≡ Ok (record { engine = head.engine; number = head.number; answers = cells })))
+    (λ done. Quietly (λ result. result ≡ Ok (record {
+      engine = head.engine;
+      number = head.number;
+      answers = cells;
+    })))
 
 -- A survey: the agent is asked for its engine, for the columns that the kinds need, and for its
 -- engine once more.
 abbrev pub IsSurvey : List ℕ → Kinds → List Exchange → Result Survey Failure → Type 0
-IsSurvey agent kinds = Then (IsHead agent) (λ head. Then (AreWalked agent kinds columns []) (λ cells. IsSurveyOf agent head cells))
+IsSurvey agent kinds = Then (IsHead agent)
+    (λ head. Then (AreWalked agent kinds columns [])
+    (λ cells. IsSurveyOf agent head cells))
 
 -- no wire could be opened to an agent: memory ran out, or a socket failed
 pub record IsUnwired (agents : Agents) (agent : AgentAt) (failure : Failure) : Type 0 where

@@ -2,6 +2,7 @@
 use Rattle.std.specs.Prelude.{◌≡◌, ◌⊎◌, ◌<◌, ◌≤◌, ℕ, zero, suc, ◌+◌, pos, List, [], ◌∷◌, ◌++◌, Bool, true, false, Result, Ok, Err, codes, decimal}
 use Rattle.mon_app.specs.Walk.{Exceeds, IsPast, IsUnderStart}
 use Rattle.mon_app.specs.declared.fault.AppFault.TheVariants.{NotIncreasing, Timeout}
+use Rattle.mon_app.specs.declared.question.Asking.{Asking}
 use Rattle.mon_app.specs.declared.question.Asking.TheVariants.{GetBulk}
 use Rattle.mon_console.specs.Failure.{IsOf, IsSaid}
 use Rattle.mon_console.specs.declared.failure.Failure.{Failure}
@@ -52,7 +53,8 @@ pub record IsTaken (before : Stand) (b : Binding) (after : Stand) : Type 0 where
 
 -- the line of a column that has no end
 abbrev pub unending_line : List ℕ → List ℕ → List ℕ
-unending_line agent start = agent ++ codes ": no end of " ++ dotted start ++ codes " after " ++ decimal 65536 ++ codes " variables"
+unending_line agent start = agent ++ codes ": no end of " ++ dotted start ++ codes " after "
+    ++ decimal 65536 ++ codes " variables"
 
 -- a column has no end, as the failure says
 abbrev pub IsUnending : List ℕ → List ℕ → Failure → Type 0
@@ -84,22 +86,31 @@ ArePut agent s [] result = result ≡ Ok (On s)
 ArePut agent s (b ∷ bs) result = (IsLast result × IsPut agent s b result)
     ⊎ ((next : Stand) × IsTaken s b next × ArePut agent next bs result)
 
+-- a failure whose fault is that names do not increase
+abbrev pub IsNotIncreasing : Result Turned Failure → Type 0
+IsNotIncreasing (Ok next) = ⊥
+IsNotIncreasing (Err failure) = IsOf (App NotIncreasing) failure
+
 -- what is made of a reply: the same; one without a variable does not increase
 abbrev pub IsReplyPut : List ℕ → Stand → List Binding → Result Turned Failure → Type 0
-IsReplyPut agent s [] result = (failure : Failure) × (result ≡ Err failure) × IsOf (App NotIncreasing) failure
+IsReplyPut agent s [] result = IsNotIncreasing result
 IsReplyPut agent s (b ∷ bs) result = ArePut agent s (b ∷ bs) result
 
--- A turn: the agent is asked by a GetBulk of 32 repetitions for what comes after the last name, and
--- its answer is taken.
+-- a GetBulk of 32 repetitions
+abbrev pub bulk : Asking
+bulk = GetBulk (record { non_repeaters = pos 0; max_repetitions = pos 32 })
+
+-- A turn: the agent is asked by a GetBulk for what comes after the last name, and its answer is taken.
 abbrev pub IsTurn : List ℕ → Stand → List Exchange → Result Turned Failure → Type 0
-IsTurn agent s = Then (IsQuestion agent (GetBulk (record { non_repeaters = pos 0; max_repetitions = pos 32 })) (s.place.last ∷ []))
+IsTurn agent s = Then (IsQuestion agent bulk (s.place.last ∷ []))
     (λ bindings. Quietly (IsReplyPut agent s bindings.items))
 
 -- after this many turns, by which the walk went on, it stands here
 abbrev pub HasTurned : List ℕ → Stand → ℕ → List Exchange → Stand → Type 0
 HasTurned agent first zero log now = (log ≡ []) × (now ≡ first)
 HasTurned agent first (suc n) log now = (earlier : List Exchange) × (others : List Exchange) × (before : Stand)
-    × HasTurned agent first n earlier before × IsTurn agent before others (Ok (On now)) × (log ≡ earlier ++ others)
+    × HasTurned agent first n earlier before × IsTurn agent before others (Ok (On now))
+    × (log ≡ earlier ++ others)
 
 -- a walk begins under the name of its column
 abbrev pub place_of : Column → Place
@@ -115,8 +126,14 @@ abbrev pub with_cells : List Cell → Result Unit Failure → Result (List Cell)
 with_cells cells (Ok done) = Ok cells
 with_cells cells (Err failure) = Err failure
 
+-- a column has no end, as a result says
+abbrev pub HasNoEnd : List ℕ → List ℕ → Result (List Cell) Failure → Type 0
+HasNoEnd agent start (Ok cells) = ⊥
+HasNoEnd agent start (Err failure) = IsUnending agent start failure
+
 -- a whole walk: turns by which it went on, and then one that ends it; or 65536 turns and no end
-pub record IsColumnWalk (agent : List ℕ) (column : Column) (cells : List Cell) (log : List Exchange) (result : Result (List Cell) Failure) : Type 0 where
+pub record IsColumnWalk (agent : List ℕ) (column : Column) (cells : List Cell) (log : List Exchange)
+    (result : Result (List Cell) Failure) : Type 0 where
   pub turns : ℕ
   pub earlier : List Exchange
   pub now : Stand
@@ -124,7 +141,7 @@ pub record IsColumnWalk (agent : List ℕ) (column : Column) (cells : List Cell)
   pub others : List Exchange
   pub log_is : log ≡ earlier ++ others
   pub ended : ((turns < 65536) × IsTurn agent now others (last_turn result))
-      ⊎ ((turns ≡ 65536) × (others ≡ []) × ((failure : Failure) × (result ≡ Err failure) × IsUnending agent (column_name column) failure))
+      ⊎ ((turns ≡ 65536) × (others ≡ []) × HasNoEnd agent (column_name column) result)
 
 -- a walk through a column, if memory is left for its name
 abbrev pub IsWalk : List ℕ → Column → List Cell → List Exchange → Result (List Cell) Failure → Type 0

@@ -103,13 +103,13 @@ BUGS = {
     ),
     "an_error_without_an_index_is_none": (
         "src/asking.rt",
-        "        Body::Pdu(pdu) if pdu.error_status == 0 =>",
-        "        Body::Pdu(pdu) if pdu.error_index == 0 =>",
+        "    if pdu.error_status != 0 {",
+        "    if pdu.error_index != 0 {",
     ),
     "a_column_without_end_does_not_increase": (
         "src/asking.rt",
-        "            Fault::App(AppFault::Timeout),",
-        "            Fault::App(AppFault::NotIncreasing),",
+        "        Fault::App(AppFault::Timeout),",
+        "        Fault::App(AppFault::NotIncreasing),",
     ),
     "a_survey_fails_as_a_station": (
         "src/failing.rt",
@@ -286,6 +286,178 @@ BUGS = {
         "    names_by(alloc, host, files.as_slice())\n",
         "    names_by(alloc, host, &[])\n",
     ),
+    "refuses_the_kinds_that_there_are": (
+        "src/words.rt",
+        '        if !add_kind(&mut kinds, word) {',
+        '        if add_kind(&mut kinds, word) {',
+    ),
+    "passes_over_words_that_are_no_kinds": (
+        "src/words.rt",
+        '            return Err(Failure::text(alloc, word, "octets, packets, errors or discards"));',
+        '            continue;',
+    ),
+    "polls_packets_unasked": (
+        "src/words.rt",
+        '    kinds_in(alloc, given_or(only, "octets,errors"))',
+        '    kinds_in(alloc, given_or(only, "octets,packets,errors"))',
+    ),
+    "parts_kinds_by_dots": (
+        "src/words.rt",
+        "text.split(',')",
+        "text.split('.')",
+    ),
+    "polls_the_first_kind_only": (
+        "src/words.rt",
+        'octets, packets, errors or discards"));\n        }\n',
+        'octets, packets, errors or discards"));\n        }\n        break;\n',
+    ),
+    "takes_any_peer": (
+        "src/words.rt",
+        '        peer_at(alloc, word)?;',
+        '        let _ = word;',
+    ),
+    "refuses_each_peer": (
+        "src/words.rt",
+        '        Ok(station) => Ok((station, address)),',
+        '        Ok(_) => Err(peer_failure(alloc, address)),',
+    ),
+    "refuses_each_percentage": (
+        "src/words.rt",
+        '        Some(percent) => Ok(percent),\n        None => Err',
+        '        Some(percent) if percent < 1 => Ok(percent),\n        _ => Err',
+    ),
+    "refuses_an_address_for_its_community": (
+        "src/settings.rt",
+        '        agent: agent_at(alloc, words.address)?,\n        community: community(alloc, words.community)?,\n',
+        '        community: community(alloc, words.community)?,\n        agent: agent_at(alloc, words.address)?,\n',
+    ),
+    "refuses_thresholds_before_kinds": (
+        "src/settings.rt",
+        '        kinds: kinds_of(alloc, words.only)?,\n        percent: percent_of(alloc, words.thresholds)?,\n',
+        '        percent: percent_of(alloc, words.thresholds)?,\n        kinds: kinds_of(alloc, words.only)?,\n',
+    ),
+    "requires_no_peer": (
+        "src/settings.rt",
+        '    require_peers(alloc, words.peers)?;\n',
+        '',
+    ),
+    "asks_each_question_under_one_id": (
+        "src/asking.rt",
+        '    asker.last_id = id;\n',
+        '',
+    ),
+    "asks_in_the_address": (
+        "src/asking.rt",
+        '        community: asked.community,\n',
+        '        community: asked.agent.word.as_bytes(),\n',
+    ),
+    "asks_for_no_names": (
+        "src/asking.rt",
+        '        names,\n    };\n    match send_request',
+        '        names: &[],\n    };\n    match send_request',
+    ),
+    "no_answer_is_an_empty_one": (
+        "src/asking.rt",
+        '        Err(fault) => Err(answer_failure(alloc, asked.agent.word, fault)),\n    }\n}\n\n/// The variable bindings of a reply without',
+        '        Err(_) => Ok(Vec::new(alloc)),\n    }\n}\n\n/// The variable bindings of a reply without',
+    ),
+    "surveys_no_column": (
+        "src/asking.rt",
+        '    walk_columns(alloc, asker, asked, &mut answers)?;\n',
+        '',
+    ),
+    "asks_for_the_engine_once": (
+        "src/asking.rt",
+        '    require_engine(alloc, asker, asked, engine.as_slice())?;\n',
+        '',
+    ),
+    "an_engine_of_the_same_length_is_the_same": (
+        "src/asking.rt",
+        '        Ok(now) if now == engine => Ok(()),',
+        '        Ok(now) if now.len() == engine.len() => Ok(()),',
+    ),
+    "walks_columns_of_octets_alone": (
+        "src/asking.rt",
+        '    if asked.kinds.needs(column) {',
+        '    if asked.kinds.octets {',
+    ),
+    "asks_for_10_rounds": (
+        "src/asking.rt",
+        '        max_repetitions: REPETITIONS,',
+        '        max_repetitions: 10,',
+    ),
+    "asks_after_the_start_again": (
+        "src/asking.rt",
+        'slice::from_ref(&place.last)',
+        'slice::from_ref(&place.start)',
+    ),
+    "a_column_without_end_is_whole": (
+        "src/asking.rt",
+        '    Err(unending(alloc, asked.agent.word, &place.start))\n',
+        '    let _ = unending(alloc, asked.agent.word, &place.start);\n    Ok(())\n',
+    ),
+    "an_empty_reply_ends_the_column": (
+        "src/asking.rt",
+        '    if bindings.is_empty() {\n        return Err(answer_failure(alloc, agent, AppFault::NotIncreasing));',
+        '    if bindings.is_empty() {\n        return Ok(false);',
+    ),
+    "takes_a_name_twice": (
+        "src/asking.rt",
+        '    if !place.last.compare(&binding.name).is_lt() {',
+        '    if !place.last.compare(&binding.name).is_le() {',
+    ),
+    "takes_no_value": (
+        "src/asking.rt",
+        '    match answers.take(&binding.name, value) {',
+        '    let _ = value;\n    match answers.take(&binding.name, Value::Null) {',
+    ),
+    "counts_no_cell": (
+        "src/asking.rt",
+        '    place.taken += 1;\n',
+        '',
+    ),
+    "the_agent_has_no_number": (
+        "src/asking.rt",
+        '    count_in(&number.value)\n',
+        '    let _ = number;\n    None\n',
+    ),
+    "reads_a_number_below_0": (
+        "src/asking.rt",
+        'u32::try_from(*count).ok()',
+        'Some(count.unsigned_abs())',
+    ),
+    "asks_for_the_engine_id_twice": (
+        "src/asking.rt",
+        'ENGINE_BOOTS.as_slice()',
+        'ENGINE_ID.as_slice()',
+    ),
+    "the_id_after_the_last_is_the_last": (
+        "src/asking.rt",
+        ' { id + 1 } else { 0 }',
+        ' { id } else { 0 }',
+    ),
+    "leaves_out_the_last_column": (
+        "src/asking.rt",
+        '    for column in columns.as_slice() {',
+        '    for column in &columns.as_slice()[..27] {',
+    ),
+    "takes_the_first_cell_of_a_reply": (
+        "src/asking.rt",
+        '    Ok(true)\n}\n\n/// Takes a cell, which',
+        '    Ok(false)\n}\n\n/// Takes a cell, which',
+    ),
+    "forgets_what_was_answered": (
+        "src/asking.rt",
+        "    require_engine(alloc, asker, asked, engine.as_slice())?;\n",
+        "    require_engine(alloc, asker, asked, engine.as_slice())?;\n    answers = Answers::new(alloc);\n",
+    ),
+    "asks_another_address": (
+        "src/asking.rt",
+        "    match SocketWire::open(rt, asked.agent.address) {",
+        "    match SocketWire::open(rt, Addr { octets: asked.agent.address.octets, port: 161 }) {",
+        "use mon_survey::{Answers,",
+        "use mon_udp::Addr;\nuse mon_survey::{Answers,",
+    ),
 }
 
 # Those that break a promise as a whole, each with its function: tests/bodies tries them in the gate.
@@ -293,4 +465,6 @@ PROMISES = {
     "prints_no_settings": "settings::print_whole",
     "replaces_no_labels": "labelling::write_labels_file",
     "writes_one_text_to_all_parts": "parts::write_texts",
+    "refuses_an_address_for_its_community": "settings::asked_of",
+    "asks_after_the_start_again": "asking::step",
 }

@@ -1,12 +1,10 @@
-use Rattle.std.proofs.Common.{List, ℕ, ◌∷◌, [], pos, subst}
+use Rattle.std.proofs.Common.{List, ℕ, ◌∷◌, [], subst}
 use Rattle.std.specs.Global.{Vec}
 use Rattle.std.specs.Prelude.{Ok}
-use Rattle.mon_app.specs.declared.question.Asking.{Asking}
-use Rattle.mon_app.specs.declared.question.Asking.TheVariants.{GetBulk}
 use Rattle.mon_host.specs.Then.{Quietly}
 use Rattle.mon_pdu.specs.declared.message.Binding.{Binding}
 use Rattle.mon_settings_commands.specs.Exchange.{AsksBy, IsQuestion}
-use Rattle.mon_settings_commands.specs.Walked.{IsReplyPut, stand, turned}
+use Rattle.mon_settings_commands.specs.Walked.{IsReplyPut, bulk, stand, turned}
 use Rattle.mon_settings_commands.proofs.Exchanged.{asks_quietly, asks_then}
 use Rattle.mon_settings_commands.proofs.asking.step.Goals as goal
 
@@ -19,7 +17,6 @@ returns g c =
     let last = c.ask.new.asker.last_id in
     let before = g.W.Wire.told c.args.asker.now.wire in
     let after = g.W.Wire.told c.ask.new.asker.wire in
-    let bulk : Asking = GetBulk (record { non_repeaters = pos 0; max_repetitions = pos 32 }) in
     let bindings = c.in_ok-bindings.bindings in
     let result = turned (stand c.take.new.place c.take.new.answers) c.take.result in
     asks_then community (IsQuestion agent bulk (c.args.place.now.last ∷ [])) (λ (given : Vec Binding). Quietly (IsReplyPut agent s given.items)) bindings result id last last before after after
