@@ -178,23 +178,23 @@ BUGS = {
     ),
     "asks_before_it_reads_modules": (
         "src/settings.rt",
-        "    let names = names_of(rt.alloc(), host, words.modules)?;\n    let survey = ask_agent(rt, host, asked)?;\n",
-        "    let survey = ask_agent(rt, host, asked)?;\n    let names = names_of(rt.alloc(), host, words.modules)?;\n",
+        "    let names = names_of(alloc, host, words.modules)?;\n    let survey = ask_agent(alloc, host, net, asked)?;\n",
+        "    let survey = ask_agent(alloc, host, net, asked)?;\n    let names = names_of(alloc, host, words.modules)?;\n",
     ),
     "reads_the_settings_that_are_there_twice": (
         "src/settings.rt",
-        "    let existing = existing_in(rt.alloc(), host, path)?;\n",
-        "    existing_in(rt.alloc(), host, path)?;\n    let existing = existing_in(rt.alloc(), host, path)?;\n",
+        "    let existing = existing_in(alloc, host, path)?;\n",
+        "    existing_in(alloc, host, path)?;\n    let existing = existing_in(alloc, host, path)?;\n",
     ),
     "reads_the_labels_for_the_settings": (
         "src/settings.rt",
-        "    let existing = existing_in(rt.alloc(), host, path)?;\n",
-        "    let existing = existing_in(rt.alloc(), host, words.labels.unwrap_or(path))?;\n",
+        "    let existing = existing_in(alloc, host, path)?;\n",
+        "    let existing = existing_in(alloc, host, words.labels.unwrap_or(path))?;\n",
     ),
     "appends_to_no_settings": (
         "src/settings.rt",
-        "        Some(path) => print_appended(rt, host, &words, asked, path),",
-        "        Some(_) => print_new(rt, host, &words, asked),",
+        "            print_appended(alloc, host, net, addition, asked)\n",
+        "            print_new(alloc, host, net, addition.words, asked)\n",
     ),
     "prints_in_place_of_splitting": (
         "src/settings.rt",
@@ -273,8 +273,8 @@ BUGS = {
     ),
     "reads_the_file_before_the_arguments": (
         "src/settings.rt",
-        "    require_alone(rt.alloc(), words)?;\n    let existing = existing_in(rt.alloc(), host, path)?;\n",
-        "    let existing = existing_in(rt.alloc(), host, path)?;\n    require_alone(rt.alloc(), words)?;\n",
+        "    require_alone(alloc, words)?;\n    let existing = existing_in(alloc, host, path)?;\n",
+        "    let existing = existing_in(alloc, host, path)?;\n    require_alone(alloc, words)?;\n",
     ),
     "keeps_another_text": (
         "src/existing.rt",
@@ -453,8 +453,8 @@ BUGS = {
     ),
     "asks_another_address": (
         "src/asking.rt",
-        "    match SocketWire::open(rt, asked.agent.address) {",
-        "    match SocketWire::open(rt, Addr { octets: asked.agent.address.octets, port: 161 }) {",
+        "    match net.open(asked.agent.address) {",
+        "    match net.open(Addr { octets: asked.agent.address.octets, port: 161 }) {",
         "use mon_survey::{Answers,",
         "use mon_udp::Addr;\nuse mon_survey::{Answers,",
     ),
