@@ -10,7 +10,7 @@ use Rattle.mon_board.specs.declared.board.Board.{Board}
 use Rattle.mon_formats.specs.Changes.{change_line}
 use Rattle.mon_host.specs.AtHost.{AtHost, Noted}
 use Rattle.mon_poller.specs.declared.fault.ResponseFault.TheVariants.{OtherEngine}
-use Rattle.mon_report.specs.Alarms.{raised_from}
+use Rattle.mon_report.specs.Alarms.{changes_from, raised_from}
 use Rattle.mon_rounds.specs.declared.reporting.Notice.{Notice}
 use Rattle.mon_rounds.specs.declared.reporting.Notice.TheVariants.{Astray, BadClaim, BadResponse, GaveUp, NoMemory, NotPolled, NotSaved, NotShared}
 use Rattle.mon_rounds.specs.declared.reporting.RoundReport.{RoundReport}
@@ -119,6 +119,11 @@ pub record AreSaid (lines : List (List ℕ)) (log : List AtHost) (result : Resul
   pub many : ℕ
   pub log_is : log ≡ map Noted (take many lines)
   pub all : OnOk result (take many lines ≡ lines)
+
+-- the lines of what became of a board's alarms since its windows were looked at, in order
+abbrev pub changed_notes : (List ℕ → List ℕ) → Board → (seen : List (List ℕ)) → List (List ℕ)
+changed_notes shown board seen =
+    map (alarm_note shown board.watch) (changes_from board 0 board.watch.rules seen)
 
 -- the lines of the alarms of a board that are raised, in order
 abbrev pub raised_notes : (List ℕ → List ℕ) → Board → List (List ℕ)
