@@ -1,7 +1,6 @@
 //! A running station: what it works with, and a round of it.
 
-ghost use Rattle.std.specs.Prelude.{◌≡◌, ◌≤◌, IfErr, IfOk, IfSome, None, Some, is_some, length, map, option_map, string_bytes};
-ghost use Rattle.std.specs.Result.{result_ok};
+ghost use Rattle.std.specs.Prelude.{◌≡◌, ◌≤◌, IfErr, IfOk, IfSome, None, Some, is_some, length, map, string_bytes};
 ghost use Rattle.mon_console.specs.Shown.{shown_by};
 ghost use Rattle.mon_disk.specs.Fault.{number_of};
 ghost use Rattle.mon_host.specs.AtHost.{IsNoted};
@@ -9,7 +8,7 @@ ghost use Rattle.mon_host.specs.Log.{GoesOnBy};
 ghost use Rattle.mon_station_commands.specs.Opening.{IsNoStation, last_of, unsaved_in};
 ghost use Rattle.mon_station_commands.specs.Places.{IsNoSocket};
 ghost use Rattle.mon_station_commands.specs.Spans.{AreAlarms, AreChanges, AreTroubles, IsAccountOf, IsOfRun, IsReportOr, IsSavedAfter, IsSpanRun, IsTimedRun, is_round};
-ghost use Rattle.mon_station_commands.specs.Steps.{OrMemory, SomeOr};
+ghost use Rattle.mon_station_commands.specs.Steps.{OrMemory, SomeOr, only};
 ghost use Rattle.mon_station_commands.specs.Telling.{AreChangesSaid, IsOpening, changed_notes, start_line};
 ghost use Rattle.mon_station.specs.State.{state_of};
 
@@ -228,9 +227,7 @@ pub(crate) fn start_station<H: Host, S: Receiver + Drop, O: Outbox + Drop>(
     ensures opening { GoesOnBy (λ log. IsOpening transport.number place.at
         (string_bytes setup.settings.file) (length transport.engines.items)
         (length transport.peers.items) (shown_by setup.reports.printing.names) log
-        (option_map (λ live. state_of live.station.life) (result_ok result)))
-        (H.log host.old) (H.log host.new) }
-    ensures failed { IfErr result IsNoStation }
+        (only (λ live. state_of live.station.life) result)) (H.log host.old) (H.log host.new) }
     ensures reports { IfOk result (λ live. live.reports ≡ setup.reports) }
     ensures printed { IfOk result (λ live. live.unprinted ≡ None) }
     ensures saved { IfOk result (λ live. live.unsaved ≡ None) }
