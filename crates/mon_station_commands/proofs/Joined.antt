@@ -23,7 +23,7 @@ use Rattle.mon_host.specs.Then.{Quietly, Then}
 use Rattle.mon_host.proofs.Promised.{goes_on, quietly, stays, then_fails, then_follows, weaker}
 use Rattle.mon_settings.specs.declared.station.StationSettings.{StationSettings}
 use Rattle.mon_station.specs.State.{State}
-use Rattle.mon_station_commands.specs.Opening.{IsNoStation, IsOfFile, IsOpenedOr}
+use Rattle.mon_station_commands.specs.Opening.{IsOfFile, IsOpenedOr}
 use Rattle.mon_station_commands.specs.Pace.{IsTime}
 use Rattle.mon_station_commands.specs.Places.{AreSavedIf, IsFile, IsHad, IsLookedAt, IsNoSocket, IsPlace, IsPlaceAt, IsShownOpened, IsSocket, IsSocketOr, IsUnseenOpened, IsWithout, MayBeThere}
 use Rattle.mon_station_commands.specs.Rounds.{IsRun, Kept, kept}
@@ -218,34 +218,18 @@ module _ (s : StationSettings) where
         (then_follows IsTime (λ (origin : Instant). Quietly (λ (result : Result SocketAddr Failure). result ≡ Ok at)) (Ok origin) (Ok at) t1 t2 t2 time
         (quietly (λ (result : Result SocketAddr Failure). result ≡ Ok at) (Ok at) t2 refl))
 
--- the station of settings begins
-module _ (shown : List ℕ → List ℕ) (s : StationSettings) (at : SocketAddr) (number targets : ℕ) (peers : List ℕ) where
-  opening_as : (found : Option State) (t0 t1 : Option (List AtHost)) → number ≡ s.core.station → targets ≡ length s.core.targets → peers ≡ s.core.peers
-      → GoesOnBy (λ log. IsOpening number at (string_bytes s.file) targets (length peers) shown log found) t0 t1
-      → GoesOnBy (λ log. IsOpening s.core.station at (string_bytes s.file) (length s.core.targets) (length s.core.peers) shown log found) t0 t1
-  opening_as found t0 t1 same_number same_targets same_peers =
-      weaker (λ log. IsOpening number at (string_bytes s.file) targets (length peers) shown log found)
-      (λ log. IsOpening s.core.station at (string_bytes s.file) (length s.core.targets) (length s.core.peers) shown log found) t0 t1
-      (λ log is. subst (λ (n : ℕ). IsOpening n at (string_bytes s.file) (length s.core.targets) (length s.core.peers) shown log found) same_number
-      (subst (λ (n : ℕ). IsOpening number at (string_bytes s.file) n (length s.core.peers) shown log found) same_targets
-      (subst (λ (l : List ℕ). IsOpening number at (string_bytes s.file) targets (length l) shown log found) same_peers is)))
-
-  pub started : (state : State) (t0 t1 : Option (List AtHost)) → number ≡ s.core.station → targets ≡ length s.core.targets → peers ≡ s.core.peers
-      → GoesOnBy (λ log. IsOpening number at (string_bytes s.file) targets (length peers) shown log (Some state)) t0 t1
-      → GoesOnBy (λ log. IsStarted shown s at log (Ok tt)) t0 t1
-  started state t0 t1 same_number same_targets same_peers opening =
-      weaker (λ log. IsOpening s.core.station at (string_bytes s.file) (length s.core.targets) (length s.core.peers) shown log (Some state))
-      (λ log. IsStarted shown s at log (Ok tt)) t0 t1 (λ log is. (state, is)) (opening_as (Some state) t0 t1 same_number same_targets same_peers opening)
-
-  pub unstarted : (failure : Failure) (t0 t1 : Option (List AtHost)) → number ≡ s.core.station → targets ≡ length s.core.targets → peers ≡ s.core.peers → IsNoStation failure
-      → GoesOnBy (λ log. IsOpening number at (string_bytes s.file) targets (length peers) shown log None) t0 t1
-      → GoesOnBy (λ log. IsStarted shown s at log (Err failure)) t0 t1
-  unstarted failure t0 t1 same_number same_targets same_peers why opening =
-      weaker (λ log. IsOpening s.core.station at (string_bytes s.file) (length s.core.targets) (length s.core.peers) shown log None)
-      (λ log. IsStarted shown s at log (Err failure)) t0 t1 (λ log is. (is, why)) (opening_as None t0 t1 same_number same_targets same_peers opening)
+-- the station of settings begins, or not
+pub started : (shown : List ℕ → List ℕ) (s : StationSettings) (at : SocketAddr) (number targets : ℕ) (peers : List ℕ) (r : Result State Failure) (t0 t1 : Option (List AtHost))
+    → number ≡ s.core.station → targets ≡ length s.core.targets → peers ≡ s.core.peers
+    → GoesOnBy (λ log. IsOpening number at (string_bytes s.file) targets (length peers) shown log r) t0 t1 → GoesOnBy (λ log. IsStarted shown s at log r) t0 t1
+started shown s at number targets peers r t0 t1 same_number same_targets same_peers =
+    weaker (λ log. IsOpening number at (string_bytes s.file) targets (length peers) shown log r) (λ log. IsStarted shown s at log r) t0 t1
+    (λ log is. subst (λ (n : ℕ). IsOpening n at (string_bytes s.file) (length s.core.targets) (length s.core.peers) shown log r) same_number
+    (subst (λ (n : ℕ). IsOpening number at (string_bytes s.file) n (length s.core.peers) shown log r) same_targets
+    (subst (λ (l : List ℕ). IsOpening number at (string_bytes s.file) targets (length l) shown log r) same_peers is)))
 
 module _ (timing : Timing) (reports : Reports) (s : StationSettings) where
-  abbrev Said : Option SocketAddr → Unit {0} → List AtHost → Result Unit Failure → Type 0
+  abbrev Said : Option SocketAddr → State → List AtHost → Result Unit Failure → Type 0
   Said web u = Then (IsWebSaid web) (λ (v : Unit {0}). IsRunOf timing reports)
 
   abbrev Begun : SocketAddr → Option SocketAddr → Unit {0} → List AtHost → Result Unit Failure → Type 0
@@ -268,11 +252,11 @@ module _ (timing : Timing) (reports : Reports) (s : StationSettings) where
   not_begun at web failure t0 t1 none =
       heard at web (Err failure) t0 t1 (then_fails (IsStarted (shown_by reports.printing.names) s at) (Said web) failure t0 t1 none)
 
-  begun : (at : SocketAddr) (web : Option SocketAddr) (r : Result Unit Failure) (t0 t1 t2 t3 : Option (List AtHost))
-      → GoesOnBy (λ log. IsStarted (shown_by reports.printing.names) s at log (Ok tt)) t0 t1 → GoesOnBy (λ log. IsWebSaid web log (Ok tt)) t1 t2
+  begun : (at : SocketAddr) (web : Option SocketAddr) (state : State) (r : Result Unit Failure) (t0 t1 t2 t3 : Option (List AtHost))
+      → GoesOnBy (λ log. IsStarted (shown_by reports.printing.names) s at log (Ok state)) t0 t1 → GoesOnBy (λ log. IsWebSaid web log (Ok tt)) t1 t2
       → GoesOnBy (λ log. IsRunOf timing reports log r) t2 t3 → GoesOnBy (λ log. IsWhole timing reports s at web log r) t0 t3
-  begun at web r t0 t1 t2 t3 first said run =
-      heard at web r t0 t3 (then_follows (IsStarted (shown_by reports.printing.names) s at) (Said web) (Ok tt) r t0 t1 t3 first
+  begun at web state r t0 t1 t2 t3 first said run =
+      heard at web r t0 t3 (then_follows (IsStarted (shown_by reports.printing.names) s at) (Said web) (Ok state) r t0 t1 t3 first
       (then_follows (IsWebSaid web) (λ (v : Unit {0}). IsRunOf timing reports) (Ok tt) r t1 t2 t3 said run))
 
   -- the rounds of a station whose reports are those of its arguments
@@ -308,12 +292,12 @@ module _ (timing : Timing) (reports : Reports) (s : StationSettings) where
         subst (λ (e : Result Unit Failure). GoesOnBy (λ log. IsUnseen timing reports s log e) t0 t2) (sym is)
         (then_follows (IsUnseenOpened s) Unseen (Ok at) (Err failure) t0 t1 t2 before (not_begun at None failure t1 t2 none))
 
-    pub unseen_run : (at : SocketAddr) (r : Result Unit Failure) (t0 t1 t2 t3 : Option (List AtHost)) → GoesOnBy (λ log. IsUnseenOpened s log (Ok at)) t0 t1
-        → GoesOnBy (λ log. IsStarted (shown_by reports.printing.names) s at log (Ok tt)) t1 t2 → GoesOnBy (λ log. IsRunOf timing reports log r) t2 t3
+    pub unseen_run : (at : SocketAddr) (state : State) (r : Result Unit Failure) (t0 t1 t2 t3 : Option (List AtHost)) → GoesOnBy (λ log. IsUnseenOpened s log (Ok at)) t0 t1
+        → GoesOnBy (λ log. IsStarted (shown_by reports.printing.names) s at log (Ok state)) t1 t2 → GoesOnBy (λ log. IsRunOf timing reports log r) t2 t3
         → GoesOnBy (λ log. IsUnseen timing reports s log r) t0 t3
-    unseen_run at r t0 t1 t2 t3 before first run =
+    unseen_run at state r t0 t1 t2 t3 before first run =
         let silent : GoesOnBy (λ log. IsWebSaid None log (Ok tt)) t2 t2 = record { more = []; holds = (refl, refl); on = stays t2 } in
-        then_follows (IsUnseenOpened s) Unseen (Ok at) r t0 t1 t3 before (begun at None r t1 t2 t2 t3 first silent run)
+        then_follows (IsUnseenOpened s) Unseen (Ok at) r t0 t1 t3 before (begun at None state r t1 t2 t2 t3 first silent run)
 
   -- a station with HTTP
   module _ (door : Addr) where
@@ -338,10 +322,10 @@ module _ (timing : Timing) (reports : Reports) (s : StationSettings) where
         subst (λ (e : Result Unit Failure). GoesOnBy (λ log. IsSeen door timing reports s log e) t0 t2) (sym is)
         (then_follows (IsShownOpened s door) Seen (Ok (at, web)) (Err failure) t0 t1 t2 before (not_begun at (Some web) failure t1 t2 none))
 
-    pub seen_run : (at web : SocketAddr) (r : Result Unit Failure) (t0 t1 t2 t3 t4 : Option (List AtHost)) → GoesOnBy (λ log. IsShownOpened s door log (Ok (at, web))) t0 t1
-        → GoesOnBy (λ log. IsStarted (shown_by reports.printing.names) s at log (Ok tt)) t1 t2 → GoesOnBy (IsNoted (Some (http_line web))) t2 t3
+    pub seen_run : (at web : SocketAddr) (state : State) (r : Result Unit Failure) (t0 t1 t2 t3 t4 : Option (List AtHost)) → GoesOnBy (λ log. IsShownOpened s door log (Ok (at, web))) t0 t1
+        → GoesOnBy (λ log. IsStarted (shown_by reports.printing.names) s at log (Ok state)) t1 t2 → GoesOnBy (IsNoted (Some (http_line web))) t2 t3
         → GoesOnBy (λ log. IsRunOf timing reports log r) t3 t4 → GoesOnBy (λ log. IsSeen door timing reports s log r) t0 t4
-    seen_run at web r t0 t1 t2 t3 t4 before first line run =
+    seen_run at web state r t0 t1 t2 t3 t4 before first line run =
         let said = weaker (IsNoted (Some (http_line web))) (λ log. IsWebSaid (Some web) log (Ok tt)) t2 t3
         (λ log noted. (noted.2 ∙ ap (λ (o : List ℕ). Noted o ∷ []) noted.1, refl)) line in
-        then_follows (IsShownOpened s door) Seen (Ok (at, web)) r t0 t1 t4 before (begun at (Some web) r t1 t2 t3 t4 first said run)
+        then_follows (IsShownOpened s door) Seen (Ok (at, web)) r t0 t1 t4 before (begun at (Some web) state r t1 t2 t3 t4 first said run)

@@ -20,6 +20,7 @@ use Rattle.mon_station_commands.specs.Reporting.{IsOut, IsReported}
 use Rattle.mon_station_commands.specs.Rounds.{AreRounds, AreRun, IsBetween, IsFinish, IsLastRun, IsReportAt, IsRound, IsRoundRun, IsRun, Kept, Moment, kept}
 use Rattle.mon_station_commands.specs.Spans.{IsOfRun, IsSpan}
 use Rattle.mon_station_commands.specs.Steps.{IsKeptOf}
+use Rattle.mon_station_commands.specs.Telling.{changed_notes}
 use Rattle.mon_udp.specs.declared.addr.Addr.{Addr}
 
 pub kept_same : (u0 u : Option Failure) (f0 f : Option KeeperFault) → u0 ≡ u → f0 ≡ f → kept u0 f0 ≡ kept u f
@@ -27,17 +28,18 @@ kept_same u0 u f0 f one two = λ i. kept (one i) (two i)
 
 -- a span, and then a report
 pub round_is : (round : ℕ) (printing : Printing) (out : Option (List ℕ)) (targets : List Addr) (events : List RoundEvent) (run : Run) (b a a2 : Option KeeperFault) (moment : Moment)
-    (unwritten : Option Failure) (before between after : Option (List AtHost)) → moment.reports.printing ≡ printing → a2 ≡ a
-    → GoesOnBy (λ log. IsSpan (IsOfRun targets events run) (shown_by printing.names) round true b a log) before between
+    (seen : List (List ℕ)) (unwritten : Option Failure) (before between after : Option (List AtHost)) → moment.reports.printing ≡ printing → a2 ≡ a
+    → GoesOnBy (λ log. IsSpan (IsOfRun targets events run) (changed_notes (shown_by printing.names) moment.state.board seen) round true b a log) before between
     → GoesOnBy (λ log. IsOut out (IsReportAt moment) log unwritten) between after → GoesOnBy (λ log. IsRound round printing out b a2 log unwritten) before after
-round_is round printing out targets events run b a a2 moment unwritten before between after format same first second = record {
+round_is round printing out targets events run b a a2 moment seen unwritten before between after format same first second = record {
   more = first.more ++ second.more;
   holds = record {
     targets = targets;
     events = events;
     run = run;
+    seen = seen;
     begin = first.more;
-    said = subst (λ (o : Option KeeperFault). IsSpan (IsOfRun targets events run) (shown_by printing.names) round true b o first.more) (sym same) first.holds;
+    said = subst (λ (o : Option KeeperFault). IsSpan (IsOfRun targets events run) (changed_notes (shown_by printing.names) moment.state.board seen) round true b o first.more) (sym same) first.holds;
     moment = moment;
     format = format;
     rest = second.more;

@@ -1,7 +1,7 @@
 -- What is said of a station's file that could not be opened or saved.
 use Rattle.std.specs.Prelude.{◌≡◌, ◌⊎◌, ◌-◌, ◌++◌, ℕ, IsErrAnd, List, Option, Result, Ok, Err, Some, None, codes, false, length, slice_get}
 use Rattle.std.specs.IoError.{error_kind}
-use Rattle.mon_console.specs.Failure.{HasLine, IsMemory, IsOfStream}
+use Rattle.mon_console.specs.Failure.{HasLine, IsMemory, IsOf, IsOfStream}
 use Rattle.mon_console.specs.declared.failure.Failure.{Failure}
 use Rattle.mon_disk.specs.declared.open_fault.OpenFault.{OpenFault}
 use Rattle.mon_disk.specs.declared.open_fault.OpenFault.TheVariants.{InUse, System}
@@ -35,7 +35,7 @@ IsOpenedOr path (Err fault) result = IsErrAnd result (IsOfFile path fault)
 -- why there is no station over a file that was opened: memory ran out, or a fault of the opening
 abbrev pub IsNoStation : Failure → Type 0
 IsNoStation failure = IsMemory failure
-    ⊎ ((fault : StationFault) × IsOpeningFault fault × (failure.fault ≡ station_fault fault))
+    ⊎ ((fault : StationFault) × IsOpeningFault fault × IsOf (station_fault fault) failure)
 
 -- the last of a round's notices, if there is one; a round saves at its end
 abbrev pub last_of : List Notice → Option Notice

@@ -19,6 +19,7 @@ use Rattle.mon_station_commands.specs.Quiet.{AreQuiet}
 use Rattle.mon_station_commands.specs.Reporting.{IsOut, IsReportOf, IsReported}
 use Rattle.mon_station_commands.specs.Spans.{IsOfRun, IsSpan}
 use Rattle.mon_station_commands.specs.Steps.{IsKeptOf}
+use Rattle.mon_station_commands.specs.Telling.{changed_notes}
 use Rattle.mon_station_commands.specs.declared.live.Reports.{Reports}
 use Rattle.mon_udp.specs.declared.addr.Addr.{Addr}
 
@@ -46,18 +47,20 @@ abbrev pub kept : Option Failure → Option KeeperFault → Kept
 kept unprinted unsaved = record { unprinted = unprinted; unsaved = unsaved }
 
 -- A round. Its lines are said, and its report is written to the file for reports, if there is one.
--- `before` and `after` are what is kept of the last save, and `unwritten` is why the report could not be
--- written.
+-- `before` and `after` are what is kept of the last save, `seen` is what the windows of alarms were before,
+-- and `unwritten` is why the report could not be written.
 pub record IsRound (round : ℕ) (printing : Printing) (out : Option (List ℕ))
     (before after : Option KeeperFault) (log : List AtHost) (unwritten : Option Failure)
     : Type 0 where
   pub targets : List Addr
   pub events : List RoundEvent
   pub run : Run
-  pub begin : List AtHost
-  pub said : IsSpan (IsOfRun targets events run) (shown_by printing.names) round true before after begin
   pub moment : Moment
   pub format : moment.reports.printing ≡ printing
+  pub seen : List (List ℕ)
+  pub begin : List AtHost
+  pub said : IsSpan (IsOfRun targets events run)
+      (changed_notes (shown_by printing.names) moment.state.board seen) round true before after begin
   pub rest : List AtHost
   pub written : IsOut out (IsReportAt moment) rest unwritten
   pub log_is : log ≡ begin ++ rest

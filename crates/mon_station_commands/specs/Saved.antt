@@ -3,6 +3,7 @@ use Rattle.std.specs.Prelude.{◌≡◌, ◌⊎◌, ◌↔◌, ◌<◌, ℕ, zer
 use Rattle.std.specs.Global.{Vec}
 use Rattle.mon_board.specs.declared.board.Board.{Board}
 use Rattle.mon_cli.specs.declared.meaning.Printed.{Printed}
+use Rattle.mon_console.specs.Failure.{IsOf}
 use Rattle.mon_console.specs.Files.{IsPart, IsPrint}
 use Rattle.mon_console.specs.Labelled.{IsLabelled}
 use Rattle.mon_console.specs.declared.failure.Failure.{Failure}
@@ -76,7 +77,7 @@ IsSteadyRead path (suc more) = Then (IsPart path whole_part) (IsKept path (IsSte
 abbrev pub IsBoardIn : StationSettings → List ℕ → Result Board Failure → Type 0
 IsBoardIn s octets (Ok board) = IsBoardOf s.core.watch (found_body octets) board
 IsBoardIn s octets (Err failure) = (fault : StationFault) × IsFaultOfOctets s.core.watch octets fault
-    × (failure.fault ≡ station_fault fault)
+    × IsOf (station_fault fault) failure
 
 -- the windows in the file of settings, which is read 16 times at most
 abbrev pub IsSavedIn : StationSettings → List AtHost → Result Board Failure → Type 0

@@ -1,8 +1,6 @@
 -- What is said of a round, or of the time after it.
-use Rattle.std.specs.Prelude.{◌≡◌, ◌⊎◌, ◌≤◌, ℕ, Bool, true, false, IsErrAnd, List, [], ◌∷◌, ◌++◌, Option, Some, None, Result, Ok, Err, map}
+use Rattle.std.specs.Prelude.{◌≡◌, ◌⊎◌, ◌≤◌, ℕ, Bool, true, false, IsErrAnd, List, [], ◌∷◌, ◌++◌, Option, Some, None, Result, Ok, Err, map, take}
 use Rattle.std.specs.declared.time.Instant.{Instant}
-use Rattle.mon_alarms.specs.declared.change.AlarmChange.{AlarmChange}
-use Rattle.mon_board.specs.Watch.{Watch}
 use Rattle.mon_console.specs.Failure.{IsMemory, IsPlain}
 use Rattle.mon_console.specs.declared.failure.Failure.{Failure}
 use Rattle.mon_disk.specs.Fault.{number_of}
@@ -22,7 +20,7 @@ use Rattle.mon_station.specs.declared.running.Run.{Run}
 use Rattle.mon_station_commands.specs.Opening.{last_of, unsaved_in}
 use Rattle.mon_station_commands.specs.Pace.{IsStopped}
 use Rattle.mon_station_commands.specs.Steps.{IsTried, OrMemory}
-use Rattle.mon_station_commands.specs.Telling.{AreChangesSaid, AreNoted, alarm_note, round_lines}
+use Rattle.mon_station_commands.specs.Telling.{AreChangesSaid, AreNoted, round_lines}
 use Rattle.mon_udp.specs.declared.addr.Addr.{Addr}
 
 -- whether a span is a round, and not the time between two
@@ -53,19 +51,20 @@ abbrev pub AreTroubles : (whole : Bool) → (round : ℕ) → List AtHost → Re
 AreTroubles true round log result = AreChangesSaid round log × OrMemory (λ done. Unit {0}) result
 AreTroubles false round log result = (log ≡ []) × (result ≡ Ok tt)
 
--- alarms that changed are said, a line each; memory may run out
-abbrev pub AreAlarms : (shown : List ℕ → List ℕ) → List AtHost → Result Unit Failure → Type 0
-AreAlarms shown log result = ((watch : Watch) × (changes : List AlarmChange)
-    × (log ≡ map Noted (map (alarm_note shown watch) changes))) × OrMemory (λ done. Unit {0}) result
+-- The lines of alarms that changed are said, some of them if memory runs out.
+abbrev pub AreAlarms : (lines : List (List ℕ)) → List AtHost → Result Unit Failure → Type 0
+AreAlarms lines log (Ok done) = log ≡ map Noted lines
+AreAlarms lines log (Err failure) =
+    IsMemory failure × ((many : ℕ) × (log ≡ map Noted (take many lines)))
 
 -- what is said after the lines of a round: troubles and alarms that changed
-abbrev pub AreChanges : (shown : List ℕ → List ℕ) → (round : ℕ) → (whole : Bool) → List AtHost
+abbrev pub AreChanges : (alarms : List (List ℕ)) → (round : ℕ) → (whole : Bool) → List AtHost
     → Result Unit Failure → Type 0
-AreChanges shown round whole = Then (AreTroubles whole round) (λ (said : Unit {0}). AreAlarms shown)
+AreChanges alarms round whole = Then (AreTroubles whole round) (λ (said : Unit {0}). AreAlarms alarms)
 
--- A report was made. Its lines are said, and what changed. `before` and `after` are what is kept of the
--- last save.
-pub record IsReportSaid (IsReport : RoundReport → Type 0) (shown : List ℕ → List ℕ) (round : ℕ)
+-- A report was made. Its lines are said, and what changed: `alarms` are the lines of alarms. `before`
+-- and `after` are what is kept of the last save.
+pub record IsReportSaid (IsReport : RoundReport → Type 0) (alarms : List (List ℕ)) (round : ℕ)
     (whole : Bool) (before after : Option KeeperFault) (log : List AtHost)
     (result : Result Unit Failure) : Type 0 where
   pub report : RoundReport
@@ -74,7 +73,7 @@ pub record IsReportSaid (IsReport : RoundReport → Type 0) (shown : List ℕ �
   pub noted : AreNoted (round_lines round report) begin
   pub saved : IsSavedAfter whole report before after
   pub rest : List AtHost
-  pub changed : AreChanges shown round whole rest result
+  pub changed : AreChanges alarms round whole rest result
   pub log_is : log ≡ begin ++ rest
 
 -- memory ran out before anything was said, and the failure is one of these
@@ -82,45 +81,45 @@ abbrev pub IsNoReport : (Failure → Type 0) → List AtHost → Result Unit Fai
 IsNoReport IsWhy log result = (log ≡ []) × IsErrAnd result IsWhy
 
 -- The account of what was run: its report is said, unless there was no memory for that.
-abbrev pub IsReportOr : (IsReport : RoundReport → Type 0) → (shown : List ℕ → List ℕ) → (round : ℕ)
+abbrev pub IsReportOr : (IsReport : RoundReport → Type 0) → (alarms : List (List ℕ)) → (round : ℕ)
     → (whole : Bool) → (before after : Option KeeperFault) → List AtHost → Result Unit Failure → Type 0
-IsReportOr IsReport shown round whole before after log result =
+IsReportOr IsReport alarms round whole before after log result =
     (IsNoReport IsMemory log result × (after ≡ before))
-    ⊎ IsReportSaid IsReport shown round whole before after log result
+    ⊎ IsReportSaid IsReport alarms round whole before after log result
 
 -- The account of a spell; or there was no memory to run it.
 abbrev pub IsAccountOf : Result Spell StationFault → (IsReport : RoundReport → Type 0)
-    → (shown : List ℕ → List ℕ) → (round : ℕ) → (before after : Option KeeperFault) → List AtHost
+    → (alarms : List (List ℕ)) → (round : ℕ) → (before after : Option KeeperFault) → List AtHost
     → Result Unit Failure → Type 0
-IsAccountOf (Ok spell) IsReport shown round before after log result =
-    IsReportOr IsReport shown round (is_round spell.span) before after log result
-IsAccountOf (Err fault) IsReport shown round before after log result =
+IsAccountOf (Ok spell) IsReport alarms round before after log result =
+    IsReportOr IsReport alarms round (is_round spell.span) before after log result
+IsAccountOf (Err fault) IsReport alarms round before after log result =
     IsNoReport (IsPlain (station_fault fault)) log result × (after ≡ before)
 
 -- the account of a span; or there was no memory to run it
-abbrev pub IsAccount : (IsReport : RoundReport → Type 0) → (shown : List ℕ → List ℕ) → (round : ℕ)
+abbrev pub IsAccount : (IsReport : RoundReport → Type 0) → (alarms : List (List ℕ)) → (round : ℕ)
     → (whole : Bool) → (before after : Option KeeperFault) → List AtHost → Result Unit Failure → Type 0
-IsAccount IsReport shown round whole before after log result =
-    IsReportOr IsReport shown round whole before after log result
+IsAccount IsReport alarms round whole before after log result =
+    IsReportOr IsReport alarms round whole before after log result
     ⊎ (IsNoReport (IsPlain (station_fault OutOfMemory)) log result × (after ≡ before))
 
 -- A span was run between two looks at the clock. Then its account is given, and a failure of that is
 -- said.
-pub record IsSpan (IsReport : RoundReport → Type 0) (shown : List ℕ → List ℕ) (round : ℕ)
+pub record IsSpan (IsReport : RoundReport → Type 0) (alarms : List (List ℕ)) (round : ℕ)
     (whole : Bool) (before after : Option KeeperFault) (log : List AtHost) : Type 0 where
   pub began : Instant
   pub ended : Instant
   pub rest : List AtHost
   pub failure : Option Failure
-  pub account : IsTried (IsAccount IsReport shown round whole before after) rest failure
+  pub account : IsTried (IsAccount IsReport alarms round whole before after) rest failure
   pub log_is : log ≡ Timed began ∷ Timed ended ∷ rest
 
 -- a span was run; or a clock failed, and no account was given
-abbrev pub IsSpanRun : (IsReport : RoundReport → Type 0) → (shown : List ℕ → List ℕ) → (round : ℕ)
+abbrev pub IsSpanRun : (IsReport : RoundReport → Type 0) → (alarms : List (List ℕ)) → (round : ℕ)
     → (whole : Bool) → (before after : Option KeeperFault) → List AtHost → Result Unit Failure → Type 0
-IsSpanRun IsReport shown round whole before after log (Ok done) =
-    IsSpan IsReport shown round whole before after log
-IsSpanRun IsReport shown round whole before after log (Err failure) =
+IsSpanRun IsReport alarms round whole before after log (Ok done) =
+    IsSpan IsReport alarms round whole before after log
+IsSpanRun IsReport alarms round whole before after log (Err failure) =
     IsStopped log failure × (after ≡ before)
 
 -- the clock was looked at twice; or it failed

@@ -1,5 +1,5 @@
 -- The command `station`: what is read, opened and said before the first round, and then the rounds.
-use Rattle.std.specs.Prelude.{◌≡◌, ℕ, Bool, true, false, List, [], ◌∷◌, Option, Some, None, Result, Ok, Err, length, option_copied, option_map, string_bytes}
+use Rattle.std.specs.Prelude.{◌≡◌, ℕ, Bool, true, false, List, [], ◌∷◌, Option, Some, None, Result, Ok, length, option_copied, option_map, string_bytes}
 use Rattle.std.specs.declared.net.socket_addr.SocketAddr.{SocketAddr}
 use Rattle.mon_cli.specs.declared.meaning.StationArgs.{StationArgs}
 use Rattle.mon_cli.specs.declared.meaning.Timing.{Timing}
@@ -12,7 +12,6 @@ use Rattle.mon_host.specs.Then.{Quietly, Then}
 use Rattle.mon_settings.specs.declared.station.StationSettings.{StationSettings}
 use Rattle.mon_station.specs.State.{State}
 use Rattle.mon_station_commands.specs.Checking.{IsCheck}
-use Rattle.mon_station_commands.specs.Opening.{IsNoStation}
 use Rattle.mon_station_commands.specs.Places.{IsDoor, IsNoSocket, IsShownOpened, IsUnseenOpened}
 use Rattle.mon_station_commands.specs.Rounds.{IsRun, kept}
 use Rattle.mon_station_commands.specs.Steps.{OrMemory, SomeOr}
@@ -27,15 +26,11 @@ pub record AreReports (words : StationArgs) (printing : Printing) (reports : Rep
   pub stale_after : reports.stale_after ≡ words.stale_after
   pub interval : reports.interval ≡ words.timing.interval
 
--- The station of settings begins at this address, and says so; or there is none, or no memory for the
--- lines of its alarms.
+-- The station of settings begins at this address, and says so; or it doesn't.
 abbrev pub IsStarted : (shown : List ℕ → List ℕ) → StationSettings → SocketAddr → List AtHost
-    → Result Unit Failure → Type 0
-IsStarted shown s at log (Ok done) = (state : State)
-    × IsOpening s.core.station at (string_bytes s.file) (length s.core.targets) (length s.core.peers) shown
-    log (Some state)
-IsStarted shown s at log (Err failure) = IsOpening s.core.station at (string_bytes s.file)
-    (length s.core.targets) (length s.core.peers) shown log None × IsNoStation failure
+    → Result State Failure → Type 0
+IsStarted shown s at = IsOpening s.core.station at (string_bytes s.file) (length s.core.targets)
+    (length s.core.peers) shown
 
 -- the line of where HTTP is served, if it is
 abbrev pub IsWebSaid : Option SocketAddr → List AtHost → Result Unit Failure → Type 0
@@ -52,7 +47,7 @@ IsRunOf timing reports = IsRun timing.rounds timing.report_every reports.printin
 abbrev pub IsWhole : Timing → Reports → StationSettings → SocketAddr → (web : Option SocketAddr)
     → List AtHost → Result Unit Failure → Type 0
 IsWhole timing reports s at web = Then (Quietly (SomeOr (IsNoSocket s.listen))) (λ (heard : Unit {0}).
-    Then (IsStarted (shown_by reports.printing.names) s at) (λ (started : Unit {0}).
+    Then (IsStarted (shown_by reports.printing.names) s at) (λ (state : State).
     Then (IsWebSaid web) (λ (said : Unit {0}). IsRunOf timing reports)))
 
 -- a station that serves no HTTP, from its opening on

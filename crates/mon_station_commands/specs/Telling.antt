@@ -7,16 +7,19 @@ use Rattle.std.specs.declared.net.socket_addr.SocketAddr.{SocketAddr}
 use Rattle.mon_alarms.specs.declared.change.AlarmChange.{AlarmChange}
 use Rattle.mon_board.specs.Watch.{Watch}
 use Rattle.mon_board.specs.declared.board.Board.{Board}
+use Rattle.mon_console.specs.Failure.{IsMemory}
+use Rattle.mon_console.specs.declared.failure.Failure.{Failure}
 use Rattle.mon_formats.specs.Changes.{change_line}
 use Rattle.mon_host.specs.AtHost.{AtHost, Noted}
 use Rattle.mon_poller.specs.declared.fault.ResponseFault.TheVariants.{OtherEngine}
-use Rattle.mon_report.specs.Alarms.{raised_from}
+use Rattle.mon_report.specs.Alarms.{changes_from, raised_from}
 use Rattle.mon_rounds.specs.declared.reporting.Notice.{Notice}
 use Rattle.mon_rounds.specs.declared.reporting.Notice.TheVariants.{Astray, BadClaim, BadResponse, GaveUp, NoMemory, NotPolled, NotSaved, NotShared}
 use Rattle.mon_rounds.specs.declared.reporting.RoundReport.{RoundReport}
 use Rattle.mon_station.specs.State.{State}
 use Rattle.mon_station.specs.declared.fault.StationFault.{StationFault}
 use Rattle.mon_station.specs.declared.fault.StationFault.TheVariants.{Response}
+use Rattle.mon_station_commands.specs.Opening.{IsNoStation}
 use Rattle.mon_udp.specs.Addr.{addr_text}
 use Rattle.mon_udp.specs.declared.addr.Addr.{Addr}
 
@@ -120,6 +123,11 @@ pub record AreSaid (lines : List (List ℕ)) (log : List AtHost) (result : Resul
   pub log_is : log ≡ map Noted (take many lines)
   pub all : OnOk result (take many lines ≡ lines)
 
+-- the lines of what became of a board's alarms since its windows were looked at, in order
+abbrev pub changed_notes : (List ℕ → List ℕ) → Board → (seen : List (List ℕ)) → List (List ℕ)
+changed_notes shown board seen =
+    map (alarm_note shown board.watch) (changes_from board 0 board.watch.rules seen)
+
 -- the lines of the alarms of a board that are raised, in order
 abbrev pub raised_notes : (List ℕ → List ℕ) → Board → List (List ℕ)
 raised_notes shown board = map (alarm_note shown board.watch) (raised_from board 0 board.watch.rules)
@@ -174,7 +182,11 @@ pub record IsOpened (number : ℕ) (at : SocketAddr) (file : List ℕ) (targets 
   pub log_is : log ≡ Noted (start_line number at state.incarnation file targets peers) ∷ rest
   pub found_is : found ≡ opened_to told state
 
--- A station was opened, or it could not be, and nothing was said.
-abbrev pub IsOpening : (number : ℕ) (at : SocketAddr) (file : List ℕ) (targets peers : ℕ) → (shown : List ℕ → List ℕ) → List AtHost → Option State → Type 0
-IsOpening number at file targets peers shown log found =
-    ((log ≡ []) × (found ≡ None)) ⊎ IsOpened number at file targets peers shown log found
+-- A station was opened; or it could not be, and nothing was said; or memory ran out for the line of an
+-- alarm.
+abbrev pub IsOpening : (number : ℕ) (at : SocketAddr) (file : List ℕ) (targets peers : ℕ)
+    → (shown : List ℕ → List ℕ) → List AtHost → Result State Failure → Type 0
+IsOpening number at file targets peers shown log (Ok state) =
+    IsOpened number at file targets peers shown log (Some state)
+IsOpening number at file targets peers shown log (Err failure) = ((log ≡ []) × IsNoStation failure)
+    ⊎ (IsOpened number at file targets peers shown log None × IsMemory failure)

@@ -1,7 +1,6 @@
 //! A running station: what it works with, and a round of it.
 
-ghost use Rattle.std.specs.Prelude.{◌≡◌, ◌≤◌, IfErr, IfOk, IfSome, None, Some, is_some, length, option_map, string_bytes};
-ghost use Rattle.std.specs.Result.{result_ok};
+ghost use Rattle.std.specs.Prelude.{◌≡◌, ◌≤◌, IfErr, IfOk, IfSome, None, Some, is_some, length, map, string_bytes};
 ghost use Rattle.mon_console.specs.Shown.{shown_by};
 ghost use Rattle.mon_disk.specs.Fault.{number_of};
 ghost use Rattle.mon_host.specs.AtHost.{IsNoted};
@@ -9,8 +8,8 @@ ghost use Rattle.mon_host.specs.Log.{GoesOnBy};
 ghost use Rattle.mon_station_commands.specs.Opening.{IsNoStation, last_of, unsaved_in};
 ghost use Rattle.mon_station_commands.specs.Places.{IsNoSocket};
 ghost use Rattle.mon_station_commands.specs.Spans.{AreAlarms, AreChanges, AreTroubles, IsAccountOf, IsOfRun, IsReportOr, IsSavedAfter, IsSpanRun, IsTimedRun, is_round};
-ghost use Rattle.mon_station_commands.specs.Steps.{OrMemory, SomeOr};
-ghost use Rattle.mon_station_commands.specs.Telling.{AreChangesSaid, IsOpening, start_line};
+ghost use Rattle.mon_station_commands.specs.Steps.{OrMemory, SomeOr, only};
+ghost use Rattle.mon_station_commands.specs.Telling.{AreChangesSaid, IsOpening, changed_notes, start_line};
 ghost use Rattle.mon_station.specs.State.{state_of};
 
 use crate::limits::greatest_tries;
@@ -228,9 +227,7 @@ pub(crate) fn start_station<H: Host, S: Receiver + Drop, O: Outbox + Drop>(
     ensures opening { GoesOnBy (λ log. IsOpening transport.number place.at
         (string_bytes setup.settings.file) (length transport.engines.items)
         (length transport.peers.items) (shown_by setup.reports.printing.names) log
-        (option_map (λ live. state_of live.station.life) (result_ok result)))
-        (H.log host.old) (H.log host.new) }
-    ensures failed { IfErr result IsNoStation }
+        (only (λ live. state_of live.station.life) result)) (H.log host.old) (H.log host.new) }
     ensures reports { IfOk result (λ live. live.reports ≡ setup.reports) }
     ensures printed { IfOk result (λ live. live.unprinted ≡ None) }
     ensures saved { IfOk result (λ live. live.unsaved ≡ None) }
@@ -328,7 +325,8 @@ pub(crate) fn run_span<H: Host, S: Shows + Drop, O: Outbox + Drop>(
     span: Span,
 ) -> Result<(), Failure>
     ensures run { GoesOnBy (λ log. IsSpanRun (IsOfRun live.new.transport.rounds.round.targets
-        live.new.transport.rounds.round.events live.new.run) (shown_by live.old.reports.printing.names)
+        live.new.transport.rounds.round.events live.new.run) (changed_notes (shown_by live.old.reports.printing.names)
+        (state_of live.new.station.life).board (map (λ w. w.items) live.old.course.windows.items))
         number (is_round span) live.old.unsaved live.new.unsaved log result) (H.log host.old) (H.log host.new) }
     ensures printing { live.new.reports.printing ≡ live.old.reports.printing }
     ensures out { live.new.reports.out ≡ live.old.reports.out }
@@ -355,6 +353,7 @@ fn run_timed<H: Host, S: Receiver + Drop, O: Outbox + Drop>(
     ensures out { live.new.reports.out ≡ live.old.reports.out }
     ensures printed { live.new.unprinted ≡ live.old.unprinted }
     ensures saved { live.new.unsaved ≡ live.old.unsaved }
+    ensures course { live.new.course ≡ live.old.course }
 {
     let began = passed(alloc, host, live.origin)?;
     let ran = live.transport.rounds.run(
@@ -386,13 +385,15 @@ fn report_run<H: Host, S: Receiver + Drop, O: Outbox + Drop>(
     ran: Result<Spell, StationFault>,
 ) -> Result<(), Failure>
     ensures account { GoesOnBy (λ log. IsAccountOf ran (IsOfRun live.old.transport.rounds.round.targets
-        live.old.transport.rounds.round.events live.old.run) (shown_by live.old.reports.printing.names)
+        live.old.transport.rounds.round.events live.old.run) (changed_notes (shown_by live.old.reports.printing.names)
+        (state_of live.old.station.life).board (map (λ w. w.items) live.old.course.windows.items))
         number live.old.unsaved live.new.unsaved log result) (H.log host.old) (H.log host.new) }
     ensures printing { live.new.reports.printing ≡ live.old.reports.printing }
     ensures out { live.new.reports.out ≡ live.old.reports.out }
     ensures printed { live.new.unprinted ≡ live.old.unprinted }
     ensures round { live.new.transport.rounds.round ≡ live.old.transport.rounds.round }
     ensures ran { live.new.run ≡ live.old.run }
+    ensures station { live.new.station ≡ live.old.station }
 {
     match ran {
         Ok(spell) => report_round(alloc, host, live, number, spell),
@@ -409,7 +410,8 @@ fn report_round<H: Host, S: Receiver + Drop, O: Outbox + Drop>(
     spell: Spell,
 ) -> Result<(), Failure>
     ensures account { GoesOnBy (λ log. IsReportOr (IsOfRun live.old.transport.rounds.round.targets
-        live.old.transport.rounds.round.events live.old.run) (shown_by live.old.reports.printing.names)
+        live.old.transport.rounds.round.events live.old.run) (changed_notes (shown_by live.old.reports.printing.names)
+        (state_of live.old.station.life).board (map (λ w. w.items) live.old.course.windows.items))
         number (is_round spell.span) live.old.unsaved live.new.unsaved log result)
         (H.log host.old) (H.log host.new) }
     ensures printing { live.new.reports.printing ≡ live.old.reports.printing }
@@ -417,6 +419,7 @@ fn report_round<H: Host, S: Receiver + Drop, O: Outbox + Drop>(
     ensures printed { live.new.unprinted ≡ live.old.unprinted }
     ensures round { live.new.transport.rounds.round ≡ live.old.transport.rounds.round }
     ensures ran { live.new.run ≡ live.old.run }
+    ensures station { live.new.station ≡ live.old.station }
 {
     let report = RoundReport::of(alloc, live.transport.rounds.round(), &live.run)?;
     live.course.add(&report);
@@ -448,7 +451,8 @@ fn tell_changes<H: Host, S: Receiver + Drop, O: Outbox + Drop>(
     number: u32,
     span: Span,
 ) -> Result<(), Failure>
-    ensures said { GoesOnBy (λ log. AreChanges (shown_by live.old.reports.printing.names) number
+    ensures said { GoesOnBy (λ log. AreChanges (changed_notes (shown_by live.old.reports.printing.names)
+        (state_of live.old.station.life).board (map (λ w. w.items) live.old.course.windows.items)) number
         (is_round span) log result) (H.log host.old) (H.log host.new) }
     ensures printing { live.new.reports.printing ≡ live.old.reports.printing }
     ensures out { live.new.reports.out ≡ live.old.reports.out }
@@ -456,6 +460,7 @@ fn tell_changes<H: Host, S: Receiver + Drop, O: Outbox + Drop>(
     ensures saved { live.new.unsaved ≡ live.old.unsaved }
     ensures round { live.new.transport.rounds.round ≡ live.old.transport.rounds.round }
     ensures ran { live.new.run ≡ live.old.run }
+    ensures station { live.new.station ≡ live.old.station }
 {
     tell_troubles(alloc, host, live, number, span)?;
     tell_alarm_changes(alloc, host, live)
@@ -467,7 +472,8 @@ fn tell_alarm_changes<H: Host, S: Receiver + Drop, O: Outbox + Drop>(
     host: &mut H,
     live: &mut Live<S, O>,
 ) -> Result<(), Failure>
-    ensures said { GoesOnBy (λ log. AreAlarms (shown_by live.old.reports.printing.names) log result)
+    ensures said { GoesOnBy (λ log. AreAlarms (changed_notes (shown_by live.old.reports.printing.names)
+        (state_of live.old.station.life).board (map (λ w. w.items) live.old.course.windows.items)) log result)
         (H.log host.old) (H.log host.new) }
     ensures printing { live.new.reports.printing ≡ live.old.reports.printing }
     ensures out { live.new.reports.out ≡ live.old.reports.out }
@@ -475,6 +481,7 @@ fn tell_alarm_changes<H: Host, S: Receiver + Drop, O: Outbox + Drop>(
     ensures saved { live.new.unsaved ≡ live.old.unsaved }
     ensures round { live.new.transport.rounds.round ≡ live.old.transport.rounds.round }
     ensures ran { live.new.run ≡ live.old.run }
+    ensures station { live.new.station ≡ live.old.station }
 {
     let board = live.station.board();
     let changes = live.course.take_changes(alloc, board)?;
@@ -503,6 +510,8 @@ fn tell_troubles<H: Host, S: Receiver + Drop, O: Outbox + Drop>(
     ensures saved { live.new.unsaved ≡ live.old.unsaved }
     ensures round { live.new.transport.rounds.round ≡ live.old.transport.rounds.round }
     ensures ran { live.new.run ≡ live.old.run }
+    ensures station { live.new.station ≡ live.old.station }
+    ensures course { live.new.course ≡ live.old.course }
 {
     match span {
         Span::Round => report_troubles(alloc, host, live, number),
@@ -525,6 +534,8 @@ fn report_troubles<H: Host, S: Receiver + Drop, O: Outbox + Drop>(
     ensures saved { live.new.unsaved ≡ live.old.unsaved }
     ensures round { live.new.transport.rounds.round ≡ live.old.transport.rounds.round }
     ensures ran { live.new.run ≡ live.old.run }
+    ensures station { live.new.station ≡ live.old.station }
+    ensures course { live.new.course ≡ live.old.course }
 {
     let limit = live.reports.stale_after;
     let changes = live.troubles.take_changes(alloc, &live.freshness, limit)?;

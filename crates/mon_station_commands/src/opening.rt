@@ -1,7 +1,7 @@
 //! The file and the socket of a station.
 
 ghost use Rattle.std.specs.Prelude.{◌≡◌, ◌↔◌, ◌<◌, ◌≤◌, ◌++◌, IsTrue, codes, false, option_map};
-ghost use Rattle.mon_console.specs.Failure.{HasLine};
+ghost use Rattle.mon_console.specs.Failure.{HasLine, IsOf};
 ghost use Rattle.mon_faults.specs.Fault.{innermost_of, station_fault};
 ghost use Rattle.mon_host.specs.Log.{GoesOnBy};
 ghost use Rattle.mon_station_commands.specs.Opening.{IsOfFile, IsOpenedOr};
@@ -321,14 +321,14 @@ pub(crate) fn or_socket_failure<T: Drop>(
 
 /// Why a station's file gave no report.
 fn file_failure(alloc: Global, path: &str, fault: StationFault) -> Failure
-    ensures { result.fault ≡ station_fault fault }
+    ensures { IsOf (station_fault fault) result }
 {
     Failure::at(alloc, path, Fault::from(fault))
 }
 
 /// Why a station's file, of this disk, gave no station.
 pub(crate) fn unopened(alloc: Global, path: &str, fault: StationFault, disk: &FileDisk) -> Failure
-    ensures { result.fault ≡ station_fault fault }
+    ensures { IsOf (station_fault fault) result }
 {
     match fault {
         StationFault::Keeper(KeeperFault::DiskFault) => {
@@ -340,7 +340,7 @@ pub(crate) fn unopened(alloc: Global, path: &str, fault: StationFault, disk: &Fi
 
 /// Why a station's windows were not saved in its file, of this disk.
 pub(crate) fn unsaved(alloc: Global, path: &str, fault: KeeperFault, disk: &FileDisk) -> Failure
-    ensures { result.fault ≡ Fault.Keeper fault }
+    ensures { IsOf (Fault.Keeper fault) result }
 {
     match fault {
         KeeperFault::DiskFault => disk_failure(alloc, path, Fault::Keeper(fault), disk),
@@ -350,7 +350,7 @@ pub(crate) fn unsaved(alloc: Global, path: &str, fault: KeeperFault, disk: &File
 
 /// A disk that failed, with the system's reason.
 fn disk_failure(alloc: Global, path: &str, fault: Fault, disk: &FileDisk) -> Failure
-    ensures { result.fault ≡ fault }
+    ensures { IsOf fault result }
 {
     match disk.last_error() {
         Some(error) => Failure::said(fault, format!(in alloc; "{path}: {fault}: {error}")),

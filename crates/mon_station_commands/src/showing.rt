@@ -34,6 +34,7 @@ pub(crate) fn show_span<S: Shows + Drop, O: Outbox + Drop>(
     ensures saved { live.new.unsaved ≡ live.old.unsaved }
     ensures round { live.new.transport.rounds.round ≡ live.old.transport.rounds.round }
     ensures ran { live.new.run ≡ live.old.run }
+    ensures station { live.new.station ≡ live.old.station }
 {
     if span == Span::Round {
         let ended = live.ended;
@@ -54,6 +55,7 @@ pub(crate) fn show<S: Shows + Drop, O: Outbox + Drop>(alloc: Global, live: &mut 
     ensures saved { live.new.unsaved ≡ live.old.unsaved }
     ensures round { live.new.transport.rounds.round ≡ live.old.transport.rounds.round }
     ensures ran { live.new.run ≡ live.old.run }
+    ensures station { live.new.station ≡ live.old.station }
 {
     if live.transport.rounds.receiver().is_shown() {
         let before = live.transport.rounds.receiver_mut().take_texts();

@@ -429,6 +429,11 @@ BUGS = {
         "    let began = passed(alloc, host, live.origin)?;",
         "    let began = passed(alloc, host, live.origin).unwrap_or(0);",
     ),
+    "alarms_that_changed_are_not_said": (
+        "src/live.rt",
+        "        changes.as_slice(),\n    )?;\n",
+        "        &[],\n    )?;\n",
+    ),
     "a_station_does_not_say_where_it_is": (
         "src/live.rt",
         "    tell_start(host, opened.station.incarnation(), &transport, at, &file);\n",

@@ -1,5 +1,7 @@
-use Rattle.std.proofs.Common.{◌∙◌}
+use Rattle.std.proofs.Common.{◌∙◌, map, sym}
 use Rattle.mon_console.specs.Shown.{shown_by}
+use Rattle.mon_station.specs.State.{state_of}
+use Rattle.mon_station_commands.specs.Telling.{changed_notes}
 use Rattle.mon_station_commands.specs.Spans.{IsOfRun, is_round}
 use Rattle.mon_station_commands.proofs.Accounts.{span_is, span_of, span_shown, span_stops}
 use Rattle.mon_station_commands.proofs.Steps.{failure_is}
@@ -12,7 +14,7 @@ returns-in_err-ran-clause-run g c =
     let round = after.transport.rounds.round in
     let failure = c.in_err-ran.field-0.0 in
     let r = c.from_residual.result in
-    span_stops (IsOfRun round.targets round.events after.run) (shown_by live.reports.printing.names) c.args.number (is_round c.args.span) live.unsaved after.unsaved failure r
+    span_stops (IsOfRun round.targets round.events after.run) (changed_notes (shown_by live.reports.printing.names) (state_of after.station.life).board (map (λ w. w.items) live.course.windows.items)) c.args.number (is_round c.args.span) live.unsaved after.unsaved failure r
     (g.H.Host.log c.args.host.now) (g.H.Host.log c.run_timed.new.host) (failure_is r failure c.from_residual.ensures.1) c.run_timed.ensures.saved c.in_err-ran.ensures.timed
 
 pub returns-clause-run : goal.returns-clause-run
@@ -27,11 +29,12 @@ returns-clause-run g c =
     let said = g.H.Host.log c.said.new.host in
     let round = ran.transport.rounds.round in
     let last = end.transport.rounds.round in
+    let kept = sym (c.show_span.ensures.station ∙ c.report_run-told.ensures.station) in
     let same = c.show_span.ensures.round ∙ c.report_run-told.ensures.round in
-    span_of round.targets last.targets round.events last.events ran.run end.run (shown_by live.reports.printing.names) c.args.number (is_round c.args.span)
+    span_of round.targets last.targets round.events last.events ran.run end.run (changed_notes (shown_by live.reports.printing.names) (state_of end.station.life).board (map (λ w. w.items) live.course.windows.items)) c.args.number (is_round c.args.span)
     live.unsaved end.unsaved start said (λ i. (same i).targets) (λ i. (same i).events) (c.show_span.ensures.ran ∙ c.report_run-told.ensures.ran)
-    (span_shown (IsOfRun round.targets round.events ran.run) (shown_by ran.reports.printing.names) (shown_by live.reports.printing.names) c.args.number (is_round c.args.span)
-    live.unsaved end.unsaved start said (λ i. shown_by (c.run_timed.ensures.printing i).names)
-    (span_is (IsOfRun round.targets round.events ran.run) (shown_by ran.reports.printing.names) c.args.number c.args.span c.in_ok-ran.ran live.unsaved ran.unsaved
+    (span_shown (IsOfRun round.targets round.events ran.run) (changed_notes (shown_by ran.reports.printing.names) (state_of ran.station.life).board (map (λ w. w.items) ran.course.windows.items)) (changed_notes (shown_by live.reports.printing.names) (state_of end.station.life).board (map (λ w. w.items) live.course.windows.items)) c.args.number (is_round c.args.span)
+    live.unsaved end.unsaved start said (λ i. changed_notes (shown_by (c.run_timed.ensures.printing i).names) (state_of (kept i).life).board (map (λ w. w.items) (c.run_timed.ensures.course i).windows.items))
+    (span_is (IsOfRun round.targets round.events ran.run) (changed_notes (shown_by ran.reports.printing.names) (state_of ran.station.life).board (map (λ w. w.items) ran.course.windows.items)) c.args.number c.args.span c.in_ok-ran.ran live.unsaved ran.unsaved
     told.unsaved end.unsaved c.report_run-told.result c.said.result start timed reported said c.in_ok-ran.ensures.span c.in_ok-ran.ensures.fault
     c.run_timed.ensures.saved c.show_span.ensures.saved c.in_ok-ran.ensures.timed c.report_run-told.ensures.account c.said.ensures))

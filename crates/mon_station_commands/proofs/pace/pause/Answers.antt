@@ -1,6 +1,8 @@
-use Rattle.std.proofs.Common.{◌∙◌, false, refl}
+use Rattle.std.proofs.Common.{◌∙◌, false, map, refl}
 use Rattle.std.specs.Prelude.{Ok, Err}
 use Rattle.mon_console.specs.Shown.{shown_by}
+use Rattle.mon_station.specs.State.{state_of}
+use Rattle.mon_station_commands.specs.Telling.{changed_notes}
 use Rattle.mon_station_commands.specs.Spans.{IsOfRun}
 use Rattle.mon_station_commands.proofs.Accounts.{between_kept, span_quiet}
 use Rattle.mon_station_commands.proofs.Quiets.{no_wait, quiet_on, still, stopped_on, time, untimed}
@@ -18,7 +20,7 @@ loop-preserved g c =
     let end = g.H.Host.log c.run_span.new.host in
     let after = c.run_span.new.live in
     let round = after.transport.rounds.round in
-    let shown = shown_by c.loop.live.reports.printing.names in
+    let shown = changed_notes (shown_by c.loop.live.reports.printing.names) (state_of after.station.life).board (map (λ w. w.items) c.loop.live.course.windows.items) in
     let inv = c.loop.invariant in (
       quiet_on start timed end (quiet_on start before timed inv.0 (time before timed _ c.in_ok-now.ensures))
           (span_quiet (IsOfRun round.targets round.events after.run) shown c.args.number false c.loop.live.unsaved after.unsaved (Ok c.in_ok-run_span.field-0) timed end
@@ -72,7 +74,7 @@ returns-in_err-run_span-clause-quiet g c =
     let end = g.H.Host.log c.run_span.new.host in
     let after = c.run_span.new.live in
     let round = after.transport.rounds.round in
-    let shown = shown_by c.loop.live.reports.printing.names in
+    let shown = changed_notes (shown_by c.loop.live.reports.printing.names) (state_of after.station.life).board (map (λ w. w.items) c.loop.live.course.windows.items) in
     let failure = c.in_err-run_span.field-0.0 in
     let r = c.from_residual-in_err-run_span.result in
     no_wait failure r start end (failure_is r failure c.from_residual-in_err-run_span.ensures.1)
@@ -110,7 +112,7 @@ pub returns-in_err-run_span-clause-saved : goal.returns-in_err-run_span-clause-s
 returns-in_err-run_span-clause-saved g c =
     let after = c.run_span.new.live in
     let round = after.transport.rounds.round in
-    between_kept (IsOfRun round.targets round.events after.run) (shown_by c.loop.live.reports.printing.names) c.args.number c.loop.live.unsaved after.unsaved c.run_span.result
+    between_kept (IsOfRun round.targets round.events after.run) (changed_notes (shown_by c.loop.live.reports.printing.names) (state_of after.station.life).board (map (λ w. w.items) c.loop.live.course.windows.items)) c.args.number c.loop.live.unsaved after.unsaved c.run_span.result
     (g.H.Host.log c.now.new.host) (g.H.Host.log c.run_span.new.host) c.run_span.ensures.run ∙ c.loop.invariant.4
 
 pub returns-clause-saved : goal.returns-clause-saved

@@ -1,4 +1,4 @@
-use Rattle.std.proofs.Common.{option_map, string_bytes, subst, true}
+use Rattle.std.proofs.Common.{option_map, string_bytes, subst, true, map}
 use Rattle.std.specs.Global.{Global}
 use Rattle.std.specs.Prelude.{Option, String}
 use Rattle.mon_console.specs.Shown.{shown_by}
@@ -6,6 +6,7 @@ use Rattle.mon_host.specs.Log.{GoesOnBy}
 use Rattle.mon_station.specs.State.{state_of}
 use Rattle.mon_station_commands.specs.Reporting.{IsOut}
 use Rattle.mon_station_commands.specs.Rounds.{IsReportAt, Moment}
+use Rattle.mon_station_commands.specs.Telling.{changed_notes}
 use Rattle.mon_station_commands.specs.Spans.{IsOfRun}
 use Rattle.mon_station_commands.proofs.Accounts.{span_stopped}
 use Rattle.mon_station_commands.proofs.Rounding.{round_fails, round_is}
@@ -22,7 +23,7 @@ returns-clause-run g c =
     let end = g.H.Host.log c.write_out.new.host in
     let unwritten = c.write_out.new.live.unwritten in
     round_is c.args.number live.reports.printing (option_map string_bytes live.reports.out) round.targets round.events after.run live.unsaved after.unsaved
-    c.write_out.new.live.unsaved moment unwritten (g.H.Host.log c.args.host.now) ran end c.run_span.ensures.printing c.write_out.ensures.saved c.in_ok-run_span.ensures.run
+    c.write_out.new.live.unsaved moment (map (λ w. w.items) live.course.windows.items) unwritten (g.H.Host.log c.args.host.now) ran end c.run_span.ensures.printing c.write_out.ensures.saved c.in_ok-run_span.ensures.run
     (subst (λ (o : Option (String Global)). GoesOnBy (λ log. IsOut (option_map string_bytes o) (IsReportAt moment) log unwritten) ran end) c.run_span.ensures.out c.write_out.ensures.written)
 
 pub returns-in_err-run_span-clause-run : goal.returns-in_err-run_span-clause-run
@@ -36,5 +37,5 @@ returns-in_err-run_span-clause-run g c =
     let r = c.from_residual.result in
     round_fails c.args.number live.reports.printing (option_map string_bytes live.reports.out) live.unsaved after.unsaved after.unwritten failure r start ran
     (failure_is r failure c.from_residual.ensures.1)
-    (span_stopped (IsOfRun round.targets round.events after.run) (shown_by live.reports.printing.names) c.args.number true live.unsaved after.unsaved failure start ran
+    (span_stopped (IsOfRun round.targets round.events after.run) (changed_notes (shown_by live.reports.printing.names) (state_of after.station.life).board (map (λ w. w.items) live.course.windows.items)) c.args.number true live.unsaved after.unsaved failure start ran
     c.in_err-run_span.ensures.run)

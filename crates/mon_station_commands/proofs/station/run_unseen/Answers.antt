@@ -1,7 +1,8 @@
 use Rattle.std.proofs.Common.{length}
+use Rattle.std.specs.Prelude.{Ok, Err}
 use Rattle.mon_console.specs.Shown.{shown_by}
 use Rattle.mon_station.specs.State.{state_of}
-use Rattle.mon_station_commands.proofs.Joined.{run_of, started, unseen_run, unseen_unheard, unseen_unopened, unseen_unstarted, unstarted}
+use Rattle.mon_station_commands.proofs.Joined.{run_of, started, unseen_run, unseen_unheard, unseen_unopened, unseen_unstarted}
 use Rattle.mon_station_commands.proofs.Steps.{failure_is}
 use Rattle.mon_station_commands.proofs.station.run_unseen.Goals as goal
 
@@ -30,8 +31,8 @@ returns-in_err-live g c =
     let end = g.H.Host.log c.start_station.new.host in
     unseen_unstarted c.args.timing c.args.setup.reports s c.in_ok-socket.place.at failure r (g.H.Host.log c.args.host.now) opened end
     (failure_is r failure c.from_residual-in_err-live.ensures.1) c.in_ok-socket.ensures
-    (unstarted (shown_by c.args.setup.reports.printing.names) s c.in_ok-socket.place.at t.number (length t.engines.items) t.peers.items failure opened end
-    is.number is.engines is.peers c.in_err-live.ensures.failed c.in_err-live.ensures.opening)
+    (started (shown_by c.args.setup.reports.printing.names) s c.in_ok-socket.place.at t.number (length t.engines.items) t.peers.items (Err failure) opened end
+    is.number is.engines is.peers c.in_err-live.ensures.opening)
 
 pub returns : goal.returns
 returns g c =
@@ -44,8 +45,8 @@ returns g c =
     let begun = g.H.Host.log c.start_station.new.host in
     let end = g.H.Host.log c.run_rounds.new.host in
     let same = c.in_ok-live.ensures.reports in
-    unseen_run c.args.timing reports s c.in_ok-socket.place.at c.run_rounds.result (g.H.Host.log c.args.host.now) opened begun end c.in_ok-socket.ensures
-    (started (shown_by reports.printing.names) s c.in_ok-socket.place.at t.number (length t.engines.items) t.peers.items (state_of live.station.life) opened begun
+    unseen_run c.args.timing reports s c.in_ok-socket.place.at (state_of live.station.life) c.run_rounds.result (g.H.Host.log c.args.host.now) opened begun end c.in_ok-socket.ensures
+    (started (shown_by reports.printing.names) s c.in_ok-socket.place.at t.number (length t.engines.items) t.peers.items (Ok (state_of live.station.life)) opened begun
     is.number is.engines is.peers c.in_ok-live.ensures.opening)
     (run_of c.args.timing reports s live.reports live.unprinted live.unsaved c.run_rounds.result begun end (λ i. (same i).printing) (λ i. (same i).out)
     c.in_ok-live.ensures.printed c.in_ok-live.ensures.saved c.run_rounds.ensures)
