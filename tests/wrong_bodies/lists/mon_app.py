@@ -208,8 +208,8 @@ BUGS = {
     ),
     "sends_where_it_is_silent": (
         "src/serving.rt",
-        "        Ok(Reply::Silent(_)) => Ok(()),",
-        "        Ok(Reply::Silent(_)) => {\n            port.reply(&[]);\n            Ok(())\n        }",
+        "        Ok(Reply::Silent(_)) => Ok(Served::Answered),",
+        "        Ok(Reply::Silent(_)) => {\n            port.reply(&[]);\n            Ok(Served::Answered)\n        }",
     ),
     "is_silent_where_it_sends": (
         "src/serving.rt",
@@ -368,38 +368,38 @@ BUGS = {
     ),
     "walks_and_prints_nothing": (
         "src/walking.rt",
-        "    lines.put_line(line.as_str())\n",
-        "    lines.put_line(&line.as_str()[..0])\n",
+        "    match host.print(line.as_bytes()) {",
+        "    match host.print(&line.as_bytes()[..0]) {",
     ),
     "puts_no_line": (
         "src/walking.rt",
-        "    lines.put_line(line.as_str())\n",
+        "    match host.print(line.as_bytes()) {\n        Ok(()) => Ok(()),\n        Err(reason) => Err(WalkFault::Output(reason)),\n    }\n",
         "    Ok(())\n",
     ),
     "puts_a_line_twice": (
         "src/walking.rt",
-        "    lines.put_line(line.as_str())\n",
-        "    lines.put_line(line.as_str())?;\n    lines.put_line(line.as_str())\n",
+        "    match host.print(line.as_bytes()) {",
+        "    if let Err(reason) = host.print(line.as_bytes()) {\n        return Err(WalkFault::Output(reason));\n    }\n    match host.print(line.as_bytes()) {",
     ),
     "goes_on_after_a_refused_line": (
         "src/walking.rt",
-        "    lines.put_line(line.as_str())\n",
-        "    let _ = lines.put_line(line.as_str());\n    Ok(())\n",
+        "        Err(reason) => Err(WalkFault::Output(reason)),",
+        "        Err(_) => Ok(()),",
     ),
     "puts_a_refused_line_again": (
         "src/walking.rt",
-        "    lines.put_line(line.as_str())\n",
-        "    if lines.put_line(line.as_str()).is_ok() {\n        return Ok(());\n    }\n    lines.put_line(line.as_str())\n",
+        "    match host.print(line.as_bytes()) {",
+        "    if host.print(line.as_bytes()).is_ok() {\n        return Ok(());\n    }\n    match host.print(line.as_bytes()) {",
     ),
     "gives_another_fault_of_a_refused_line": (
         "src/walking.rt",
-        "    lines.put_line(line.as_str())\n",
-        "    lines.put_line(line.as_str()).map_err(|_| AppFault::Timeout)\n",
+        "        Err(reason) => Err(WalkFault::Output(reason)),",
+        "        Err(_) => Err(WalkFault::App(AppFault::Timeout)),",
     ),
     "forgets_the_last_line": (
         "src/walking.rt",
-        "            Step::On => put_line_of(alloc, binding, names, lines)?,",
-        "            Step::On => {\n                if found.len() < 65_535 {\n                    put_line_of(alloc, binding, names, lines)?;\n                }\n            }",
+        "            Step::On => print_line(alloc, host, binding, names)?,",
+        "            Step::On => {\n                if found.len() < 65_535 {\n                    print_line(alloc, host, binding, names)?;\n                }\n            }",
     ),
     "strides_by_one": (
         "src/walking.rt",
@@ -413,8 +413,8 @@ BUGS = {
     ),
     "puts_the_first_of_an_answer": (
         "src/walking.rt",
-        "    put_found(alloc, at, found.as_slice(), names, lines)",
-        "    put_found(alloc, at, &found.as_slice()[..found.as_slice().len().min(1)], names, lines)",
+        "    print_found(alloc, host, at, found.as_slice(), names)",
+        "    print_found(alloc, host, at, &found.as_slice()[..found.as_slice().len().min(1)], names)",
     ),
     "goes_on_from_the_first_of_an_answer": (
         "src/walking.rt",
@@ -423,8 +423,8 @@ BUGS = {
     ),
     "ends_well_at_an_empty_answer": (
         "src/walking.rt",
-        "        return Err(AppFault::NotIncreasing);\n    }\n    put_lines",
-        "        return Ok(None);\n    }\n    put_lines",
+        "        return Err(WalkFault::App(AppFault::NotIncreasing));\n    }\n    print_lines",
+        "        return Ok(None);\n    }\n    print_lines",
     ),
     "passes_over_names_outside_its_start": (
         "src/walking.rt",
@@ -433,73 +433,13 @@ BUGS = {
     ),
     "ends_well_at_a_refused_line": (
         "src/walking.rt",
-        "            Step::On => put_line_of(alloc, binding, names, lines)?,",
-        "            Step::On => {\n                if put_line_of(alloc, binding, names, lines).is_err() {\n                    return Ok(None);\n                }\n            }",
-    ),
-    "a_text_keeps_no_line": (
-        "src/sink.rt",
-        "        self.push_str(line)?;",
-        "        self.push_str(&line[..0])?;",
-    ),
-    "a_text_keeps_a_line_twice": (
-        "src/sink.rt",
-        "        self.push_str(line)?;",
-        "        self.push_str(line)?;\n        self.push_str(line)?;",
-    ),
-    "a_text_refuses_with_another_fault": (
-        "src/sink.rt",
-        "        self.push_str(line)?;",
-        "        self.push_str(line).map_err(|_| AppFault::FileFault)?;",
-    ),
-    "a_text_keeps_a_refused_line": (
-        "src/sink.rt",
-        "        self.push_str(line)?;",
-        "        self.push_str(line)?;\n        if self.len() > 65_536 {\n            return Err(AppFault::OutOfMemory);\n        }",
+        "            Step::On => print_line(alloc, host, binding, names)?,",
+        "            Step::On => {\n                if print_line(alloc, host, binding, names).is_err() {\n                    return Ok(None);\n                }\n            }",
     ),
     "writes_back_its_input": (
         "src/replaying.rt",
         "    Ok(text.into_bytes())",
         "    let _ = text.into_bytes(); Vec::from_slice(alloc, input)",
-    ),
-    "serves_nothing": (
-        "src/serving.rt",
-        "    for _ in 0..count {",
-        "    for _ in 0..count.min(0) {",
-    ),
-    "serves_one_fewer": (
-        "src/serving.rt",
-        "    for _ in 0..count {",
-        "    for _ in 1..count {",
-    ),
-    "serves_one_more": (
-        "src/serving.rt",
-        "    for _ in 0..count {",
-        "    for _ in 0..count.saturating_add(1) {",
-    ),
-    "serves_two_at_a_time": (
-        "src/serving.rt",
-        "        serve_one(alloc, port, agent, room.as_mut_slice(), untaken)?;",
-        "        serve_one(alloc, port, agent, room.as_mut_slice(), untaken)?;\n        serve_one(alloc, port, agent, room.as_mut_slice(), untaken)?;",
-    ),
-    "serves_on_whatever_fails": (
-        "src/serving.rt",
-        "        serve_one(alloc, port, agent, room.as_mut_slice(), untaken)?;",
-        "        let _ = serve_one(alloc, port, agent, room.as_mut_slice(), untaken);",
-    ),
-    "ends_well_where_the_port_fails": (
-        "src/serving.rt",
-        "        serve_one(alloc, port, agent, room.as_mut_slice(), untaken)?;",
-        "        if serve_one(alloc, port, agent, room.as_mut_slice(), untaken).is_err() {\n            return Ok(());\n        }",
-    ),
-    "fails_before_it_serves": (
-        "src/serving.rt",
-        "    let mut room = datagram_buffer(alloc)?;",
-        "    if count > 0 {\n        return Err(AppFault::SocketFault {\n            reason: crate::reason::SocketReason::Other,\n        });\n    }\n    let mut room = datagram_buffer(alloc)?;",
-    ),
-    "ends_out_of_memory": (
-        "src/serving.rt",
-        "    Ok(())\n}\n\n/// Serves the next datagram.",
-        "    Err(AppFault::OutOfMemory)\n}\n\n/// Serves the next datagram.",
     ),
     "ends_at_a_failed_wait": (
         "src/serving.rt",
@@ -526,25 +466,15 @@ BUGS = {
         "    let received = next_datagram(port, room)?;",
         "    next_datagram(port, room)?;\n    let received = next_datagram(port, room)?;",
     ),
-    "tells_nothing_of_memory": (
-        "src/serving.rt",
-        "            untaken.tell();\n",
-        "",
-    ),
-    "tells_twice_of_memory": (
-        "src/serving.rt",
-        "            untaken.tell();",
-        "            untaken.tell();\n            untaken.tell();",
-    ),
     "tells_of_what_was_answered": (
         "src/serving.rt",
-        "        Ok(Reply::Silent(_)) => Ok(()),",
-        "        Ok(Reply::Silent(_)) => {\n            untaken.tell();\n            Ok(())\n        }",
+        "        Ok(Reply::Silent(_)) => Ok(Served::Answered),",
+        "        Ok(Reply::Silent(_)) => Ok(Served::Untaken),",
     ),
     "replies_where_memory_ran_out": (
         "src/serving.rt",
-        "            untaken.tell();",
-        "            untaken.tell();\n            port.reply(&[]);",
+        "        Err(_) => Ok(Served::Untaken),",
+        "        Err(_) => {\n            port.reply(&[]);\n            Ok(Served::Untaken)\n        }",
     ),
     "counts_no_failed_wait": (
         "src/socket_port.rt",
@@ -693,8 +623,8 @@ BUGS = {
     ),
     "ends_well_whatever_fails": (
         "src/walking.rt",
-        "        match walk_on(alloc, wire, &turn, names, lines)? {\n            Some(name) => last = name,\n            None => return Ok(()),\n        }",
-        "        match walk_on(alloc, wire, &turn, names, lines) {\n            Ok(Some(name)) => last = name,\n            _ => return Ok(()),\n        }",
+        "        match walk_on(alloc, host, wire, &turn, names)? {\n            Some(name) => last = name,\n            None => return Ok(()),\n        }",
+        "        match walk_on(alloc, host, wire, &turn, names) {\n            Ok(Some(name)) => last = name,\n            _ => return Ok(()),\n        }",
     ),
     "begins_with_a_failure": (
         "src/socket_port.rt",
@@ -936,15 +866,99 @@ BUGS = {
         "    match agent.answer(alloc, &room[..received.len], received.moment) {",
         "    match agent.answer(alloc, &room[..received.len.saturating_sub(1)], received.moment) {",
     ),
-    "serves_the_first_alone": (
-        "src/serving.rt",
-        "        serve_one(alloc, port, agent, room.as_mut_slice(), untaken)?;",
-        "        serve_one(alloc, port, agent, room.as_mut_slice(), untaken)?;\n        return Ok(());",
-    ),
     "ends_where_memory_runs_out": (
         "src/serving.rt",
-        "            untaken.tell();\n            Ok(())",
-        "            untaken.tell();\n            Err(SocketFault {\n                reason: crate::reason::SocketReason::Other,\n            })",
+        "        Err(_) => Ok(Served::Untaken),",
+        "        Err(_) => Err(SocketFault {\n            reason: crate::reason::SocketReason::Other,\n        }),",
+    ),
+    "prints_a_line_without_its_end": (
+        "src/walking.rt",
+        "    match host.print(line.as_bytes()) {",
+        "    match host.print(&line.as_bytes()[..line.len().saturating_sub(1)]) {",
+    ),
+    "prints_lines_on_standard_error": (
+        "src/walking.rt",
+        "    match host.print(line.as_bytes()) {\n        Ok(()) => Ok(()),\n        Err(reason) => Err(WalkFault::Output(reason)),\n    }\n",
+        "    host.note(line.as_str());\n    Ok(())\n",
+    ),
+    "prints_the_name_alone": (
+        "src/walking.rt",
+        "    put_binding(alloc, &mut line, found, names)?;",
+        '    line.push_str(names.text(alloc, &found.name)?.as_str())?;\n    line.push_str("\\n")?;',
+    ),
+    "calls_a_refused_line_a_want_of_memory": (
+        "src/walking.rt",
+        "        Err(reason) => Err(WalkFault::Output(reason)),",
+        "        Err(_) => Err(WalkFault::App(AppFault::OutOfMemory)),",
+    ),
+    "tells_another_reason_of_a_refused_line": (
+        "src/walking.rt",
+        "        Err(reason) => Err(WalkFault::Output(reason)),",
+        "        Err(_) => Err(WalkFault::Output(mon_host::Reason { kind: std::io::ErrorKind::BrokenPipe, words: None })),",
+    ),
+    "loses_the_words_of_a_refused_line": (
+        "src/walking.rt",
+        "        Err(reason) => Err(WalkFault::Output(reason)),",
+        "        Err(reason) => Err(WalkFault::Output(mon_host::Reason { kind: reason.kind, words: None })),",
+    ),
+    "prints_before_it_looks": (
+        "src/walking.rt",
+        "        match step_of(start, last, binding) {",
+        "        print_line(alloc, host, binding, names)?;\n        match step_of(start, last, binding) {",
+        "            Step::On => print_line(alloc, host, binding, names)?,",
+        "            Step::On => {}",
+    ),
+    "prints_the_line_before": (
+        "src/walking.rt",
+        "        match step_of(start, last, binding) {",
+        "        let before = &found[0];\n        match step_of(start, last, binding) {",
+        "            Step::On => print_line(alloc, host, binding, names)?,",
+        "            Step::On => print_line(alloc, host, before, names)?,",
+    ),
+    "ends_well_at_a_name_that_does_not_increase": (
+        "src/walking.rt",
+        "            Step::Back => return Err(WalkFault::App(AppFault::NotIncreasing)),",
+        "            Step::Back => return Ok(None),",
+    ),
+    "prints_an_answer_twice": (
+        "src/walking.rt",
+        "    print_found(alloc, host, at, found.as_slice(), names)",
+        "    print_found(alloc, host, at, found.as_slice(), names)?;\n    print_found(alloc, host, at, found.as_slice(), names)",
+    ),
+    "asks_nothing_and_times_out": (
+        "src/walking.rt",
+        "    let found = after(alloc, wire, turn)?;",
+        "    if turn.request_id < 65_536 {\n        return Err(WalkFault::App(AppFault::Timeout));\n    }\n    let found = after(alloc, wire, turn)?;",
+    ),
+    "says_that_it_walks": (
+        "src/walking.rt",
+        "    let mut last = asked.start.try_clone(alloc)?;",
+        '    host.note("snmpmon: walking\\n");\n    let mut last = asked.start.try_clone(alloc)?;',
+    ),
+    "prints_an_empty_line_first": (
+        "src/walking.rt",
+        "    let found = after(alloc, wire, turn)?;",
+        '    let _ = host.print(b"\\n");\n    let found = after(alloc, wire, turn)?;',
+    ),
+    "calls_an_answer_untaken": (
+        "src/serving.rt",
+        "            port.reply(&octets);\n            Ok(Served::Answered)",
+        "            port.reply(&octets);\n            Ok(Served::Untaken)",
+    ),
+    "calls_what_it_had_no_memory_for_answered": (
+        "src/serving.rt",
+        "        Err(_) => Ok(Served::Untaken),",
+        "        Err(_) => Ok(Served::Answered),",
+    ),
+    "serves_without_waiting": (
+        "src/serving.rt",
+        "    let received = next_datagram(port, room)?;\n    match agent.answer(alloc, &room[..received.len], received.moment) {\n        Ok(Reply::Send(octets)) => {\n            port.reply(&octets);\n            Ok(Served::Answered)\n        }\n        Ok(Reply::Silent(_)) => Ok(Served::Answered),\n        Err(_) => Ok(Served::Untaken),\n    }\n",
+        "    let _ = (alloc, port, agent, room);\n    Ok(Served::Answered)\n",
+    ),
+    "tries_again_where_memory_ran_out": (
+        "src/serving.rt",
+        "        Err(_) => Ok(Served::Untaken),",
+        "        Err(_) => match agent.answer(alloc, &room[..received.len], received.moment) {\n            Ok(_) => Ok(Served::Answered),\n            Err(_) => Ok(Served::Untaken),\n        },",
     ),
 }
 
@@ -953,4 +967,7 @@ PROMISES = {
     "sends_nothing": "socket::WireBy::begin",
     "is_quiet_at_once": "socket::WireBy::receive_in_wait",
     "receives_without_a_call": "socket_port::PortBy::receive_next",
+    "prints_lines_on_standard_error": "walking::print_line",
+    "asks_nothing_and_times_out": "walking::walk_on",
+    "calls_an_answer_untaken": "serving::serve_one",
 }

@@ -21,11 +21,6 @@ BUGS = {
         "        _ => Stride::Next,",
         "        _ => Stride::Bulk(1),",
     ),
-    "a_line_that_is_not_printed_is_passed_over": (
-        "src/output.rt",
-        "                Err(AppFault::FileFault)",
-        "                Ok(())",
-    ),
     "each_datagram_arrives_at_the_start": (
         "src/agent.rt",
         "        Some(at) => Ok(at),",
@@ -141,10 +136,10 @@ BUGS = {
         "        Ok(lines) => Ok(lines),",
         "        Ok(_) => Ok(String::new(alloc)),",
     ),
-    "a_name_without_meaning_lacks_memory": (
+    "each_name_without_meaning_is_circular": (
         "src/listing.rt",
         "            Err(name_failure(alloc, known.names(), name, fault))",
-        "            Err(name_failure(alloc, known.names(), name, mon_smi::NamesFault::OutOfMemory))",
+        "            Err(name_failure(alloc, known.names(), name, mon_smi::NamesFault::Cycle))",
     ),
     "reports_always": (
         "src/recorded.rt",
@@ -243,6 +238,441 @@ BUGS = {
         "host.note(format_args!(\"snmpmon: agent at {at}\\n\"));",
         "let _ = at;",
     ),
+    "serves_nothing": (
+        "src/agent.rt",
+        "    for _ in 0..count {",
+        "    for _ in 0..count.min(0) {",
+    ),
+    "serves_one_fewer": (
+        "src/agent.rt",
+        "    for _ in 0..count {",
+        "    for _ in 1..count {",
+    ),
+    "serves_one_more": (
+        "src/agent.rt",
+        "    for _ in 0..count {",
+        "    for _ in 0..count.saturating_add(1) {",
+    ),
+    "serves_two_at_a_time": (
+        "src/agent.rt",
+        "        serve_next(alloc, host, port, agent, room.as_mut_slice())?;",
+        "        serve_next(alloc, host, port, agent, room.as_mut_slice())?;\n        serve_next(alloc, host, port, agent, room.as_mut_slice())?;",
+    ),
+    "serves_the_first_alone": (
+        "src/agent.rt",
+        "        serve_next(alloc, host, port, agent, room.as_mut_slice())?;",
+        "        serve_next(alloc, host, port, agent, room.as_mut_slice())?;\n        return Ok(());",
+    ),
+    "serves_on_whatever_fails": (
+        "src/agent.rt",
+        "        serve_next(alloc, host, port, agent, room.as_mut_slice())?;",
+        "        let _ = serve_next(alloc, host, port, agent, room.as_mut_slice());",
+    ),
+    "ends_well_where_the_port_fails": (
+        "src/agent.rt",
+        "        serve_next(alloc, host, port, agent, room.as_mut_slice())?;",
+        "        if serve_next(alloc, host, port, agent, room.as_mut_slice()).is_err() {\n            return Ok(());\n        }",
+    ),
+    "fails_before_it_serves": (
+        "src/agent.rt",
+        "    let mut room = datagram_buffer(alloc)?;",
+        "    if count > 0 {\n        return Err(Failure::from(AppFault::SocketFault {\n            reason: mon_app::SocketReason::Other,\n        }));\n    }\n    let mut room = datagram_buffer(alloc)?;",
+    ),
+    "ends_out_of_memory": (
+        "src/agent.rt",
+        "    Ok(())\n}\n\n/// Serves the agent the next datagram",
+        "    Err(Failure::from(AllocError))\n}\n\n/// Serves the agent the next datagram",
+    ),
+    "tells_nothing_of_memory": (
+        "src/agent.rt",
+        "        Served::Untaken => Failure::from(AppFault::OutOfMemory).tell(host),",
+        "        Served::Untaken => {}",
+    ),
+    "tells_twice_of_memory": (
+        "src/agent.rt",
+        "        Served::Untaken => Failure::from(AppFault::OutOfMemory).tell(host),",
+        "        Served::Untaken => {\n            Failure::from(AppFault::OutOfMemory).tell(host);\n            Failure::from(AppFault::OutOfMemory).tell(host);\n        }",
+    ),
+    "tells_of_each_datagram": (
+        "src/agent.rt",
+        "        Served::Answered => {}",
+        "        Served::Answered => Failure::from(AppFault::OutOfMemory).tell(host),",
+    ),
+    "tells_another_fault_for_memory": (
+        "src/agent.rt",
+        "        Served::Untaken => Failure::from(AppFault::OutOfMemory).tell(host),",
+        "        Served::Untaken => Failure::from(AppFault::FileFault).tell(host),",
+    ),
+    "tells_of_memory_in_other_words": (
+        "src/agent.rt",
+        "        Served::Untaken => Failure::from(AppFault::OutOfMemory).tell(host),",
+        '        Served::Untaken => host.note("snmpmon: no memory for a datagram\\n"),',
+    ),
+    "tells_of_memory_on_standard_output": (
+        "src/agent.rt",
+        "        Served::Untaken => Failure::from(AppFault::OutOfMemory).tell(host),",
+        '        Served::Untaken => {\n            let _ = host.print(b"snmpmon: mon_app 1 OutOfMemory\\n");\n        }',
+    ),
+    "notes_each_answer": (
+        "src/agent.rt",
+        "        Served::Answered => {}",
+        '        Served::Answered => host.note("snmpmon: answered\\n"),',
+    ),
+    "says_that_each_datagram_was_taken": (
+        "src/agent.rt",
+        "    let served = serve_one(alloc, port, agent, room)?;\n    tell_untaken(host, served);\n",
+        "    serve_one(alloc, port, agent, room)?;\n    tell_untaken(host, Served::Answered);\n",
+    ),
+    "serves_nobody_and_tells_of_memory": (
+        "src/agent.rt",
+        "    let served = serve_one(alloc, port, agent, room)?;\n    tell_untaken(host, served);\n",
+        "    tell_untaken(host, Served::Untaken);\n",
+    ),
+    "serves_twice_for_once": (
+        "src/agent.rt",
+        "    let served = serve_one(alloc, port, agent, room)?;\n    tell_untaken(host, served);\n",
+        "    let _ = serve_one(alloc, port, agent, room)?;\n    let served = serve_one(alloc, port, agent, room)?;\n    tell_untaken(host, served);\n",
+    ),
+    "swallows_the_fault_of_a_port": (
+        "src/agent.rt",
+        "    let served = serve_one(alloc, port, agent, room)?;\n    tell_untaken(host, served);\n",
+        "    if let Ok(served) = serve_one(alloc, port, agent, room) {\n        tell_untaken(host, served);\n    }\n",
+    ),
+    "fails_with_a_timeout_for_the_port": (
+        "src/agent.rt",
+        "    let served = serve_one(alloc, port, agent, room)?;\n    tell_untaken(host, served);\n",
+        "    let Ok(served) = serve_one(alloc, port, agent, room) else {\n        return Err(AppFault::Timeout);\n    };\n    tell_untaken(host, served);\n",
+    ),
+    "fails_with_another_reason_than_the_ports": (
+        "src/agent.rt",
+        "    let served = serve_one(alloc, port, agent, room)?;\n    tell_untaken(host, served);\n",
+        "    let Ok(served) = serve_one(alloc, port, agent, room) else {\n        return Err(AppFault::SocketFault {\n            reason: mon_app::SocketReason::Other,\n        });\n    };\n    tell_untaken(host, served);\n",
+    ),
+    "tells_the_fault_of_a_port_too": (
+        "src/agent.rt",
+        "    let served = serve_one(alloc, port, agent, room)?;\n    tell_untaken(host, served);\n",
+        "    let served = match serve_one(alloc, port, agent, room) {\n        Ok(served) => served,\n        Err(fault) => {\n            Failure::from(AppFault::OutOfMemory).tell(host);\n            return Err(AppFault::from(fault));\n        }\n    };\n    tell_untaken(host, served);\n",
+    ),
+    "lacks_memory_where_the_port_fails": (
+        "src/agent.rt",
+        "        serve_next(alloc, host, port, agent, room.as_mut_slice())?;",
+        "        if serve_next(alloc, host, port, agent, room.as_mut_slice()).is_err() {\n            return Err(Failure::from(AllocError));\n        }",
+    ),
+    "tells_a_failed_port_before_it_ends": (
+        "src/agent.rt",
+        "        serve_next(alloc, host, port, agent, room.as_mut_slice())?;",
+        "        if let Err(fault) = serve_next(alloc, host, port, agent, room.as_mut_slice()) {\n            let failure = Failure::from(fault);\n            failure.tell(host);\n            return Err(failure);\n        }",
+    ),
+    "listens_and_serves_nobody": (
+        "src/agent.rt",
+        "    serve_all(rt.alloc(), host, &mut port, &mut agent, words.count)",
+        "    Ok(())",
+    ),
+    "serves_one_whatever_is_asked": (
+        "src/agent.rt",
+        "    serve_all(rt.alloc(), host, &mut port, &mut agent, words.count)",
+        "    serve_all(rt.alloc(), host, &mut port, &mut agent, 1)",
+    ),
+    "serves_one_more_than_is_asked": (
+        "src/agent.rt",
+        "    serve_all(rt.alloc(), host, &mut port, &mut agent, words.count)",
+        "    serve_all(rt.alloc(), host, &mut port, &mut agent, words.count.saturating_add(1))",
+    ),
+    "serves_all_again": (
+        "src/agent.rt",
+        "    serve_all(rt.alloc(), host, &mut port, &mut agent, words.count)",
+        "    serve_all(rt.alloc(), host, &mut port, &mut agent, words.count)?;\n    serve_all(rt.alloc(), host, &mut port, &mut agent, words.count)",
+    ),
+    "swallows_what_ends_the_serving": (
+        "src/agent.rt",
+        "    serve_all(rt.alloc(), host, &mut port, &mut agent, words.count)",
+        "    let _ = serve_all(rt.alloc(), host, &mut port, &mut agent, words.count);\n    Ok(())",
+    ),
+    "ignores_the_boots": (
+        "src/agent.rt",
+        "    let told = told_of(rt.alloc(), host, words.settings, words.boots)?;",
+        "    let told = told_of(rt.alloc(), host, words.settings, None)?;",
+    ),
+    "reads_the_settings_twice": (
+        "src/agent.rt",
+        "    let told = told_of(rt.alloc(), host, words.settings, words.boots)?;",
+        "    let _ = told_of(rt.alloc(), host, words.settings, words.boots)?;\n    let told = told_of(rt.alloc(), host, words.settings, words.boots)?;",
+    ),
+    "reads_other_settings": (
+        "src/agent.rt",
+        "    let told = told_of(rt.alloc(), host, words.settings, words.boots)?;",
+        '    let told = told_of(rt.alloc(), host, "agent.toml", words.boots)?;',
+    ),
+    "serves_without_a_word": (
+        "src/agent.rt",
+        "    let mut port = open_port(rt, host, listen)?;",
+        "    let mut port = listen_at(rt, listen)?;",
+    ),
+    "serves_before_it_says_where": (
+        "src/agent.rt",
+        "    let mut port = open_port(rt, host, listen)?;\n    serve_all(rt.alloc(), host, &mut port, &mut agent, words.count)",
+        '    let mut port = listen_at(rt, listen)?;\n    let at = port.address()?;\n    serve_all(rt.alloc(), host, &mut port, &mut agent, words.count)?;\n    host.note(format_args!("snmpmon: agent at {at}\\n"));\n    Ok(())',
+    ),
+    "listens_at_a_free_port": (
+        "src/agent.rt",
+        "    let mut port = open_port(rt, host, listen)?;",
+        "    let mut port = open_port(rt, host, Addr { port: 0, ..listen })?;",
+    ),
+    "ends_well_without_a_port": (
+        "src/agent.rt",
+        "    let mut port = open_port(rt, host, listen)?;",
+        "    let Ok(mut port) = open_port(rt, host, listen) else {\n        return Ok(());\n    };",
+    ),
+    "says_where_it_was_told_to_listen": (
+        "src/agent.rt",
+        '    let port = listen_at(rt, listen)?;\n    let at = port.address()?;\n    host.note(format_args!("snmpmon: agent at {at}\\n"));',
+        '    let port = listen_at(rt, listen)?;\n    host.note(format_args!("snmpmon: agent listens at {listen}\\n"));',
+    ),
+    "says_where_before_it_listens": (
+        "src/agent.rt",
+        '    let port = listen_at(rt, listen)?;\n    let at = port.address()?;\n    host.note(format_args!("snmpmon: agent at {at}\\n"));',
+        '    host.note(format_args!("snmpmon: agent at {listen}\\n"));\n    let port = listen_at(rt, listen)?;',
+    ),
+    "prints_where_it_listens": (
+        "src/agent.rt",
+        '    host.note(format_args!("snmpmon: agent at {at}\\n"));',
+        '    print(rt.alloc(), host, b"snmpmon: agent\\n")?;\n    let _ = at;',
+    ),
+    "opens_another_port_than_it_says": (
+        "src/agent.rt",
+        "    match SocketPort::open(rt, listen) {",
+        "    match SocketPort::open(rt, Addr { port: 0, ..listen }) {",
+    ),
+    "says_the_address_that_was_asked_for": (
+        "src/agent.rt",
+        "    let at = port.address()?;",
+        "    let at = listen.socket();",
+    ),
+    "fails_as_if_the_port_had": (
+        "src/agent.rt",
+        "    serve_all(rt.alloc(), host, &mut port, &mut agent, words.count)",
+        "    Err(Failure::from(AppFault::SocketFault {\n        reason: mon_app::SocketReason::Other,\n    }))",
+    ),
+    "lacks_memory_to_serve": (
+        "src/agent.rt",
+        "    let mut room = datagram_buffer(alloc)?;",
+        "    if count > 0 {\n        return Err(Failure::from(AllocError));\n    }\n    let mut room = datagram_buffer(alloc)?;",
+    ),
+    "walks_by_get_next_always": (
+        "src/walking.rt",
+        "    walk_query(rt, host, &query, stride_of(words.bulk))",
+        "    walk_query(rt, host, &query, Stride::Next)",
+    ),
+    "asks_for_one_more_at_once": (
+        "src/walking.rt",
+        "    walk_query(rt, host, &query, stride_of(words.bulk))",
+        "    walk_query(rt, host, &query, stride_of(words.bulk.saturating_add(1)))",
+    ),
+    "reads_its_arguments_twice": (
+        "src/walking.rt",
+        "    let query = query_of(rt.alloc(), host, words.request)?;",
+        "    let _ = query_of(rt.alloc(), host, words.request)?;\n    let query = query_of(rt.alloc(), host, words.request)?;",
+    ),
+    "reads_modules_after_the_walk": (
+        "src/walking.rt",
+        "    walk_query(rt, host, &query, stride_of(words.bulk))",
+        "    walk_query(rt, host, &query, stride_of(words.bulk))?;\n    let _ = mon_console::names_of(rt.alloc(), host, words.request.named.modules)?;\n    Ok(())",
+    ),
+    "reads_a_query_and_walks_nowhere": (
+        "src/walking.rt",
+        "    walk_query(rt, host, &query, stride_of(words.bulk))",
+        "    Ok(())",
+    ),
+    "swallows_a_query_without_meaning": (
+        "src/walking.rt",
+        "    let query = query_of(rt.alloc(), host, words.request)?;",
+        "    let Ok(query) = query_of(rt.alloc(), host, words.request) else {\n        return Ok(());\n    };",
+    ),
+    "swallows_what_ends_the_walk": (
+        "src/walking.rt",
+        "    walk_query(rt, host, &query, stride_of(words.bulk))",
+        "    let _ = walk_query(rt, host, &query, stride_of(words.bulk));\n    Ok(())",
+    ),
+    "walks_twice": (
+        "src/walking.rt",
+        "    walk_query(rt, host, &query, stride_of(words.bulk))",
+        "    walk_query(rt, host, &query, stride_of(words.bulk))?;\n    walk_query(rt, host, &query, stride_of(words.bulk))",
+    ),
+    "ends_with_an_empty_line": (
+        "src/walking.rt",
+        "    walk_query(rt, host, &query, stride_of(words.bulk))",
+        '    walk_query(rt, host, &query, stride_of(words.bulk))?;\n    mon_console::print(rt.alloc(), host, b"\\n")',
+    ),
+    "walks_the_first_of_two_names": (
+        "src/walking.rt",
+        "    if query.asked.len() != 1 {",
+        "    if query.asked.is_empty() {",
+    ),
+    "refuses_two_names": (
+        "src/walking.rt",
+        "    if query.asked.len() != 1 {\n        return Ok(());\n    }\n",
+        '    if query.asked.len() != 1 {\n        return Err(Failure::text(rt.alloc(), "NAME", "one name"));\n    }\n',
+    ),
+    "walks_in_the_public_community": (
+        "src/walking.rt",
+        "        community: query.community,",
+        '        community: b"public",',
+    ),
+    "walks_by_another_stride": (
+        "src/walking.rt",
+        "        stride,\n",
+        "        stride: Stride::Bulk(10),\n",
+    ),
+    "walks_in_numbers_unasked": (
+        "src/walking.rt",
+        "            &query.known.labels(rt.alloc())?,",
+        "            &InNumbers,",
+    ),
+    "walks_by_names_where_numbers_are_asked": (
+        "src/walking.rt",
+        "    if query.prints_names {",
+        "    if !query.prints_names {",
+    ),
+    "walks_another_name": (
+        "src/walking.rt",
+        "    let plan = WalkPlan {\n        community: query.community,\n        start: &query.asked[0],",
+        "    let Ok(start) = mon_oid::Oid::from_parts(rt.alloc(), &[1, 3]) else {\n        return Ok(());\n    };\n    let plan = WalkPlan {\n        community: query.community,\n        start: &start,",
+    ),
+    "lacks_memory_for_each_walk": (
+        "src/walking.rt",
+        "    if query.asked.len() != 1 {\n        return Ok(());\n    }\n",
+        "    if query.asked.len() != 1 {\n        return Ok(());\n    }\n    if query.asked.len() == 1 {\n        return Err(Failure::from(mon_app::AppFault::OutOfMemory));\n    }\n",
+    ),
+    "does_not_walk": (
+        "src/walking.rt",
+        "    match walk_agent(rt, host, agent.address, plan, names) {\n        Ok(()) => Ok(()),\n        Err(fault) => Err(walk_failure(rt.alloc(), agent.word, fault)),\n    }\n",
+        "    Ok(())\n",
+    ),
+    "times_out_without_a_question": (
+        "src/walking.rt",
+        "    match walk_agent(rt, host, agent.address, plan, names) {\n        Ok(()) => Ok(()),\n        Err(fault) => Err(walk_failure(rt.alloc(), agent.word, fault)),\n    }\n",
+        "    Err(answer_failure(rt.alloc(), agent.word, mon_app::AppFault::Timeout))\n",
+    ),
+    "ends_a_walk_well_whatever_fails": (
+        "src/walking.rt",
+        "        Err(fault) => Err(walk_failure(rt.alloc(), agent.word, fault)),",
+        "        Err(_) => Ok(()),",
+    ),
+    "walks_again_after_a_failure": (
+        "src/walking.rt",
+        "        Err(fault) => Err(walk_failure(rt.alloc(), agent.word, fault)),",
+        "        Err(_) => match walk_agent(rt, host, agent.address, plan, names) {\n            Ok(()) => Ok(()),\n            Err(fault) => Err(walk_failure(rt.alloc(), agent.word, fault)),\n        },",
+    ),
+    "names_no_agent_in_a_failed_walk": (
+        "src/walking.rt",
+        "        Err(fault) => Err(walk_failure(rt.alloc(), agent.word, fault)),",
+        '        Err(fault) => Err(walk_failure(rt.alloc(), "", fault)),',
+    ),
+    "tells_a_failed_walk_itself": (
+        "src/walking.rt",
+        "        Err(fault) => Err(walk_failure(rt.alloc(), agent.word, fault)),",
+        "        Err(fault) => {\n            let failure = walk_failure(rt.alloc(), agent.word, fault);\n            failure.tell(host);\n            Err(failure)\n        }",
+    ),
+    "shows_a_walk_in_numbers": (
+        "src/walking.rt",
+        "    match walk_agent(rt, host, agent.address, plan, names) {",
+        "    match walk_agent(rt, host, agent.address, plan, &InNumbers) {",
+    ),
+    "walks_at_port_161": (
+        "src/walking.rt",
+        "    match walk_agent(rt, host, agent.address, plan, names) {",
+        "    match walk_agent(rt, host, Addr { port: 161, ..agent.address }, plan, names) {",
+    ),
+    "walks_the_same_twice": (
+        "src/walking.rt",
+        "    mon_app::walk(rt.alloc(), host, &mut wire, plan, names)",
+        "    mon_app::walk(rt.alloc(), host, &mut wire, plan, names)?;\n    mon_app::walk(rt.alloc(), host, &mut wire, plan, names)",
+    ),
+    "forgets_how_a_walk_ended": (
+        "src/walking.rt",
+        "    mon_app::walk(rt.alloc(), host, &mut wire, plan, names)",
+        "    let _ = mon_app::walk(rt.alloc(), host, &mut wire, plan, names);\n    Ok(())",
+    ),
+    "says_whom_it_walks": (
+        "src/walking.rt",
+        "    let mut wire = open_wire(rt, agent)?;",
+        '    host.note(format_args!("snmpmon: walk of {agent}\\n"));\n    let mut wire = open_wire(rt, agent)?;',
+    ),
+    "prints_a_line_of_its_own_first": (
+        "src/walking.rt",
+        "    let mut wire = open_wire(rt, agent)?;",
+        '    let mut wire = open_wire(rt, agent)?;\n    let _ = host.print(b"walk\\n");',
+    ),
+    "times_out_without_a_wire": (
+        "src/walking.rt",
+        "    let mut wire = open_wire(rt, agent)?;",
+        "    let Ok(mut wire) = open_wire(rt, agent) else {\n        return Err(WalkFault::App(mon_app::AppFault::Timeout));\n    };",
+    ),
+    "ends_well_without_a_wire": (
+        "src/walking.rt",
+        "    let mut wire = open_wire(rt, agent)?;",
+        "    let Ok(mut wire) = open_wire(rt, agent) else {\n        return Ok(());\n    };",
+    ),
+    "walks_from_the_root": (
+        "src/walking.rt",
+        "    mon_app::walk(rt.alloc(), host, &mut wire, plan, names)",
+        "    let Ok(root) = mon_oid::Oid::from_parts(rt.alloc(), &[1, 3]) else {\n        return Err(WalkFault::App(mon_app::AppFault::OutOfMemory));\n    };\n    mon_app::walk(rt.alloc(), host, &mut wire, &WalkPlan { start: &root, ..*plan }, names)",
+    ),
+    "walks_for_one_at_once": (
+        "src/walking.rt",
+        "    mon_app::walk(rt.alloc(), host, &mut wire, plan, names)",
+        "    mon_app::walk(rt.alloc(), host, &mut wire, &WalkPlan { stride: Stride::Next, ..*plan }, names)",
+    ),
+    "times_out_at_once": (
+        "src/walking.rt",
+        "    let mut wire = open_wire(rt, agent)?;\n    mon_app::walk(rt.alloc(), host, &mut wire, plan, names)",
+        "    Err(WalkFault::App(mon_app::AppFault::Timeout))",
+    ),
+    "calls_an_agents_fault_one_of_output": (
+        "src/walking.rt",
+        "        WalkFault::App(fault) => answer_failure(alloc, agent, fault),",
+        '        WalkFault::App(_) => answer_failure(alloc, "standard output", mon_app::AppFault::FileFault),',
+    ),
+    "calls_a_fault_of_output_the_agents": (
+        "src/walking.rt",
+        '        WalkFault::Output(reason) => Failure::stream(alloc, "standard output", reason),',
+        "        WalkFault::Output(_) => answer_failure(alloc, agent, mon_app::AppFault::FileFault),",
+    ),
+    "calls_each_agents_fault_a_timeout": (
+        "src/walking.rt",
+        "        WalkFault::App(fault) => answer_failure(alloc, agent, fault),",
+        "        WalkFault::App(_) => answer_failure(alloc, agent, mon_app::AppFault::Timeout),",
+    ),
+    "names_the_agent_where_output_fails": (
+        "src/walking.rt",
+        '        WalkFault::Output(reason) => Failure::stream(alloc, "standard output", reason),',
+        "        WalkFault::Output(reason) => Failure::stream(alloc, agent, reason),",
+    ),
+    "names_standard_error_where_output_fails": (
+        "src/walking.rt",
+        '        WalkFault::Output(reason) => Failure::stream(alloc, "standard output", reason),',
+        '        WalkFault::Output(reason) => Failure::stream(alloc, "standard error", reason),',
+    ),
+    "names_standard_output_where_the_agent_fails": (
+        "src/walking.rt",
+        "        WalkFault::App(fault) => answer_failure(alloc, agent, fault),",
+        '        WalkFault::App(fault) => answer_failure(alloc, "standard output", fault),',
+    ),
+    "says_less_of_an_agents_fault": (
+        "src/walking.rt",
+        "        WalkFault::App(fault) => answer_failure(alloc, agent, fault),",
+        "        WalkFault::App(fault) => Failure::from(fault),",
+    ),
+    "says_where_a_reader_went": (
+        "src/walking.rt",
+        '        WalkFault::Output(reason) => Failure::stream(alloc, "standard output", reason),',
+        '        WalkFault::Output(reason) => {\n            let mon_host::Reason { kind: _, words } = reason;\n            let kind = std::io::ErrorKind::Other;\n            Failure::stream(alloc, "standard output", mon_host::Reason { kind, words })\n        }',
+    ),
+    "ends_each_walk_as_if_cut": (
+        "src/walking.rt",
+        '        WalkFault::Output(reason) => Failure::stream(alloc, "standard output", reason),',
+        '        WalkFault::Output(reason) => {\n            let mon_host::Reason { kind: _, words } = reason;\n            let kind = std::io::ErrorKind::BrokenPipe;\n            Failure::stream(alloc, "standard output", mon_host::Reason { kind, words })\n        }',
+    ),
 }
 
 # Those that break a promise as a whole, each with its function: tests/bodies tries them in the gate.
@@ -250,4 +680,7 @@ PROMISES = {
     "mib_reads_another_path": "listing::print_names",
     "swallows_a_fault": "client::print_answer",
     "says_nothing_of_where": "agent::open_port",
+    "ends_a_walk_well_whatever_fails": "walking::walk_shown",
+    "serves_one_fewer": "agent::serve_all",
+    "tells_of_each_datagram": "agent::tell_untaken",
 }

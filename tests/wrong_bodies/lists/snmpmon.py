@@ -31,4 +31,189 @@ BUGS = {
         "if !failure.is_cut() {",
         "if failure.is_cut() {",
     ),
+    "does_nothing_and_ends_well": (
+        "src/commands.rt",
+        "    match host.arguments() {\n        Ok(words) => start_with(rt, host, words.as_slice()),\n        Err(reason) => end_unlisted(host, reason),\n    }\n",
+        "    0\n",
+    ),
+    "lists_its_arguments_and_ends_well": (
+        "src/commands.rt",
+        "        Ok(words) => start_with(rt, host, words.as_slice()),",
+        "        Ok(_) => 0,",
+    ),
+    "lists_its_arguments_twice": (
+        "src/commands.rt",
+        "    match host.arguments() {\n        Ok(words) => start_with(rt, host, words.as_slice()),\n        Err(reason) => end_unlisted(host, reason),\n    }\n",
+        "    let _ = host.arguments();\n    match host.arguments() {\n        Ok(words) => start_with(rt, host, words.as_slice()),\n        Err(reason) => end_unlisted(host, reason),\n    }\n",
+    ),
+    "has_no_memory_for_arguments_that_are_no_text": (
+        "src/commands.rt",
+        "        _ => refuse(host, NO_TEXT),",
+        "        _ => end(host, Err(Failure::from(AllocError))),",
+    ),
+    "refuses_with_the_status_of_a_failure": (
+        "src/commands.rt",
+        "    host.note(line);\n    2\n",
+        "    host.note(line);\n    1\n",
+    ),
+    "refuses_with_the_status_of_success": (
+        "src/commands.rt",
+        "    host.note(line);\n    2\n",
+        "    host.note(line);\n    0\n",
+    ),
+    "refuses_a_usage_with_the_status_of_success": (
+        "src/commands.rt",
+        "            host.note(error);\n            2\n",
+        "            host.note(error);\n            0\n",
+    ),
+    "says_help_on_standard_error": (
+        "src/commands.rt",
+        "        ErrorKind::DisplayHelp => show_to_end(alloc, host, error),",
+        "        ErrorKind::DisplayHelp => {\n            host.note(error);\n            0\n        }",
+    ),
+    "prints_no_help": (
+        "src/commands.rt",
+        "    print(alloc, host, text?.as_bytes())",
+        "    let _ = text?;\n    Ok(())",
+    ),
+    "runs_a_station_without_rounds": (
+        "src/commands.rt",
+        "    if asked.lacks_rounds() {\n        return refuse(host, NO_ROUNDS);\n    }\n",
+        "",
+    ),
+    "wants_an_interval_before_rounds": (
+        "src/commands.rt",
+        "    if asked.lacks_rounds() {\n        return refuse(host, NO_ROUNDS);\n    }\n    if asked.lacks_interval() {\n        return refuse(host, NO_INTERVAL);\n    }\n",
+        "    if asked.lacks_interval() {\n        return refuse(host, NO_INTERVAL);\n    }\n    if asked.lacks_rounds() {\n        return refuse(host, NO_ROUNDS);\n    }\n",
+    ),
+    "says_that_rounds_are_an_interval": (
+        "src/commands.rt",
+        "        return refuse(host, NO_ROUNDS);",
+        "        return refuse(host, NO_INTERVAL);",
+    ),
+    "runs_a_command_twice": (
+        "src/commands.rt",
+        "    let done = run(rt, host, asked);\n",
+        "    let _ = run(rt, host, asked);\n    let done = run(rt, host, asked);\n",
+    ),
+    "ends_well_whatever_a_command_gives": (
+        "src/commands.rt",
+        "    end(host, done)\n",
+        "    let _ = done;\n    0\n",
+    ),
+    "hints_after_a_command": (
+        "src/commands.rt",
+        "    prepare(host, reads_input(&asked));\n    let done = run(rt, host, asked);\n",
+        "    let done = run(rt, host, asked);\n    prepare(host, reads_input(&asked));\n",
+    ),
+    "hints_before_each_command": (
+        "src/commands.rt",
+        "    prepare(host, reads_input(&asked));",
+        "    prepare(host, true);",
+    ),
+    "reads_nothing_for_a_rehearsal": (
+        "src/commands.rt",
+        "        Asked::Replay(_) | Asked::Answer(_) | Asked::Rehearse(_)",
+        "        Asked::Replay(_) | Asked::Answer(_)",
+    ),
+    "tells_a_failure_twice": (
+        "src/commands.rt",
+        "                failure.tell(host);",
+        "                failure.tell(host);\n                failure.tell(host);",
+    ),
+    "ends_a_failure_with_the_status_of_success": (
+        "src/commands.rt",
+        "            if !failure.is_cut() {\n                failure.tell(host);\n            }\n            1\n",
+        "            if !failure.is_cut() {\n                failure.tell(host);\n            }\n            0\n",
+    ),
+    "ends_a_cut_with_the_status_of_success": (
+        "src/commands.rt",
+        "            if !failure.is_cut() {\n                failure.tell(host);\n            }\n            1\n",
+        "            if failure.is_cut() {\n                return 0;\n            }\n            failure.tell(host);\n            1\n",
+    ),
+    "ends_well_with_the_status_of_a_failure": (
+        "src/commands.rt",
+        "        Ok(()) => 0,",
+        "        Ok(()) => 1,",
+    ),
+    "says_that_it_ended_well": (
+        "src/commands.rt",
+        "        Ok(()) => 0,",
+        '        Ok(()) => {\n            host.note("snmpmon: done\\n");\n            0\n        }',
+    ),
+    "walk_runs_next": (
+        "src/commands.rt",
+        "        Asked::Walk(words) => walk(rt, host, words),",
+        "        Asked::Walk(words) => next(rt, host, words.request),",
+    ),
+    "walk_does_nothing": (
+        "src/commands.rt",
+        "        Asked::Walk(words) => walk(rt, host, words),",
+        "        Asked::Walk(_) => Ok(()),",
+    ),
+    "walk_runs_by_get_next_alone": (
+        "src/commands.rt",
+        "        Asked::Walk(words) => walk(rt, host, words),",
+        "        Asked::Walk(words) => walk(rt, host, mon_cli::WalkArgs { bulk: 0, ..words }),",
+    ),
+    "walk_swallows_its_failure": (
+        "src/commands.rt",
+        "        Asked::Walk(words) => walk(rt, host, words),",
+        "        Asked::Walk(words) => {\n            let _ = walk(rt, host, words);\n            Ok(())\n        }",
+    ),
+    "bulk_runs_walk": (
+        "src/commands.rt",
+        "        Asked::Bulk(words) => bulk(rt, host, words),",
+        "        Asked::Bulk(words) => walk(rt, host, mon_cli::WalkArgs { request: words.request, bulk: 10 }),",
+    ),
+    "set_runs_get": (
+        "src/commands.rt",
+        "        Asked::Set(words) => set(rt, host, words),",
+        "        Asked::Set(words) => get(rt, host, words.request),",
+    ),
+    "agent_runs_answer": (
+        "src/commands.rt",
+        "        Asked::Agent(words) => serve_agent(rt, host, words),",
+        "        Asked::Agent(words) => print_answers(\n            alloc,\n            host,\n            mon_cli::AnswerArgs {\n                settings: words.settings,\n                boots: words.boots,\n                scene: mon_cli::Scene { at: 0, fuses: 0, times: words.count },\n                named: mon_cli::Named { modules: &[], shown: false },\n            },\n        ),",
+    ),
+    "agent_does_nothing": (
+        "src/commands.rt",
+        "        Asked::Agent(words) => serve_agent(rt, host, words),",
+        "        Asked::Agent(_) => Ok(()),",
+    ),
+    "agent_forgets_its_boots": (
+        "src/commands.rt",
+        "        Asked::Agent(words) => serve_agent(rt, host, words),",
+        "        Asked::Agent(words) => serve_agent(rt, host, mon_cli::AgentArgs { boots: None, ..words }),",
+    ),
+    "answer_runs_agent": (
+        "src/commands.rt",
+        "        Asked::Answer(words) => print_answers(alloc, host, words),",
+        "        Asked::Answer(words) => serve_agent(\n            rt,\n            host,\n            mon_cli::AgentArgs {\n                settings: words.settings,\n                boots: words.boots,\n                count: words.scene.times,\n            },\n        ),",
+    ),
+    "station_runs_report": (
+        "src/commands.rt",
+        "        Asked::Station(words) => run_station(rt, host, words),",
+        "        Asked::Station(words) => print_saved_report(\n            alloc,\n            host,\n            mon_cli::ReportArgs {\n                settings: words.settings,\n                labels: words.labels,\n                printed: words.printed,\n            },\n        ),",
+    ),
+    "station_does_nothing": (
+        "src/commands.rt",
+        "        Asked::Station(words) => run_station(rt, host, words),",
+        "        Asked::Station(_) => Ok(()),",
+    ),
+    "station_checks_alone": (
+        "src/commands.rt",
+        "        Asked::Station(words) => run_station(rt, host, words),",
+        "        Asked::Station(words) => run_station(rt, host, mon_cli::StationArgs { checks: true, ..words }),",
+    ),
+    "selftest_does_nothing": (
+        "src/commands.rt",
+        "        Asked::SelfTest => run_self_test(alloc, host),",
+        "        Asked::SelfTest => Ok(()),",
+    ),
+    "version_prints_nothing": (
+        "src/commands.rt",
+        "        Asked::Version => print(alloc, host, VERSION.as_bytes()),",
+        "        Asked::Version => Ok(()),",
+    ),
 }
