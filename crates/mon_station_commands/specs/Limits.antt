@@ -21,11 +21,6 @@ abbrev pub has_some : List ℕ → Bool
 has_some [] = false
 has_some (x ∷ xs) = true
 
--- Within how many milliseconds of one another rounds must end if a station is healthy: three
--- intervals of this many seconds, or half a minute if rounds follow one another at once.
-abbrev pub longest_gap : ℕ → ℕ
-longest_gap interval = if interval == 0 then 30000 else interval * 3000
-
 -- how many milliseconds of an interval, in seconds, each of these stations has to itself if they
 -- poll one after another
 abbrev pub turn_of : (interval stations : ℕ) → ℕ
@@ -93,6 +88,11 @@ kept_lines instances samples file =
 -- how many milliseconds a round of these settings waits if no target answers
 abbrev pub silent_in : StationSettings → ℕ
 silent_in s = waits s.wait_ms (greatest_tries s.core.targets) (has_some s.core.peers)
+
+-- Within how many milliseconds of one another rounds must end if a station of these settings is
+-- healthy: twice the longest round, and an interval of this many seconds.
+abbrev pub longest_gap : StationSettings → ℕ → ℕ
+longest_gap s interval = 2 * (4 * silent_in s) + interval * 1000
 
 -- what limits a station of these settings, whose rounds begin this many seconds apart (0: at once)
 abbrev pub limits_text : StationSettings → ℕ → List ℕ

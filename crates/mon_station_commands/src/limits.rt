@@ -4,7 +4,7 @@ ghost use Rattle.std.specs.Prelude.{◌≡◌, ◌≤◌, ◌<◌, ◌+◌, ◌*
 ghost use Rattle.mon_board.specs.Instance.{AreSized};
 ghost use Rattle.mon_host.specs.Log.{GoesOnBy};
 ghost use Rattle.mon_station_commands.specs.Checking.{AreLimits};
-ghost use Rattle.mon_station_commands.specs.Limits.{greatest_tries, has_some, interval_line, kept_lines, limits_text, outlasting_line, round_line, samples_of, target_line, target_lines, turn_line, turn_lines, turn_of, waits};
+ghost use Rattle.mon_station_commands.specs.Limits.{greatest_tries, has_some, interval_line, kept_lines, limits_text, longest_gap, outlasting_line, round_line, samples_of, target_line, target_lines, turn_line, turn_lines, turn_of, waits};
 
 use mon_board::Watched;
 use mon_console::{Failure, print};
@@ -62,6 +62,15 @@ fn limits(alloc: Global, settings: &StationSettings, interval: u32) -> Result<St
     put_targets(&mut text, settings.core.targets())?;
     put_kept(&mut text, instances.len(), samples, &settings.file)?;
     Ok(text)
+}
+
+/// Returns within how many milliseconds of one another the rounds of a station of these settings end,
+/// with this interval in seconds (0 for none), if it is healthy: twice the longest round, and an
+/// interval.
+pub(crate) fn longest_gap(settings: &StationSettings, interval: u32) -> u64
+    ensures { result ≡ longest_gap settings.now interval }
+{
+    2 * round_time(settings).most + u64::from(interval) * 1000
 }
 
 /// Adds how long a round may take.
@@ -153,6 +162,7 @@ fn round_time(settings: &StationSettings) -> RoundTime
     ensures least { result.least ≡ waits settings.now.wait_ms 0 (has_some settings.now.core.peers) }
     ensures silent { result.silent ≡ waits settings.now.wait_ms (greatest_tries settings.now.core.targets) (has_some settings.now.core.peers) }
     ensures most { result.most ≡ 4 * waits settings.now.wait_ms (greatest_tries settings.now.core.targets) (has_some settings.now.core.peers) }
+    ensures short { result.most ≤ 4415226380288 }
 {
     let has_peers = !settings.core.peers().is_empty();
     let tries = u32::from(greatest_tries(settings.core.targets()));

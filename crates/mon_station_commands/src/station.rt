@@ -14,7 +14,7 @@ ghost use Rattle.mon_station_commands.specs.Station.{AreReports, IsRunning, IsSe
 ghost use Rattle.mon_station_commands.specs.Steps.{OrMemory, SomeOr, only};
 ghost use Rattle.mon_station_commands.specs.Telling.{http_line};
 
-use crate::limits::print_limits;
+use crate::limits::{longest_gap, print_limits};
 use crate::live::{Live, Place, Reports, Setup, open_transport, run_span, start_station};
 use crate::opening::{open_file, or_no_socket, or_socket_failure, unsaved};
 use crate::pace::{now, start_pace, wait_for_next};
@@ -239,7 +239,7 @@ fn open_shown<R: Files<File = File> + Net + AllocGlobal, H: Host>(
 {
     let given = PolledSocket::open(rt, settings.listen);
     let socket = or_no_socket(rt.alloc(), host, settings, given)?;
-    let (web, at) = open_web(rt, front, timing)?;
+    let (web, at) = open_web(rt, front, settings, timing)?;
     let place = open_place(rt, host, settings, socket.address())?;
     Ok(Shown {
         socket,
@@ -269,16 +269,20 @@ fn open_place<R: Files<File = File> + AllocGlobal, H: Host>(
 fn open_web<R: Net + AllocGlobal>(
     rt: &R,
     front: Front<'_, '_>,
+    settings: &StationSettings,
     timing: Timing,
 ) -> Result<(Web, SocketAddr), Failure>
     ensures failed { SomeOr (IsNoSocket front.entry.at) result }
     ensures names { IfOk result (λ web. map string_bytes web.0.table.site.names.items ≡ map (λ t. t.now) front.entry.hosts.now) }
-    ensures limit { IfOk result (λ web. web.0.table.site.limit ≡ longest_gap timing.interval) }
+    ensures limit { IfOk result (λ web. web.0.table.site.limit ≡ longest_gap settings.now timing.interval) }
 {
     let (alloc, at) = (rt.alloc(), front.at);
     let door = or_socket_failure(alloc, at, Door::open(rt, at.socket()))?;
     let place = or_socket_failure(alloc, at, door.address())?;
-    let site = Site::new(longest_gap(timing.interval), copies_of(alloc, front.hosts)?);
+    let site = Site::new(
+        longest_gap(settings, timing.interval),
+        copies_of(alloc, front.hosts)?,
+    );
     let web = or_socket_failure(alloc, at, Web::new(alloc, door, site))?;
     Ok((web, place))
 }
@@ -292,17 +296,6 @@ fn copies_of(alloc: Global, texts: &[&str]) -> Result<Vec<String>, AllocError>
         copies.push(String::from_str(alloc, text)?)?;
     }
     Ok(copies)
-}
-
-/// Returns within how many milliseconds of one another rounds have to end: three intervals, or half a
-/// minute if rounds follow one another at once.
-fn longest_gap(interval: u32) -> u64
-    ensures { result ≡ longest_gap interval }
-{
-    if interval == 0 {
-        return 30_000;
-    }
-    u64::from(interval) * 3000
 }
 
 /// Returns the address that `--http` gives, if it is given.
