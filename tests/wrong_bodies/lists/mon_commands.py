@@ -113,12 +113,12 @@ BUGS = {
     ),
     "next_gets": (
         "src/client.rt",
-        "    ask(rt, host, request, Asking::GetNext)",
-        "    ask(rt, host, request, Asking::Get)",
+        "    ask(alloc, host, net, request, Asking::GetNext)",
+        "    ask(alloc, host, net, request, Asking::Get)",
     ),
     "prints_no_answer": (
         "src/client.rt",
-        "    print(rt.alloc(), host, text.as_bytes())",
+        "    print(alloc, host, text.as_bytes())",
         "    Ok(())",
     ),
     "each_question_times_out": (
@@ -128,8 +128,8 @@ BUGS = {
     ),
     "fails_for_another_fault": (
         "src/client.rt",
-        "        Err(fault) => Err(answer_failure(rt.alloc(), query.agent.word, fault)),",
-        "        Err(_) => Err(answer_failure(rt.alloc(), query.agent.word, AppFault::BadText)),",
+        "        Err(fault) => Err(answer_failure(alloc, query.agent.word, fault)),",
+        "        Err(_) => Err(answer_failure(alloc, query.agent.word, AppFault::BadText)),",
     ),
     "lists_nothing": (
         "src/listing.rt",
@@ -195,8 +195,8 @@ BUGS = {
     ),
     "prints_the_community": (
         "src/client.rt",
-        "print(rt.alloc(), host, text.as_bytes())",
-        "print(rt.alloc(), host, query.community)",
+        "print(alloc, host, text.as_bytes())",
+        "print(alloc, host, query.community)",
     ),
     "reads_modules_twice": (
         "src/query.rt",
@@ -230,8 +230,8 @@ BUGS = {
     ),
     "swallows_a_fault": (
         "src/client.rt",
-        "let text = answer(rt, query, asking)?;",
-        "let Ok(text) = answer(rt, query, asking) else { return Ok(()); };",
+        "let text = answer(alloc, net, query, asking)?;",
+        "let Ok(text) = answer(alloc, net, query, asking) else { return Ok(()); };",
     ),
     "says_nothing_of_where": (
         "src/agent.rt",
@@ -365,43 +365,43 @@ BUGS = {
     ),
     "listens_and_serves_nobody": (
         "src/agent.rt",
-        "    serve_all(rt.alloc(), host, &mut port, &mut agent, words.count)",
+        "    serve_all(alloc, host, &mut port, &mut agent, words.count)",
         "    Ok(())",
     ),
     "serves_one_whatever_is_asked": (
         "src/agent.rt",
-        "    serve_all(rt.alloc(), host, &mut port, &mut agent, words.count)",
-        "    serve_all(rt.alloc(), host, &mut port, &mut agent, 1)",
+        "    serve_all(alloc, host, &mut port, &mut agent, words.count)",
+        "    serve_all(alloc, host, &mut port, &mut agent, 1)",
     ),
     "serves_one_more_than_is_asked": (
         "src/agent.rt",
-        "    serve_all(rt.alloc(), host, &mut port, &mut agent, words.count)",
-        "    serve_all(rt.alloc(), host, &mut port, &mut agent, words.count.saturating_add(1))",
+        "    serve_all(alloc, host, &mut port, &mut agent, words.count)",
+        "    serve_all(alloc, host, &mut port, &mut agent, words.count.saturating_add(1))",
     ),
     "serves_all_again": (
         "src/agent.rt",
-        "    serve_all(rt.alloc(), host, &mut port, &mut agent, words.count)",
-        "    serve_all(rt.alloc(), host, &mut port, &mut agent, words.count)?;\n    serve_all(rt.alloc(), host, &mut port, &mut agent, words.count)",
+        "    serve_all(alloc, host, &mut port, &mut agent, words.count)",
+        "    serve_all(alloc, host, &mut port, &mut agent, words.count)?;\n    serve_all(alloc, host, &mut port, &mut agent, words.count)",
     ),
     "swallows_what_ends_the_serving": (
         "src/agent.rt",
-        "    serve_all(rt.alloc(), host, &mut port, &mut agent, words.count)",
-        "    let _ = serve_all(rt.alloc(), host, &mut port, &mut agent, words.count);\n    Ok(())",
+        "    serve_all(alloc, host, &mut port, &mut agent, words.count)",
+        "    let _ = serve_all(alloc, host, &mut port, &mut agent, words.count);\n    Ok(())",
     ),
     "ignores_the_boots": (
         "src/agent.rt",
-        "    let told = told_of(rt.alloc(), host, words.settings, words.boots)?;",
-        "    let told = told_of(rt.alloc(), host, words.settings, None)?;",
+        "    let told = told_of(alloc, host, words.settings, words.boots)?;",
+        "    let told = told_of(alloc, host, words.settings, None)?;",
     ),
     "reads_the_settings_twice": (
         "src/agent.rt",
-        "    let told = told_of(rt.alloc(), host, words.settings, words.boots)?;",
-        "    let _ = told_of(rt.alloc(), host, words.settings, words.boots)?;\n    let told = told_of(rt.alloc(), host, words.settings, words.boots)?;",
+        "    let told = told_of(alloc, host, words.settings, words.boots)?;",
+        "    let _ = told_of(alloc, host, words.settings, words.boots)?;\n    let told = told_of(alloc, host, words.settings, words.boots)?;",
     ),
     "reads_other_settings": (
         "src/agent.rt",
-        "    let told = told_of(rt.alloc(), host, words.settings, words.boots)?;",
-        '    let told = told_of(rt.alloc(), host, "agent.toml", words.boots)?;',
+        "    let told = told_of(alloc, host, words.settings, words.boots)?;",
+        '    let told = told_of(alloc, host, "agent.toml", words.boots)?;',
     ),
     "serves_without_a_word": (
         "src/agent.rt",
@@ -410,8 +410,8 @@ BUGS = {
     ),
     "serves_before_it_says_where": (
         "src/agent.rt",
-        "    let mut port = open_port(rt, host, listen)?;\n    serve_all(rt.alloc(), host, &mut port, &mut agent, words.count)",
-        '    let mut port = listen_at(rt, listen)?;\n    let at = port.address()?;\n    serve_all(rt.alloc(), host, &mut port, &mut agent, words.count)?;\n    host.note(format_args!("snmpmon: agent at {at}\\n"));\n    Ok(())',
+        "    let mut port = open_port(rt, host, listen)?;\n    serve_all(alloc, host, &mut port, &mut agent, words.count)",
+        '    let mut port = listen_at(rt, listen)?;\n    let at = port.address()?;\n    serve_all(alloc, host, &mut port, &mut agent, words.count)?;\n    host.note(format_args!("snmpmon: agent at {at}\\n"));\n    Ok(())',
     ),
     "listens_at_a_free_port": (
         "src/agent.rt",
@@ -436,7 +436,7 @@ BUGS = {
     "prints_where_it_listens": (
         "src/agent.rt",
         '    host.note(format_args!("snmpmon: agent at {at}\\n"));',
-        '    print(rt.alloc(), host, b"snmpmon: agent\\n")?;\n    let _ = at;',
+        '    print(alloc, host, b"snmpmon: agent\\n")?;\n    let _ = at;',
     ),
     "opens_another_port_than_it_says": (
         "src/agent.rt",
@@ -450,7 +450,7 @@ BUGS = {
     ),
     "fails_as_if_the_port_had": (
         "src/agent.rt",
-        "    serve_all(rt.alloc(), host, &mut port, &mut agent, words.count)",
+        "    serve_all(alloc, host, &mut port, &mut agent, words.count)",
         "    Err(Failure::from(AppFault::SocketFault {\n        reason: mon_app::SocketReason::Other,\n    }))",
     ),
     "lacks_memory_to_serve": (
@@ -460,48 +460,48 @@ BUGS = {
     ),
     "walks_by_get_next_always": (
         "src/walking.rt",
-        "    walk_query(rt, host, &query, stride_of(words.bulk))",
-        "    walk_query(rt, host, &query, Stride::Next)",
+        "    walk_query(alloc, host, net, &query, stride_of(words.bulk))",
+        "    walk_query(alloc, host, net, &query, Stride::Next)",
     ),
     "asks_for_one_more_at_once": (
         "src/walking.rt",
-        "    walk_query(rt, host, &query, stride_of(words.bulk))",
-        "    walk_query(rt, host, &query, stride_of(words.bulk.saturating_add(1)))",
+        "    walk_query(alloc, host, net, &query, stride_of(words.bulk))",
+        "    walk_query(alloc, host, net, &query, stride_of(words.bulk.saturating_add(1)))",
     ),
     "reads_its_arguments_twice": (
         "src/walking.rt",
-        "    let query = query_of(rt.alloc(), host, words.request)?;",
-        "    let _ = query_of(rt.alloc(), host, words.request)?;\n    let query = query_of(rt.alloc(), host, words.request)?;",
+        "    let query = query_of(alloc, host, words.request)?;",
+        "    let _ = query_of(alloc, host, words.request)?;\n    let query = query_of(alloc, host, words.request)?;",
     ),
     "reads_modules_after_the_walk": (
         "src/walking.rt",
-        "    walk_query(rt, host, &query, stride_of(words.bulk))",
-        "    walk_query(rt, host, &query, stride_of(words.bulk))?;\n    let _ = mon_console::names_of(rt.alloc(), host, words.request.named.modules)?;\n    Ok(())",
+        "    walk_query(alloc, host, net, &query, stride_of(words.bulk))",
+        "    walk_query(alloc, host, net, &query, stride_of(words.bulk))?;\n    let _ = mon_console::names_of(alloc, host, words.request.named.modules)?;\n    Ok(())",
     ),
     "reads_a_query_and_walks_nowhere": (
         "src/walking.rt",
-        "    walk_query(rt, host, &query, stride_of(words.bulk))",
+        "    walk_query(alloc, host, net, &query, stride_of(words.bulk))",
         "    Ok(())",
     ),
     "swallows_a_query_without_meaning": (
         "src/walking.rt",
-        "    let query = query_of(rt.alloc(), host, words.request)?;",
-        "    let Ok(query) = query_of(rt.alloc(), host, words.request) else {\n        return Ok(());\n    };",
+        "    let query = query_of(alloc, host, words.request)?;",
+        "    let Ok(query) = query_of(alloc, host, words.request) else {\n        return Ok(());\n    };",
     ),
     "swallows_what_ends_the_walk": (
         "src/walking.rt",
-        "    walk_query(rt, host, &query, stride_of(words.bulk))",
-        "    let _ = walk_query(rt, host, &query, stride_of(words.bulk));\n    Ok(())",
+        "    walk_query(alloc, host, net, &query, stride_of(words.bulk))",
+        "    let _ = walk_query(alloc, host, net, &query, stride_of(words.bulk));\n    Ok(())",
     ),
     "walks_twice": (
         "src/walking.rt",
-        "    walk_query(rt, host, &query, stride_of(words.bulk))",
-        "    walk_query(rt, host, &query, stride_of(words.bulk))?;\n    walk_query(rt, host, &query, stride_of(words.bulk))",
+        "    walk_query(alloc, host, net, &query, stride_of(words.bulk))",
+        "    walk_query(alloc, host, net, &query, stride_of(words.bulk))?;\n    walk_query(alloc, host, net, &query, stride_of(words.bulk))",
     ),
     "ends_with_an_empty_line": (
         "src/walking.rt",
-        "    walk_query(rt, host, &query, stride_of(words.bulk))",
-        '    walk_query(rt, host, &query, stride_of(words.bulk))?;\n    mon_console::print(rt.alloc(), host, b"\\n")',
+        "    walk_query(alloc, host, net, &query, stride_of(words.bulk))",
+        '    walk_query(alloc, host, net, &query, stride_of(words.bulk))?;\n    mon_console::print(alloc, host, b"\\n")',
     ),
     "walks_the_first_of_two_names": (
         "src/walking.rt",
@@ -511,7 +511,7 @@ BUGS = {
     "refuses_two_names": (
         "src/walking.rt",
         "    if query.asked.len() != 1 {\n        return Ok(());\n    }\n",
-        '    if query.asked.len() != 1 {\n        return Err(Failure::text(rt.alloc(), "NAME", "one name"));\n    }\n',
+        '    if query.asked.len() != 1 {\n        return Err(Failure::text(alloc, "NAME", "one name"));\n    }\n',
     ),
     "walks_in_the_public_community": (
         "src/walking.rt",
@@ -525,7 +525,7 @@ BUGS = {
     ),
     "walks_in_numbers_unasked": (
         "src/walking.rt",
-        "            &query.known.labels(rt.alloc())?,",
+        "            &query.known.labels(alloc)?,",
         "            &InNumbers,",
     ),
     "walks_by_names_where_numbers_are_asked": (
@@ -536,7 +536,7 @@ BUGS = {
     "walks_another_name": (
         "src/walking.rt",
         "    let plan = WalkPlan {\n        community: query.community,\n        start: &query.asked[0],",
-        "    let Ok(start) = mon_oid::Oid::from_parts(rt.alloc(), &[1, 3]) else {\n        return Ok(());\n    };\n    let plan = WalkPlan {\n        community: query.community,\n        start: &start,",
+        "    let Ok(start) = mon_oid::Oid::from_parts(alloc, &[1, 3]) else {\n        return Ok(());\n    };\n    let plan = WalkPlan {\n        community: query.community,\n        start: &start,",
     ),
     "lacks_memory_for_each_walk": (
         "src/walking.rt",
@@ -545,87 +545,87 @@ BUGS = {
     ),
     "does_not_walk": (
         "src/walking.rt",
-        "    match walk_agent(rt, host, agent.address, plan, names) {\n        Ok(()) => Ok(()),\n        Err(fault) => Err(walk_failure(rt.alloc(), agent.word, fault)),\n    }\n",
+        "    match walk_agent(alloc, host, net, route, names) {\n        Ok(()) => Ok(()),\n        Err(fault) => Err(walk_failure(alloc, route.agent.word, fault)),\n    }\n",
         "    Ok(())\n",
     ),
     "times_out_without_a_question": (
         "src/walking.rt",
-        "    match walk_agent(rt, host, agent.address, plan, names) {\n        Ok(()) => Ok(()),\n        Err(fault) => Err(walk_failure(rt.alloc(), agent.word, fault)),\n    }\n",
-        "    Err(answer_failure(rt.alloc(), agent.word, mon_app::AppFault::Timeout))\n",
+        "    match walk_agent(alloc, host, net, route, names) {\n        Ok(()) => Ok(()),\n        Err(fault) => Err(walk_failure(alloc, route.agent.word, fault)),\n    }\n",
+        "    Err(answer_failure(alloc, agent.word, mon_app::AppFault::Timeout))\n",
     ),
     "ends_a_walk_well_whatever_fails": (
         "src/walking.rt",
-        "        Err(fault) => Err(walk_failure(rt.alloc(), agent.word, fault)),",
+        "        Err(fault) => Err(walk_failure(alloc, route.agent.word, fault)),",
         "        Err(_) => Ok(()),",
     ),
     "walks_again_after_a_failure": (
         "src/walking.rt",
-        "        Err(fault) => Err(walk_failure(rt.alloc(), agent.word, fault)),",
-        "        Err(_) => match walk_agent(rt, host, agent.address, plan, names) {\n            Ok(()) => Ok(()),\n            Err(fault) => Err(walk_failure(rt.alloc(), agent.word, fault)),\n        },",
+        "        Err(fault) => Err(walk_failure(alloc, route.agent.word, fault)),",
+        "        Err(_) => match walk_agent(alloc, host, net, route, names) {\n            Ok(()) => Ok(()),\n            Err(fault) => Err(walk_failure(alloc, route.agent.word, fault)),\n        },",
     ),
     "names_no_agent_in_a_failed_walk": (
         "src/walking.rt",
-        "        Err(fault) => Err(walk_failure(rt.alloc(), agent.word, fault)),",
-        '        Err(fault) => Err(walk_failure(rt.alloc(), "", fault)),',
+        "        Err(fault) => Err(walk_failure(alloc, route.agent.word, fault)),",
+        '        Err(fault) => Err(walk_failure(alloc, "", fault)),',
     ),
     "tells_a_failed_walk_itself": (
         "src/walking.rt",
-        "        Err(fault) => Err(walk_failure(rt.alloc(), agent.word, fault)),",
-        "        Err(fault) => {\n            let failure = walk_failure(rt.alloc(), agent.word, fault);\n            failure.tell(host);\n            Err(failure)\n        }",
+        "        Err(fault) => Err(walk_failure(alloc, route.agent.word, fault)),",
+        "        Err(fault) => {\n            let failure = walk_failure(alloc, route.agent.word, fault);\n            failure.tell(host);\n            Err(failure)\n        }",
     ),
     "shows_a_walk_in_numbers": (
         "src/walking.rt",
-        "    match walk_agent(rt, host, agent.address, plan, names) {",
-        "    match walk_agent(rt, host, agent.address, plan, &InNumbers) {",
+        "    match walk_agent(alloc, host, net, route, names) {",
+        "    match walk_agent(alloc, host, net, agent.address, plan, &InNumbers) {",
     ),
     "walks_at_port_161": (
         "src/walking.rt",
-        "    match walk_agent(rt, host, agent.address, plan, names) {",
-        "    match walk_agent(rt, host, Addr { port: 161, ..agent.address }, plan, names) {",
+        "    match walk_agent(alloc, host, net, route, names) {",
+        "    match walk_agent(alloc, host, net, Addr { port: 161, ..agent.address }, plan, names) {",
     ),
     "walks_the_same_twice": (
         "src/walking.rt",
-        "    mon_app::walk(rt.alloc(), host, &mut wire, plan, names)",
-        "    mon_app::walk(rt.alloc(), host, &mut wire, plan, names)?;\n    mon_app::walk(rt.alloc(), host, &mut wire, plan, names)",
+        "    mon_app::walk(alloc, host, &mut wire, &route.plan, names)",
+        "    mon_app::walk(alloc, host, &mut wire, &route.plan, names)?;\n    mon_app::walk(alloc, host, &mut wire, &route.plan, names)",
     ),
     "forgets_how_a_walk_ended": (
         "src/walking.rt",
-        "    mon_app::walk(rt.alloc(), host, &mut wire, plan, names)",
-        "    let _ = mon_app::walk(rt.alloc(), host, &mut wire, plan, names);\n    Ok(())",
+        "    mon_app::walk(alloc, host, &mut wire, &route.plan, names)",
+        "    let _ = mon_app::walk(alloc, host, &mut wire, &route.plan, names);\n    Ok(())",
     ),
     "says_whom_it_walks": (
         "src/walking.rt",
-        "    let mut wire = open_wire(rt, agent)?;",
-        '    host.note(format_args!("snmpmon: walk of {agent}\\n"));\n    let mut wire = open_wire(rt, agent)?;',
+        "    let mut wire = net.open(agent)?;",
+        '    host.note(format_args!("snmpmon: walk of {agent}\\n"));\n    let mut wire = net.open(agent)?;',
     ),
     "prints_a_line_of_its_own_first": (
         "src/walking.rt",
-        "    let mut wire = open_wire(rt, agent)?;",
-        '    let mut wire = open_wire(rt, agent)?;\n    let _ = host.print(b"walk\\n");',
+        "    let mut wire = net.open(agent)?;",
+        '    let mut wire = net.open(agent)?;\n    let _ = host.print(b"walk\\n");',
     ),
     "times_out_without_a_wire": (
         "src/walking.rt",
-        "    let mut wire = open_wire(rt, agent)?;",
+        "    let mut wire = net.open(agent)?;",
         "    let Ok(mut wire) = open_wire(rt, agent) else {\n        return Err(WalkFault::App(mon_app::AppFault::Timeout));\n    };",
     ),
     "ends_well_without_a_wire": (
         "src/walking.rt",
-        "    let mut wire = open_wire(rt, agent)?;",
+        "    let mut wire = net.open(agent)?;",
         "    let Ok(mut wire) = open_wire(rt, agent) else {\n        return Ok(());\n    };",
     ),
     "walks_from_the_root": (
         "src/walking.rt",
-        "    mon_app::walk(rt.alloc(), host, &mut wire, plan, names)",
-        "    let Ok(root) = mon_oid::Oid::from_parts(rt.alloc(), &[1, 3]) else {\n        return Err(WalkFault::App(mon_app::AppFault::OutOfMemory));\n    };\n    mon_app::walk(rt.alloc(), host, &mut wire, &WalkPlan { start: &root, ..*plan }, names)",
+        "    mon_app::walk(alloc, host, &mut wire, &route.plan, names)",
+        "    let Ok(root) = mon_oid::Oid::from_parts(alloc, &[1, 3]) else {\n        return Err(WalkFault::App(mon_app::AppFault::OutOfMemory));\n    };\n    mon_app::walk(alloc, host, &mut wire, &WalkPlan { start: &root, ..*plan }, names)",
     ),
     "walks_for_one_at_once": (
         "src/walking.rt",
-        "    mon_app::walk(rt.alloc(), host, &mut wire, plan, names)",
-        "    mon_app::walk(rt.alloc(), host, &mut wire, &WalkPlan { stride: Stride::Next, ..*plan }, names)",
+        "    mon_app::walk(alloc, host, &mut wire, &route.plan, names)",
+        "    mon_app::walk(alloc, host, &mut wire, &WalkPlan { stride: Stride::Next, ..*plan }, names)",
     ),
     "times_out_at_once": (
         "src/walking.rt",
-        "    let mut wire = open_wire(rt, agent)?;\n    mon_app::walk(rt.alloc(), host, &mut wire, plan, names)",
+        "    let mut wire = net.open(agent)?;\n    mon_app::walk(alloc, host, &mut wire, &route.plan, names)",
         "    Err(WalkFault::App(mon_app::AppFault::Timeout))",
     ),
     "calls_an_agents_fault_one_of_output": (

@@ -13,8 +13,8 @@ BUGS = {
     ),
     "runs_another_command": (
         "src/commands.rt",
-        "Asked::Get(request) => get(rt, host, request),",
-        "Asked::Get(request) => next(rt, host, request),",
+        "Asked::Get(request) => get(alloc, host, net, request),",
+        "Asked::Get(request) => next(alloc, host, net, request),",
     ),
     "says_nothing_of_a_failure": (
         "src/commands.rt",
@@ -33,18 +33,18 @@ BUGS = {
     ),
     "does_nothing_and_ends_well": (
         "src/commands.rt",
-        "    match host.arguments() {\n        Ok(words) => start_with(rt, host, words.as_slice()),\n        Err(reason) => end_unlisted(host, reason),\n    }\n",
+        "    match host.arguments() {\n        Ok(words) => start_with(rt, net, host, words.as_slice()),\n        Err(reason) => end_unlisted(host, reason),\n    }\n",
         "    0\n",
     ),
     "lists_its_arguments_and_ends_well": (
         "src/commands.rt",
-        "        Ok(words) => start_with(rt, host, words.as_slice()),",
+        "        Ok(words) => start_with(rt, net, host, words.as_slice()),",
         "        Ok(_) => 0,",
     ),
     "lists_its_arguments_twice": (
         "src/commands.rt",
-        "    match host.arguments() {\n        Ok(words) => start_with(rt, host, words.as_slice()),\n        Err(reason) => end_unlisted(host, reason),\n    }\n",
-        "    let _ = host.arguments();\n    match host.arguments() {\n        Ok(words) => start_with(rt, host, words.as_slice()),\n        Err(reason) => end_unlisted(host, reason),\n    }\n",
+        "    match host.arguments() {\n        Ok(words) => start_with(rt, net, host, words.as_slice()),\n        Err(reason) => end_unlisted(host, reason),\n    }\n",
+        "    let _ = host.arguments();\n    match host.arguments() {\n        Ok(words) => start_with(rt, net, host, words.as_slice()),\n        Err(reason) => end_unlisted(host, reason),\n    }\n",
     ),
     "has_no_memory_for_arguments_that_are_no_text": (
         "src/commands.rt",
@@ -93,8 +93,8 @@ BUGS = {
     ),
     "runs_a_command_twice": (
         "src/commands.rt",
-        "    let done = run(rt, host, asked);\n",
-        "    let _ = run(rt, host, asked);\n    let done = run(rt, host, asked);\n",
+        "    let done = run(rt, net, host, asked);\n",
+        "    let _ = run(rt, net, host, asked);\n    let done = run(rt, net, host, asked);\n",
     ),
     "ends_well_whatever_a_command_gives": (
         "src/commands.rt",
@@ -103,8 +103,8 @@ BUGS = {
     ),
     "hints_after_a_command": (
         "src/commands.rt",
-        "    prepare(host, reads_input(&asked));\n    let done = run(rt, host, asked);\n",
-        "    let done = run(rt, host, asked);\n    prepare(host, reads_input(&asked));\n",
+        "    prepare(host, reads_input(&asked));\n    let done = run(rt, net, host, asked);\n",
+        "    let done = run(rt, net, host, asked);\n    prepare(host, reads_input(&asked));\n",
     ),
     "hints_before_each_command": (
         "src/commands.rt",
@@ -143,48 +143,48 @@ BUGS = {
     ),
     "walk_runs_next": (
         "src/commands.rt",
-        "        Asked::Walk(words) => walk(rt, host, words),",
-        "        Asked::Walk(words) => next(rt, host, words.request),",
+        "        Asked::Walk(words) => walk(alloc, host, net, words),",
+        "        Asked::Walk(words) => next(alloc, host, net, words.request),",
     ),
     "walk_does_nothing": (
         "src/commands.rt",
-        "        Asked::Walk(words) => walk(rt, host, words),",
+        "        Asked::Walk(words) => walk(alloc, host, net, words),",
         "        Asked::Walk(_) => Ok(()),",
     ),
     "walk_runs_by_get_next_alone": (
         "src/commands.rt",
-        "        Asked::Walk(words) => walk(rt, host, words),",
-        "        Asked::Walk(words) => walk(rt, host, mon_cli::WalkArgs { bulk: 0, ..words }),",
+        "        Asked::Walk(words) => walk(alloc, host, net, words),",
+        "        Asked::Walk(words) => walk(alloc, host, net, mon_cli::WalkArgs { bulk: 0, ..words }),",
     ),
     "walk_swallows_its_failure": (
         "src/commands.rt",
-        "        Asked::Walk(words) => walk(rt, host, words),",
-        "        Asked::Walk(words) => {\n            let _ = walk(rt, host, words);\n            Ok(())\n        }",
+        "        Asked::Walk(words) => walk(alloc, host, net, words),",
+        "        Asked::Walk(words) => {\n            let _ = walk(alloc, host, net, words);\n            Ok(())\n        }",
     ),
     "bulk_runs_walk": (
         "src/commands.rt",
-        "        Asked::Bulk(words) => bulk(rt, host, words),",
-        "        Asked::Bulk(words) => walk(rt, host, mon_cli::WalkArgs { request: words.request, bulk: 10 }),",
+        "        Asked::Bulk(words) => bulk(alloc, host, net, words),",
+        "        Asked::Bulk(words) => walk(alloc, host, net, mon_cli::WalkArgs { request: words.request, bulk: 10 }),",
     ),
     "set_runs_get": (
         "src/commands.rt",
-        "        Asked::Set(words) => set(rt, host, words),",
-        "        Asked::Set(words) => get(rt, host, words.request),",
+        "        Asked::Set(words) => set(alloc, host, net, words),",
+        "        Asked::Set(words) => get(alloc, host, net, words.request),",
     ),
     "agent_runs_answer": (
         "src/commands.rt",
-        "        Asked::Agent(words) => serve_agent(rt, host, words),",
+        "        Asked::Agent(words) => serve_agent(alloc, host, net, words),",
         "        Asked::Agent(words) => print_answers(\n            alloc,\n            host,\n            mon_cli::AnswerArgs {\n                settings: words.settings,\n                boots: words.boots,\n                scene: mon_cli::Scene { at: 0, fuses: 0, times: words.count },\n                named: mon_cli::Named { modules: &[], shown: false },\n            },\n        ),",
     ),
     "agent_does_nothing": (
         "src/commands.rt",
-        "        Asked::Agent(words) => serve_agent(rt, host, words),",
+        "        Asked::Agent(words) => serve_agent(alloc, host, net, words),",
         "        Asked::Agent(_) => Ok(()),",
     ),
     "agent_forgets_its_boots": (
         "src/commands.rt",
-        "        Asked::Agent(words) => serve_agent(rt, host, words),",
-        "        Asked::Agent(words) => serve_agent(rt, host, mon_cli::AgentArgs { boots: None, ..words }),",
+        "        Asked::Agent(words) => serve_agent(alloc, host, net, words),",
+        "        Asked::Agent(words) => serve_agent(alloc, host, net, mon_cli::AgentArgs { boots: None, ..words }),",
     ),
     "answer_runs_agent": (
         "src/commands.rt",
