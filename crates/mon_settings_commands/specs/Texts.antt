@@ -2,14 +2,14 @@
 use Rattle.std.specs.Prelude.{◌≡◌, ◌<◌, ◌≤◌, ◌⊎◌, ℕ, ◌+◌, List, [], ◌∷◌, Some, None, option_copied, string_bytes, codes}
 use Rattle.mon_app.specs.declared.fault.AppFault.TheVariants.{BadText}
 use Rattle.mon_cli.specs.declared.meaning.SettingsArgs.{SettingsArgs}
-use Rattle.mon_console.specs.Failure.{IsMemory}
+use Rattle.mon_console.specs.Failure.{IsMemory, IsOfText}
 use Rattle.mon_console.specs.declared.failure.Failure.{Failure}
 use Rattle.mon_faults.specs.declared.fault.Fault.TheVariants.{App}
 use Rattle.mon_survey.specs.declared.options.Options.{Options}
 use Rattle.mon_survey.specs.declared.options.Peer.{Peer}
 use Rattle.mon_udp.specs.Addr.{addr_of, addr_text}
 use Rattle.mon_udp.specs.declared.addr.Addr.{Addr}
-use Rattle.mon_settings_commands.specs.Named.{NamesPeer, file_name, given_or}
+use Rattle.mon_settings_commands.specs.Named.{IsNoPeer, NamesPeer, file_name, given_or}
 use Rattle.mon_settings_commands.specs.Source.{Source, peers_named}
 use Rattle.mon_settings_commands.specs.declared.settings.Texts.{Texts}
 
@@ -21,6 +21,16 @@ moved_up up a = record { octets = a.octets; port = a.port + up }
 abbrev pub IsCounted : List ℕ → ℕ → List ℕ → Type 0
 IsCounted text up written = ((addr_of text ≡ None) × (written ≡ text))
     ⊎ ((a : Addr) × (addr_of text ≡ Some a) × (a.port + up < 65536) × (written ≡ addr_text (moved_up up a)))
+
+-- the port of the address that a text writes cannot be counted up so far, as the failure says
+abbrev pub IsUncounted : ℕ → List ℕ → Failure → Type 0
+IsUncounted up text failure = (a : Addr) × (addr_of text ≡ Some a) × (65536 ≤ a.port + up)
+    × IsOfText text (codes "an address whose port can be counted up") failure
+
+-- why a text's peer is not taken: it names none, or the port of its address cannot be counted up
+abbrev pub IsUntakenPeer : ℕ → List ℕ → Failure → Type 0
+IsUntakenPeer up text failure = IsNoPeer text failure
+    ⊎ ((station : ℕ) × (address : List ℕ) × NamesPeer text station address × IsUncounted up address failure)
 
 -- a peer is the one that a text names, with its port counted up
 pub record IsPeer (up : ℕ) (text : List ℕ) (peer : Peer) : Type 0 where

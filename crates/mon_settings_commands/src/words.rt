@@ -1,12 +1,12 @@
 //! What the options of `settings` say.
 
-ghost use Rattle.std.specs.Prelude.{◌≡◌, ◌≢◌, ◌+◌, ◌++◌, ◌∷◌, ◌<◌, ◌≤◌, ◌^◌, ℕ, List, [], All, IfErr, IfNone, IfOk, IfSome, None, OnOk, Some, codes, false, map, option_copied, string_bytes, true};
-ghost use Rattle.mon_console.specs.Failure.{IsOfText};
+ghost use Rattle.std.specs.Prelude.{◌≡◌, ◌≢◌, ◌+◌, ◌++◌, ◌∷◌, ◌<◌, ◌≤◌, ◌^◌, ◌⊎◌, ℕ, List, [], All, IfErr, IfNone, IfOk, IfSome, None, OnOk, Some, codes, false, map, option_copied, string_bytes, true};
+ghost use Rattle.mon_console.specs.Failure.{IsMemory, IsOfText};
 ghost use Rattle.mon_settings_commands.specs.Kinds.{AreKinds, IsFirstNoKind, kind_word, kind_words, with_kind, words_in};
 ghost use Rattle.mon_settings_commands.specs.Named.{IsFirstNoPeer, IsNoPeer, NamesPeer, NamesSome, file_name, given_or};
 ghost use Rattle.mon_settings_commands.specs.Percent.{GivesPercentage, IsNoPercentage, IsPercentage, MeansPercentage};
 ghost use Rattle.mon_survey.specs.declared.counter.Kind.{Kind};
-ghost use Rattle.mon_settings_commands.specs.Texts.{ArePeers, IsOfOptions, IsPeer, moved_up};
+ghost use Rattle.mon_settings_commands.specs.Texts.{ArePeers, IsOfOptions, IsPeer, IsUncounted, IsUntakenPeer, moved_up};
 ghost use Rattle.mon_udp.specs.Addr.{addr_of, addr_text};
 
 use mon_console::Failure;
@@ -25,6 +25,7 @@ pub(crate) fn put_address(
     ensures kept { addr_of text.now ≡ None → OnOk result (string_bytes place.new ≡ string_bytes place.old ++ text.now) }
     ensures moved { (a : Addr) → addr_of text.now ≡ Some a → OnOk result ((a.port + up < 65536) × (string_bytes place.new ≡ string_bytes place.old ++ addr_text (moved_up up a))) }
     ensures refused { IfErr result IsOfOptions }
+    ensures cause { IfErr result (λ failure. IsMemory failure ⊎ IsUncounted up text.now failure) }
 {
     match Addr::parse(text) {
         None => Ok(place.push_str(text)?),
@@ -184,6 +185,7 @@ pub(crate) fn put_peers(
 fn put_peer(alloc: Global, peers: &mut Vec<Peer>, word: &str, up: u32) -> Result<(), Failure>
     ensures put { OnOk result ((peer : Peer) × (peers.new.items ≡ peers.old.items ++ peer ∷ []) × IsPeer up word.now peer) }
     ensures refused { IfErr result IsOfOptions }
+    ensures cause { IfErr result (λ failure. IsMemory failure ⊎ IsUntakenPeer up word.now failure) }
 {
     let (station, text) = peer_at(alloc, word)?;
     let mut address = String::new(alloc);
