@@ -17,9 +17,9 @@ BUGS = {
     "each_fault_is_of_the_disk": ("src/live.rt", "        6 => KeeperFault::Reopen,\n", "        6 => KeeperFault::DiskFault,\n"),
     "each_file_is_whole": ("src/opening.rt", "    size > 0 && size < 2 * SLOT_SIZE", "    size > 2 * SLOT_SIZE"),
     "healthy_within_one_interval": (
-        "src/station.rt",
-        "    u64::from(interval) * 3000",
-        "    u64::from(interval) * 1000",
+        "src/limits.rt",
+        "    2 * round_time(settings).most + u64::from(interval) * 1000",
+        "    let _ = settings;\n    u64::from(interval) * 1000",
     ),
     "too_large_for_no_more_generations": (
         "src/live.rt",
