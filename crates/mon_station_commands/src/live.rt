@@ -1,15 +1,19 @@
 //! A running station: what it works with, and a round of it.
 
-ghost use Rattle.std.specs.Prelude.{◌≡◌, ◌≤◌, IfErr, IfOk, IfSome, None, Some, is_some, length, map, string_bytes};
+ghost use Rattle.std.specs.Prelude.{◌≡◌, ◌≤◌, IfErr, IfOk, IfSome, None, OnOk, Some, is_some, length, map, string_bytes};
 ghost use Rattle.mon_console.specs.Shown.{shown_by};
 ghost use Rattle.mon_disk.specs.Fault.{number_of};
 ghost use Rattle.mon_host.specs.AtHost.{IsNoted};
 ghost use Rattle.mon_host.specs.Log.{GoesOnBy};
+ghost use Rattle.mon_rounds.specs.Kept.{kept_in};
+ghost use Rattle.mon_rounds.specs.Orderly.{begun};
+ghost use Rattle.mon_rounds.specs.Whole.{HasRun, IsWhole, view_of};
 ghost use Rattle.mon_station_commands.specs.Opening.{IsNoStation, last_of, unsaved_in};
 ghost use Rattle.mon_station_commands.specs.Places.{IsNoSocket};
 ghost use Rattle.mon_station_commands.specs.Spans.{AreAlarms, AreChanges, AreTroubles, IsAccountOf, IsOfRun, IsReportOr, IsSavedAfter, IsSpanRun, IsTimedRun, is_round};
 ghost use Rattle.mon_station_commands.specs.Steps.{OrMemory, SomeOr, only};
 ghost use Rattle.mon_station_commands.specs.Telling.{AreChangesSaid, IsOpening, changed_notes, start_line};
+ghost use Rattle.mon_station.specs.Seen.{seen};
 ghost use Rattle.mon_station.specs.State.{state_of};
 
 use crate::limits::greatest_tries;
@@ -347,6 +351,15 @@ fn run_timed<H: Host, S: Receiver + Drop, O: Outbox + Drop>(
     span: Span,
 ) -> Result<Result<Spell, StationFault>, Failure>
     ensures timed { GoesOnBy (λ log. IsTimedRun log result) (H.log host.old) (H.log host.new) }
+    // The station was given the events of a whole round, or what came between two, and answered them so.
+    ensures ran { IfOk result (λ ran. OnOk ran (HasRun
+        (IsWhole span live.old.transport.rounds.round live.new.transport.rounds.round)
+        (seen live.old.station (view_of (begun span live.old.transport.rounds.round)
+        (S.heard live.old.transport.rounds.receiver) (kept_in live.old.transport.rounds.latest))
+        (O.handed live.old.transport.outbox))
+        (seen live.new.station (view_of live.new.transport.rounds.round
+        (S.heard live.new.transport.rounds.receiver) (kept_in live.new.transport.rounds.latest))
+        (O.handed live.new.transport.outbox)) live.new.run)) }
     ensures span { IfOk result (λ ran. IfOk ran (λ spell. spell.span ≡ span)) }
     ensures fault { IfOk result (λ ran. IfErr ran (λ fault. fault ≡ StationFault.OutOfMemory)) }
     ensures printing { live.new.reports.printing ≡ live.old.reports.printing }

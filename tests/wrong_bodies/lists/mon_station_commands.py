@@ -429,6 +429,11 @@ BUGS = {
         "    let began = passed(alloc, host, live.origin)?;",
         "    let began = passed(alloc, host, live.origin).unwrap_or(0);",
     ),
+    "a_station_that_never_runs": (
+        "src/live.rt",
+        "    let ran = live.transport.rounds.run(\n        alloc,\n        &mut live.station,\n        &mut live.transport.outbox,\n        span,\n        &mut live.run,\n    );\n",
+        "    let ran: Result<(), StationFault> = Ok(());\n",
+    ),
     "alarms_that_changed_are_not_said": (
         "src/live.rt",
         "        changes.as_slice(),\n    )?;\n",
