@@ -36,7 +36,7 @@ agents_by Opened Failed told = record {
   Unreached = Failed;
 }
 
--- A port was opened at an address, where it stands, and of what happened at it this holds.
+-- A port was opened, and of what happened at it this holds.
 pub record HappensAt {P : Type 0} (Opened : P → Type 0) (told : P → Option (List AtPort))
     (failures : P → ℕ) (Holds : List AtPort → Type 0) : Type 0 where
   pub before : P
@@ -44,9 +44,9 @@ pub record HappensAt {P : Type 0} (Opened : P → Type 0) (told : P → Option (
   pub after : P
   pub happened : Happens Holds (told before) (told after) (failures before) (failures after)
 
--- Ports as a command opens them. `Served listen at Holds` says that a port was opened at an address,
--- where it stands at this one, and that this holds of what happened at it; `Deaf listen fault` that
--- none could be opened there.
+-- Ports as a command opens them. `Served listen at Holds` says that a port was opened for an address,
+-- that it has this one, and that this holds of what happened at it; `Deaf listen fault` that none
+-- could be opened there.
 pub record Ports : Type 1 where
   pub Served : Addr → SocketAddr → (List AtPort → Type 0) → Type 0
   pub Deaf : Addr → AppFault → Type 0

@@ -79,7 +79,7 @@ pub record IsAnswered {S : Type 0} (Answers : S → S → List ℕ → ℕ → R
   pub answer : Answers before after datagram moment reply
   pub sent_for : IsSent reply sent
 
--- what becomes of an agent, and what happens at the port, if a datagram came at a moment: the agent
+-- what becomes of an agent, and what happens at the port, if a datagram came at a time: the agent
 -- answers it; or memory runs out, the agent is as it was, and nothing is sent
 abbrev pub Takes : {S : Type 0} → (S → S → List ℕ → ℕ → Reply → Type 0) → Served → S → S → List ℕ → ℕ → List AtPort → Type 0
 Takes Answers Answered before after datagram moment sent = IsAnswered Answers before after datagram moment sent

@@ -46,13 +46,13 @@ pub trait Listens {
 
     type Port: Port + Drop;
 
-    // It opened this port at an address, and there it stands.
+    // It opened this port for an address, and this is the port's own.
     ghost has_opened: { Self → AnyAddr → Self.Port → AnySocketAddr → Type 0 };
 
     // It could not open a port at an address, for this fault.
     ghost has_failed: { Self → AnyAddr → AnyFault → Type 0 };
 
-    /// Opens a port at this address; port 0 takes a free one. Returns where it stands too.
+    /// Opens a port at this address; port 0 takes a free one. Returns the port's own address too.
     ///
     /// # Errors
     /// `SocketFault` if the address is not available, `OutOfMemory`.
@@ -69,7 +69,10 @@ pub struct SystemNetwork<'a, R> {
 }
 
 impl<'a, R> SystemNetwork<'a, R> {
-    pub fn new(rt: &'a R) -> Self {
+    /// Returns the network of the operating system.
+    pub fn new(rt: &'a R) -> Self
+        ensures { result.rt.now ≡ rt.now }
+    {
         SystemNetwork { rt }
     }
 }

@@ -69,7 +69,7 @@ abbrev pub IsSimulated : AgentSettings → Result (AnyAgent Sim) Failure → Typ
 IsSimulated told (Ok agent) = IsFresh told (sim_of told) agent
 IsSimulated told (Err failure) = IsNoDevice told failure
 
--- the same, where the device fails the changes of the fuses
+-- the agent of the settings over a device that fails the changes of the fuses
 abbrev pub IsFused : AgentSettings → ℕ → Result (AnyAgent (FuseDevice Sim)) Failure → Type 0
 IsFused told fuses (Ok agent) = IsFresh told (record {
   device = sim_of told;
@@ -79,13 +79,13 @@ IsFused told fuses (Ok agent) = IsFresh told (record {
 }) agent
 IsFused told fuses (Err failure) = IsNoDevice told failure
 
--- a moment of so many hundredths of a second; or it is out of range
+-- a time of this many hundredths of a second; or it is out of range
 abbrev pub IsMomentOf : ℕ → Result ℕ Failure → Type 0
 IsMomentOf hundredths (Ok at) = IsMoment hundredths × (at ≡ hundredths)
 IsMomentOf hundredths (Err failure) = ¬ (IsMoment hundredths)
     × IsOfText (codes "--at") (codes "a moment up to 214748364799") failure
 
--- What is printed for the datagrams of a text, one after another, which arrive at a moment and so
+-- What is printed for the datagrams of a text, one after another, which arrive at a time and this
 -- many times each, with these names, if there are some; or memory ran out.
 abbrev pub AreAnswers : {S : Type 0} → (S → S → List ℕ → ℕ → Reply → Type 0) → S → ℕ × ℕ
     → Option (List Definition) → List ℕ → Result (String Global) Failure → Type 0
@@ -121,7 +121,7 @@ abbrev pub Answers : AnyAgent (FuseDevice Sim) → Standing (FuseDevice Sim)
     → Standing (FuseDevice Sim) → List ℕ → ℕ → Reply → Type 0
 Answers agent = AnswersIt fuse_held fuse_failed FuseRefuses (policy_of agent) (settings_of agent)
 
--- The command `answer`. A moment that is out of range is refused before the modules are read.
+-- The command `answer`. A time that is out of range is refused before the modules are read.
 abbrev pub IsAnswering : AnswerArgs → List AtHost → Result Unit Failure → Type 0
 IsAnswering words = Then (AreAgentSettings words.settings.now words.boots)
     (λ told. Then (Quietly (IsFused told words.scene.fuses))

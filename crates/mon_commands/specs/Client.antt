@@ -55,7 +55,7 @@ IsAnswerText agents at show q (Err fault) = (agents.Unreached at fault × IsUnop
     ⊎ agents.Reached at (λ at_wire. IsPrinted show string_bytes q at_wire
     (let r : Result (String Global) AppFault = Err fault in r))
 
--- the same of a query, where names are shown so
+-- the answer to a query as text, where names are shown so; or why there is none
 abbrev pub IsAnsweredAs : Agents → (List ℕ → List ℕ) → Query → Asking
     → Result (String Global) Failure → Type 0
 IsAnsweredAs agents show query asking (Ok text) =
@@ -65,7 +65,7 @@ IsAnsweredAs agents show query asking (Err failure) = IsMemory failure
     × IsUnanswered query.agent.word.now fault failure
     × IsAnswerText agents query.agent.address show (question query asking) (Err fault))
 
--- the same, where names are shown as the query asks
+-- the answer to a query as text, with names shown as the query asks; or why there is none
 abbrev pub IsAnswered : Agents → Query → Asking → Result (String Global) Failure → Type 0
 IsAnswered agents query = IsAnsweredAs agents (shown_if query.prints_names query.known) query
 

@@ -38,7 +38,7 @@ abbrev pub TellsTrial : TrialFault → Failure → Type 0
 TellsTrial fault = Tells (trial.innermost_of fault).part (trial.innermost_of fault).number
     (trial.innermost_of fault).name
 
--- what the steps of a script make of so many stations; or why nothing is made
+-- what the steps of a script make of this many stations; or why nothing is made
 abbrev pub IsRehearsed : StationSettings → ℕ → List ℕ → Result (Vec ℕ) Failure → Type 0
 IsRehearsed settings count script (Ok text) =
     IsRehearsal settings.core count (lines_of script) text.items

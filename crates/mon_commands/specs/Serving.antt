@@ -102,12 +102,12 @@ abbrev pub IsDeafFor : (Addr → AppFault → Type 0) → Addr → Failure → T
 IsDeafFor Deaf listen failure = (fault : AppFault) × Deaf listen fault × IsOfOpening fault
     × IsUnopened (Some (addr_text listen)) fault failure
 
--- an agent is served so many datagrams, and this happens at its port meanwhile
+-- an agent is served this many datagrams, and this happens at its port meanwhile
 abbrev pub IsServedBy : ℕ → Agent Sim → List AtPort → List AtHost → Result Unit Failure → Type 0
 IsServedBy count agent at_port log result = (after : Standing Sim)
     × IsServing (SimAnswers agent) count (stands agent) after at_port log result
 
--- A port was opened at an address, one line says where it stands, and an agent is served so many
+-- A port was opened for an address, one line says which it has, and an agent is served this many
 -- datagrams at it.
 pub record IsHeard (ports : Ports) (listen : Addr) (count : ℕ) (agent : Agent Sim) (log : List AtHost)
     (result : Result Unit Failure) : Type 0 where
@@ -116,7 +116,7 @@ pub record IsHeard (ports : Ports) (listen : Addr) (count : ℕ) (agent : Agent 
   pub served : ports.Served listen at (λ at_port. IsServedBy count agent at_port rest result)
   pub log_is : log ≡ port_lines at ++ rest
 
--- the same, or no port could be opened, and nothing is said
+-- an agent is served at a port that was opened; or none could be opened, and nothing is said
 abbrev pub IsServedAt : Ports → Addr → ℕ → Agent Sim → List AtHost → Result Unit Failure → Type 0
 IsServedAt ports listen count agent log result = IsHeard ports listen count agent log result
     ⊎ ((log ≡ []) × IsErrAnd result (IsDeafFor ports.Deaf listen))

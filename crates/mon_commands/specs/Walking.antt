@@ -22,7 +22,7 @@ use Rattle.mon_host.specs.Reason.{why}
 use Rattle.mon_host.specs.Then.{Then}
 use Rattle.mon_udp.specs.declared.addr.Addr.{Addr}
 
--- By which request a walk asks for so many variables at once: by GetNext for none, and for more than
+-- By which request a walk asks for this many variables at once: by GetNext for none, and for more than
 -- a GetBulk can ask for.
 abbrev pub IsStride : ℕ → Stride → Type 0
 IsStride bulk Next = (bulk ≡ 0) ⊎ (2147483648 ≤ bulk)
@@ -57,7 +57,7 @@ IsWalkFailure agent (faults.App fault) failure = (failure.fault ≡ App fault)
 IsWalkFailure agent (faults.Output reason) failure =
     IsOfStream (codes "standard output") (why reason) failure
 
--- the same of a walk through an agent, where identifiers are shown so
+-- what a walk through an agent prints and comes to, where identifiers are shown so
 abbrev pub IsShown : Agents → (List ℕ → List ℕ) → AgentAt → Stride → List ℕ → List ℕ → List AtHost
     → Result Unit Failure → Type 0
 IsShown agents show agent stride community start log (Ok done) =
@@ -67,8 +67,8 @@ IsShown agents show agent stride community start log (Err failure) = (fault : Wa
     × IsWalkAt agents agent.address show stride community start log
     (let r : Result Unit WalkFault = Err fault in r)
 
--- The same of a query, where identifiers are shown as it asks, for which memory may run out. A walk
--- is from one name: of any other number of them nothing is done.
+-- What a walk of a query prints and comes to, with identifiers shown as it asks, for which memory may
+-- run out. A walk is from one name: of any other number of them nothing is done.
 abbrev pub IsWalkOf : Agents → Query → Stride → List (List ℕ) → List AtHost → Result Unit Failure → Type 0
 IsWalkOf agents query stride (start ∷ []) log result = IsUndone log result
     ⊎ IsShown agents (shown_if query.prints_names query.known) query.agent stride

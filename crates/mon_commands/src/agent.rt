@@ -63,7 +63,7 @@ fn simulated(told: AgentSettings) -> Result<Agent<SimDevice>, Failure>
     Ok(Agent::new(told.policy, told.settings, device))
 }
 
-/// Opens a port for the agent, says where it stands, and serves the agent at it.
+/// Opens a port for the agent, says its address, and serves the agent at it.
 fn serve_at<L: Listens, H: Host>(
     alloc: Global,
     host: &mut H,
@@ -80,7 +80,7 @@ fn serve_at<L: Listens, H: Host>(
     serve_all(alloc, host, &mut port, agent, service.count)
 }
 
-/// Opens a port at an address, and returns where it stands too.
+/// Opens a port at an address, and returns the port's own address too.
 fn listen_at<L: Listens>(
     alloc: Global,
     net: &L,
@@ -102,7 +102,7 @@ fn tell_port<H: Host>(host: &mut H, at: SocketAddr)
     host.note(format_args!("snmpmon: agent at {at}\n"));
 }
 
-/// Serves the agent so many datagrams, and tells each for which memory ran out.
+/// Serves the agent this many datagrams, and reports each for which memory ran out.
 fn serve_all<P: Port, D: Device + Drop, H: Host>(
     alloc: Global,
     host: &mut H,
@@ -123,7 +123,7 @@ fn serve_all<P: Port, D: Device + Drop, H: Host>(
     Ok(())
 }
 
-/// Serves the agent the next datagram, and tells if memory ran out for it.
+/// Serves the agent the next datagram, and reports it if memory ran out for it.
 fn serve_next<P: Port, D: Device + Drop, H: Host>(
     alloc: Global,
     host: &mut H,
@@ -144,7 +144,7 @@ fn serve_next<P: Port, D: Device + Drop, H: Host>(
     Ok(())
 }
 
-/// Tells of a datagram if memory ran out for it.
+/// Reports a datagram for which memory ran out.
 fn tell_untaken<H: Host>(host: &mut H, served: Served)
     ensures { GoesOnBy (λ log. log ≡ untaken_lines served) (H.log host.old) (H.log host.new) }
 {

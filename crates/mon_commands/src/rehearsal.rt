@@ -46,7 +46,7 @@ pub fn print_rehearsal<H: Host>(
     print(alloc, host, &text)
 }
 
-/// What the steps of a script make of so many stations in memory.
+/// What the steps of a script make of this many stations in memory.
 fn rehearsed(
     alloc: Global,
     settings: &StationSettings,

@@ -28,7 +28,7 @@ pub fn walk<N: Opens, H: Host>(
     walk_query(alloc, host, net, &query, stride_of(words.bulk))
 }
 
-/// By which request a walk asks for so many variables at once: 0 for GetNext.
+/// By which request a walk asks for this many variables at once: 0 for GetNext.
 fn stride_of(bulk: u32) -> Stride
     ensures { IsStride bulk result }
 {
