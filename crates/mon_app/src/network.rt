@@ -1,5 +1,6 @@
 //! What gives wires to agents, and ports at which an agent is served.
 
+ghost use Rattle.std.specs.Prelude.{◌≡◌};
 ghost use Rattle.mon_app.specs.Network.{IsUnopened};
 
 use crate::fault::AppFault;
