@@ -538,11 +538,6 @@ BUGS = {
         "    let plan = WalkPlan {\n        community: query.community,\n        start: &query.asked[0],",
         "    let Ok(start) = mon_oid::Oid::from_parts(alloc, &[1, 3]) else {\n        return Ok(());\n    };\n    let plan = WalkPlan {\n        community: query.community,\n        start: &start,",
     ),
-    "lacks_memory_for_each_walk": (
-        "src/walking.rt",
-        "    if query.asked.len() != 1 {\n        return Ok(());\n    }\n",
-        "    if query.asked.len() != 1 {\n        return Ok(());\n    }\n    if query.asked.len() == 1 {\n        return Err(Failure::from(mon_app::AppFault::OutOfMemory));\n    }\n",
-    ),
     "does_not_walk": (
         "src/walking.rt",
         "    match walk_agent(alloc, host, net, route, names) {\n        Ok(()) => Ok(()),\n        Err(fault) => Err(walk_failure(alloc, route.agent.word, fault)),\n    }\n",
@@ -580,8 +575,8 @@ BUGS = {
     ),
     "walks_at_port_161": (
         "src/walking.rt",
-        "    match walk_agent(alloc, host, net, route, names) {",
-        "    match walk_agent(alloc, host, net, Addr { port: 161, ..agent.address }, plan, names) {",
+        "    let mut wire = net.open(route.agent.address)?;",
+        "    let mut wire = net.open(mon_udp::Addr { port: 161, ..route.agent.address })?;",
     ),
     "walks_the_same_twice": (
         "src/walking.rt",
