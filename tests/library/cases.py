@@ -5,17 +5,23 @@ finds there, and takes nothing for granted that another case did.
 
     tests/SCRIPT [--program FILE] [--list] [--jobs N] [--leave-out WORD].. [CASE | WORD]..
 
+A case that rests on time tells nothing if it fails while the machine stood still, as where another guest of its host
+had the processors: it is tried again, and left out, which is said, if that was so each time.
+
 A CASE is a case's whole name. A WORD is a group, as `help` of `help/settings`, or else a part of names: all cases that
 have it are tried, or left out, and then said to be. A word that no name has ends the script with status 2, and says what
 there is. Without --program it is what the gate left, or else what tests/quick built of these sources.
 """
 import argparse
 import os
+import subprocess
 import sys
+import tempfile
 import threading
 import time
 import traceback
 from concurrent.futures import ThreadPoolExecutor
+from contextlib import nullcontext
 from dataclasses import dataclass
 from pathlib import Path
 from typing import Callable
@@ -26,6 +32,8 @@ from library.crates import TOP
 PROGRAM = TOP / "crates/snmpmon/out/snmpmon"
 ROWS_PROGRAM = TOP / "crates/mon_rows/out/mon_rows"
 LISTED = 40
+# How often a case that rests on time is tried while the machine stands still.
+TURNS = 3
 
 
 @dataclass
@@ -42,7 +50,7 @@ class Checks:
     """What a case found."""
 
     def __init__(self, name):
-        self.name, self.passed, self.failed = name, 0, 0
+        self.name, self.passed, self.failed, self.faults = name, 0, 0, []
 
     def that(self, what, well, found=None):
         """Counts one thing that must hold; says what was found if it does not."""
@@ -53,14 +61,45 @@ class Checks:
         return bool(well)
 
     def fail(self, what, found=None):
-        """Counts one thing that does not hold, and says so."""
+        """Counts one thing that does not hold, which is said at the end of the case."""
         self.failed += 1
-        say(f"failed: {self.name}: {what}" + (f": {found!r:.1500}" if found is not None else ""))
+        self.faults.append(f"{self.name}: {what}" + (f": {found!r:.1500}" if found is not None else ""))
 
     def count(self, passed, failed):
         """Counts many at once."""
         self.passed += passed
         self.failed += failed
+
+
+# Sleeps 5 ms again and again, and writes a line for each time that it woke 20 ms late or more: when, and how late.
+SLEEPER = """import sys, time
+with open(sys.argv[1], "w", buffering=1) as file:
+    while True:
+        began = time.monotonic()
+        time.sleep(0.005)
+        ended = time.monotonic()
+        if ended - began > 0.025:
+            file.write(f"{ended} {ended - began - 0.005}\\n")
+"""
+
+
+class Stalls:
+    """When the machine stood still, as a process of its own sees it."""
+
+    def __enter__(self):
+        self.file = tempfile.NamedTemporaryFile("r")
+        self.process = subprocess.Popen([sys.executable, "-c", SLEEPER, self.file.name])
+        return self
+
+    def __exit__(self, *_):
+        self.process.kill()
+        self.process.wait()
+        self.file.close()
+
+    def since(self, started):
+        """How long it stood still in all, and at once, in seconds."""
+        late = [float(line.split()[1]) for line in Path(self.file.name).read_text().splitlines() if float(line.split()[0]) >= started]
+        return sum(late), max(late, default=0)
 
 
 SAYING = threading.Lock()
@@ -127,14 +166,31 @@ def show(names):
         os._exit(0)
 
 
-def tried(case, words):
+def tried_once(case, words):
     """What a case found; an error in it is a failure of it."""
     checks = Checks(case.name)
     try:
         case.run(checks, words)
     except Exception:
         checks.fail("it ended with an error", None)
-        say(traceback.format_exc())
+        checks.faults.append(traceback.format_exc())
+    return checks
+
+
+def tried(case, words, stalls=None):
+    """What a case found, and says what does not hold. With `stalls` it rests on time."""
+    for _ in range(TURNS):
+        started = time.monotonic()
+        checks = tried_once(case, words)
+        still, longest = stalls.since(started) if stalls else (0, 0)
+        if not checks.failed or (longest < 0.05 and still < 0.01 * (time.monotonic() - started)):
+            break
+        say(f"busy: {case.name}: the machine stood still for {still:.2f} s in all, {longest:.2f} s at once; " + "; ".join(it[:200] for it in checks.faults))
+    else:
+        say(f"left out: {case.name}: the machine stood still each time")
+        return Checks(case.name)
+    for fault in checks.faults:
+        say(f"failed: {fault}")
     if checks.failed:
         # (a fault of the command itself is shown above)
         program = f" --program {words.program}" if words.program not in (PROGRAM, ROWS_PROGRAM) else ""
@@ -142,17 +198,18 @@ def tried(case, words):
     return checks
 
 
-def run(words, cases):
-    """Tries the chosen cases and ends the script: the last line counts what was found."""
+def run(words, cases, timed=False):
+    """Tries the chosen cases, which rest on time or don't, and ends the script: the last line counts what was found."""
     cases = chosen(cases, words)
     if words.list:
         show(it.name for it in cases)
         sys.exit(0)
     need(words)
     started = time.monotonic()
-    with ThreadPoolExecutor(max(words.jobs, 1)) as pool:
-        found = list(pool.map(lambda it: tried(it, words), [it for it in cases if not it.alone]))
-    found += [tried(it, words) for it in cases if it.alone]
+    with Stalls() if timed else nullcontext() as stalls:
+        with ThreadPoolExecutor(max(words.jobs, 1)) as pool:
+            found = list(pool.map(lambda it: tried(it, words, stalls), [it for it in cases if not it.alone]))
+        found += [tried(it, words, stalls) for it in cases if it.alone]
     passed, failed = sum(it.passed for it in found), sum(it.failed for it in found)
     print(f"{len(cases)} cases, {time.monotonic() - started:.1f} s")
     print(f"{passed} passed, {failed} failed")
