@@ -44,6 +44,8 @@ class Case:
     run: Callable
     # A case that measures time is tried when no other one runs.
     alone: bool = False
+    # A case that waits for what must come in time, and so tells nothing where it fails while the machine stands still.
+    timed: bool = False
 
 
 class Checks:
@@ -178,7 +180,7 @@ def tried_once(case, words):
 
 
 def tried(case, words, stalls=None):
-    """What a case found, and says what does not hold. With `stalls` it rests on time."""
+    """What a case found, and says what does not hold. With `stalls` it is tried again where the machine stood still."""
     for _ in range(TURNS):
         started = time.monotonic()
         checks = tried_once(case, words)
@@ -198,18 +200,18 @@ def tried(case, words, stalls=None):
     return checks
 
 
-def run(words, cases, timed=False):
-    """Tries the chosen cases, which rest on time or don't, and ends the script: the last line counts what was found."""
+def run(words, cases):
+    """Tries the chosen cases and ends the script: the last line counts what was found."""
     cases = chosen(cases, words)
     if words.list:
         show(it.name for it in cases)
         sys.exit(0)
     need(words)
     started = time.monotonic()
-    with Stalls() if timed else nullcontext() as stalls:
+    with Stalls() if any(it.timed for it in cases) else nullcontext() as stalls:
         with ThreadPoolExecutor(max(words.jobs, 1)) as pool:
-            found = list(pool.map(lambda it: tried(it, words, stalls), [it for it in cases if not it.alone]))
-        found += [tried(it, words, stalls) for it in cases if it.alone]
+            found = list(pool.map(lambda it: tried(it, words, it.timed and stalls), [it for it in cases if not it.alone]))
+        found += [tried(it, words, it.timed and stalls) for it in cases if it.alone]
     passed, failed = sum(it.passed for it in found), sum(it.failed for it in found)
     print(f"{len(cases)} cases, {time.monotonic() - started:.1f} s")
     print(f"{passed} passed, {failed} failed")
